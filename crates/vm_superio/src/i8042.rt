@@ -1,0 +1,66 @@
+//! The i8042 controller, reduced to the CPU reset command.
+ghost use Rattle.std.specs.Prelude.{◌≡◌, [], ◌∷◌};
+ghost use Rattle.std.specs.Bool.{OnTrue, OnFalse};
+ghost use Rattle.vm_superio.specs.Reset.{is_reset_command};
+
+use crate::Trigger;
+use std::marker::Model;
+
+/// The command register, port 0x64: offset 4 from the controller's base at 0x60.
+const COMMAND_OFFSET: u8 = 4;
+
+/// The command that pulses the CPU's reset line.
+const CMD_RESET_CPU: u8 = 0xFE;
+
+/// An i8042 keyboard controller that knows one command: reset the CPU.
+///
+/// In a contract the device is its trigger, which is all that it holds.
+#[derive(Drop)]
+pub struct I8042Device<T: Trigger> {
+    reset_evt: T,
+}
+
+impl<T: Trigger> Model for I8042Device<T> {
+    ghost Value = { T };
+
+    ghost view = { λ device. device.reset_evt };
+}
+
+impl<T: Trigger> I8042Device<T> {
+    /// Makes a device that owns the trigger `reset_evt`, which is not called.
+    pub fn new(reset_evt: T) -> I8042Device<T>
+        ensures { result ≡ reset_evt }
+    {
+        I8042Device { reset_evt }
+    }
+
+    /// The reset trigger.
+    pub fn reset_evt(&self) -> &T
+        ensures { result.now ≡ self.now }
+    {
+        &self.reset_evt
+    }
+
+    /// Reads 0 at every offset. The trigger is not called.
+    pub fn read(&mut self, _offset: u8) -> u8
+        ensures value { result ≡ 0 }
+        ensures unchanged { self.new ≡ self.old }
+    {
+        0
+    }
+
+    /// Writes `value` at `offset`.
+    ///
+    /// The reset command, 0xFE at offset 4, calls the trigger once, and the answer is the trigger's, its refusal
+    /// included. Every other write is `Ok` and changes nothing.
+    pub fn write(&mut self, offset: u8, value: u8) -> Result<(), T::E>
+        ensures reset { OnTrue (is_reset_command offset value) (T.link self.old (result ∷ []) self.new) }
+        ensures other { OnFalse (is_reset_command offset value) (result ≡ Ok tt) }
+        ensures unchanged { OnFalse (is_reset_command offset value) (self.new ≡ self.old) }
+    {
+        match (offset, value) {
+            (COMMAND_OFFSET, CMD_RESET_CPU) => self.reset_evt.trigger(),
+            _ => Ok(()),
+        }
+    }
+}
