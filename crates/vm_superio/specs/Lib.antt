@@ -1,1 +1,10 @@
+pub mod Acts
+pub mod Asking
+pub mod Calls
+pub mod Coherent
+pub mod Events
+pub mod Fits
+pub mod Links
+pub mod Registers
 pub mod Reset
+pub mod State

@@ -7,6 +7,7 @@ pub use i8042::I8042Device;
 use std::fmt::Debug;
 
 pub mod i8042;
+pub mod run;
 
 /// A push button towards the monitor: an interrupt line, or the event that asks for a reset.
 ///

@@ -1,0 +1,126 @@
+-- The call cases: what a call answers, the state that it leaves and the events that it tells, in any state, with the
+-- answers of the trigger and the fate of a byte that go with it. A state need not be coherent.
+use Rattle.std.specs.Prelude.{ℕ, Bool, ◌==◌, ◌&&◌, ◌||◌, nat_le, if◌then◌else◌, List, [], ◌∷◌, ◌++◌, length, drop, slice_index}
+use Rattle.vm_superio.specs.declared.run.Asked.{Asked}
+use Rattle.vm_superio.specs.declared.run.Sent.{Sent}
+use Rattle.vm_superio.specs.declared.run.Sent.TheVariants as sent
+use Rattle.vm_superio.specs.State.{State, has_bits, masked, joined, without, is_held}
+use Rattle.vm_superio.specs.Registers.{Register, DivisorLow, DivisorHigh, Data, InterruptEnable, InterruptIdentification, LineControl, ModemControl, LineStatus, ModemStatus, Scratch, Unknown, register, is_dlab, is_loopback, Condition, Receive, Transmit, enable_bit, pending_bit, modem_status_read, transmit_first}
+use Rattle.vm_superio.specs.Events.{Event, buffer_read, out_byte, tx_lost_byte, in_buffer_empty}
+use Rattle.vm_superio.specs.Acts.{Deed, Reads, Writes, Enqueues, Restores, Answer, Given, Added, TriggerRefused, FifoFull, NoAnswer, is_refused, write_answer}
+use Rattle.vm_superio.specs.Asking.{ask, receive_becomes_pending, ask_while_held, fitting, accepted_of, receive}
+
+-- ---- what a call answers
+
+-- offsets 0 and 1 give the divisor under DLAB; a data read gives the oldest held byte, or 0; the identification shows
+-- bits 0xC0, that the FIFOs are on; the modem status shows the outputs in loopback; an unknown offset gives 0
+abbrev pub read_answer : Register → State → ℕ
+read_answer DivisorLow s = s.baud_divisor_low
+read_answer DivisorHigh s = s.baud_divisor_high
+read_answer Data s = slice_index s.in_buffer 0
+read_answer InterruptEnable s = s.interrupt_enable
+read_answer InterruptIdentification s = joined s.interrupt_identification 0xC0
+read_answer LineControl s = s.line_control
+read_answer ModemControl s = s.modem_control
+read_answer LineStatus s = s.line_status
+read_answer ModemStatus s = modem_status_read s.modem_control s.modem_status
+read_answer Scratch s = s.scratch
+read_answer Unknown s = 0
+
+-- loopback accepts nothing and no bytes are no arrival; then a full FIFO, then a refused trigger, is the answer
+abbrev pub enqueue_answer : State → List ℕ → Asked → Answer
+enqueue_answer s bytes asked =
+    if is_loopback s.modem_control || (length bytes == 0) then Added 0
+    else (if nat_le 64 (length s.in_buffer) then FifoFull
+    else (if is_refused asked then TriggerRefused
+    else Added (length (accepted_of s bytes))))
+
+abbrev pub answer : State → Deed → Asked → Sent → Answer
+answer s (Reads offset) asked what = Given (read_answer (register (is_dlab s.line_control) offset) s)
+answer s (Writes offset value) asked what = write_answer asked what
+answer s (Enqueues bytes) asked what = enqueue_answer s bytes asked
+answer s Restores asked what = NoAnswer
+
+-- ---- the state that a call leaves
+
+-- a data read clears the receive bit, and nothing pending is 1; it takes the oldest byte, and with the last one goes
+-- data ready
+abbrev pub data_read : State → State
+data_read s =
+    let identification = without s.interrupt_identification 0x04 in
+    let held = drop 1 s.in_buffer in
+    record s {
+      interrupt_identification = if identification == 0 then 1 else identification;
+      in_buffer = held;
+      line_status = if is_held held then s.line_status else without s.line_status 0x01;
+    }
+
+-- a read of the identification clears both conditions; no other read but these two changes anything
+abbrev pub read_next : Register → State → State
+read_next Data s = data_read s
+read_next InterruptIdentification s = record s { interrupt_identification = 1 }
+read_next _ s = s
+
+-- an interrupt-enable write keeps the low four bits; where the trigger refuses for the receive condition the call ends,
+-- and the transmitter condition is not asked for. It clears no pending bit
+abbrev pub enable_write : ℕ → Asked → State → State
+enable_write enable asked s =
+    let refused = receive_becomes_pending s.in_buffer enable s.interrupt_identification && is_refused asked in
+    let identification = ask_while_held s.in_buffer enable s.interrupt_identification in
+    record s {
+      interrupt_enable = enable;
+      interrupt_identification = if refused then identification else ask Transmit enable identification;
+    }
+
+-- a data write asks for the transmitter condition, whatever became of its byte; in loopback the byte comes in
+abbrev pub data_write : ℕ → State → State
+data_write value s =
+    if is_loopback s.modem_control then receive (fitting s.in_buffer (value ∷ [])) s
+    else record s { interrupt_identification = ask Transmit s.interrupt_enable s.interrupt_identification }
+
+-- the identification, both statuses and unknown offsets ignore writes
+abbrev pub write_next : Register → ℕ → Asked → State → State
+write_next DivisorLow value asked s = record s { baud_divisor_low = value }
+write_next DivisorHigh value asked s = record s { baud_divisor_high = value }
+write_next Data value asked s = data_write value s
+write_next InterruptEnable value asked s = enable_write (masked value 0x0F) asked s
+write_next LineControl value asked s = record s { line_control = value }
+write_next ModemControl value asked s = record s { modem_control = value }
+write_next Scratch value asked s = record s { scratch = value }
+write_next _ value asked s = s
+
+-- an enqueue receives what it accepts; a restore keeps the state
+abbrev pub next : State → Deed → Asked → State
+next s (Reads offset) asked = read_next (register (is_dlab s.line_control) offset) s
+next s (Writes offset value) asked = write_next (register (is_dlab s.line_control) offset) value asked s
+next s (Enqueues bytes) asked = receive (accepted_of s bytes) s
+next s Restores asked = s
+
+-- ---- the events that a call tells
+
+-- a data read tells when no byte is held any more, and then that it read
+abbrev pub read_events : Register → List ℕ → List Event
+read_events Data held = (if is_held (drop 1 held) then [] else in_buffer_empty ∷ []) ++ buffer_read ∷ []
+read_events _ held = []
+
+-- a sent byte is told as out or as lost
+abbrev pub sent_events : Sent → List Event
+sent_events sent.Nothing = []
+sent_events sent.Out = out_byte ∷ []
+sent_events sent.Lost = tx_lost_byte ∷ []
+
+abbrev pub events : State → Deed → Sent → List Event
+events s (Reads offset) what = read_events (register (is_dlab s.line_control) offset) s.in_buffer
+events s (Writes offset value) what = sent_events what
+events s _ what = []
+
+-- ---- the trigger calls of a restore
+
+-- a condition that is pending and enabled
+abbrev pub is_asserted : Condition → State → Bool
+is_asserted condition s =
+    has_bits s.interrupt_identification (pending_bit condition) && has_bits s.interrupt_enable (enable_bit condition)
+
+-- one call for each such condition, as far as none is refused
+abbrev pub restore_calls : State → List Condition
+restore_calls s = transmit_first (is_asserted Transmit s) (is_asserted Receive s)
