@@ -16,6 +16,12 @@ pub data Deed : Type 0 where
   -- the device is made anew from its own state
   Restores : Deed
 
+-- what is recorded of a call: a history is a list of these, and a past is one that stands newest first
+pub record Entry : Type 0 where
+  pub act : Deed
+  pub asked : Asked
+  pub sent : Sent
+
 -- what a call answers
 pub data Answer : Type 0 where
   -- a read gives a byte

@@ -1,6 +1,6 @@
 -- Asking for a condition, and bytes that come in: the small parts of the call cases.
 use Rattle.std.specs.Prelude.{ℕ, ◌-◌, Bool, not, ◌&&◌, if◌then◌else◌, List, [], ◌∷◌, ◌++◌, length, take}
-use Rattle.vm_superio.specs.State.{State, has_bits, joined, without, is_held}
+use Rattle.vm_superio.specs.State.{State, has_bits, joined, without, not_empty}
 use Rattle.vm_superio.specs.Registers.{is_loopback, Condition, Receive, enable_bit, pending_bit}
 
 -- ---- asking for a condition
@@ -19,10 +19,10 @@ ask condition enable identification =
 
 -- an interrupt-enable write asks for the receive condition only while bytes are held
 abbrev pub receive_becomes_pending : List ℕ → ℕ → ℕ → Bool
-receive_becomes_pending held enable identification = is_held held && becomes_pending Receive enable identification
+receive_becomes_pending held enable identification = not_empty held && becomes_pending Receive enable identification
 
 abbrev pub ask_while_held : List ℕ → ℕ → ℕ → ℕ
-ask_while_held held enable identification = if is_held held then ask Receive enable identification else identification
+ask_while_held held enable identification = if not_empty held then ask Receive enable identification else identification
 
 -- ---- the bytes that come in
 

@@ -4,7 +4,7 @@ use Rattle.std.specs.Prelude.{ℕ, Bool, ◌==◌, ◌&&◌, ◌||◌, nat_le, i
 use Rattle.vm_superio.specs.declared.run.Asked.{Asked}
 use Rattle.vm_superio.specs.declared.run.Sent.{Sent}
 use Rattle.vm_superio.specs.declared.run.Sent.TheVariants as sent
-use Rattle.vm_superio.specs.State.{State, has_bits, masked, joined, without, is_held}
+use Rattle.vm_superio.specs.State.{State, has_bits, masked, joined, without, not_empty}
 use Rattle.vm_superio.specs.Registers.{Register, DivisorLow, DivisorHigh, Data, InterruptEnable, InterruptIdentification, LineControl, ModemControl, LineStatus, ModemStatus, Scratch, Unknown, register, is_dlab, is_loopback, Condition, Receive, Transmit, enable_bit, pending_bit, modem_status_read, transmit_first}
 use Rattle.vm_superio.specs.Events.{Event, buffer_read, out_byte, tx_lost_byte, in_buffer_empty}
 use Rattle.vm_superio.specs.Acts.{Deed, Reads, Writes, Enqueues, Restores, Answer, Given, Added, TriggerRefused, FifoFull, NoAnswer, is_refused, write_answer}
@@ -52,7 +52,7 @@ data_read s =
     record s {
       interrupt_identification = if identification == 0 then 1 else identification;
       in_buffer = held;
-      line_status = if is_held held then s.line_status else without s.line_status 0x01;
+      line_status = if not_empty held then s.line_status else without s.line_status 0x01;
     }
 
 -- a read of the identification clears both conditions; no other read but these two changes anything
@@ -100,7 +100,7 @@ next s Restores asked = s
 
 -- a data read tells when no byte is held any more, and then that it read
 abbrev pub read_events : Register → List ℕ → List Event
-read_events Data held = (if is_held (drop 1 held) then [] else in_buffer_empty ∷ []) ++ buffer_read ∷ []
+read_events Data held = (if not_empty (drop 1 held) then [] else in_buffer_empty ∷ []) ++ buffer_read ∷ []
 read_events _ held = []
 
 -- a sent byte is told as out or as lost

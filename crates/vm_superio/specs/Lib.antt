@@ -4,7 +4,10 @@ pub mod Calls
 pub mod Coherent
 pub mod Events
 pub mod Fits
+pub mod History
+pub mod Interrupts
 pub mod Links
 pub mod Registers
+pub mod Replies
 pub mod Reset
 pub mod State

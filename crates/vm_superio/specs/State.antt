@@ -46,10 +46,10 @@ joined byte bits = bit_or byte bits
 abbrev pub without : ℕ → ℕ → ℕ
 without byte bits = masked byte (0xFF - bits)
 
--- a byte is held
-abbrev pub is_held : List ℕ → Bool
-is_held [] = false
-is_held (byte ∷ bytes) = true
+-- there is a byte
+abbrev pub not_empty : List ℕ → Bool
+not_empty [] = false
+not_empty (byte ∷ bytes) = true
 
 -- the line status with bit 0x01, data ready, set exactly if bytes are held
 abbrev pub with_data_ready : ℕ → Bool → ℕ

@@ -1,0 +1,120 @@
+-- What a past tells of a serial port, I: its registers and its bytes. A past is a list of records, newest first; at the
+-- place of a record the past is what stands behind it. Nothing is kept from place to place: each definition searches
+-- the start and the past, and none names a call case. Restores are passed over.
+use Rattle.std.specs.Prelude.{ℕ, ◌-◌, Bool, true, false, ◌==◌, if◌then◌else◌, List, [], ◌∷◌, ◌++◌, length, take, drop, Option, Some, None, unwrap_or}
+use Rattle.std.specs.Option.{option_or, option_map_or}
+use Rattle.vm_superio.specs.State.{State, masked}
+use Rattle.vm_superio.specs.Registers.{Register, Data, InterruptEnable, InterruptIdentification, register, is_dlab, is_loopback}
+use Rattle.vm_superio.specs.Acts.{Deed, Reads, Writes, Enqueues, Restores, Entry}
+
+-- ---- last effective write
+
+-- the value that an act writes at this offset
+abbrev pub written_at : ℕ → Deed → Option ℕ
+written_at offset (Writes at value) = if at == offset then Some value else None
+written_at offset _ = None
+
+-- the last value that is found, where each act is looked at with the past of its own place
+abbrev pub last : (List Entry → Deed → Option ℕ) → List Entry → Option ℕ
+last found [] = None
+last found (entry ∷ past) = option_or (found past entry.act) (last found past)
+
+-- line control, modem control and scratch: the last write at offset 3, 4 and 7, or the start's byte
+abbrev pub line_control : State → List Entry → ℕ
+line_control start past = unwrap_or (last (λ before act. written_at 3 act) past) start.line_control
+
+abbrev pub modem_control : State → List Entry → ℕ
+modem_control start past = unwrap_or (last (λ before act. written_at 4 act) past) start.modem_control
+
+abbrev pub scratch : State → List Entry → ℕ
+scratch start past = unwrap_or (last (λ before act. written_at 7 act) past) start.scratch
+
+-- whether DLAB is set, and whether the port is in loopback
+abbrev pub dlab : State → List Entry → Bool
+dlab start past = is_dlab (line_control start past)
+
+abbrev pub loopback : State → List Entry → Bool
+loopback start past = is_loopback (modem_control start past)
+
+-- the divisor: the last write at offset 0 and 1 with DLAB set, as it was at that write's place
+abbrev pub divisor_low : State → List Entry → ℕ
+divisor_low start past =
+    unwrap_or (last (λ before act. if dlab start before then written_at 0 act else None) past) start.baud_divisor_low
+
+abbrev pub divisor_high : State → List Entry → ℕ
+divisor_high start past =
+    unwrap_or (last (λ before act. if dlab start before then written_at 1 act else None) past) start.baud_divisor_high
+
+-- interrupt enable: the low four bits of the last write at offset 1 with DLAB clear, or the start's whole byte
+abbrev pub interrupt_enable : State → List Entry → ℕ
+interrupt_enable start past =
+    option_map_or (λ value. masked value 0x0F)
+    (last (λ before act. if dlab start before then None else written_at 1 act) past) start.interrupt_enable
+
+-- ---- what an act is at its place
+
+pub data Kind : Type 0 where
+  -- a read at offset 0 with DLAB clear
+  DataRead : Kind
+  -- a read at offset 2
+  IdentificationRead : Kind
+  -- a write at offset 1 with DLAB clear
+  EnableWrite : ℕ → Kind
+  -- a write at offset 0 with DLAB clear, outside loopback
+  DataWrite : ℕ → Kind
+  -- bytes that come in: an enqueue outside loopback, or the byte of such a data write in loopback
+  Arrival : List ℕ → Kind
+  -- everything else, a restore and an enqueue in loopback among it
+  Other : Kind
+
+abbrev pub read_kind : Register → Kind
+read_kind Data = DataRead
+read_kind InterruptIdentification = IdentificationRead
+read_kind _ = Other
+
+abbrev pub write_kind : Register → Bool → ℕ → Kind
+write_kind Data false value = DataWrite value
+write_kind Data true value = Arrival (value ∷ [])
+write_kind InterruptEnable loopback value = EnableWrite value
+write_kind _ loopback value = Other
+
+abbrev pub kind : State → List Entry → Deed → Kind
+kind start past (Reads offset) = read_kind (register (dlab start past) offset)
+kind start past (Writes offset value) = write_kind (register (dlab start past) offset) (loopback start past) value
+kind start past (Enqueues bytes) = if loopback start past then Other else Arrival bytes
+kind start past Restores = Other
+
+-- the byte that an act sends to the writer
+abbrev pub sent_by : Kind → List ℕ
+sent_by (DataWrite value) = value ∷ []
+sent_by _ = []
+
+-- ---- accepted, taken and held bytes
+
+-- of the bytes that come in, as many of the first are accepted as there is room for, beside those held
+abbrev pub accepted_by : Kind → List ℕ → List ℕ
+accepted_by (Arrival bytes) held = take (64 - length held) bytes
+accepted_by _ held = []
+
+-- a data read takes the first held byte, where there is one
+abbrev pub taken_by : Kind → List ℕ → List ℕ
+taken_by DataRead held = take 1 held
+taken_by _ held = []
+
+-- the bytes that are left: the first ones and those accepted, without as many of the first as were taken
+abbrev pub left : List ℕ → List ℕ → List ℕ → List ℕ
+left first accepted taken = drop (length taken) (first ++ accepted)
+
+-- all bytes that were accepted, and all that were taken, each in order
+abbrev mutual
+  pub accepted : State → List Entry → List ℕ
+  accepted start [] = []
+  accepted start (entry ∷ past) = accepted start past ++ accepted_by (kind start past entry.act) (left start.in_buffer (accepted start past) (taken start past))
+
+  pub taken : State → List Entry → List ℕ
+  taken start [] = []
+  taken start (entry ∷ past) = taken start past ++ taken_by (kind start past entry.act) (left start.in_buffer (accepted start past) (taken start past))
+
+-- the bytes that are held
+abbrev pub held : State → List Entry → List ℕ
+held start past = left start.in_buffer (accepted start past) (taken start past)

@@ -1,0 +1,60 @@
+-- What a past tells of a serial port, III: what a guest reads, what the other calls answer, and what went to the writer.
+use Rattle.std.specs.Prelude.{ℕ, ◌+◌, ◌==◌, ◌||◌, nat_le, if◌then◌else◌, List, [], ◌∷◌, ◌++◌, length, slice_index}
+use Rattle.vm_superio.specs.State.{State, not_empty, with_data_ready}
+use Rattle.vm_superio.specs.Registers.{Register, DivisorLow, DivisorHigh, Data, InterruptEnable, InterruptIdentification, LineControl, ModemControl, LineStatus, ModemStatus, Scratch, Unknown, register, identification_of, modem_status_read}
+use Rattle.vm_superio.specs.Acts.{Deed, Reads, Writes, Enqueues, Restores, Entry, Answer, Given, Added, TriggerRefused, FifoFull, NoAnswer, is_refused, write_answer}
+use Rattle.vm_superio.specs.History.{kind, sent_by, line_control, modem_control, scratch, dlab, loopback, divisor_low, divisor_high, interrupt_enable, accepted_by, held}
+use Rattle.vm_superio.specs.Interrupts.{receive_pending, transmit_pending}
+
+-- the identification: 0x01 where nothing is pending, else 0x02 for the transmitter and 0x04 for the receive condition
+abbrev pub identification : State → List Entry → ℕ
+identification start past = identification_of (transmit_pending start past) (receive_pending start past)
+
+-- the start's line status, with bit 0x01 replaced by whether bytes are held
+abbrev pub line_status : State → List Entry → ℕ
+line_status start past = with_data_ready start.line_status (not_empty (held start past))
+
+-- what a read of the register gives: the first held byte or 0 as data, bits 0xC0 with the identification, the start's
+-- modem status (in loopback its low four bits, with the outputs shown above them), and 0 at an unknown offset
+abbrev pub register_read : Register → State → List Entry → ℕ
+register_read DivisorLow start past = divisor_low start past
+register_read DivisorHigh start past = divisor_high start past
+register_read Data start past = slice_index (held start past) 0
+register_read InterruptEnable start past = interrupt_enable start past
+register_read InterruptIdentification start past = 0xC0 + identification start past
+register_read LineControl start past = line_control start past
+register_read ModemControl start past = modem_control start past
+register_read LineStatus start past = line_status start past
+register_read ModemStatus start past = modem_status_read (modem_control start past) start.modem_status
+register_read Scratch start past = scratch start past
+register_read Unknown start past = 0
+
+-- what a guest reads at an offset
+abbrev pub guest_read : State → List Entry → ℕ → ℕ
+guest_read start past offset = register_read (register (dlab start past) offset) start past
+
+-- an enqueue answers 0 in loopback or for no bytes; else that the FIFO is full where 64 bytes are held; else the
+-- trigger's refusal; else how many bytes it accepted
+abbrev pub enqueue_reply : State → List Entry → List ℕ → Entry → Answer
+enqueue_reply start past bytes entry =
+    if loopback start past || (length bytes == 0) then Added 0
+    else (if nat_le 64 (length (held start past)) then FifoFull
+    else (if is_refused entry.asked then TriggerRefused
+    else Added (length (accepted_by (kind start past entry.act) (held start past)))))
+
+-- what a call answers at its place
+abbrev pub reply_to : State → List Entry → Entry → Deed → Answer
+reply_to start past entry (Reads offset) = Given (guest_read start past offset)
+reply_to start past entry (Writes offset value) = write_answer entry.asked entry.sent
+reply_to start past entry (Enqueues bytes) = enqueue_reply start past bytes entry
+reply_to start past entry Restores = NoAnswer
+
+abbrev pub reply : State → List Entry → Entry → Answer
+reply start past entry = reply_to start past entry entry.act
+
+-- ---- the output
+
+-- the output of a stretch of records, oldest first, behind a past: the values of its data writes outside loopback
+abbrev pub output : State → List Entry → List Entry → List ℕ
+output start past [] = []
+output start past (entry ∷ later) = sent_by (kind start past entry.act) ++ output start (entry ∷ past) later
