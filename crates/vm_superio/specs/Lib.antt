@@ -6,6 +6,7 @@ pub mod Events
 pub mod Fits
 pub mod History
 pub mod Interrupts
+pub mod Laws
 pub mod Links
 pub mod Registers
 pub mod Replies

@@ -52,9 +52,26 @@ reply_to start past entry Restores = NoAnswer
 abbrev pub reply : State → List Entry → Entry → Answer
 reply start past entry = reply_to start past entry entry.act
 
--- ---- the output
+-- ---- the output and the state
 
--- the output of a stretch of records, oldest first, behind a past: the values of its data writes outside loopback
+-- the output of the newest records, those that stand in front of a past: the values of their data writes outside
+-- loopback, in order
 abbrev pub output : State → List Entry → List Entry → List ℕ
 output start past [] = []
-output start past (entry ∷ later) = sent_by (kind start past entry.act) ++ output start (entry ∷ past) later
+output start past (entry ∷ newest) =
+    output start past newest ++ sent_by (kind start (newest ++ past) entry.act)
+
+-- the state that a past describes
+abbrev pub described : State → List Entry → State
+described start past = record {
+  baud_divisor_low = divisor_low start past;
+  baud_divisor_high = divisor_high start past;
+  interrupt_enable = interrupt_enable start past;
+  interrupt_identification = identification start past;
+  line_control = line_control start past;
+  line_status = line_status start past;
+  modem_control = modem_control start past;
+  modem_status = start.modem_status;
+  scratch = scratch start past;
+  in_buffer = held start past;
+}
