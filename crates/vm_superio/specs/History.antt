@@ -78,11 +78,16 @@ write_kind Data true value = Arrival (value ∷ [])
 write_kind InterruptEnable loopback value = EnableWrite value
 write_kind _ loopback value = Other
 
+-- by DLAB and loopback
+abbrev pub kind_of : Bool → Bool → Deed → Kind
+kind_of dlab loopback (Reads offset) = read_kind (register dlab offset)
+kind_of dlab loopback (Writes offset value) = write_kind (register dlab offset) loopback value
+kind_of dlab loopback (Enqueues bytes) = if loopback then Other else Arrival bytes
+kind_of dlab loopback Restores = Other
+
+-- as these stand at the place
 abbrev pub kind : State → List Entry → Deed → Kind
-kind start past (Reads offset) = read_kind (register (dlab start past) offset)
-kind start past (Writes offset value) = write_kind (register (dlab start past) offset) (loopback start past) value
-kind start past (Enqueues bytes) = if loopback start past then Other else Arrival bytes
-kind start past Restores = Other
+kind start past act = kind_of (dlab start past) (loopback start past) act
 
 -- the byte that an act sends to the writer
 abbrev pub sent_by : Kind → List ℕ

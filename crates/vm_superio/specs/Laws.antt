@@ -1,5 +1,5 @@
 -- The laws: what the call cases and the history have to do with each other, and what follows from the history alone.
-use Rattle.std.specs.Prelude.{◌≡◌, ◌↔◌, ◌⊎◌, ℕ, ◌+◌, ◌*◌, ◌<◌, ◌≤◌, zero, suc, Bool, true, false, not, ◌&&◌, if◌then◌else◌, List, [], ◌∷◌, ◌++◌, length, sum_by, count_by, IsTrue}
+use Rattle.std.specs.Prelude.{◌≡◌, ◌↔◌, ◌⊎◌, ℕ, ◌+◌, ◌*◌, ◌<◌, ◌≤◌, zero, suc, Bool, true, false, not, if◌then◌else◌, List, [], ◌∷◌, ◌++◌, length, sum_by, count_by, IsTrue}
 use Rattle.std.specs.Bool.{IsFalse}
 use Rattle.std.specs.List.{list_all}
 use Rattle.vm_superio.specs.declared.run.Asked.{Asked}
@@ -8,13 +8,13 @@ use Rattle.vm_superio.specs.declared.run.Sent.{Sent}
 use Rattle.vm_superio.specs.declared.run.Sent.TheVariants as sent
 use Rattle.vm_superio.specs.State.{State, has_bits, not_empty}
 use Rattle.vm_superio.specs.Registers.{identification_of}
-use Rattle.vm_superio.specs.Events.{Event, buffer_read, out_byte, tx_lost_byte, in_buffer_empty}
-use Rattle.vm_superio.specs.Acts.{Deed, Reads, Writes, Enqueues, Restores, Entry, Answer, is_lost}
+use Rattle.vm_superio.specs.Events.{Event, out_byte, tx_lost_byte}
+use Rattle.vm_superio.specs.Acts.{Deed, Restores, Entry, Answer, is_lost}
 use Rattle.vm_superio.specs.Fits.{due, sends, fits}
 use Rattle.vm_superio.specs.Calls.{answer, next, events, restore_calls}
 use Rattle.vm_superio.specs.Coherent.{Coherent}
 use Rattle.vm_superio.specs.Links.{written}
-use Rattle.vm_superio.specs.History.{Kind, DataRead, IdentificationRead, EnableWrite, DataWrite, Arrival, Other, line_control, modem_control, scratch, divisor_low, divisor_high, interrupt_enable, kind, sent_by, accepted_by, taken_by, accepted, taken, held}
+use Rattle.vm_superio.specs.History.{Kind, DataRead, IdentificationRead, EnableWrite, line_control, modem_control, scratch, divisor_low, divisor_high, interrupt_enable, kind, sent_by, accepted_by, taken_by, accepted, taken, held}
 use Rattle.vm_superio.specs.Interrupts.{receive_raised, acknowledges_receive, receive_pending, transmit_raised, acknowledges_transmit, transmit_pending, answer_count, record_fits, is_fitting, restore_calls_due}
 use Rattle.vm_superio.specs.Replies.{identification, line_status, guest_read, reply, output, described}
 
@@ -111,7 +111,7 @@ NoneAcknowledges start acknowledges newest past =
 abbrev pub PendingByPlaces : State → (List Entry → Entry → Bool) → (Kind → Bool) → Bool → List Entry → Type 0
 PendingByPlaces start raises acknowledges first past =
     ((after before : List Entry) × (entry : Entry) × (past ≡ after ++ entry ∷ before)
-      × IsTrue (raises before entry) × NoneAcknowledges start acknowledges after (entry ∷ before))
+    × IsTrue (raises before entry) × NoneAcknowledges start acknowledges after (entry ∷ before))
     ⊎ (IsTrue first × NoneAcknowledges start acknowledges past [])
 
 -- pending by places: the search finds what the sentence says
@@ -140,7 +140,7 @@ is_data_read _ = false
 abbrev pub TriggerBoundLaw : Type 0
 TriggerBoundLaw = (start : State) (past : List Entry) → IsTrue (is_fitting start past)
     → sum_by (λ (entry : Entry). answer_count entry.asked) past
-      ≤ 2 + 2 * count_by is_identification_read (kinds start past) + count_by is_data_read (kinds start past)
+    ≤ 2 + 2 * count_by is_identification_read (kinds start past) + count_by is_data_read (kinds start past)
 
 -- a place where waiting bytes are told of: it accepts a byte, or is an interrupt-enable write
 abbrev pub tells_of_bytes : Kind → List ℕ → Bool
@@ -193,7 +193,7 @@ OutputLaw = (start : State) (past newest : List Entry) → IsTrue (is_fitting st
 abbrev pub OneCallLaw : Type 0
 OneCallLaw = (s : State) (act : Deed) (asked : Asked)
     → taken_by (kind s [] act) s.in_buffer ++ (next s act asked).in_buffer
-      ≡ s.in_buffer ++ accepted_by (kind s [] act) s.in_buffer
+    ≡ s.in_buffer ++ accepted_by (kind s [] act) s.in_buffer
 
 -- the events that tell the fate of a byte
 abbrev pub tells_fate : Event → Bool

@@ -1,0 +1,4 @@
+mod Bytes
+mod RegisterSteps
+mod Rows
+mod SerialRows
