@@ -1,4 +1,6 @@
+mod ByKind
 mod Bytes
+mod Held
 mod RegisterSteps
 mod Rows
 mod SerialRows
