@@ -94,7 +94,7 @@ held_bytes_law start (entry ∷ past) =
 
 -- ---- data ready
 
-not_empty-append : (old : List ℕ) (byte : ℕ) (bytes : List ℕ) → not_empty (old ++ byte ∷ bytes) ≡ true
+pub not_empty-append : (old : List ℕ) (byte : ℕ) (bytes : List ℕ) → not_empty (old ++ byte ∷ bytes) ≡ true
 not_empty-append [] byte bytes = refl
 not_empty-append (first ∷ old) byte bytes = refl
 

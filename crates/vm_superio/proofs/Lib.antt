@@ -2,7 +2,9 @@ mod Asks
 mod ByKind
 mod Bytes
 mod Held
+mod OneCall
 mod Pending
 mod RegisterSteps
 mod Rows
+mod Runs
 mod SerialRows

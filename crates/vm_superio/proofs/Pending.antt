@@ -26,11 +26,11 @@ abbrev receive_called : Kind → List ℕ → ℕ → Bool → Bool
 receive_called k held enable receive = receive_raised_by k held enable && not receive
 
 -- the conditions that are pending afterwards
-abbrev transmit_next : Kind → List ℕ → ℕ → Asked → Bool → Bool → Bool
+abbrev pub transmit_next : Kind → List ℕ → ℕ → Asked → Bool → Bool → Bool
 transmit_next k held enable asked transmit receive =
     transmit_raised_by k enable (receive_called k held enable receive && is_refused asked) || (not (acknowledges_transmit k) && transmit)
 
-abbrev receive_next : Kind → List ℕ → ℕ → Bool → Bool
+abbrev pub receive_next : Kind → List ℕ → ℕ → Bool → Bool
 receive_next k held enable receive = receive_raised_by k held enable || (not (acknowledges_receive k) && receive)
 
 received_pending : (new : List ℕ) (s : State) (transmit receive_before : Bool)
@@ -51,7 +51,7 @@ abbrev enabled : List ℕ → ℕ → Asked → ℕ → ℕ
 enabled held value asked old = enabled_if (receive_becomes_pending held (masked value 0x0F) old && is_refused asked) held value old
 
 -- from the identification of two conditions to that of the next two
-pending_by_kind : (k : Kind) (asked : Asked) (s : State) (transmit receive : Bool)
+pub pending_by_kind : (k : Kind) (asked : Asked) (s : State) (transmit receive : Bool)
     → s.interrupt_identification ≡ identification_of transmit receive
     → (by_kind k asked s).interrupt_identification
     ≡ identification_of (transmit_next k s.in_buffer s.interrupt_enable asked transmit receive)

@@ -74,7 +74,7 @@ StateLaw = (start : State) (past : List Entry) → Coherent start → start.line
 -- and a call answers what the history replies: the guest read, or the other answer
 abbrev pub AnswerLaw : Type 0
 AnswerLaw = (start : State) (past : List Entry) (entry : Entry) → Coherent start → start.line_status < 256
-    → answer (state_after start past) entry.act entry.asked entry.sent ≡ reply start past entry
+    → answer (state_after start past) entry.act entry.asked entry.sent ≡ reply start past entry.act entry.asked entry.sent
 
 -- ---- a whole run
 
@@ -91,7 +91,7 @@ abbrev pub FollowHistory : State → List Entry → List (Entry × Answer) → S
 FollowHistory start past [] end = end ≡ described start past
 FollowHistory start past (call ∷ later) end =
     IsTrue (record_fits start past call.0)
-    × (call.1 ≡ reply start past call.0)
+    × (call.1 ≡ reply start past call.0.act call.0.asked call.0.sent)
     × FollowHistory start (call.0 ∷ past) later end
 
 -- from a coherent start the first is the second, and the end is coherent

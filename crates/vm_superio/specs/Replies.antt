@@ -1,5 +1,7 @@
 -- What a past tells of a serial port, III: what a guest reads, what the other calls answer, and what went to the writer.
 use Rattle.std.specs.Prelude.{ℕ, ◌+◌, ◌==◌, ◌||◌, nat_le, if◌then◌else◌, List, [], ◌∷◌, ◌++◌, length, slice_index}
+use Rattle.vm_superio.specs.declared.run.Asked.{Asked}
+use Rattle.vm_superio.specs.declared.run.Sent.{Sent}
 use Rattle.vm_superio.specs.State.{State, not_empty, with_data_ready}
 use Rattle.vm_superio.specs.Registers.{Register, DivisorLow, DivisorHigh, Data, InterruptEnable, InterruptIdentification, LineControl, ModemControl, LineStatus, ModemStatus, Scratch, Unknown, register, identification_of, modem_status_read}
 use Rattle.vm_superio.specs.Acts.{Deed, Reads, Writes, Enqueues, Restores, Entry, Answer, Given, Added, TriggerRefused, FifoFull, NoAnswer, is_refused, write_answer}
@@ -35,22 +37,19 @@ guest_read start past offset = register_read (register (dlab start past) offset)
 
 -- an enqueue answers 0 in loopback or for no bytes; else that the FIFO is full where 64 bytes are held; else the
 -- trigger's refusal; else how many bytes it accepted
-abbrev pub enqueue_reply : State → List Entry → List ℕ → Entry → Answer
-enqueue_reply start past bytes entry =
+abbrev pub enqueue_reply : State → List Entry → List ℕ → Asked → Answer
+enqueue_reply start past bytes asked =
     if loopback start past || (length bytes == 0) then Added 0
     else (if nat_le 64 (length (held start past)) then FifoFull
-    else (if is_refused entry.asked then TriggerRefused
-    else Added (length (accepted_by (kind start past entry.act) (held start past)))))
+    else (if is_refused asked then TriggerRefused
+    else Added (length (accepted_by (kind start past (Enqueues bytes)) (held start past)))))
 
--- what a call answers at its place
-abbrev pub reply_to : State → List Entry → Entry → Deed → Answer
-reply_to start past entry (Reads offset) = Given (guest_read start past offset)
-reply_to start past entry (Writes offset value) = write_answer entry.asked entry.sent
-reply_to start past entry (Enqueues bytes) = enqueue_reply start past bytes entry
-reply_to start past entry Restores = NoAnswer
-
-abbrev pub reply : State → List Entry → Entry → Answer
-reply start past entry = reply_to start past entry entry.act
+-- what a call answers: a read what the guest reads, a write by what it asked and sent, a restore nothing
+abbrev pub reply : State → List Entry → Deed → Asked → Sent → Answer
+reply start past (Reads offset) asked what = Given (guest_read start past offset)
+reply start past (Writes offset value) asked what = write_answer asked what
+reply start past (Enqueues bytes) asked what = enqueue_reply start past bytes asked
+reply start past Restores asked what = NoAnswer
 
 -- ---- the output and the state
 
