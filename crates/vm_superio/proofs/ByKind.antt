@@ -1,5 +1,5 @@
 -- A call by what its act is: the call cases go by registers, the history by kinds.
-use Rattle.std.proofs.Common.{◌≡◌, ℕ, Bool, true, false, List, [], refl, ap, ◌∙◌}
+use Rattle.std.proofs.Common.{◌≡◌, ℕ, Bool, true, false, List, [], refl, ap, subst, ◌∙◌, ◌∷◌}
 use Rattle.vm_superio.specs.declared.run.Asked.{Asked}
 use Rattle.vm_superio.specs.State.{State, masked, not_empty}
 use Rattle.vm_superio.specs.Registers.{Register, Data, InterruptEnable, InterruptIdentification, register, is_dlab, is_loopback, Transmit}
@@ -8,11 +8,12 @@ use Rattle.vm_superio.specs.Asking.{becomes_pending, ask, fitting, accepted_of, 
 use Rattle.vm_superio.specs.Fits.{one_if, receive_due, enable_due, write_due, due, write_sends, sends}
 use Rattle.vm_superio.specs.Calls.{next, data_read, enable_write, read_next, write_next}
 use Rattle.vm_superio.specs.History.{Kind, DataRead, IdentificationRead, EnableWrite, DataWrite, Arrival, Other, read_kind, write_kind, kind_of, kind, sent_by, dlab}
-use Rattle.vm_superio.specs.Laws.{RegistersAgree}
+use Rattle.vm_superio.specs.Laws.{state_after}
+use Rattle.vm_superio.proofs.RegisterSteps.{register_law}
 
 -- ---- the state
 
--- what an act of this kind leaves of the identification, the line status and the bytes
+-- what an act of this kind leaves of interrupt enable, the identification, the line status and the bytes
 abbrev pub by_kind : Kind → Asked → State → State
 by_kind DataRead asked s = data_read s
 by_kind IdentificationRead asked s = record s { interrupt_identification = 1 }
@@ -23,12 +24,13 @@ by_kind (Arrival bytes) asked s = receive (fitting s.in_buffer bytes) s
 by_kind Other asked s = s
 
 pub record SameBytes (one other : State) : Type 0 where
+  pub interrupt_enable : one.interrupt_enable ≡ other.interrupt_enable
   pub interrupt_identification : one.interrupt_identification ≡ other.interrupt_identification
   pub line_status : one.line_status ≡ other.line_status
   pub in_buffer : one.in_buffer ≡ other.in_buffer
 
 same_bytes : (s : State) → SameBytes s s
-same_bytes s = record { interrupt_identification = refl; line_status = refl; in_buffer = refl }
+same_bytes s = record { interrupt_enable = refl; interrupt_identification = refl; line_status = refl; in_buffer = refl }
 
 read_by_kind : (r : Register) (asked : Asked) (s : State) → SameBytes (read_next r s) (by_kind (read_kind r) asked s)
 read_by_kind Data asked s = same_bytes _
@@ -40,7 +42,7 @@ write_by_kind : (r : Register) (loopback : Bool) (value : ℕ) (asked : Asked) (
 write_by_kind Data true value asked s e = rw e (same_bytes _)
 write_by_kind Data false value asked s e = rw e (same_bytes _)
 write_by_kind InterruptEnable loopback value asked s e = same_bytes _
-write_by_kind _ loopback value asked s e = record { interrupt_identification = refl; line_status = refl; in_buffer = refl }
+write_by_kind _ loopback value asked s e = record { interrupt_enable = refl; interrupt_identification = refl; line_status = refl; in_buffer = refl }
 
 enqueue_by_kind : (loopback dlab : Bool) (bytes : List ℕ) (asked : Asked) (s : State) → is_loopback s.modem_control ≡ loopback
     → SameBytes (receive (accepted_of s bytes) s) (by_kind (kind_of dlab loopback (Enqueues bytes)) asked s)
@@ -110,8 +112,18 @@ sends_by s Restores = refl
 
 -- ---- the place
 
--- where the registers agree the state alone tells what an act is
-pub same_kind : (start : State) (past : List Entry) (s : State) (act : Deed) → RegistersAgree start past s → kind s [] act ≡ kind start past act
-same_kind start past s act agree =
-    ap (λ byte. kind_of (is_dlab byte) (is_loopback s.modem_control) act) agree.line_control
-    ∙ ap (λ byte. kind_of (dlab start past) (is_loopback byte) act) agree.modem_control
+-- the state after a past tells what an act is at that place
+pub same_kind : (start : State) (past : List Entry) (act : Deed) → kind (state_after start past) [] act ≡ kind start past act
+same_kind start past act =
+    let s = state_after start past in
+    let registers = register_law start past in
+    ap (λ byte. kind_of (is_dlab byte) (is_loopback s.modem_control) act) registers.line_control
+    ∙ ap (λ byte. kind_of (dlab start past) (is_loopback byte) act) registers.modem_control
+
+-- so the state after one more record is that by its kind there
+pub next_at_place : (start : State) (past : List Entry) (entry : Entry)
+    → SameBytes (state_after start (entry ∷ past)) (by_kind (kind start past entry.act) entry.asked (state_after start past))
+next_at_place start past entry =
+    let s = state_after start past in
+    subst (λ (k : Kind). SameBytes (next s entry.act entry.asked) (by_kind k entry.asked s)) (same_kind start past entry.act)
+    (next_by_kind s entry.act entry.asked)

@@ -11,8 +11,7 @@ use Rattle.vm_superio.specs.History.{Kind, DataRead, IdentificationRead, Arrival
 use Rattle.vm_superio.specs.Replies.{line_status}
 use Rattle.vm_superio.specs.Laws.{state_after, HeldBytesLaw, LineStatusLaw, TakenThenHeldLaw, OneCallLaw}
 use Rattle.vm_superio.proofs.Bytes.{data_ready_right, data_ready_twice}
-use Rattle.vm_superio.proofs.ByKind.{by_kind, next_by_kind, same_kind}
-use Rattle.vm_superio.proofs.RegisterSteps.{register_law}
+use Rattle.vm_superio.proofs.ByKind.{by_kind, next_by_kind, next_at_place}
 
 -- ---- one act
 
@@ -86,8 +85,7 @@ held_bytes_law start [] = sym (append-nil start.in_buffer)
 held_bytes_law start (entry ∷ past) =
     let s = state_after start past in
     let k = kind start past entry.act in
-    (next_by_kind s entry.act entry.asked).in_buffer
-    ∙ ap (λ (k : Kind). (by_kind k entry.asked s).in_buffer) (same_kind start past s entry.act (register_law start past))
+    (next_at_place start past entry).in_buffer
     ∙ left_by_kind k entry.asked s
     ∙ ap (λ bytes. drop (length (taken_by k bytes)) (bytes ++ accepted_by k bytes)) (held_bytes_law start past)
     ∙ sym (held_more start past entry (taken_then_held start past))

@@ -4,6 +4,7 @@ mod Bytes
 mod Held
 mod OneCall
 mod Pending
+mod Places
 mod RegisterSteps
 mod Rows
 mod Runs

@@ -15,7 +15,7 @@ use Rattle.vm_superio.specs.Replies.{identification}
 use Rattle.vm_superio.specs.Calls.{restore_calls}
 use Rattle.vm_superio.specs.Laws.{state_after, InterruptLaw}
 use Rattle.vm_superio.proofs.Asks.{receive_bit, transmit_bit, read_clears, ask_receive, ask_transmit, receive_new, transmit_new, enable_receives, enable_leaves, enable_transmits, answers_counted, fate_told}
-use Rattle.vm_superio.proofs.ByKind.{by_kind, next_by_kind, same_kind, due_by_kind, due_by, sends_by}
+use Rattle.vm_superio.proofs.ByKind.{by_kind, next_at_place, same_kind, due_by_kind, due_by, sends_by}
 use Rattle.vm_superio.proofs.RegisterSteps.{register_law}
 use Rattle.vm_superio.proofs.Held.{held_bytes_law}
 
@@ -138,8 +138,7 @@ pending_law start (entry ∷ past) transmit receive e =
     let t = transmit_pending start past in
     let r = receive_pending start past in
     let next_of = λ (bytes : List ℕ) (enable : ℕ). identification_of (transmit_next k bytes enable entry.asked t r) (receive_next k bytes enable r) in
-    (next_by_kind s entry.act entry.asked).interrupt_identification
-    ∙ ap (λ (k : Kind). (by_kind k entry.asked s).interrupt_identification) (same_kind start past s entry.act registers)
+    (next_at_place start past entry).interrupt_identification
     ∙ pending_by_kind k entry.asked s t r (pending_law start past transmit receive e)
     ∙ ap (λ bytes. next_of bytes s.interrupt_enable) (held_bytes_law start past)
     ∙ ap (next_of (held start past)) registers.interrupt_enable
@@ -152,7 +151,7 @@ fits_law start past transmit receive entry e =
     let s = state_after start past in
     let k = kind start past entry.act in
     let registers = register_law start past in
-    let same = same_kind start past s entry.act registers in
+    let same = same_kind start past entry.act in
     let t = transmit_pending start past in
     let r = receive_pending start past in
     let fate = beq (is_sent entry.sent) (not_empty (sent_by k)) in
