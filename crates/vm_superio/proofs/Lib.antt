@@ -1,5 +1,6 @@
 mod Asks
 mod ByKind
+mod Bounds
 mod Bytes
 mod Held
 mod OneCall
@@ -9,3 +10,5 @@ mod RegisterSteps
 mod Rows
 mod Runs
 mod SerialRows
+mod Views
+mod Writing

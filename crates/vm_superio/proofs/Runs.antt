@@ -116,7 +116,7 @@ fifos_shown true false = refl
 fifos_shown false true = refl
 fifos_shown false false = refl
 
-read_told : (r : Register) (start : State) (past : List Entry) → read_answer r (described start past) ≡ register_read r start past
+pub read_told : (r : Register) (start : State) (past : List Entry) → read_answer r (described start past) ≡ register_read r start past
 read_told InterruptIdentification start past = fifos_shown _ _
 read_told _ start past = refl
 
