@@ -1,0 +1,3 @@
+pub mod PiecesLemmas
+pub mod ReadLemmas
+pub mod ScriptLemmas

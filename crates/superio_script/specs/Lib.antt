@@ -1,0 +1,7 @@
+pub mod Pieces
+pub mod Command
+pub mod Line
+pub mod Reply
+pub mod Board
+pub mod Script
+pub mod Fault

@@ -1,0 +1,169 @@
+//! A whole script, from a reader to a writer.
+ghost use Rattle.std.specs.Prelude.{◌≡◌, ◌≢◌, ℕ, ◌<◌, ◌≤◌, length, IfOk, IfErr, IfSome, OnOk, vec_len, take, Some, None};
+ghost use Rattle.std.specs.Io.KnownBytes.{Keeps, Appends, Consumes, IsAtEnd};
+ghost use Rattle.superio_script.specs.Script.{text_of, first_bad_of, RunsUpTo};
+
+use crate::devices::{Board, LineFault};
+use crate::pieces::Lines;
+use crate::replies::Reply;
+use std::alloc::Global;
+use std::error::Error;
+use std::io::{Read, Write};
+use std::{fmt, io};
+
+/// The most bytes that a script may have.
+const SCRIPT_LIMIT: usize = 65_536;
+
+/// Why a run of a script ended early.
+#[derive(Clone, Copy, Debug, PartialEq, Eq)]
+pub enum ScriptFault {
+    /// The line with this number, counted from 1, has no form.
+    Bad(usize),
+    /// The reader or the writer failed.
+    Io,
+    /// Memory was refused.
+    Memory,
+    /// The script has more than 65,536 bytes.
+    TooLong,
+}
+
+impl ScriptFault {
+    ghost use Rattle.superio_script.specs.Fault.{status_of};
+
+    /// The exit status of a program that ends by this fault, from 1 to 4.
+    pub fn status(&self) -> u8
+        ensures { result ≡ status_of self.now }
+    {
+        match self {
+            ScriptFault::Bad(_) => 1,
+            ScriptFault::Io => 2,
+            ScriptFault::Memory => 3,
+            ScriptFault::TooLong => 4,
+        }
+    }
+}
+
+impl fmt::Display for ScriptFault {
+    ghost use Rattle.superio_script.specs.Fault.{message_of};
+    ghost use Rattle.std.specs.Prelude.{Some};
+
+    ghost output = { λ fault. Some (message_of fault) };
+
+    fn fmt<W: fmt::Write>(&self, f: &mut fmt::Formatter<W>) -> fmt::Result {
+        match self {
+            ScriptFault::Bad(number) => write!(f, "bad line {number}"),
+            ScriptFault::Io => write!(f, "input or output fault"),
+            ScriptFault::Memory => write!(f, "out of memory"),
+            ScriptFault::TooLong => write!(f, "script too long"),
+        }
+    }
+}
+
+impl Error for ScriptFault {}
+
+/// Room for `len` bytes, all 0.
+fn room(alloc: Global, len: usize) -> Result<Vec<u8>, ScriptFault>
+    ensures made { IfOk result (λ room. vec_len room ≡ len) }
+    ensures only_memory { IfErr result (λ fault. fault ≡ ScriptFault.Memory) }
+{
+    vec![in alloc; 0; len].map_err(|_| ScriptFault::Memory)
+}
+
+/// Reads until the room is full or the input ends, and answers how many bytes came.
+fn fill<R: Read>(reader: &mut R, room: &mut [u8]) -> io::Result<usize>
+    ensures within { IfOk result (λ filled. filled ≤ length room.old) }
+    ensures read { IfOk result (λ filled. Consumes (R.remaining reader.old) (R.remaining reader.new) (take filled room.new)) }
+    ensures none_left { IfOk result (λ filled. filled < length room.old → IsAtEnd (R.remaining reader.new)) }
+{
+    let mut filled = 0;
+    while filled < room.len() {
+        match reader.read(&mut room[filled..])? {
+            0 => break,
+            count => filled += count,
+        }
+    }
+    Ok(filled)
+}
+
+/// Reads the whole script.
+fn read_script<R: Read>(alloc: Global, reader: &mut R) -> Result<Vec<u8>, ScriptFault>
+    ensures whole { IfOk result (λ script. IfSome (R.remaining reader.old) (λ all. script.items ≡ all)) }
+    ensures none_left { OnOk result (IsAtEnd (R.remaining reader.new)) }
+    ensures fits { IfOk result (λ script. vec_len script ≤ SCRIPT_LIMIT) }
+    ensures too_long { result ≡ Err ScriptFault.TooLong → IfSome (R.remaining reader.old) (λ all. SCRIPT_LIMIT < length all) }
+    ensures never_bad { (number : ℕ) → result ≢ Err (ScriptFault.Bad number) }
+{
+    let mut script = room(alloc, SCRIPT_LIMIT + 1)?;
+    let filled = fill(reader, &mut script).map_err(|_| ScriptFault::Io)?;
+    if filled > SCRIPT_LIMIT {
+        return Err(ScriptFault::TooLong);
+    }
+    script.truncate(filled);
+    Ok(script)
+}
+
+/// Writes a reply.
+fn print<W: Write>(writer: &mut W, reply: &Reply) -> Result<(), ScriptFault>
+    ensures written { OnOk result (Appends (W.contents writer.old) (W.contents writer.new) reply.now.items) }
+    ensures only_io { IfErr result (λ fault. fault ≡ ScriptFault.Io) }
+{
+    writer
+        .write_all(reply.as_slice())
+        .map_err(|_| ScriptFault::Io)
+}
+
+/// Carries out the lines of a script, and writes their replies.
+fn write_replies<W: Write>(
+    alloc: Global,
+    board: &mut Board,
+    script: &[u8],
+    writer: &mut W,
+) -> Result<(), ScriptFault>
+    ensures ok { OnOk result ((first_bad_of script.now ≡ None)
+        × Appends (W.contents writer.old) (W.contents writer.new) (text_of 0 script.now)) }
+    ensures bad { (number : ℕ) → result ≡ Err (ScriptFault.Bad number) → (first_bad_of script.now ≡ Some number)
+        × Appends (W.contents writer.old) (W.contents writer.new) (text_of 0 script.now) }
+    ensures never_memory { result ≢ Err ScriptFault.Memory }
+    ensures never_long { result ≢ Err ScriptFault.TooLong }
+{
+    let mut lines = Lines::of(script);
+    let mut number = 0;
+    while let Some(line) = lines.next_line() {
+        number += 1;
+        let reply = match board.line(alloc, line) {
+            Ok(reply) => reply,
+            Err(LineFault::Bad) => return Err(ScriptFault::Bad(number)),
+            Err(LineFault::Memory) => return Err(ScriptFault::Memory),
+        };
+        print(writer, &reply)?;
+    }
+    Ok(())
+}
+
+/// Runs a script: reads it from `reader` to the end, carries out its lines on a fresh board, and writes the replies to
+/// `writer`, which is flushed after the last one.
+///
+/// # Errors
+///
+/// [`ScriptFault::Bad`] with the number of the first line that has no form, after the replies to the lines before it.
+/// [`ScriptFault::TooLong`] where more than 65,536 bytes came, and [`ScriptFault::Memory`] where the room for them was
+/// refused: nothing is written then. [`ScriptFault::Io`] where a read, a write or the flush failed: after a read that
+/// failed nothing is written, and after the others it is not said what was.
+pub fn run_script<R: Read, W: Write>(
+    alloc: Global,
+    reader: &mut R,
+    writer: &mut W,
+) -> Result<(), ScriptFault>
+    ensures ok { OnOk result (IfSome (R.remaining reader.old) (λ script.
+        RunsUpTo None script (R.remaining reader.new) (W.contents writer.old) (W.contents writer.new))) }
+    ensures bad { (number : ℕ) → result ≡ Err (ScriptFault.Bad number) → IfSome (R.remaining reader.old) (λ script.
+        RunsUpTo (Some number) script (R.remaining reader.new) (W.contents writer.old) (W.contents writer.new)) }
+    ensures too_long { result ≡ Err ScriptFault.TooLong → IfSome (R.remaining reader.old) (λ script. SCRIPT_LIMIT < length script) }
+    ensures too_long_unwritten { result ≡ Err ScriptFault.TooLong → writer.new ≡ writer.old }
+    ensures memory_unwritten { result ≡ Err ScriptFault.Memory → writer.new ≡ writer.old }
+{
+    let script = read_script(alloc, reader)?;
+    let mut board = Board::new(alloc, 0)?;
+    write_replies(alloc, &mut board, &script, writer)?;
+    writer.flush().map_err(|_| ScriptFault::Io)
+}

@@ -1,0 +1,88 @@
+//! The interrupt line of a script, as a trigger.
+ghost use Rattle.std.specs.Prelude.{◌≡◌, Some, codes};
+
+use std::error::Error;
+use std::fmt;
+use std::marker::Model;
+use vm_superio::Trigger;
+
+/// The refusal of a call of a [`Line`].
+#[derive(Clone, Copy, Debug, PartialEq, Eq)]
+pub struct LineRefused;
+
+impl fmt::Display for LineRefused {
+    ghost output = { λ _. Some (codes "line refused") };
+
+    fn fmt<W: fmt::Write>(&self, f: &mut fmt::Formatter<W>) -> fmt::Result {
+        write!(f, "line refused")
+    }
+}
+
+impl Error for LineRefused {}
+
+/// An interrupt line that counts its calls, and refuses those that a mask names.
+///
+/// The calls are numbered from 0. Call number k is refused where k is below 64 and bit k of the mask is set, bit 0
+/// being the lowest.
+#[derive(Clone, Copy)]
+pub struct Line {
+    calls: u64,
+    mask: u64,
+}
+
+impl Model for Line {
+    ghost use Rattle.superio_script.specs.Line.{LineCalls};
+
+    ghost Value = { LineCalls };
+
+    ghost view = { λ line. record { calls = line.calls; mask = line.mask } };
+
+    ghost inverse = { λ line. record { calls = line.calls; mask = line.mask } };
+}
+
+impl Line {
+    ghost use Rattle.superio_script.specs.Line.{fresh_line};
+
+    /// A line that was not called, with this mask.
+    pub fn new(mask: u64) -> Line
+        ensures { result ≡ fresh_line mask }
+    {
+        Line { calls: 0, mask }
+    }
+
+    /// How often the line was called, refused calls included. The count stays at 2^64 - 1.
+    pub fn calls(&self) -> u64
+        ensures { result ≡ self.now.calls }
+    {
+        self.calls
+    }
+
+    /// Which calls are refused.
+    pub fn mask(&self) -> u64
+        ensures { result ≡ self.now.mask }
+    {
+        self.mask
+    }
+}
+
+impl Trigger for Line {
+    type E = LineRefused;
+
+    ghost use Rattle.superio_script.specs.Line.{LineLink, LineLink-append};
+
+    ghost link = { LineLink };
+
+    ghost no_call = { λ x y. (λ same. same, λ same. same) };
+
+    ghost joined = { LineLink-append };
+
+    fn trigger(&mut self) -> Result<(), LineRefused> {
+        let number = self.calls;
+        self.calls = number.saturating_add(1);
+        if number < 64 && self.mask >> number & 1 == 1 {
+            Err(LineRefused)
+        } else {
+            Ok(())
+        }
+    }
+}
