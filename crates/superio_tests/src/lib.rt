@@ -1,0 +1,12 @@
+//! Tests of what no contract says, and of whether the contracts say what is meant: values from outside, printed text,
+//! and streams that fail.
+#![tactic(auto)]
+
+#[cfg(test)]
+mod memory;
+#[cfg(test)]
+mod reset_controller;
+#[cfg(test)]
+mod scripts;
+#[cfg(test)]
+mod streams;

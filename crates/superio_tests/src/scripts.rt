@@ -1,0 +1,261 @@
+//! Whole scripts: what they print, and how they end.
+use crate::streams::{Source, Target};
+use std::alloc::{AllocError, Global};
+use std::io::ErrorKind;
+use std::process::Abort;
+use std::test::Fail;
+use superio_script::{Board, Line, LineFault, LineRefused, ScriptFault, run_script};
+
+/// Runs a script over memory, and compares what it prints and how it ends.
+fn expect_run(
+    rt: &impl Abort,
+    alloc: Global,
+    script: &[u8],
+    printed: &[u8],
+    end: Result<(), ScriptFault>,
+) {
+    let mut reader = script;
+    let mut writer = Vec::new(alloc);
+    let outcome = run_script(alloc, &mut reader, &mut writer);
+    assert_eq!(rt; outcome, end, "{script:?}");
+    assert_eq!(rt; writer.as_slice(), printed, "{script:?}");
+}
+
+#[test]
+fn scripts_print_their_replies(rt: HostRuntime) {
+    let rows: [(&[u8], &[u8], Result<(), ScriptFault>); 22] = [
+        (
+            b"kw 04 fe\nkw 05 fe\nsr 5\n",
+            b"reset\nok\n",
+            Err(ScriptFault::Bad(3)),
+        ),
+        (b"kw 04 fe\nkw 04 ff\nkr 04\n", b"reset\nok\n00\n", Ok(())),
+        (b"", b"", Ok(())),
+        (b"\n", b"", Err(ScriptFault::Bad(1))),
+        (b"kr 0A\nkr ff\n", b"00\n00\n", Ok(())),
+        (b"kr aF\nkr Fa\n", b"00\n00\n", Ok(())),
+        // The last line may lack its LF.
+        (b"kw 04 FE", b"reset\n", Ok(())),
+        (b"kw 04 fE\nkw 04 Fe", b"reset\nreset\n", Ok(())),
+        // Command letters are lower case.
+        (
+            b"kw 04 fe\nKW 04 fe\n",
+            b"reset\n",
+            Err(ScriptFault::Bad(2)),
+        ),
+        (b"kr 04\r\n", b"", Err(ScriptFault::Bad(1))),
+        (b"kr 04\n\n", b"00\n", Err(ScriptFault::Bad(2))),
+        (b"kr \xFF4\n", b"", Err(ScriptFault::Bad(1))),
+        (b"\xFF\n", b"", Err(ScriptFault::Bad(1))),
+        (b"kr 4\n", b"", Err(ScriptFault::Bad(1))),
+        (b"kr 004\n", b"", Err(ScriptFault::Bad(1))),
+        (b"kr  04\n", b"", Err(ScriptFault::Bad(1))),
+        (b" kr 04\n", b"", Err(ScriptFault::Bad(1))),
+        (b"kr 04 \n", b"", Err(ScriptFault::Bad(1))),
+        (b"kr 0g\n", b"", Err(ScriptFault::Bad(1))),
+        (b"kr\n", b"", Err(ScriptFault::Bad(1))),
+        (b"kw 04\n", b"", Err(ScriptFault::Bad(1))),
+        (
+            b"refuse 0000000000000000\nkr 04\n",
+            b"",
+            Err(ScriptFault::Bad(1)),
+        ),
+    ];
+    for (script, printed, end) in rows {
+        expect_run(&rt, rt.alloc(), script, printed, end);
+    }
+}
+
+/// A line, written over and over.
+fn repeated(alloc: Global, line: &[u8], times: u32) -> Result<Vec<u8>, AllocError> {
+    let mut script = Vec::new(alloc);
+    for _ in 0..times {
+        script.extend_from_slice(line)?;
+    }
+    Ok(script)
+}
+
+#[test]
+fn a_script_ends_at_its_limit(rt: HostRuntime) -> Result<(), Fail> {
+    let alloc = rt.alloc();
+    let mut script = repeated(alloc, b"kr 04\n", 10_922)?;
+    let replies = repeated(alloc, b"00\n", 10_922)?;
+    assert_eq!(rt; script.len(), 65_532);
+    expect_run(&rt, alloc, &script, &replies, Ok(()));
+
+    // 65,536 bytes are a script, whose last line is bad here.
+    script.extend_from_slice(b"kr 0")?;
+    expect_run(&rt, alloc, &script, &replies, Err(ScriptFault::Bad(10_923)));
+    script.extend_from_slice(b"4")?;
+    expect_run(&rt, alloc, &script, b"", Err(ScriptFault::TooLong));
+    Ok(())
+}
+
+/// Three accesses of the controller, in 24 bytes, and their replies, in 12.
+const SCRIPT: &[u8] = b"kw 04 fe\nkr 04\nkw 04 ff\n";
+
+const REPLIES: &[u8] = b"reset\n00\nok\n";
+
+#[test]
+fn streams_may_move_bytes_in_pieces_of_any_size(rt: HostRuntime) -> Result<(), Fail> {
+    for step in 1..=32 {
+        let mut reader = Source::of(SCRIPT, step);
+        let mut writer = Target::new(Vec::new(rt.alloc()), step);
+        assert_eq!(rt; run_script(rt.alloc(), &mut reader, &mut writer), Ok(()));
+        assert_eq!(rt; writer.bytes.as_slice(), REPLIES, "in pieces of {step}");
+    }
+    Ok(())
+}
+
+/// Every kind of fault that a stream can report.
+const KINDS: [ErrorKind; 42] = [
+    ErrorKind::NotFound,
+    ErrorKind::PermissionDenied,
+    ErrorKind::ConnectionRefused,
+    ErrorKind::ConnectionReset,
+    ErrorKind::HostUnreachable,
+    ErrorKind::NetworkUnreachable,
+    ErrorKind::ConnectionAborted,
+    ErrorKind::NotConnected,
+    ErrorKind::AddrInUse,
+    ErrorKind::AddrNotAvailable,
+    ErrorKind::NetworkDown,
+    ErrorKind::BrokenPipe,
+    ErrorKind::AlreadyExists,
+    ErrorKind::WouldBlock,
+    ErrorKind::NotADirectory,
+    ErrorKind::IsADirectory,
+    ErrorKind::DirectoryNotEmpty,
+    ErrorKind::ReadOnlyFilesystem,
+    ErrorKind::FilesystemLoop,
+    ErrorKind::StaleNetworkFileHandle,
+    ErrorKind::InvalidInput,
+    ErrorKind::InvalidData,
+    ErrorKind::TimedOut,
+    ErrorKind::WriteZero,
+    ErrorKind::StorageFull,
+    ErrorKind::NotSeekable,
+    ErrorKind::QuotaExceeded,
+    ErrorKind::FileTooLarge,
+    ErrorKind::ResourceBusy,
+    ErrorKind::ExecutableFileBusy,
+    ErrorKind::Deadlock,
+    ErrorKind::CrossesDevices,
+    ErrorKind::TooManyLinks,
+    ErrorKind::InvalidFilename,
+    ErrorKind::ArgumentListTooLong,
+    ErrorKind::Interrupted,
+    ErrorKind::Unsupported,
+    ErrorKind::UnexpectedEof,
+    ErrorKind::OutOfMemory,
+    ErrorKind::InProgress,
+    ErrorKind::Other,
+    ErrorKind::Uncategorized,
+];
+
+#[test]
+fn a_read_that_fails_leaves_nothing_written(rt: HostRuntime) -> Result<(), Fail> {
+    for fault in KINDS {
+        // The script comes in six pieces, and a seventh read finds the end.
+        for calls in 0..7 {
+            let mut reader = Source {
+                calls_to_fault: Some(calls),
+                fault,
+                ..Source::of(SCRIPT, 4)
+            };
+            let mut writer = Target::new(Vec::new(rt.alloc()), 32);
+            assert_eq!(rt;
+                run_script(rt.alloc(), &mut reader, &mut writer),
+                Err(ScriptFault::Io),
+                "{fault:?} at {calls}"
+            );
+            assert_eq!(rt; writer.writes, 0);
+            assert_eq!(rt; writer.flushes, 0);
+        }
+        let mut reader = Source {
+            calls_to_fault: Some(7),
+            fault,
+            ..Source::of(SCRIPT, 4)
+        };
+        let mut writer = Target::new(Vec::new(rt.alloc()), 32);
+        assert_eq!(rt; run_script(rt.alloc(), &mut reader, &mut writer), Ok(()));
+    }
+    Ok(())
+}
+
+#[test]
+fn a_write_that_fails_ends_the_run(rt: HostRuntime) -> Result<(), Fail> {
+    // The three replies go out in three pieces, two and two.
+    for calls in 0..7 {
+        let mut reader = SCRIPT;
+        let mut writer = Target {
+            writes_to_fault: Some(calls),
+            ..Target::new(Vec::new(rt.alloc()), 2)
+        };
+        assert_eq!(rt;
+            run_script(rt.alloc(), &mut reader, &mut writer),
+            Err(ScriptFault::Io),
+            "at {calls}"
+        );
+        assert_eq!(rt; writer.flushes, 0);
+    }
+    Ok(())
+}
+
+#[test]
+fn a_good_script_is_flushed_once(rt: HostRuntime) -> Result<(), Fail> {
+    let mut reader = SCRIPT;
+    let mut writer = Target::new(Vec::new(rt.alloc()), 32);
+    assert_eq!(rt; run_script(rt.alloc(), &mut reader, &mut writer), Ok(()));
+    assert_eq!(rt; writer.flushes, 1);
+
+    let mut reader: &[u8] = b"kr 04\nkr 5\n";
+    let mut writer = Target::new(Vec::new(rt.alloc()), 32);
+    assert_eq!(rt;
+        run_script(rt.alloc(), &mut reader, &mut writer),
+        Err(ScriptFault::Bad(2))
+    );
+    assert_eq!(rt; writer.bytes.as_slice(), b"00\n".as_slice());
+    assert_eq!(rt; writer.flushes, 0);
+
+    let mut reader = SCRIPT;
+    let mut writer = Target {
+        flush_fails: true,
+        ..Target::new(Vec::new(rt.alloc()), 32)
+    };
+    assert_eq!(rt;
+        run_script(rt.alloc(), &mut reader, &mut writer),
+        Err(ScriptFault::Io)
+    );
+    Ok(())
+}
+
+#[test]
+fn a_board_goes_on_after_a_bad_line(rt: HostRuntime) -> Result<(), Fail> {
+    let alloc = rt.alloc();
+    let mut board = Board::new(alloc, 0)?;
+    assert_eq!(rt; board.line(alloc, b"kr 04\n"), Err(LineFault::Bad));
+    for _ in 0..2 {
+        let reply = board
+            .line(alloc, b"kw 04 fe")
+            .expect(&rt, "a line with a form");
+        assert_eq!(rt; reply.as_slice(), b"reset\n".as_slice());
+    }
+    Ok(())
+}
+
+#[test]
+fn faults_have_a_status_and_a_text(rt: HostRuntime) -> Result<(), Fail> {
+    let rows = [
+        (ScriptFault::Bad(12), 1, "bad line 12"),
+        (ScriptFault::Io, 2, "input or output fault"),
+        (ScriptFault::Memory, 3, "out of memory"),
+        (ScriptFault::TooLong, 4, "script too long"),
+    ];
+    for (fault, status, text) in rows {
+        assert_eq!(rt; fault.status(), status);
+        assert_eq!(rt; fault.to_string(rt.alloc())?.as_str(), text);
+    }
+    assert_eq!(rt; LineRefused.to_string(rt.alloc())?.as_str(), "line refused");
+    Ok(())
+}
