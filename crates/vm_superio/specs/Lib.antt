@@ -1,13 +1,16 @@
 pub mod Acts
+pub mod Answers
 pub mod Asking
 pub mod Calls
 pub mod Coherent
+pub mod Errors
 pub mod Events
 pub mod Fits
 pub mod History
 pub mod Interrupts
 pub mod Laws
 pub mod Links
+pub mod Port
 pub mod Registers
 pub mod Replies
 pub mod Reset

@@ -1,20 +1,10 @@
 -- The serial port's registers: which one an offset reaches, and the bits that have a meaning.
 use Rattle.std.specs.Prelude.{ℕ, Bool, true, false, ◌==◌, if◌then◌else◌, List, [], ◌∷◌, ◌++◌}
 use Rattle.vm_superio.specs.State.{has_bits, masked, joined}
-
--- what an access reaches
-pub data Register : Type 0 where
-  DivisorLow : Register
-  DivisorHigh : Register
-  Data : Register
-  InterruptEnable : Register
-  InterruptIdentification : Register
-  LineControl : Register
-  ModemControl : Register
-  LineStatus : Register
-  ModemStatus : Register
-  Scratch : Register
-  Unknown : Register
+pub use Rattle.vm_superio.specs.declared.serial.registers.Register.{Register}
+pub use Rattle.vm_superio.specs.declared.serial.registers.Register.TheVariants.{DivisorLow, DivisorHigh, Data, InterruptEnable, InterruptIdentification, LineControl, ModemControl, LineStatus, ModemStatus, Scratch, Unknown}
+pub use Rattle.vm_superio.specs.declared.serial.registers.Condition.{Condition}
+pub use Rattle.vm_superio.specs.declared.serial.registers.Condition.TheVariants.{Receive, Transmit}
 
 -- the register at an offset: DLAB matters at offsets 0 and 1 alone, and nothing stands from offset 8 on
 abbrev pub register : Bool → ℕ → Register
@@ -36,11 +26,6 @@ is_dlab line_control = has_bits line_control 0x80
 -- loopback, a bit of the modem control
 abbrev pub is_loopback : ℕ → Bool
 is_loopback modem_control = has_bits modem_control 0x10
-
--- the two conditions that may interrupt: bytes were received, or the transmitter has room
-pub data Condition : Type 0 where
-  Receive : Condition
-  Transmit : Condition
 
 -- the bit of the interrupt enable register that enables the condition
 abbrev pub enable_bit : Condition → ℕ

@@ -8,6 +8,9 @@ use std::fmt::Debug;
 
 pub mod i8042;
 pub mod run;
+pub mod serial;
+
+mod fifo;
 
 /// A push button towards the monitor: an interrupt line, or the event that asks for a reset.
 ///

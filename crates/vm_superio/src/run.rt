@@ -25,3 +25,11 @@ pub enum Sent {
     /// The writer failed.
     Lost,
 }
+
+/// A reply, with what the call asked of the trigger and sent to the writer.
+#[derive(Drop)]
+pub(crate) struct Traced<R> {
+    pub(crate) reply: R,
+    pub(crate) asked: Asked,
+    pub(crate) sent: Sent,
+}

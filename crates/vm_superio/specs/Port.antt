@@ -1,0 +1,53 @@
+-- What a contract sees of a serial port, and of one call of it.
+use Rattle.std.specs.Prelude.{◌≡◌, ℕ, List, [], ◌∷◌, IsTrue, Option, Some, None, Result, Ok, Err}
+use Rattle.vm_superio.specs.declared.run.Asked.{Asked}
+use Rattle.vm_superio.specs.declared.run.Sent.{Sent}
+use Rattle.vm_superio.specs.declared.serial.errors.Error.{Error}
+use Rattle.vm_superio.specs.declared.serial.errors.Error.TheVariants.{Trigger, IOError, FullFifo, Memory}
+use Rattle.vm_superio.specs.State.{State}
+use Rattle.vm_superio.specs.Events.{Event}
+use Rattle.vm_superio.specs.Acts.{Deed, Answer, Written, Added, TriggerRefused, WriterFailed, FifoFull, NoAnswer}
+use Rattle.vm_superio.specs.Fits.{fits}
+use Rattle.vm_superio.specs.Calls.{answer, next, events}
+use Rattle.vm_superio.specs.Links.{answers, written, WriterLink}
+
+-- the state, and the objects that the port owns
+pub record Port (T EV W : Type 0) : Type 0 where
+  pub state : State
+  pub trigger : T
+  pub events : EV
+  pub out : W
+
+-- what a write answers, and what an enqueue does
+abbrev pub failure : {E : Type 0} → Error E → Answer
+failure (Trigger refusal) = TriggerRefused
+failure (IOError fault) = WriterFailed
+failure FullFifo = FifoFull
+failure Memory = NoAnswer
+
+abbrev pub write_reply : {E : Type 0} → Result (Unit {0}) (Error E) → Answer
+write_reply (Ok done) = Written
+write_reply (Err error) = failure error
+
+abbrev pub enqueue_reply : {E : Type 0} → Result ℕ (Error E) → Answer
+enqueue_reply (Ok count) = Added count
+enqueue_reply (Err error) = failure error
+
+-- the refusal that a reply carries
+abbrev pub refusal_in : {E : Type 0} → Error E → Option E
+refusal_in (Trigger refusal) = Some refusal
+refusal_in _ = None
+
+abbrev pub refusal_of : {R E : Type 0} → Result R (Error E) → Option E
+refusal_of (Ok done) = None
+refusal_of (Err error) = refusal_in error
+
+-- a call is a call case, with these answers of the trigger and this fate of a byte: the answer, the state and what
+-- became of the objects
+pub record IsCase {T E EV W : Type 0} (trigger_link : T → List (Result (Unit {0}) E) → T → Type 0) (events_link : EV → List Event → EV → Type 0) (contents : W → Option (List ℕ)) (act : Deed) (asked : Asked) (sent : Sent) (outcome : Answer) (refusal : Option E) (old new : Port T EV W) : Type 0 where
+  pub fits : IsTrue (fits old.state act asked sent)
+  pub reply : outcome ≡ answer old.state act asked sent
+  pub state : new.state ≡ next old.state act asked
+  pub trigger : trigger_link old.trigger (answers asked refusal) new.trigger
+  pub events : events_link old.events (events old.state act sent) new.events
+  pub out : WriterLink contents (sent ∷ []) (written act sent) old.out new.out

@@ -1,0 +1,57 @@
+//! The answers to the trigger calls of one call, with the refusal itself.
+ghost use Rattle.std.specs.Prelude.{◌≡◌, Option, Result};
+
+use crate::run::Asked;
+
+/// The answers to the device's trigger calls in one call, in order. A refusal ends the call.
+#[derive(Drop)]
+pub(super) enum Answers<E> {
+    /// The trigger was not called.
+    Nothing,
+    /// One call, which was taken.
+    Took,
+    /// One call, which was refused.
+    Refused(E),
+    /// Two calls, both taken.
+    TookTook,
+    /// Two calls: the first was taken, the second refused.
+    TookRefused(E),
+}
+
+impl<E> Answers<E> {
+    ghost use Rattle.vm_superio.specs.Answers.{asked_of, refusal_in_answers, answers_to_one};
+
+    /// The answers to the one call that was made, if any.
+    pub(super) fn to_one(answer: Option<Result<(), E>>) -> Answers<E>
+        ensures { result ≡ answers_to_one answer }
+    {
+        match answer {
+            None => Answers::Nothing,
+            Some(Ok(())) => Answers::Took,
+            Some(Err(refusal)) => Answers::Refused(refusal),
+        }
+    }
+
+    /// The answers without the refusal.
+    pub(super) fn asked(&self) -> Asked
+        ensures { result ≡ asked_of self.now }
+    {
+        match self {
+            Answers::Nothing => Asked::Nothing,
+            Answers::Took => Asked::Took,
+            Answers::Refused(_) => Asked::Refused,
+            Answers::TookTook => Asked::TookTook,
+            Answers::TookRefused(_) => Asked::TookRefused,
+        }
+    }
+
+    /// The refusal, if there was one.
+    pub(super) fn refusal(self) -> Option<E>
+        ensures { result ≡ refusal_in_answers self }
+    {
+        match self {
+            Answers::Refused(refusal) | Answers::TookRefused(refusal) => Some(refusal),
+            Answers::Nothing | Answers::Took | Answers::TookTook => None,
+        }
+    }
+}

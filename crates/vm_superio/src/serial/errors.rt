@@ -1,0 +1,57 @@
+//! Why a call of a serial port failed.
+ghost use Rattle.std.specs.Prelude.{◌≡◌};
+use crate::Trigger;
+use std::error::Error as StdError;
+use std::{fmt, io};
+
+/// Why a call failed.
+#[derive(Debug, Drop)]
+pub enum Error<E> {
+    /// The trigger refused a call.
+    Trigger(E),
+    /// The writer failed to take a byte, or to flush.
+    IOError(io::Error),
+    /// The FIFO holds 64 bytes, or a state would hold more.
+    FullFifo,
+    /// Memory was refused.
+    Memory,
+}
+
+impl<E: fmt::Display> fmt::Display for Error<E> {
+    ghost use Rattle.vm_superio.specs.Errors.{text_of};
+
+    ghost output = { text_of E.output };
+
+    fn fmt<W: fmt::Write>(&self, f: &mut fmt::Formatter<W>) -> fmt::Result {
+        match self {
+            Error::Trigger(cause) => write!(f, "Failed to trigger interrupt: {cause}"),
+            Error::IOError(cause) => write!(f, "Couldn't write/flush to the given destination: {cause}"),
+            Error::FullFifo => write!(f, "No space left in FIFO"),
+            Error::Memory => write!(f, "Out of memory"),
+        }
+    }
+}
+
+impl<E: StdError> StdError for Error<E> {}
+
+/// A serial port that was not made: why, and the objects that were handed in for it.
+#[derive(Drop)]
+pub struct Refused<T: Trigger, EV, W> {
+    /// Why the port was not made.
+    pub error: Error<T::E>,
+    /// The trigger, as the calls that were made left it.
+    pub trigger: T,
+    /// The events object, as it was handed in.
+    pub events: EV,
+    /// The writer, as it was handed in.
+    pub out: W,
+}
+
+impl<T: Trigger + Drop, EV: Drop, W: Drop> Refused<T, EV, W> {
+    /// Why the port was not made. The objects are dropped.
+    pub fn into_error(self) -> Error<T::E>
+        ensures { result ≡ self.error }
+    {
+        self.error
+    }
+}
