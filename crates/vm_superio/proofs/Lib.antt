@@ -12,3 +12,4 @@ mod Runs
 mod SerialRows
 mod Views
 mod Writing
+mod TriggerCalls

@@ -14,4 +14,6 @@ pub mod Port
 pub mod Registers
 pub mod Replies
 pub mod Reset
+pub mod Restoring
+pub mod SavedState
 pub mod State

@@ -18,6 +18,10 @@ pub record Port (T EV W : Type 0) : Type 0 where
   pub events : EV
   pub out : W
 
+-- the port with another writer, and nothing else changed
+abbrev pub with_writer : {T EV W : Type 0} → Port T EV W → W → Port T EV W
+with_writer port writer = record port { out = writer }
+
 -- what a write answers, and what an enqueue does
 abbrev pub failure : {E : Type 0} → Error E → Answer
 failure (Trigger refusal) = TriggerRefused

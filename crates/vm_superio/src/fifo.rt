@@ -35,6 +35,25 @@ impl Fifo {
         })
     }
 
+    /// A FIFO that holds these bytes, at most 64.
+    pub(crate) fn from_slice(_alloc: Global, bytes: &[u8]) -> Result<Self, AllocError>
+        requires { length bytes.now ≤ FIFO_SIZE }
+        ensures made { IsOk result }
+        ensures bytes { IfOk result (λ fifo. fifo ≡ bytes.now) }
+    {
+        let mut held = ArrayVec::new();
+        held.try_extend_from_slice(bytes).unwrap();
+        Ok(Fifo { bytes: held })
+    }
+
+    /// A copy of the bytes.
+    pub(crate) fn to_vec(&self, alloc: Global) -> Result<Vec<u8>, AllocError>
+        ensures bytes { IfOk result (λ bytes. bytes.items ≡ self.now) }
+        ensures fits { length self.now ≤ FIFO_SIZE }
+    {
+        self.bytes.as_slice().to_vec(alloc)
+    }
+
     /// How many bytes are held.
     pub(crate) fn len(&self) -> usize
         ensures value { result ≡ length self.now }

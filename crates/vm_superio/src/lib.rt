@@ -4,13 +4,13 @@
 ghost use Rattle.std.specs.Prelude.{◌≡◌, ◌↔◌, List, [], ◌∷◌, ◌++◌, Result};
 
 pub use i8042::I8042Device;
+pub use serial::{Serial, SerialState};
 use std::fmt::Debug;
 
+mod fifo;
 pub mod i8042;
 pub mod run;
 pub mod serial;
-
-mod fifo;
 
 /// A push button towards the monitor: an interrupt line, or the event that asks for a reset.
 ///

@@ -1,34 +1,30 @@
 //! A serial port with the registers of a 16550.
-ghost use Rattle.std.specs.Prelude.{◌≡◌, ◌≤◌, ◌-◌, length, [], ◌∷◌, ◌++◌, if◌then◌else◌, slice_index, is_some, is_ok, IsTrue, IsOk, IfOk, OnOk};
-ghost use Rattle.std.specs.Io.KnownBytes.{Appends};
-ghost use Rattle.std.specs.Option.{option_to_list};
-ghost use Rattle.vm_superio.specs.State.{fresh, masked};
-ghost use Rattle.vm_superio.specs.Events.{out_byte, tx_lost_byte, in_buffer_empty, buffer_read};
-ghost use Rattle.vm_superio.specs.Asking.{becomes_pending, ask, receive_becomes_pending, ask_while_held, fitting, receive};
-ghost use Rattle.vm_superio.specs.Fits.{asked_fits, enable_due, receive_due, write_due, sent_fits, write_sends, one_if};
-ghost use Rattle.vm_superio.specs.Calls.{read_answer, read_next, enable_write, data_read, data_write, write_next, read_events, sent_events};
-ghost use Rattle.vm_superio.specs.Links.{answers, written, WriterLink};
-ghost use Rattle.vm_superio.specs.Acts.{Reads, Writes, Enqueues, Given, Written, TriggerRefused, WriterFailed, is_lost};
-ghost use Rattle.vm_superio.specs.Answers.{asked_of, refusal_in_answers, sent_of};
+ghost use Rattle.std.specs.Prelude.{◌≡◌, ◌<◌, ◌≤◌, ◌-◌, length, vec_len, IsOk, IsErr, IfOk, IfErr};
+ghost use Rattle.vm_superio.specs.State.{fresh};
+ghost use Rattle.vm_superio.specs.Acts.{Reads, Writes, Enqueues, Given};
+ghost use Rattle.vm_superio.specs.Calls.{restore_calls};
 ghost use Rattle.vm_superio.specs.Coherent.{Coherent};
 ghost use Rattle.vm_superio.specs.Port.{write_reply, enqueue_reply, refusal_of};
-ghost use Rattle.vm_superio.specs.Registers.{is_loopback};
+ghost use Rattle.vm_superio.specs.Restoring.{all_taken, RefusesRestore};
+ghost use Rattle.vm_superio.specs.SavedState.{state_of};
 
 mod answers;
 mod errors;
 mod events;
 mod registers;
-
-pub use errors::{Error, Refused};
-pub use events::{NoEvents, SerialEvents};
+mod restoring;
+mod state;
+mod steps;
 
 use crate::Trigger;
 use crate::fifo::{FIFO_SIZE, Fifo};
-use crate::run::{Asked, Sent, Traced};
-use answers::Answers;
-use registers::{Condition, LCR_DLAB_BIT, MCR_LOOP_BIT, Register, has_bits, joined, masked, modem_status_read, without};
-use std::alloc::Global;
-use std::io;
+use crate::run::{Asked, Sent};
+pub use errors::{Error, Refused};
+pub use events::{NoEvents, SerialEvents};
+use registers::Condition;
+use restoring::{assert_again, is_asserted};
+pub use state::SerialState;
+use std::alloc::{AllocError, Global};
 use std::io::Write;
 use std::marker::Model;
 
@@ -59,21 +55,21 @@ impl<T: Trigger, EV: SerialEvents, W: Write> Model for Serial<T, EV, W> {
     ghost Value = { Port T EV W };
 
     ghost view = { λ serial. record {
-        state = record {
-            baud_divisor_low = serial.baud_divisor_low;
-            baud_divisor_high = serial.baud_divisor_high;
-            interrupt_enable = serial.interrupt_enable;
-            interrupt_identification = serial.interrupt_identification;
-            line_control = serial.line_control;
-            line_status = serial.line_status;
-            modem_control = serial.modem_control;
-            modem_status = serial.modem_status;
-            scratch = serial.scratch;
-            in_buffer = serial.in_buffer;
-        };
-        trigger = serial.interrupt_evt;
-        events = serial.events;
-        out = serial.out;
+      state = record {
+        baud_divisor_low = serial.baud_divisor_low;
+        baud_divisor_high = serial.baud_divisor_high;
+        interrupt_enable = serial.interrupt_enable;
+        interrupt_identification = serial.interrupt_identification;
+        line_control = serial.line_control;
+        line_status = serial.line_status;
+        modem_control = serial.modem_control;
+        modem_status = serial.modem_status;
+        scratch = serial.scratch;
+        in_buffer = serial.in_buffer;
+      };
+      trigger = serial.interrupt_evt;
+      events = serial.events;
+      out = serial.out;
     } };
 }
 
@@ -84,7 +80,11 @@ impl<T: Trigger, W: Write> Serial<T, NoEvents, W> {
     /// # Errors
     ///
     /// None today. [`Error::Memory`] is for a FIFO whose room is allocated.
-    pub fn new(alloc: Global, trigger: T, out: W) -> Result<Serial<T, NoEvents, W>, Refused<T, NoEvents, W>>
+    pub fn new(
+        alloc: Global,
+        trigger: T,
+        out: W,
+    ) -> Result<Serial<T, NoEvents, W>, Refused<T, NoEvents, W>>
         ensures made { IsOk result }
         ensures state { IfOk result (λ serial. serial.state ≡ fresh) }
         ensures trigger { IfOk result (λ serial. serial.trigger ≡ trigger) }
@@ -95,7 +95,9 @@ impl<T: Trigger, W: Write> Serial<T, NoEvents, W> {
 }
 
 impl<T: Trigger, EV: SerialEvents, W: Write> Serial<T, EV, W> {
-    ghost use Rattle.vm_superio.specs.Port.{IsCase};
+    ghost use Rattle.std.specs.Borrow.{Lends, sem};
+    ghost use Rattle.vm_superio.specs.contracts.serial.Serial.{the_row};
+    ghost use Rattle.vm_superio.specs.Port.{IsCase, with_writer};
 
     /// Makes a serial port as `new` does, which tells its events to `serial_evts`. Neither the trigger nor the events
     /// object is called.
@@ -103,7 +105,12 @@ impl<T: Trigger, EV: SerialEvents, W: Write> Serial<T, EV, W> {
     /// # Errors
     ///
     /// As for `new`.
-    pub fn with_events(alloc: Global, trigger: T, serial_evts: EV, out: W) -> Result<Self, Refused<T, EV, W>>
+    pub fn with_events(
+        alloc: Global,
+        trigger: T,
+        serial_evts: EV,
+        out: W,
+    ) -> Result<Self, Refused<T, EV, W>>
         ensures made { IsOk result }
         ensures state { IfOk result (λ serial. serial.state ≡ fresh) }
         ensures trigger { IfOk result (λ serial. serial.trigger ≡ trigger) }
@@ -135,11 +142,125 @@ impl<T: Trigger, EV: SerialEvents, W: Write> Serial<T, EV, W> {
         })
     }
 
+    /// Makes a serial port of a saved state, which it takes as it stands, and of new objects. The trigger is called once
+    /// for each condition that is both pending and enabled, the transmitter condition first, so that the interrupts
+    /// that the guest has not taken reach the new trigger. The events object is not called, and the writer not used.
+    ///
+    /// # Errors
+    ///
+    /// In each case the objects are handed back. [`Error::FullFifo`] where the state holds more than 64 bytes, and
+    /// [`Error::Memory`] where memory was refused (which does not happen today): the trigger was not called then.
+    /// [`Error::Trigger`] at the first call that the trigger refused.
+    pub fn from_state(
+        alloc: Global,
+        state: &SerialState,
+        mut trigger: T,
+        serial_evts: EV,
+        out: W,
+    ) -> Result<Self, Refused<T, EV, W>>
+        ensures state { IfOk result (λ serial. serial.state ≡ state_of state.now) }
+        ensures called { IfOk result (λ serial. T.link trigger (all_taken (restore_calls (state_of state.now))) serial.trigger) }
+        ensures events { IfOk result (λ serial. serial.events ≡ serial_evts) }
+        ensures out { IfOk result (λ serial. serial.out ≡ out) }
+
+        // Where it is refused: why, and the objects.
+        ensures too_many { FIFO_SIZE < vec_len state.now.in_buffer → IsErr result }
+        ensures refused { IfErr result (λ refused.
+            RefusesRestore T.link (state_of state.now) refused.error trigger refused.trigger) }
+        ensures events_back { IfErr result (λ refused. refused.events ≡ serial_evts) }
+        ensures out_back { IfErr result (λ refused. refused.out ≡ out) }
+    {
+        if state.in_buffer.len() > FIFO_SIZE {
+            return Err(Refused {
+                error: Error::FullFifo,
+                trigger,
+                events: serial_evts,
+                out,
+            });
+        }
+        let Ok(in_buffer) = Fifo::from_slice(alloc, &state.in_buffer) else {
+            return Err(Refused {
+                error: Error::Memory,
+                trigger,
+                events: serial_evts,
+                out,
+            });
+        };
+        let transmit = is_asserted(Condition::Transmit, state);
+        let receive = is_asserted(Condition::Receive, state);
+        if let Err(refusal) = assert_again(&mut trigger, transmit, receive) {
+            return Err(Refused {
+                error: Error::Trigger(refusal),
+                trigger,
+                events: serial_evts,
+                out,
+            });
+        }
+        Ok(Serial {
+            baud_divisor_low: state.baud_divisor_low,
+            baud_divisor_high: state.baud_divisor_high,
+            interrupt_enable: state.interrupt_enable,
+            interrupt_identification: state.interrupt_identification,
+            line_control: state.line_control,
+            line_status: state.line_status,
+            modem_control: state.modem_control,
+            modem_status: state.modem_status,
+            scratch: state.scratch,
+            in_buffer,
+            interrupt_evt: trigger,
+            events: serial_evts,
+            out,
+        })
+    }
+
+    /// The state of the port, of which `from_state` makes the same port again.
+    ///
+    /// # Errors
+    ///
+    /// `AllocError` where memory for the received bytes was refused.
+    pub fn state(&self, alloc: Global) -> Result<SerialState, AllocError>
+        ensures saved { IfOk result (λ saved. state_of saved ≡ self.now.state) }
+        ensures few { length self.now.state.in_buffer ≤ FIFO_SIZE }
+    {
+        let in_buffer = self.in_buffer.to_vec(alloc)?;
+        Ok(SerialState {
+            baud_divisor_low: self.baud_divisor_low,
+            baud_divisor_high: self.baud_divisor_high,
+            interrupt_enable: self.interrupt_enable,
+            interrupt_identification: self.interrupt_identification,
+            line_control: self.line_control,
+            line_status: self.line_status,
+            modem_control: self.modem_control,
+            modem_status: self.modem_status,
+            scratch: self.scratch,
+            in_buffer,
+        })
+    }
+
     /// The writer.
     pub fn writer(&self) -> &W
         ensures { result.now ≡ self.now.out }
     {
         &self.out
+    }
+
+    /// The writer, for writing. Nothing else of the port changes.
+    pub fn writer_mut(&mut self) -> &mut W
+        ensures* lends { sem 𝓛 (Lends (the_row T.row EV.row W.row T.E.row T.Trigger T.E.Debug EV.SerialEvents W.Write) W.row self.entry
+            result (with_writer self.old)) }
+        ensures value { result.now ≡ self.old.out }
+    {
+        &mut self.out
+    }
+
+    /// The writer as it stands. The trigger and the events object are dropped.
+    pub fn into_writer(self) -> W
+    where
+        T: Drop,
+        EV: Drop,
+        ensures { result ≡ self.out }
+    {
+        self.out
     }
 
     /// The trigger of the interrupt line.
@@ -165,11 +286,9 @@ impl<T: Trigger, EV: SerialEvents, W: Write> Serial<T, EV, W> {
     /// as after its success, and a refused condition stays pending: its trigger is not called again until the guest has
     /// acknowledged it.
     pub fn write(&mut self, offset: u8, value: u8) -> Result<(), Error<T::E>>
-        ensures case {
-            (asked : Asked) × (sent : Sent)
-                × IsCase T.link EV.link W.contents (Writes offset value) asked sent (write_reply result) (refusal_of result)
-                    self.old self.new
-        }
+        ensures case { (asked : Asked) × (sent : Sent)
+            × IsCase T.link EV.link W.contents (Writes offset value) asked sent (write_reply result) (refusal_of result)
+            self.old self.new }
         ensures coherent { Coherent self.old.state → Coherent self.new.state }
     {
         self.traced_write(offset, value).reply
@@ -177,9 +296,7 @@ impl<T: Trigger, EV: SerialEvents, W: Write> Serial<T, EV, W> {
 
     /// Reads the byte at `offset`, as a guest does. The trigger is not called and the writer not used.
     pub fn read(&mut self, offset: u8) -> u8
-        ensures case {
-            IsCase T.link EV.link W.contents (Reads offset) Asked.Nothing Sent.Nothing (Given result) None self.old self.new
-        }
+        ensures case { IsCase T.link EV.link W.contents (Reads offset) Asked.Nothing Sent.Nothing (Given result) None self.old self.new }
         ensures trigger { self.new.trigger ≡ self.old.trigger }
         ensures out { self.new.out ≡ self.old.out }
         ensures coherent { Coherent self.old.state → Coherent self.new.state }
@@ -204,344 +321,13 @@ impl<T: Trigger, EV: SerialEvents, W: Write> Serial<T, EV, W> {
     /// [`Error::FullFifo`] where there are bytes and 64 are held already, outside loopback: nothing changes then.
     /// [`Error::Trigger`] where the trigger refused: the bytes are kept, and the guest finds them when it looks.
     pub fn enqueue_raw_bytes(&mut self, input: &[u8]) -> Result<usize, Error<T::E>>
-        ensures case {
-            (asked : Asked) × (sent : Sent)
-                × IsCase T.link EV.link W.contents (Enqueues input.now) asked sent (enqueue_reply result)
-                    (refusal_of result) self.old self.new
-        }
+        ensures case { (asked : Asked) × (sent : Sent)
+            × IsCase T.link EV.link W.contents (Enqueues input.now) asked sent (enqueue_reply result)
+            (refusal_of result) self.old self.new }
         ensures full { result ≡ Err Error.FullFifo → self.new ≡ self.old }
         ensures out { self.new.out ≡ self.old.out }
         ensures coherent { Coherent self.old.state → Coherent self.new.state }
     {
         self.traced_enqueue(input).reply
     }
-}
-
-impl<T: Trigger, EV: SerialEvents, W: Write> Serial<T, EV, W> {
-    ghost use Rattle.vm_superio.specs.Port.{IsCase};
-
-    /// Asks for a condition: where it is enabled and not pending, it becomes pending, and the trigger is called once.
-    fn ask(&mut self, condition: Condition) -> Option<Result<(), T::E>>
-        ensures called {
-            is_some result
-                ≡ becomes_pending condition self.old.state.interrupt_enable self.old.state.interrupt_identification
-        }
-        ensures state {
-            self.new.state ≡ record self.old.state {
-                interrupt_identification =
-                    ask condition self.old.state.interrupt_enable self.old.state.interrupt_identification
-            }
-        }
-        ensures trigger { T.link self.old.trigger (option_to_list result) self.new.trigger }
-        ensures events { self.new.events ≡ self.old.events }
-        ensures out { self.new.out ≡ self.old.out }
-    {
-        if !has_bits(self.interrupt_enable, condition.enable_bit())
-            || has_bits(self.interrupt_identification, condition.pending_bit())
-        {
-            return None;
-        }
-        let others = without(self.interrupt_identification, 0x01);
-        self.interrupt_identification = joined(others, condition.pending_bit());
-        Some(self.interrupt_evt.trigger())
-    }
-
-    /// Asks for the receive condition, which an interrupt-enable write does only while bytes are held.
-    fn ask_while_held(&mut self) -> Option<Result<(), T::E>>
-        ensures called {
-            is_some result
-                ≡ receive_becomes_pending self.old.state.in_buffer self.old.state.interrupt_enable
-                    self.old.state.interrupt_identification
-        }
-        ensures state {
-            self.new.state ≡ record self.old.state {
-                interrupt_identification =
-                    ask_while_held self.old.state.in_buffer self.old.state.interrupt_enable
-                        self.old.state.interrupt_identification
-            }
-        }
-        ensures trigger { T.link self.old.trigger (option_to_list result) self.new.trigger }
-        ensures events { self.new.events ≡ self.old.events }
-        ensures out { self.new.out ≡ self.old.out }
-    {
-        if self.in_buffer.is_empty() {
-            return None;
-        }
-        self.ask(Condition::Receive)
-    }
-
-    /// The interrupt-enable write: stores the low four bits, and asks for both conditions, the receive condition first.
-    /// A refusal ends the call.
-    fn write_interrupt_enable(&mut self, value: u8) -> Answers<T::E>
-        ensures asked { IsTrue (asked_fits (enable_due (masked value 0x0F) self.old.state) (asked_of result)) }
-        ensures state { self.new.state ≡ enable_write (masked value 0x0F) (asked_of result) self.old.state }
-        ensures trigger {
-            T.link self.old.trigger (answers (asked_of result) (refusal_in_answers result)) self.new.trigger
-        }
-        ensures events { self.new.events ≡ self.old.events }
-        ensures out { self.new.out ≡ self.old.out }
-    {
-        self.interrupt_enable = masked(value, 0x0F);
-        match self.ask_while_held() {
-            None => Answers::to_one(self.ask(Condition::Transmit)),
-            Some(Err(refusal)) => Answers::Refused(refusal),
-            Some(Ok(())) => match self.ask(Condition::Transmit) {
-                None => Answers::Took,
-                Some(Ok(())) => Answers::TookTook,
-                Some(Err(refusal)) => Answers::TookRefused(refusal),
-            },
-        }
-    }
-
-    /// Bytes that come in: the first of them, as many as there is room for, stand behind those that are held. If there
-    /// is one, data ready is set and the receive condition is asked for. Answers how many were added.
-    fn receive(&mut self, bytes: &[u8]) -> (usize, Option<Result<(), T::E>>)
-        ensures count { result.0 ≡ length (fitting self.old.state.in_buffer bytes.now) }
-        ensures called { one_if (is_some result.1) ≡ receive_due (fitting self.old.state.in_buffer bytes.now) self.old.state }
-        ensures state { self.new.state ≡ receive (fitting self.old.state.in_buffer bytes.now) self.old.state }
-        ensures trigger { T.link self.old.trigger (option_to_list result.1) self.new.trigger }
-        ensures events { self.new.events ≡ self.old.events }
-        ensures out { self.new.out ≡ self.old.out }
-    {
-        let count = self.in_buffer.fill(bytes);
-        if count == 0 {
-            return (0, None);
-        }
-        self.line_status = joined(self.line_status, 0x01);
-        (count, self.ask(Condition::Receive))
-    }
-
-    /// Hands a byte to the writer, and tells its fate.
-    fn send(&mut self, byte: u8) -> io::Result<()>
-        ensures state { self.new.state ≡ self.old.state }
-        ensures trigger { self.new.trigger ≡ self.old.trigger }
-        ensures events { EV.link self.old.events ((if is_ok result then out_byte else tx_lost_byte) ∷ []) self.new.events }
-        ensures out { OnOk result (Appends (W.contents self.old.out) (W.contents self.new.out) (byte ∷ [])) }
-    {
-        let result = write_and_flush(&mut self.out, byte);
-        tell_fate(&mut self.events, result.is_ok());
-        result
-    }
-
-    /// The data read: clears the receive condition, and takes the oldest byte, or gives 0.
-    fn read_data(&mut self) -> u8
-        ensures value { result ≡ slice_index self.old.state.in_buffer 0 }
-        ensures state { self.new.state ≡ data_read self.old.state }
-        ensures trigger { self.new.trigger ≡ self.old.trigger }
-        ensures events { EV.link self.old.events (read_events Register.Data self.old.state.in_buffer) self.new.events }
-        ensures out { self.new.out ≡ self.old.out }
-    {
-        let others = without(self.interrupt_identification, Condition::Receive.pending_bit());
-        self.interrupt_identification = if others == 0 { 0x01 } else { others };
-        let byte = self.in_buffer.take_first().unwrap_or(0);
-        let is_empty = self.in_buffer.is_empty();
-        if is_empty {
-            self.line_status = without(self.line_status, 0x01);
-        }
-        tell_read(&mut self.events, is_empty);
-        byte
-    }
-
-    /// The data write: in loopback the byte comes in, and else it is sent, after which the transmitter condition is asked
-    /// for, whatever became of the byte.
-    fn write_data(&mut self, value: u8) -> (Answers<T::E>, Option<io::Result<()>>)
-        ensures asked { IsTrue (asked_fits (write_due Register.Data value self.old.state) (asked_of result.0)) }
-        ensures sent {
-            IsTrue (sent_fits (write_sends Register.Data (is_loopback self.old.state.modem_control)) (sent_of result.1))
-        }
-        ensures state { self.new.state ≡ data_write value self.old.state }
-        ensures trigger {
-            T.link self.old.trigger (answers (asked_of result.0) (refusal_in_answers result.0)) self.new.trigger
-        }
-        ensures events { EV.link self.old.events (sent_events (sent_of result.1)) self.new.events }
-        ensures out {
-            WriterLink W.contents (sent_of result.1 ∷ []) (written (Writes 0 value) (sent_of result.1)) self.old.out
-                self.new.out
-        }
-    {
-        if has_bits(self.modem_control, MCR_LOOP_BIT) {
-            let (_, answer) = self.receive(&[value]);
-            return (Answers::to_one(answer), None);
-        }
-        let fate = self.send(value);
-        (Answers::to_one(self.ask(Condition::Transmit)), Some(fate))
-    }
-
-    /// Reads a register.
-    fn read_register(&mut self, register: Register) -> u8
-        ensures value { result ≡ read_answer register self.old.state }
-        ensures state { self.new.state ≡ read_next register self.old.state }
-        ensures trigger { self.new.trigger ≡ self.old.trigger }
-        ensures events { EV.link self.old.events (read_events register self.old.state.in_buffer) self.new.events }
-        ensures out { self.new.out ≡ self.old.out }
-    {
-        match register {
-            Register::DivisorLow => self.baud_divisor_low,
-            Register::DivisorHigh => self.baud_divisor_high,
-            Register::Data => self.read_data(),
-            Register::InterruptEnable => self.interrupt_enable,
-            Register::InterruptIdentification => {
-                let identification = self.interrupt_identification;
-                self.interrupt_identification = 0x01;
-                joined(identification, 0xC0)
-            }
-            Register::LineControl => self.line_control,
-            Register::ModemControl => self.modem_control,
-            Register::LineStatus => self.line_status,
-            Register::ModemStatus => modem_status_read(self.modem_control, self.modem_status),
-            Register::Scratch => self.scratch,
-            Register::Unknown => 0,
-        }
-    }
-
-    /// Writes a register: the answers of the trigger, and what the writer answered if a byte was sent to it.
-    fn write_register(&mut self, register: Register, value: u8) -> (Answers<T::E>, Option<io::Result<()>>)
-        ensures asked { IsTrue (asked_fits (write_due register value self.old.state) (asked_of result.0)) }
-        ensures sent {
-            IsTrue (sent_fits (write_sends register (is_loopback self.old.state.modem_control)) (sent_of result.1))
-        }
-        ensures state { self.new.state ≡ write_next register value (asked_of result.0) self.old.state }
-        ensures trigger {
-            T.link self.old.trigger (answers (asked_of result.0) (refusal_in_answers result.0)) self.new.trigger
-        }
-        ensures events { EV.link self.old.events (sent_events (sent_of result.1)) self.new.events }
-        ensures out {
-            WriterLink W.contents (sent_of result.1 ∷ []) (written (Writes 0 value) (sent_of result.1)) self.old.out
-                self.new.out
-        }
-    {
-        match register {
-            Register::DivisorLow => self.baud_divisor_low = value,
-            Register::DivisorHigh => self.baud_divisor_high = value,
-            Register::Data => return self.write_data(value),
-            Register::InterruptEnable => return (self.write_interrupt_enable(value), None),
-            Register::LineControl => self.line_control = value,
-            Register::ModemControl => self.modem_control = value,
-            Register::Scratch => self.scratch = value,
-            Register::InterruptIdentification
-            | Register::LineStatus
-            | Register::ModemStatus
-            | Register::Unknown => {}
-        }
-        (Answers::Nothing, None)
-    }
-
-    /// `read`, with what it asked and sent, which is nothing.
-    pub(crate) fn traced_read(&mut self, offset: u8) -> Traced<u8>
-        ensures {
-            IsCase T.link EV.link W.contents (Reads offset) result.asked result.sent (Given result.reply) None self.old
-                self.new
-        }
-    {
-        let register = Register::at(has_bits(self.line_control, LCR_DLAB_BIT), offset);
-        Traced {
-            reply: self.read_register(register),
-            asked: Asked::Nothing,
-            sent: Sent::Nothing,
-        }
-    }
-
-    /// `write`, with what it asked and sent.
-    pub(crate) fn traced_write(&mut self, offset: u8, value: u8) -> Traced<Result<(), Error<T::E>>>
-        ensures {
-            IsCase T.link EV.link W.contents (Writes offset value) result.asked result.sent (write_reply result.reply)
-                (refusal_of result.reply) self.old self.new
-        }
-    {
-        let register = Register::at(has_bits(self.line_control, LCR_DLAB_BIT), offset);
-        let (answers, fate) = self.write_register(register, value);
-        let asked = answers.asked();
-        let sent = sent(&fate);
-        Traced {
-            reply: reply(answers.refusal(), fate),
-            asked,
-            sent,
-        }
-    }
-
-    /// `enqueue_raw_bytes`, with what it asked and sent.
-    pub(crate) fn traced_enqueue(&mut self, input: &[u8]) -> Traced<Result<usize, Error<T::E>>>
-        ensures {
-            IsCase T.link EV.link W.contents (Enqueues input.now) result.asked result.sent (enqueue_reply result.reply)
-                (refusal_of result.reply) self.old self.new
-        }
-    {
-        if has_bits(self.modem_control, MCR_LOOP_BIT) || input.is_empty() {
-            return Traced {
-                reply: Ok(0),
-                asked: Asked::Nothing,
-                sent: Sent::Nothing,
-            };
-        }
-        if self.fifo_capacity() == 0 {
-            return Traced {
-                reply: Err(Error::FullFifo),
-                asked: Asked::Nothing,
-                sent: Sent::Nothing,
-            };
-        }
-        let (count, answer) = self.receive(input);
-        let answers = Answers::to_one(answer);
-        let asked = answers.asked();
-        Traced {
-            reply: match answers.refusal() {
-                Some(refusal) => Err(Error::Trigger(refusal)),
-                None => Ok(count),
-            },
-            asked,
-            sent: Sent::Nothing,
-        }
-    }
-}
-
-/// What became of a byte, by what the writer answered if one was sent to it.
-fn sent(fate: &Option<io::Result<()>>) -> Sent
-    ensures { result ≡ sent_of fate.now }
-{
-    match fate {
-        None => Sent::Nothing,
-        Some(Ok(())) => Sent::Out,
-        Some(Err(_)) => Sent::Lost,
-    }
-}
-
-/// What a write answers: a refusal of the trigger before a fault of the writer.
-fn reply<E>(refusal: Option<E>, fate: Option<io::Result<()>>) -> Result<(), Error<E>>
-    ensures refusal { refusal_of result ≡ refusal }
-    ensures answer { write_reply result ≡ (if is_some refusal then TriggerRefused else (if is_lost (sent_of fate) then WriterFailed else Written)) }
-{
-    match (refusal, fate) {
-        (Some(refusal), _) => Err(Error::Trigger(refusal)),
-        (None, Some(Err(fault))) => Err(Error::IOError(fault)),
-        (None, _) => Ok(()),
-    }
-}
-
-/// Writes the byte, and flushes where that succeeded.
-fn write_and_flush<W: Write>(out: &mut W, byte: u8) -> io::Result<()>
-    ensures { OnOk result (Appends (W.contents out.old) (W.contents out.new) (byte ∷ [])) }
-{
-    out.write_all(&[byte])?;
-    out.flush()
-}
-
-/// Tells whether a byte went out.
-fn tell_fate<EV: SerialEvents>(events: &mut EV, went_out: bool)
-    ensures { EV.link events.old ((if went_out then out_byte else tx_lost_byte) ∷ []) events.new }
-{
-    if went_out {
-        events.out_byte();
-    } else {
-        events.tx_lost_byte();
-    }
-}
-
-/// Tells of a data read, first that no byte is held any more.
-fn tell_read<EV: SerialEvents>(events: &mut EV, is_empty: bool)
-    ensures { EV.link events.old ((if is_empty then in_buffer_empty ∷ [] else []) ++ buffer_read ∷ []) events.new }
-{
-    if is_empty {
-        events.in_buffer_empty();
-    }
-    events.buffer_read();
 }

@@ -1,5 +1,6 @@
 //! Why a call of a serial port failed.
 ghost use Rattle.std.specs.Prelude.{◌≡◌};
+
 use crate::Trigger;
 use std::error::Error as StdError;
 use std::{fmt, io};
@@ -25,7 +26,10 @@ impl<E: fmt::Display> fmt::Display for Error<E> {
     fn fmt<W: fmt::Write>(&self, f: &mut fmt::Formatter<W>) -> fmt::Result {
         match self {
             Error::Trigger(cause) => write!(f, "Failed to trigger interrupt: {cause}"),
-            Error::IOError(cause) => write!(f, "Couldn't write/flush to the given destination: {cause}"),
+            Error::IOError(cause) => write!(
+                f,
+                "Couldn't write/flush to the given destination: {cause}"
+            ),
             Error::FullFifo => write!(f, "No space left in FIFO"),
             Error::Memory => write!(f, "Out of memory"),
         }

@@ -48,7 +48,11 @@ pub(super) fn modem_status_read(modem_control: u8, modem_status: u8) -> u8
     if !has_bits(modem_control, MCR_LOOP_BIT) {
         return modem_status;
     }
-    let shown = |output: u8, input: u8| if has_bits(modem_control, output) { input } else { 0 };
+    let shown = |output: u8, input: u8| if has_bits(modem_control, output) {
+        input
+    } else {
+        0
+    };
     let status = masked(modem_status, 0x0F);
     let status = joined(status, shown(0x01, 0x20));
     let status = joined(status, shown(0x02, 0x10));

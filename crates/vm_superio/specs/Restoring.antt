@@ -1,0 +1,31 @@
+-- The trigger calls of a restore, and their answers.
+use Rattle.std.specs.Prelude.{◌≡◌, ◌⊎◌, ◌<◌, ◌≤◌, List, [], ◌∷◌, length, Result, Ok, Err}
+use Rattle.vm_superio.specs.declared.serial.errors.Error.{Error}
+use Rattle.vm_superio.specs.declared.serial.errors.Error.TheVariants.{Trigger, IOError, FullFifo, Memory}
+use Rattle.vm_superio.specs.State.{State}
+use Rattle.vm_superio.specs.Registers.{Condition}
+use Rattle.vm_superio.specs.Calls.{restore_calls}
+
+module _ {E : Type 0} where
+  -- one call for each condition, and none is refused
+  abbrev pub all_taken : List Condition → List (Result (Unit {0}) E)
+  all_taken [] = []
+  all_taken (condition ∷ conditions) = Ok tt ∷ all_taken conditions
+
+  -- one call for each of the first conditions, of which the last one alone is refused, and ends the calls
+  abbrev pub EndsRefused : List Condition → E → List (Result (Unit {0}) E) → Type 0
+  EndsRefused [] refusal answers = ⊥
+  EndsRefused (condition ∷ conditions) refusal [] = ⊥
+  EndsRefused (condition ∷ conditions) refusal (answer ∷ answers) =
+      ((answer ≡ Err refusal) × (answers ≡ []))
+      ⊎ ((answer ≡ Ok tt) × EndsRefused conditions refusal answers)
+
+-- why a restore of the state was refused, and what became of the trigger: of more than 64 bytes, with no call of it; by
+-- a call of it, after those before were taken. Nothing else refuses
+abbrev pub RefusesRestore : {T E : Type 0} → (T → List (Result (Unit {0}) E) → T → Type 0) → State → Error E → T → T → Type 0
+RefusesRestore link s FullFifo old new = (64 < length s.in_buffer) × (new ≡ old)
+RefusesRestore {T} {E} link s (Trigger refusal) old new =
+    (length s.in_buffer ≤ 64)
+    × ((answers : List (Result (Unit {0}) E)) × EndsRefused (restore_calls s) refusal answers × link old answers new)
+RefusesRestore link s (IOError fault) old new = ⊥
+RefusesRestore link s Memory old new = ⊥

@@ -1,0 +1,45 @@
+//! The trigger calls of a restore.
+ghost use Rattle.std.specs.Prelude.{◌≡◌, List, [], ◌∷◌, Result, true, OnOk, IfErr};
+ghost use Rattle.vm_superio.specs.Registers.{transmit_first};
+ghost use Rattle.vm_superio.specs.Calls.{is_asserted};
+ghost use Rattle.vm_superio.specs.Restoring.{all_taken, EndsRefused};
+ghost use Rattle.vm_superio.specs.SavedState.{state_of};
+
+use super::SerialState;
+use super::registers::{Condition, has_bits};
+use crate::Trigger;
+
+/// Whether a condition is pending and enabled.
+pub(super) fn is_asserted(condition: Condition, state: &SerialState) -> bool
+    ensures { result ≡ is_asserted condition (state_of state.now) }
+{
+    has_bits(state.interrupt_identification, condition.pending_bit())
+        && has_bits(state.interrupt_enable, condition.enable_bit())
+}
+
+/// Calls the trigger twice, unless the first call is refused.
+fn trigger_twice<T: Trigger>(trigger: &mut T) -> Result<(), T::E>
+    ensures taken { OnOk result (T.link trigger.old (Ok tt ∷ Ok tt ∷ []) trigger.new) }
+    ensures refused { IfErr result (λ refusal. (answers : List (Result (Unit {0}) T.E))
+        × EndsRefused (transmit_first true true) refusal answers × T.link trigger.old answers trigger.new) }
+{
+    trigger.trigger()?;
+    trigger.trigger()
+}
+
+/// Calls the trigger once for each of the two conditions that is asserted, as far as no call is refused.
+pub(super) fn assert_again<T: Trigger>(
+    trigger: &mut T,
+    transmit: bool,
+    receive: bool,
+) -> Result<(), T::E>
+    ensures taken { OnOk result (T.link trigger.old (all_taken (transmit_first transmit receive)) trigger.new) }
+    ensures refused { IfErr result (λ refusal. (answers : List (Result (Unit {0}) T.E))
+        × EndsRefused (transmit_first transmit receive) refusal answers × T.link trigger.old answers trigger.new) }
+{
+    match (transmit, receive) {
+        (true, true) => trigger_twice(trigger),
+        (true, false) | (false, true) => trigger.trigger(),
+        (false, false) => Ok(()),
+    }
+}

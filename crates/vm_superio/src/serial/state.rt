@@ -1,0 +1,104 @@
+//! A saved serial port.
+ghost use Rattle.std.specs.Prelude.{◌≡◌, ◌↔◌, Bool, IfOk, IsTrue};
+ghost use Rattle.vm_superio.specs.State.{fresh};
+ghost use Rattle.vm_superio.specs.Coherent.{Coherent};
+ghost use Rattle.vm_superio.specs.Registers.{identification_of};
+
+use super::registers::has_bits;
+use crate::fifo::FIFO_SIZE;
+use std::alloc::{AllocError, Global};
+
+/// What a serial port holds but for its objects: enough to make the same port again, on another machine too.
+///
+/// Any bytes may be restored, and reads show them as they are.
+#[derive(Debug, Drop, Eq, PartialEq)]
+pub struct SerialState {
+    /// DLL, the low byte of the divisor latch.
+    pub baud_divisor_low: u8,
+    /// DLH, the high byte of the divisor latch.
+    pub baud_divisor_high: u8,
+    /// IER: bit 0x01 enables the receive condition, bit 0x02 the transmitter condition.
+    pub interrupt_enable: u8,
+    /// IIR without bits 0xC0: bit 0x04 says that the receive condition is pending, bit 0x02 that the transmitter
+    /// condition is, and bit 0x01 that nothing is.
+    pub interrupt_identification: u8,
+    /// LCR: bit 0x80 is DLAB.
+    pub line_control: u8,
+    /// LSR: bit 0x01 is data ready.
+    pub line_status: u8,
+    /// MCR: bit 0x10 is loopback.
+    pub modem_control: u8,
+    /// MSR.
+    pub modem_status: u8,
+    /// SCR.
+    pub scratch: u8,
+    /// The received bytes that no guest has read, oldest first. A port takes at most 64.
+    pub in_buffer: Vec<u8>,
+}
+
+impl SerialState {
+    ghost use Rattle.vm_superio.specs.SavedState.{state_of};
+
+    /// The state of a new serial port. It takes no memory.
+    pub fn default(alloc: Global) -> SerialState
+        ensures { state_of result ≡ fresh }
+    {
+        SerialState {
+            baud_divisor_low: 0x0C,
+            baud_divisor_high: 0x00,
+            interrupt_enable: 0x00,
+            interrupt_identification: 0x01,
+            line_control: 0x03,
+            line_status: 0x60,
+            modem_control: 0x08,
+            modem_status: 0xB0,
+            scratch: 0x00,
+            in_buffer: Vec::new(alloc),
+        }
+    }
+
+    /// An equal state.
+    ///
+    /// # Errors
+    ///
+    /// `AllocError` where memory for the received bytes was refused.
+    pub fn clone(&self, alloc: Global) -> Result<SerialState, AllocError>
+        ensures { IfOk result (λ copy. state_of copy ≡ state_of self.now) }
+    {
+        Ok(SerialState {
+            in_buffer: self.in_buffer.to_vec(alloc)?,
+            ..*self
+        })
+    }
+
+    /// Whether the state is one that a new port can get into by any calls: at most 64 bytes are held, data ready shows
+    /// whether any is, the identification is 1, 2, 4 or 6, and the receive condition is pending only while a byte is
+    /// held.
+    ///
+    /// A port that was made of a coherent state stays coherent. Of another state each call does what its contract
+    /// says, but what a guest reads is then no function of its own accesses alone.
+    pub fn is_coherent(&self) -> bool
+        ensures { IsTrue result ↔ Coherent (state_of self.now) }
+    {
+        let holds_bytes = !self.in_buffer.is_empty();
+        self.in_buffer.len() <= FIFO_SIZE
+            && has_bits(self.line_status, 0x01) == holds_bytes
+            && tells_conditions(self.interrupt_identification, holds_bytes)
+    }
+}
+
+/// Whether the identification is that of two conditions, of which the receive condition is pending only while bytes are
+/// held.
+fn tells_conditions(identification: u8, holds_bytes: bool) -> bool
+    ensures { IsTrue result
+        ↔ ((transmit receive : Bool) × (identification ≡ identification_of transmit receive)
+        × (IsTrue receive → IsTrue holds_bytes)) }
+{
+    match identification {
+        0x01 => true,
+        0x02 => true,
+        0x04 => holds_bytes,
+        0x06 => holds_bytes,
+        _ => false,
+    }
+}

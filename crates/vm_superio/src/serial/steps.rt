@@ -1,0 +1,333 @@
+//! The steps that the calls of a serial port are made of.
+ghost use Rattle.std.specs.Prelude.{◌≡◌, length, [], ◌∷◌, ◌++◌, if◌then◌else◌, slice_index, is_some, is_ok, IsTrue, OnOk};
+ghost use Rattle.std.specs.Io.KnownBytes.{Appends};
+ghost use Rattle.std.specs.Option.{option_to_list};
+ghost use Rattle.vm_superio.specs.State.{masked};
+ghost use Rattle.vm_superio.specs.Registers.{is_loopback};
+ghost use Rattle.vm_superio.specs.Events.{out_byte, tx_lost_byte, in_buffer_empty, buffer_read};
+ghost use Rattle.vm_superio.specs.Acts.{Reads, Writes, Enqueues, Given, Written, TriggerRefused, WriterFailed, is_lost};
+ghost use Rattle.vm_superio.specs.Asking.{becomes_pending, ask, receive_becomes_pending, ask_while_held, fitting, receive};
+ghost use Rattle.vm_superio.specs.Fits.{asked_fits, enable_due, receive_due, write_due, sent_fits, write_sends, one_if};
+ghost use Rattle.vm_superio.specs.Calls.{read_answer, read_next, enable_write, data_read, data_write, write_next, read_events, sent_events};
+ghost use Rattle.vm_superio.specs.Links.{answers, written, WriterLink};
+ghost use Rattle.vm_superio.specs.Answers.{asked_of, refusal_in_answers, sent_of};
+ghost use Rattle.vm_superio.specs.Port.{write_reply, enqueue_reply, refusal_of};
+
+use super::answers::Answers;
+use super::registers::{
+    Condition, LCR_DLAB_BIT, MCR_LOOP_BIT, Register, has_bits, joined, masked, modem_status_read,
+    without,
+};
+use super::{Error, Serial, SerialEvents};
+use crate::Trigger;
+use crate::run::{Asked, Sent, Traced};
+use std::io;
+use std::io::Write;
+
+impl<T: Trigger, EV: SerialEvents, W: Write> Serial<T, EV, W> {
+    ghost use Rattle.vm_superio.specs.Port.{IsCase};
+
+    /// Asks for a condition: where it is enabled and not pending, it becomes pending, and the trigger is called once.
+    fn ask(&mut self, condition: Condition) -> Option<Result<(), T::E>>
+        ensures called { is_some result
+            ≡ becomes_pending condition self.old.state.interrupt_enable self.old.state.interrupt_identification }
+        ensures state { self.new.state ≡ record self.old.state {
+          interrupt_identification =
+              ask condition self.old.state.interrupt_enable self.old.state.interrupt_identification;
+        } }
+        ensures trigger { T.link self.old.trigger (option_to_list result) self.new.trigger }
+        ensures events { self.new.events ≡ self.old.events }
+        ensures out { self.new.out ≡ self.old.out }
+    {
+        if !has_bits(self.interrupt_enable, condition.enable_bit())
+            || has_bits(self.interrupt_identification, condition.pending_bit())
+        {
+            return None;
+        }
+        let others = without(self.interrupt_identification, 0x01);
+        self.interrupt_identification = joined(others, condition.pending_bit());
+        Some(self.interrupt_evt.trigger())
+    }
+
+    /// Asks for the receive condition, which an interrupt-enable write does only while bytes are held.
+    fn ask_while_held(&mut self) -> Option<Result<(), T::E>>
+        ensures called { is_some result
+            ≡ receive_becomes_pending self.old.state.in_buffer self.old.state.interrupt_enable
+            self.old.state.interrupt_identification }
+        ensures state { self.new.state ≡ record self.old.state {
+          interrupt_identification =
+              ask_while_held self.old.state.in_buffer self.old.state.interrupt_enable
+              self.old.state.interrupt_identification;
+        } }
+        ensures trigger { T.link self.old.trigger (option_to_list result) self.new.trigger }
+        ensures events { self.new.events ≡ self.old.events }
+        ensures out { self.new.out ≡ self.old.out }
+    {
+        if self.in_buffer.is_empty() {
+            return None;
+        }
+        self.ask(Condition::Receive)
+    }
+
+    /// The interrupt-enable write: stores the low four bits, and asks for both conditions, the receive condition first.
+    /// A refusal ends the call.
+    fn write_interrupt_enable(&mut self, value: u8) -> Answers<T::E>
+        ensures asked { IsTrue (asked_fits (enable_due (masked value 0x0F) self.old.state) (asked_of result)) }
+        ensures state { self.new.state ≡ enable_write (masked value 0x0F) (asked_of result) self.old.state }
+        ensures trigger { T.link self.old.trigger (answers (asked_of result) (refusal_in_answers result)) self.new.trigger }
+        ensures events { self.new.events ≡ self.old.events }
+        ensures out { self.new.out ≡ self.old.out }
+    {
+        self.interrupt_enable = masked(value, 0x0F);
+        match self.ask_while_held() {
+            None => Answers::to_one(self.ask(Condition::Transmit)),
+            Some(Err(refusal)) => Answers::Refused(refusal),
+            Some(Ok(())) => match self.ask(Condition::Transmit) {
+                None => Answers::Took,
+                Some(Ok(())) => Answers::TookTook,
+                Some(Err(refusal)) => Answers::TookRefused(refusal),
+            },
+        }
+    }
+
+    /// Bytes that come in: the first of them, as many as there is room for, stand behind those that are held. If there
+    /// is one, data ready is set and the receive condition is asked for. Answers how many were added.
+    fn receive(&mut self, bytes: &[u8]) -> (usize, Option<Result<(), T::E>>)
+        ensures count { result.0 ≡ length (fitting self.old.state.in_buffer bytes.now) }
+        ensures called { one_if (is_some result.1) ≡ receive_due (fitting self.old.state.in_buffer bytes.now) self.old.state }
+        ensures state { self.new.state ≡ receive (fitting self.old.state.in_buffer bytes.now) self.old.state }
+        ensures trigger { T.link self.old.trigger (option_to_list result.1) self.new.trigger }
+        ensures events { self.new.events ≡ self.old.events }
+        ensures out { self.new.out ≡ self.old.out }
+    {
+        let count = self.in_buffer.fill(bytes);
+        if count == 0 {
+            return (0, None);
+        }
+        self.line_status = joined(self.line_status, 0x01);
+        (count, self.ask(Condition::Receive))
+    }
+
+    /// Hands a byte to the writer, and tells its fate.
+    fn send(&mut self, byte: u8) -> io::Result<()>
+        ensures state { self.new.state ≡ self.old.state }
+        ensures trigger { self.new.trigger ≡ self.old.trigger }
+        ensures events { EV.link self.old.events ((if is_ok result then out_byte else tx_lost_byte) ∷ []) self.new.events }
+        ensures out { OnOk result (Appends (W.contents self.old.out) (W.contents self.new.out) (byte ∷ [])) }
+    {
+        let result = write_and_flush(&mut self.out, byte);
+        tell_fate(&mut self.events, result.is_ok());
+        result
+    }
+
+    /// The data read: clears the receive condition, and takes the oldest byte, or gives 0.
+    fn read_data(&mut self) -> u8
+        ensures value { result ≡ slice_index self.old.state.in_buffer 0 }
+        ensures state { self.new.state ≡ data_read self.old.state }
+        ensures trigger { self.new.trigger ≡ self.old.trigger }
+        ensures events { EV.link self.old.events (read_events Register.Data self.old.state.in_buffer) self.new.events }
+        ensures out { self.new.out ≡ self.old.out }
+    {
+        let others = without(
+            self.interrupt_identification,
+            Condition::Receive.pending_bit(),
+        );
+        self.interrupt_identification = if others == 0 { 0x01 } else { others };
+        let byte = self.in_buffer.take_first().unwrap_or(0);
+        let is_empty = self.in_buffer.is_empty();
+        if is_empty {
+            self.line_status = without(self.line_status, 0x01);
+        }
+        tell_read(&mut self.events, is_empty);
+        byte
+    }
+
+    /// The data write: in loopback the byte comes in, and else it is sent, after which the transmitter condition is asked
+    /// for, whatever became of the byte.
+    fn write_data(&mut self, value: u8) -> (Answers<T::E>, Option<io::Result<()>>)
+        ensures asked { IsTrue (asked_fits (write_due Register.Data value self.old.state) (asked_of result.0)) }
+        ensures sent { IsTrue (sent_fits (write_sends Register.Data (is_loopback self.old.state.modem_control)) (sent_of result.1)) }
+        ensures state { self.new.state ≡ data_write value self.old.state }
+        ensures trigger { T.link self.old.trigger (answers (asked_of result.0) (refusal_in_answers result.0)) self.new.trigger }
+        ensures events { EV.link self.old.events (sent_events (sent_of result.1)) self.new.events }
+        ensures out { WriterLink W.contents (sent_of result.1 ∷ []) (written (Writes 0 value) (sent_of result.1)) self.old.out
+            self.new.out }
+    {
+        if has_bits(self.modem_control, MCR_LOOP_BIT) {
+            let (_, answer) = self.receive(&[value]);
+            return (Answers::to_one(answer), None);
+        }
+        let fate = self.send(value);
+        (Answers::to_one(self.ask(Condition::Transmit)), Some(fate))
+    }
+
+    /// Reads a register.
+    fn read_register(&mut self, register: Register) -> u8
+        ensures value { result ≡ read_answer register self.old.state }
+        ensures state { self.new.state ≡ read_next register self.old.state }
+        ensures trigger { self.new.trigger ≡ self.old.trigger }
+        ensures events { EV.link self.old.events (read_events register self.old.state.in_buffer) self.new.events }
+        ensures out { self.new.out ≡ self.old.out }
+    {
+        match register {
+            Register::DivisorLow => self.baud_divisor_low,
+            Register::DivisorHigh => self.baud_divisor_high,
+            Register::Data => self.read_data(),
+            Register::InterruptEnable => self.interrupt_enable,
+            Register::InterruptIdentification => {
+                let identification = self.interrupt_identification;
+                self.interrupt_identification = 0x01;
+                joined(identification, 0xC0)
+            }
+            Register::LineControl => self.line_control,
+            Register::ModemControl => self.modem_control,
+            Register::LineStatus => self.line_status,
+            Register::ModemStatus => modem_status_read(self.modem_control, self.modem_status),
+            Register::Scratch => self.scratch,
+            Register::Unknown => 0,
+        }
+    }
+
+    /// Writes a register: the answers of the trigger, and what the writer answered if a byte was sent to it.
+    fn write_register(
+        &mut self,
+        register: Register,
+        value: u8,
+    ) -> (Answers<T::E>, Option<io::Result<()>>)
+        ensures asked { IsTrue (asked_fits (write_due register value self.old.state) (asked_of result.0)) }
+        ensures sent { IsTrue (sent_fits (write_sends register (is_loopback self.old.state.modem_control)) (sent_of result.1)) }
+        ensures state { self.new.state ≡ write_next register value (asked_of result.0) self.old.state }
+        ensures trigger { T.link self.old.trigger (answers (asked_of result.0) (refusal_in_answers result.0)) self.new.trigger }
+        ensures events { EV.link self.old.events (sent_events (sent_of result.1)) self.new.events }
+        ensures out { WriterLink W.contents (sent_of result.1 ∷ []) (written (Writes 0 value) (sent_of result.1)) self.old.out
+            self.new.out }
+    {
+        match register {
+            Register::DivisorLow => self.baud_divisor_low = value,
+            Register::DivisorHigh => self.baud_divisor_high = value,
+            Register::Data => return self.write_data(value),
+            Register::InterruptEnable => return (self.write_interrupt_enable(value), None),
+            Register::LineControl => self.line_control = value,
+            Register::ModemControl => self.modem_control = value,
+            Register::Scratch => self.scratch = value,
+            Register::InterruptIdentification
+            | Register::LineStatus
+            | Register::ModemStatus
+            | Register::Unknown => {}
+        }
+        (Answers::Nothing, None)
+    }
+
+    /// `read`, with what it asked and sent, which is nothing.
+    pub(crate) fn traced_read(&mut self, offset: u8) -> Traced<u8>
+        ensures { IsCase T.link EV.link W.contents (Reads offset) result.asked result.sent (Given result.reply) None self.old
+            self.new }
+    {
+        let register = Register::at(has_bits(self.line_control, LCR_DLAB_BIT), offset);
+        Traced {
+            reply: self.read_register(register),
+            asked: Asked::Nothing,
+            sent: Sent::Nothing,
+        }
+    }
+
+    /// `write`, with what it asked and sent.
+    pub(crate) fn traced_write(&mut self, offset: u8, value: u8) -> Traced<Result<(), Error<T::E>>>
+        ensures { IsCase T.link EV.link W.contents (Writes offset value) result.asked result.sent (write_reply result.reply)
+            (refusal_of result.reply) self.old self.new }
+    {
+        let register = Register::at(has_bits(self.line_control, LCR_DLAB_BIT), offset);
+        let (answers, fate) = self.write_register(register, value);
+        let asked = answers.asked();
+        let sent = sent(&fate);
+        Traced {
+            reply: reply(answers.refusal(), fate),
+            asked,
+            sent,
+        }
+    }
+
+    /// `enqueue_raw_bytes`, with what it asked and sent.
+    pub(crate) fn traced_enqueue(&mut self, input: &[u8]) -> Traced<Result<usize, Error<T::E>>>
+        ensures { IsCase T.link EV.link W.contents (Enqueues input.now) result.asked result.sent (enqueue_reply result.reply)
+            (refusal_of result.reply) self.old self.new }
+    {
+        if has_bits(self.modem_control, MCR_LOOP_BIT) || input.is_empty() {
+            return Traced {
+                reply: Ok(0),
+                asked: Asked::Nothing,
+                sent: Sent::Nothing,
+            };
+        }
+        if self.fifo_capacity() == 0 {
+            return Traced {
+                reply: Err(Error::FullFifo),
+                asked: Asked::Nothing,
+                sent: Sent::Nothing,
+            };
+        }
+        let (count, answer) = self.receive(input);
+        let answers = Answers::to_one(answer);
+        let asked = answers.asked();
+        Traced {
+            reply: match answers.refusal() {
+                Some(refusal) => Err(Error::Trigger(refusal)),
+                None => Ok(count),
+            },
+            asked,
+            sent: Sent::Nothing,
+        }
+    }
+}
+
+/// What became of a byte, by what the writer answered if one was sent to it.
+fn sent(fate: &Option<io::Result<()>>) -> Sent
+    ensures { result ≡ sent_of fate.now }
+{
+    match fate {
+        None => Sent::Nothing,
+        Some(Ok(())) => Sent::Out,
+        Some(Err(_)) => Sent::Lost,
+    }
+}
+
+/// What a write answers: a refusal of the trigger before a fault of the writer.
+fn reply<E>(refusal: Option<E>, fate: Option<io::Result<()>>) -> Result<(), Error<E>>
+    ensures refusal { refusal_of result ≡ refusal }
+    ensures answer { write_reply result ≡ (if is_some refusal then TriggerRefused else (if is_lost (sent_of fate) then WriterFailed else Written)) }
+{
+    match (refusal, fate) {
+        (Some(refusal), _) => Err(Error::Trigger(refusal)),
+        (None, Some(Err(fault))) => Err(Error::IOError(fault)),
+        (None, _) => Ok(()),
+    }
+}
+
+/// Writes the byte, and flushes where that succeeded.
+fn write_and_flush<W: Write>(out: &mut W, byte: u8) -> io::Result<()>
+    ensures { OnOk result (Appends (W.contents out.old) (W.contents out.new) (byte ∷ [])) }
+{
+    out.write_all(&[byte])?;
+    out.flush()
+}
+
+/// Tells whether a byte went out.
+fn tell_fate<EV: SerialEvents>(events: &mut EV, went_out: bool)
+    ensures { EV.link events.old ((if went_out then out_byte else tx_lost_byte) ∷ []) events.new }
+{
+    if went_out {
+        events.out_byte();
+    } else {
+        events.tx_lost_byte();
+    }
+}
+
+/// Tells of a data read, first that no byte is held any more.
+fn tell_read<EV: SerialEvents>(events: &mut EV, is_empty: bool)
+    ensures { EV.link events.old ((if is_empty then in_buffer_empty ∷ [] else []) ++ buffer_read ∷ []) events.new }
+{
+    if is_empty {
+        events.in_buffer_empty();
+    }
+    events.buffer_read();
+}
