@@ -9,6 +9,7 @@ use std::fmt::Debug;
 
 mod fifo;
 pub mod i8042;
+pub mod laws;
 pub mod run;
 pub mod serial;
 

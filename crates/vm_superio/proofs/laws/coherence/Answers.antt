@@ -1,0 +1,5 @@
+use Rattle.vm_superio.proofs.Runs.{coherence_law}
+use Rattle.vm_superio.proofs.laws.coherence.Goals as goal
+
+pub returns : goal.returns
+returns c = coherence_law

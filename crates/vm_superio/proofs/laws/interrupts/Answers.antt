@@ -1,0 +1,5 @@
+use Rattle.vm_superio.proofs.Pending.{interrupt_law}
+use Rattle.vm_superio.proofs.laws.interrupts.Goals as goal
+
+pub returns : goal.returns
+returns c = interrupt_law

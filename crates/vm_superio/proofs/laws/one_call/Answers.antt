@@ -1,0 +1,5 @@
+use Rattle.vm_superio.proofs.Held.{one_call}
+use Rattle.vm_superio.proofs.laws.one_call.Goals as goal
+
+pub returns : goal.returns
+returns c = one_call

@@ -1,0 +1,5 @@
+use Rattle.vm_superio.proofs.Writing.{output_law}
+use Rattle.vm_superio.proofs.laws.output.Goals as goal
+
+pub returns : goal.returns
+returns c = output_law

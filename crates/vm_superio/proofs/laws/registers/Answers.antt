@@ -1,0 +1,5 @@
+use Rattle.vm_superio.proofs.RegisterSteps.{register_law}
+use Rattle.vm_superio.proofs.laws.registers.Goals as goal
+
+pub returns : goal.returns
+returns c = register_law

@@ -1,0 +1,5 @@
+use Rattle.vm_superio.proofs.Views.{same_reads_law}
+use Rattle.vm_superio.proofs.laws.same_reads.Goals as goal
+
+pub returns : goal.returns
+returns c = same_reads_law

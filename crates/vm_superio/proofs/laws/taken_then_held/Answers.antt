@@ -1,0 +1,5 @@
+use Rattle.vm_superio.proofs.Held.{taken_then_held}
+use Rattle.vm_superio.proofs.laws.taken_then_held.Goals as goal
+
+pub returns : goal.returns
+returns c = taken_then_held

@@ -1,0 +1,5 @@
+use Rattle.vm_superio.proofs.Bounds.{trigger_bound_law}
+use Rattle.vm_superio.proofs.laws.trigger_bound.Goals as goal
+
+pub returns : goal.returns
+returns c = trigger_bound_law

@@ -1,0 +1,5 @@
+use Rattle.vm_superio.proofs.Places.{waiting_bytes_law}
+use Rattle.vm_superio.proofs.laws.waiting_bytes.Goals as goal
+
+pub returns : goal.returns
+returns c = waiting_bytes_law
