@@ -1,16 +1,13 @@
 -- Asking for a condition, where the identification is that of two conditions.
 use Rattle.std.proofs.Common.{◌≡◌, ℕ, ◌+◌, Bool, true, false, not, ◌==◌, ◌&&◌, ◌||◌, List, refl, ap, ◌∙◌}
 use Rattle.std.specs.Prelude.{if◌then◌else◌}
-use Rattle.std.specs.Bool.{beq}
 use Rattle.vm_superio.specs.declared.run.Asked.{Asked}
 use Rattle.vm_superio.specs.declared.run.Asked.TheVariants.{Nothing}
-use Rattle.vm_superio.specs.declared.run.Sent.{Sent}
-use Rattle.vm_superio.specs.declared.run.Sent.TheVariants as sent
 use Rattle.vm_superio.specs.State.{has_bits, masked, joined, without, not_empty}
 use Rattle.vm_superio.specs.Registers.{Receive, Transmit, identification_of}
-use Rattle.vm_superio.specs.Acts.{is_refused, is_sent}
+use Rattle.vm_superio.specs.Acts.{is_refused, one_if}
 use Rattle.vm_superio.specs.Asking.{becomes_pending, ask, receive_becomes_pending, ask_while_held}
-use Rattle.vm_superio.specs.Fits.{one_if, asked_fits, sent_fits}
+use Rattle.vm_superio.specs.Fits.{asked_fits}
 use Rattle.vm_superio.specs.Interrupts.{answer_count}
 use Rattle.vm_superio.proofs.Bytes.{enables_receive, enables_transmit}
 
@@ -148,8 +145,3 @@ answers_counted true false Nothing = refl
 answers_counted false true Nothing = refl
 answers_counted false false Nothing = refl
 answers_counted _ _ _ = refl
-
-pub fate_told : (sends : Bool) (what : Sent) → sent_fits sends what ≡ beq (is_sent what) sends
-fate_told true sent.Nothing = refl
-fate_told false sent.Nothing = refl
-fate_told _ _ = refl

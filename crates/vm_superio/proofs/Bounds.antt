@@ -4,8 +4,7 @@ use Rattle.std.proofs.lemmas.Bool.{eqb-true}
 use Rattle.std.proofs.lemmas.List.Sums.{sum_by-cons}
 use Rattle.std.specs.Prelude.{if◌then◌else◌, IsTrue, sum_by, count_by}
 use Rattle.vm_superio.specs.State.{State}
-use Rattle.vm_superio.specs.Acts.{Entry}
-use Rattle.vm_superio.specs.Fits.{one_if}
+use Rattle.vm_superio.specs.Acts.{Entry, one_if}
 use Rattle.vm_superio.specs.History.{Kind, DataRead, IdentificationRead, kind}
 use Rattle.vm_superio.specs.Interrupts.{answer_count, trigger_calls, receive_raised, acknowledges_receive, receive_pending, transmit_raised, acknowledges_transmit, transmit_pending, record_fits, is_fitting}
 use Rattle.vm_superio.specs.Laws.{kinds, is_identification_read, is_data_read, TriggerBoundLaw}
@@ -30,7 +29,7 @@ acknowledged_by DataRead = omega arith
 acknowledged_by IdentificationRead = omega arith
 acknowledged_by _ = omega arith
 
-one_at_most : (b : Bool) → one_if b ≤ 1
+pub one_at_most : (b : Bool) → one_if b ≤ 1
 one_at_most true = omega arith
 one_at_most false = omega arith
 

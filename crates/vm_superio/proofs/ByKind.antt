@@ -3,9 +3,9 @@ use Rattle.std.proofs.Common.{◌≡◌, ℕ, Bool, true, false, List, [], refl,
 use Rattle.vm_superio.specs.declared.run.Asked.{Asked}
 use Rattle.vm_superio.specs.State.{State, masked, not_empty}
 use Rattle.vm_superio.specs.Registers.{Register, Data, InterruptEnable, InterruptIdentification, register, is_dlab, is_loopback, Transmit}
-use Rattle.vm_superio.specs.Acts.{Deed, Reads, Writes, Enqueues, Restores, Entry}
-use Rattle.vm_superio.specs.Asking.{becomes_pending, ask, fitting, accepted_of, receive}
-use Rattle.vm_superio.specs.Fits.{one_if, receive_due, enable_due, write_due, due, write_sends, sends}
+use Rattle.vm_superio.specs.Acts.{Deed, Reads, Writes, Enqueues, Restores, Entry, one_if}
+use Rattle.vm_superio.specs.Asking.{becomes_pending, ask, that_fit, accepted_of, receive}
+use Rattle.vm_superio.specs.Fits.{receive_due, enable_due, write_due, due, write_sends, sends}
 use Rattle.vm_superio.specs.Calls.{next, data_read, enable_write, read_next, write_next}
 use Rattle.vm_superio.specs.History.{Kind, DataRead, IdentificationRead, EnableWrite, DataWrite, Arrival, Other, read_kind, write_kind, kind_of, kind, sent_by, dlab}
 use Rattle.vm_superio.specs.Laws.{state_after}
@@ -20,7 +20,7 @@ by_kind IdentificationRead asked s = record s { interrupt_identification = 1 }
 by_kind (EnableWrite value) asked s = enable_write (masked value 0x0F) asked s
 by_kind (DataWrite value) asked s =
     record s { interrupt_identification = ask Transmit s.interrupt_enable s.interrupt_identification }
-by_kind (Arrival bytes) asked s = receive (fitting s.in_buffer bytes) s
+by_kind (Arrival bytes) asked s = receive (that_fit s.in_buffer bytes) s
 by_kind Other asked s = s
 
 pub record SameBytes (one other : State) : Type 0 where
@@ -62,7 +62,7 @@ next_by_kind s Restores asked = same_bytes _
 abbrev pub due_by_kind : Kind → State → ℕ
 due_by_kind (EnableWrite value) s = enable_due (masked value 0x0F) s
 due_by_kind (DataWrite value) s = one_if (becomes_pending Transmit s.interrupt_enable s.interrupt_identification)
-due_by_kind (Arrival bytes) s = receive_due (fitting s.in_buffer bytes) s
+due_by_kind (Arrival bytes) s = receive_due (that_fit s.in_buffer bytes) s
 due_by_kind _ s = 0
 
 read_due : (r : Register) (s : State) → 0 ≡ due_by_kind (read_kind r) s

@@ -5,7 +5,7 @@ use Rattle.std.specs.Prelude.{if◌then◌else◌}
 use Rattle.vm_superio.specs.declared.run.Asked.{Asked}
 use Rattle.vm_superio.specs.State.{State, has_bits, without, not_empty, with_data_ready}
 use Rattle.vm_superio.specs.Acts.{Deed, Entry}
-use Rattle.vm_superio.specs.Asking.{fitting, receive}
+use Rattle.vm_superio.specs.Asking.{that_fit, receive}
 use Rattle.vm_superio.specs.Calls.{next}
 use Rattle.vm_superio.specs.History.{Kind, DataRead, IdentificationRead, Arrival, kind, accepted_by, taken_by, left, accepted, taken, held}
 use Rattle.vm_superio.specs.Replies.{line_status}
@@ -35,7 +35,7 @@ first_gone (byte ∷ bytes) = sym (append-nil bytes)
 left_by_kind : (k : Kind) (asked : Asked) (s : State)
     → (by_kind k asked s).in_buffer ≡ drop (length (taken_by k s.in_buffer)) (s.in_buffer ++ accepted_by k s.in_buffer)
 left_by_kind DataRead asked s = first_gone s.in_buffer
-left_by_kind (Arrival bytes) asked s = received_bytes (fitting s.in_buffer bytes) s
+left_by_kind (Arrival bytes) asked s = received_bytes (that_fit s.in_buffer bytes) s
 left_by_kind IdentificationRead asked s = sym (append-nil s.in_buffer)
 left_by_kind _ asked s = sym (append-nil s.in_buffer)
 
@@ -114,7 +114,7 @@ read_ready (byte ∷ other ∷ bytes) line_status ready = ready
 ready_by_kind : (k : Kind) (asked : Asked) (s : State) → IsReady s
     → (by_kind k asked s).line_status ≡ with_data_ready s.line_status (not_empty (by_kind k asked s).in_buffer)
 ready_by_kind DataRead asked s ready = read_ready s.in_buffer s.line_status ready
-ready_by_kind (Arrival bytes) asked s ready = received_ready (fitting s.in_buffer bytes) s ready
+ready_by_kind (Arrival bytes) asked s ready = received_ready (that_fit s.in_buffer bytes) s ready
 ready_by_kind IdentificationRead asked s ready = ready
 ready_by_kind _ asked s ready = ready
 

@@ -1,7 +1,8 @@
 -- One call, in any state: the events that it tells, and the pairs that the test passes.
-use Rattle.std.proofs.Common.{◌≡◌, ℕ, zero, suc, ◌≤◌, Bool, true, false, not, ◌==◌, List, [], ◌∷◌, ◌++◌, length, refl, sym, subst, arith}
+use Rattle.std.proofs.Common.{◌≡◌, ℕ, zero, suc, ◌≤◌, Bool, true, false, ◌==◌, List, [], ◌∷◌, ◌++◌, length, refl, sym, subst, arith}
 use Rattle.std.proofs.lemmas.Bool.{false≢true, eqb-true}
 use Rattle.std.specs.Prelude.{if◌then◌else◌, nat_le, IsTrue, count_by}
+use Rattle.std.specs.Bool.{beq}
 use Rattle.vm_superio.specs.declared.run.Asked.{Asked}
 use Rattle.vm_superio.specs.declared.run.Asked.TheVariants.{Nothing, Took, Refused, TookTook, TookRefused}
 use Rattle.vm_superio.specs.declared.run.Sent.{Sent}
@@ -11,13 +12,18 @@ use Rattle.vm_superio.specs.State.{State, masked, not_empty}
 use Rattle.vm_superio.specs.Registers.{Register, Data, InterruptIdentification, register, is_dlab, is_loopback, Receive, Transmit}
 use Rattle.vm_superio.specs.Events.{buffer_read, in_buffer_empty}
 use Rattle.vm_superio.specs.Acts.{Deed, Reads, Writes, Enqueues, Restores, is_sent}
-use Rattle.vm_superio.specs.Asking.{becomes_pending, receive_becomes_pending, ask_while_held, fitting}
-use Rattle.vm_superio.specs.Fits.{one_if, receive_due, asked_fits, due, sends, sent_fits}
+use Rattle.vm_superio.specs.Asking.{becomes_pending, receive_becomes_pending, ask_while_held, that_fit}
+use Rattle.vm_superio.specs.Fits.{receive_due, asked_fits, due, sends}
 use Rattle.vm_superio.specs.Calls.{read_events, sent_events, events}
 use Rattle.vm_superio.specs.History.{Kind, EnableWrite, DataWrite, Arrival, DataRead, read_kind, kind_of, kind, sent_by}
 use Rattle.vm_superio.specs.Laws.{tells_fate, EventsLaw, asked_when, sent_when, ExactTestLaw}
+use Rattle.vm_superio.proofs.Bounds.{one_at_most}
 use Rattle.vm_superio.proofs.Bytes.{and_left, and_right}
 use Rattle.vm_superio.proofs.ByKind.{due_by_kind, due_by, sends_by}
+
+-- what is told of a byte, where one is sent or not
+abbrev sent_fits : Bool → Sent → Bool
+sent_fits sends what = beq (is_sent what) sends
 
 -- ---- events
 
@@ -30,12 +36,12 @@ read_told Data held = read_tells _
 read_told InterruptIdentification held = refl
 read_told _ held = refl
 
-sent_once : (what : Sent) → IsTrue (is_sent what) → count_by tells_fate (sent_events what) ≡ 1
+sent_once : (what : Sent) → IsTrue (sent_fits true what) → count_by tells_fate (sent_events what) ≡ 1
 sent_once sent.Nothing fit = absurd (false≢true fit)
 sent_once sent.Out fit = refl
 sent_once sent.Lost fit = refl
 
-not_sent : (what : Sent) → IsTrue (not (is_sent what)) → count_by tells_fate (sent_events what) ≡ 0
+not_sent : (what : Sent) → IsTrue (sent_fits false what) → count_by tells_fate (sent_events what) ≡ 0
 not_sent sent.Nothing fit = refl
 not_sent sent.Out fit = absurd (false≢true fit)
 not_sent sent.Lost fit = absurd (false≢true fit)
@@ -62,10 +68,6 @@ events_law s act asked what fit = told s act what (and_right (asked_fits (due s 
 
 -- ---- the test is neither too narrow nor too wide
 
-one_at_most : (b : Bool) → one_if b ≤ 1
-one_at_most true = omega arith
-one_at_most false = omega arith
-
 received_at_most : (new : List ℕ) (s : State) → receive_due new s ≤ 2
 received_at_most [] s = omega arith
 received_at_most (byte ∷ bytes) s = omega (arith, one_at_most (becomes_pending Receive s.interrupt_enable s.interrupt_identification))
@@ -77,7 +79,7 @@ two_at_most (EnableWrite value) s =
     add-le-add (one_at_most (receive_becomes_pending s.in_buffer enable old))
     (one_at_most (becomes_pending Transmit enable (ask_while_held s.in_buffer enable old)))
 two_at_most (DataWrite value) s = omega (arith, one_at_most (becomes_pending Transmit s.interrupt_enable s.interrupt_identification))
-two_at_most (Arrival bytes) s = received_at_most (fitting s.in_buffer bytes) s
+two_at_most (Arrival bytes) s = received_at_most (that_fit s.in_buffer bytes) s
 two_at_most DataRead s = omega arith
 two_at_most _ s = omega arith
 

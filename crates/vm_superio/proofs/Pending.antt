@@ -6,15 +6,15 @@ use Rattle.std.proofs.Math.Bool.{and-true}
 use Rattle.vm_superio.specs.declared.run.Asked.{Asked}
 use Rattle.vm_superio.specs.State.{State, has_bits, masked, without, not_empty}
 use Rattle.vm_superio.specs.Registers.{Transmit, Receive, identification_of, transmit_first}
-use Rattle.vm_superio.specs.Acts.{Entry, is_refused, is_sent}
-use Rattle.vm_superio.specs.Asking.{ask, ask_while_held, becomes_pending, receive_becomes_pending, fitting, receive}
-use Rattle.vm_superio.specs.Fits.{one_if, receive_due, asked_fits, due, sends, fits}
+use Rattle.vm_superio.specs.Acts.{Entry, is_refused, is_sent, one_if}
+use Rattle.vm_superio.specs.Asking.{ask, ask_while_held, becomes_pending, receive_becomes_pending, that_fit, receive}
+use Rattle.vm_superio.specs.Fits.{receive_due, asked_fits, due, fits}
 use Rattle.vm_superio.specs.History.{Kind, DataRead, IdentificationRead, EnableWrite, DataWrite, Arrival, Other, kind, sent_by, held}
 use Rattle.vm_superio.specs.Interrupts.{receive_raised_by, acknowledges_receive, receive_pending, transmit_raised_by, acknowledges_transmit, transmit_pending, answer_count, record_fits, restore_calls_due}
 use Rattle.vm_superio.specs.Replies.{identification}
 use Rattle.vm_superio.specs.Calls.{restore_calls}
 use Rattle.vm_superio.specs.Laws.{state_after, InterruptLaw}
-use Rattle.vm_superio.proofs.Asks.{receive_bit, transmit_bit, read_clears, ask_receive, ask_transmit, receive_new, transmit_new, enable_receives, enable_leaves, enable_transmits, answers_counted, fate_told}
+use Rattle.vm_superio.proofs.Asks.{receive_bit, transmit_bit, read_clears, ask_receive, ask_transmit, receive_new, transmit_new, enable_receives, enable_leaves, enable_transmits, answers_counted}
 use Rattle.vm_superio.proofs.ByKind.{by_kind, next_at_place, same_kind, due_by_kind, due_by, sends_by}
 use Rattle.vm_superio.proofs.RegisterSteps.{register_law}
 use Rattle.vm_superio.proofs.Held.{held_bytes_law}
@@ -65,7 +65,7 @@ pending_by_kind (EnableWrite value) asked s transmit receive e =
     ∙ enable_leaves (receive_called (EnableWrite value) s.in_buffer s.interrupt_enable receive && is_refused asked) s.in_buffer value transmit receive
 pending_by_kind (DataWrite value) asked s transmit receive e =
     ap (ask Transmit s.interrupt_enable) e ∙ ask_transmit s.interrupt_enable transmit receive
-pending_by_kind (Arrival bytes) asked s transmit receive e = received_pending (fitting s.in_buffer bytes) s transmit receive e
+pending_by_kind (Arrival bytes) asked s transmit receive e = received_pending (that_fit s.in_buffer bytes) s transmit receive e
 pending_by_kind Other asked s transmit receive e = e
 
 received_due : (new : List ℕ) (s : State) (transmit receive : Bool)
@@ -87,7 +87,7 @@ due_is (EnableWrite value) s transmit receive e =
     ∙ ap (λ new. one_if (receive_called (EnableWrite value) s.in_buffer s.interrupt_enable receive) + one_if new) (enable_transmits s.in_buffer value transmit receive ∙ ap (λ bit. bit && not transmit) (sym (and-true (has_bits value 0x02))))
 due_is (DataWrite value) s transmit receive e =
     ap (λ old. one_if (becomes_pending Transmit s.interrupt_enable old)) e ∙ ap one_if (transmit_new s.interrupt_enable transmit receive) ∙ sym (zero-add _)
-due_is (Arrival bytes) s transmit receive e = received_due (fitting s.in_buffer bytes) s transmit receive e
+due_is (Arrival bytes) s transmit receive e = received_due (that_fit s.in_buffer bytes) s transmit receive e
 due_is DataRead s transmit receive e = refl
 due_is _ s transmit receive e = refl
 
@@ -159,8 +159,7 @@ fits_law start past transmit receive entry e =
     one_if (receive_called k bytes enable r)
     + one_if (transmit_raised_by k enable (receive_called k bytes enable r && is_refused entry.asked) && not t) in
     ap (λ test. asked_fits (due s entry.act) entry.asked && test)
-    (fate_told (sends s entry.act) entry.sent
-    ∙ ap (beq (is_sent entry.sent)) (sends_by s entry.act ∙ ap (λ (k : Kind). not_empty (sent_by k)) same))
+    (ap (beq (is_sent entry.sent)) (sends_by s entry.act ∙ ap (λ (k : Kind). not_empty (sent_by k)) same))
     ∙ ap (λ calls. asked_fits calls entry.asked && fate) (due_by s entry.act ∙ ap (λ (k : Kind). due_by_kind k s) same)
     ∙ ap (λ test. test && fate)
     (test_by_kind k entry.asked s t r (pending_law start past transmit receive e)

@@ -6,7 +6,7 @@ use Rattle.std.specs.Bool.{IsFalse}
 use Rattle.vm_superio.specs.declared.run.Asked.{Asked}
 use Rattle.vm_superio.specs.State.{State, has_bits, not_empty}
 use Rattle.vm_superio.specs.Acts.{Entry}
-use Rattle.vm_superio.specs.Asking.{fitting, receive}
+use Rattle.vm_superio.specs.Asking.{that_fit, receive}
 use Rattle.vm_superio.specs.History.{Kind, DataRead, IdentificationRead, EnableWrite, DataWrite, Arrival, Other, kind, held, interrupt_enable}
 use Rattle.vm_superio.specs.Interrupts.{still_raised, receive_raised, acknowledges_receive, receive_pending, transmit_raised, acknowledges_transmit}
 use Rattle.vm_superio.specs.Laws.{NoneAcknowledges, PendingByPlaces, PendingByPlacesLaw, tells_of_bytes, WaitingBytesLaw, state_after}
@@ -135,7 +135,7 @@ told_by_kind (EnableWrite value) asked s pending not_here before some enabled =
     or_left (has_bits value 0x01 && not_empty s.in_buffer) pending
     (and_both (has_bits value 0x01) (not_empty s.in_buffer) (sym (enables_receive value) ∙ enabled) some)
 told_by_kind (DataWrite value) asked s pending not_here before some enabled = before some enabled
-told_by_kind (Arrival bytes) asked s pending not_here before some enabled = received_told (fitting s.in_buffer bytes) s pending before some enabled
+told_by_kind (Arrival bytes) asked s pending not_here before some enabled = received_told (that_fit s.in_buffer bytes) s pending before some enabled
 told_by_kind Other asked s pending not_here before some enabled = before some enabled
 
 received_first : (new : List ℕ) (s : State) (pending : Bool) → IsTrue (not_empty new)
@@ -149,7 +149,7 @@ first_told : (k : Kind) (asked : Asked) (s : State) (pending : Bool) → IsTrue 
 first_told (EnableWrite value) asked s pending tells some enabled =
     or_left (has_bits value 0x01 && not_empty s.in_buffer) pending
     (and_both (has_bits value 0x01) (not_empty s.in_buffer) (sym (enables_receive value) ∙ enabled) some)
-first_told (Arrival bytes) asked s pending tells some enabled = received_first (fitting s.in_buffer bytes) s pending tells some enabled
+first_told (Arrival bytes) asked s pending tells some enabled = received_first (that_fit s.in_buffer bytes) s pending tells some enabled
 first_told DataRead asked s pending tells some enabled = absurd (false≢true tells)
 first_told _ asked s pending tells some enabled = absurd (false≢true tells)
 

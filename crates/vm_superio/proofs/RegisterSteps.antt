@@ -7,7 +7,7 @@ use Rattle.vm_superio.specs.declared.run.Asked.{Asked}
 use Rattle.vm_superio.specs.State.{State, masked}
 use Rattle.vm_superio.specs.Registers.{Register, Data, InterruptIdentification, Unknown, register, is_dlab, is_loopback}
 use Rattle.vm_superio.specs.Acts.{Deed, Reads, Writes, Enqueues, Restores, Entry}
-use Rattle.vm_superio.specs.Asking.{receive, fitting, accepted_of}
+use Rattle.vm_superio.specs.Asking.{receive, that_fit, accepted_of}
 use Rattle.vm_superio.specs.Calls.{next, read_next, write_next, data_write}
 use Rattle.vm_superio.specs.History.{written_at, last, dlab}
 use Rattle.vm_superio.specs.Laws.{RegisterLaw, state_after}
@@ -67,7 +67,7 @@ read_done _ s = refl
 
 data_written : (value : ℕ) (loopback : Bool) (s : State) → is_loopback s.modem_control ≡ loopback → SameRegisters s (data_write value s)
 unfolding SameRegisters
-data_written value true s e = rw e (received (fitting s.in_buffer (value ∷ [])) s)
+data_written value true s e = rw e (received (that_fit s.in_buffer (value ∷ [])) s)
 data_written value false s e = rw e refl
 
 none_either : (b : Bool) → ◌≡◌ {A = Option ℕ} (if b then None else None) None

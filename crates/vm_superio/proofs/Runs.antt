@@ -8,7 +8,7 @@ use Rattle.vm_superio.specs.declared.run.Sent.{Sent}
 use Rattle.vm_superio.specs.State.{State, has_bits, joined, without, not_empty}
 use Rattle.vm_superio.specs.Registers.{Register, InterruptIdentification, register, identification_of}
 use Rattle.vm_superio.specs.Acts.{Deed, Reads, Writes, Enqueues, Restores, Entry, Answer, Given, Added, FifoFull, TriggerRefused, is_refused}
-use Rattle.vm_superio.specs.Asking.{fitting, receive}
+use Rattle.vm_superio.specs.Asking.{that_fit, receive}
 use Rattle.vm_superio.specs.Calls.{answer, read_answer}
 use Rattle.vm_superio.specs.Coherent.{Coherent}
 use Rattle.vm_superio.specs.History.{Kind, DataRead, IdentificationRead, EnableWrite, DataWrite, Arrival, Other, kind, accepted_by, dlab, loopback, held}
@@ -39,7 +39,7 @@ received_by_kind DataRead asked s before kept now = absurd (false≢true now)
 received_by_kind IdentificationRead asked s before kept now = absurd (false≢true now)
 received_by_kind (EnableWrite value) asked s before kept now = enabled_held (has_bits value 0x01) (not_empty s.in_buffer) before kept now
 received_by_kind (DataWrite value) asked s before kept now = kept now
-received_by_kind (Arrival bytes) asked s before kept now = received_kept (fitting s.in_buffer bytes) s (has_bits s.interrupt_enable 0x01) before kept now
+received_by_kind (Arrival bytes) asked s before kept now = received_kept (that_fit s.in_buffer bytes) s (has_bits s.interrupt_enable 0x01) before kept now
 received_by_kind Other asked s before kept now = kept now
 
 -- data ready is set exactly while a byte is held
@@ -57,7 +57,7 @@ received_shows (byte ∷ bytes) s shows = data_ready_set s.line_status ∙ sym (
 shown_by_kind : (k : Kind) (asked : Asked) (s : State) → has_bits s.line_status 0x01 ≡ not_empty s.in_buffer
     → has_bits (by_kind k asked s).line_status 0x01 ≡ not_empty (by_kind k asked s).in_buffer
 shown_by_kind DataRead asked s shows = read_shows s.in_buffer s.line_status shows
-shown_by_kind (Arrival bytes) asked s shows = received_shows (fitting s.in_buffer bytes) s shows
+shown_by_kind (Arrival bytes) asked s shows = received_shows (that_fit s.in_buffer bytes) s shows
 shown_by_kind IdentificationRead asked s shows = shows
 shown_by_kind _ asked s shows = shows
 
@@ -124,7 +124,7 @@ enqueue_told : (loopback : Bool) (bytes held : List ℕ) (asked : Asked)
     → (if loopback || (length bytes == 0) then Added 0
     else (if nat_le 64 (length held) then FifoFull
     else (if is_refused asked then TriggerRefused
-    else Added (length (if loopback then [] else fitting held bytes)))))
+    else Added (length (if loopback then [] else that_fit held bytes)))))
     ≡ (if loopback || (length bytes == 0) then Added 0
     else (if nat_le 64 (length held) then FifoFull
     else (if is_refused asked then TriggerRefused

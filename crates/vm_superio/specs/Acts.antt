@@ -60,6 +60,10 @@ abbrev pub is_lost : Sent → Bool
 is_lost sent.Lost = true
 is_lost _ = false
 
+-- how many calls of the trigger that makes
+abbrev pub one_if : Bool → ℕ
+one_if due = if due then 1 else 0
+
 -- a write answers a refusal of the trigger before a fault of the writer
 abbrev pub write_answer : Asked → Sent → Answer
 write_answer asked sent =

@@ -27,12 +27,12 @@ ask_while_held held enable identification = if not_empty held then ask Receive e
 -- ---- the bytes that come in
 
 -- as many of the first bytes as there is room for: the FIFO holds at most 64
-abbrev pub fitting : List ℕ → List ℕ → List ℕ
-fitting held bytes = take (64 - length held) bytes
+abbrev pub that_fit : List ℕ → List ℕ → List ℕ
+that_fit held bytes = take (64 - length held) bytes
 
 -- an enqueue outside loopback accepts the bytes that fit, and in loopback none; DLAB plays no part
 abbrev pub accepted_of : State → List ℕ → List ℕ
-accepted_of s bytes = if is_loopback s.modem_control then [] else fitting s.in_buffer bytes
+accepted_of s bytes = if is_loopback s.modem_control then [] else that_fit s.in_buffer bytes
 
 -- bytes that come in stand behind the others, data ready is set, and the receive condition is asked for
 abbrev pub receive : List ℕ → State → State

@@ -8,7 +8,7 @@ use Rattle.vm_superio.specs.State.{State, has_bits, masked, joined, without, not
 use Rattle.vm_superio.specs.Registers.{Register, DivisorLow, DivisorHigh, Data, InterruptEnable, InterruptIdentification, LineControl, ModemControl, LineStatus, ModemStatus, Scratch, Unknown, register, is_dlab, is_loopback, Condition, Receive, Transmit, enable_bit, pending_bit, modem_status_read, transmit_first}
 use Rattle.vm_superio.specs.Events.{Event, buffer_read, out_byte, tx_lost_byte, in_buffer_empty}
 use Rattle.vm_superio.specs.Acts.{Deed, Reads, Writes, Enqueues, Restores, Answer, Given, Added, TriggerRefused, FifoFull, NoAnswer, is_refused, write_answer}
-use Rattle.vm_superio.specs.Asking.{ask, receive_becomes_pending, ask_while_held, fitting, accepted_of, receive}
+use Rattle.vm_superio.specs.Asking.{ask, receive_becomes_pending, ask_while_held, that_fit, accepted_of, receive}
 
 -- ---- what a call answers
 
@@ -75,7 +75,7 @@ enable_write enable asked s =
 -- a data write asks for the transmitter condition, whatever became of its byte; in loopback the byte comes in
 abbrev pub data_write : ℕ → State → State
 data_write value s =
-    if is_loopback s.modem_control then receive (fitting s.in_buffer (value ∷ [])) s
+    if is_loopback s.modem_control then receive (that_fit s.in_buffer (value ∷ [])) s
     else record s { interrupt_identification = ask Transmit s.interrupt_enable s.interrupt_identification }
 
 -- the identification, both statuses and unknown offsets ignore writes

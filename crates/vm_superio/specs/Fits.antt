@@ -1,17 +1,15 @@
 -- The test of the call cases: which answers of the trigger and which fate of a byte go with a call in a state.
-use Rattle.std.specs.Prelude.{ℕ, ◌+◌, Bool, true, false, not, ◌==◌, ◌&&◌, nat_le, if◌then◌else◌, List, [], ◌∷◌}
+use Rattle.std.specs.Prelude.{ℕ, ◌+◌, Bool, false, not, ◌==◌, ◌&&◌, nat_le, if◌then◌else◌, List, [], ◌∷◌}
+use Rattle.std.specs.Bool.{beq}
 use Rattle.vm_superio.specs.declared.run.Asked.{Asked}
 use Rattle.vm_superio.specs.declared.run.Asked.TheVariants.{Nothing, Took, Refused, TookTook, TookRefused}
 use Rattle.vm_superio.specs.declared.run.Sent.{Sent}
 use Rattle.vm_superio.specs.State.{State, masked}
 use Rattle.vm_superio.specs.Registers.{Register, Data, InterruptEnable, register, is_dlab, is_loopback, Receive, Transmit}
-use Rattle.vm_superio.specs.Acts.{Deed, Reads, Writes, Enqueues, Restores, is_sent}
-use Rattle.vm_superio.specs.Asking.{becomes_pending, receive_becomes_pending, ask_while_held, fitting, accepted_of}
+use Rattle.vm_superio.specs.Acts.{Deed, Reads, Writes, Enqueues, Restores, is_sent, one_if}
+use Rattle.vm_superio.specs.Asking.{becomes_pending, receive_becomes_pending, ask_while_held, that_fit, accepted_of}
 
 -- ---- how many trigger calls are due
-
-abbrev pub one_if : Bool → ℕ
-one_if due = if due then 1 else 0
 
 -- where bytes came in, one call if the receive condition becomes pending
 abbrev pub receive_due : List ℕ → State → ℕ
@@ -27,7 +25,7 @@ enable_due enable s =
 -- a data write asks for the transmitter condition outside loopback; in loopback its byte comes in. No other write asks
 abbrev pub write_due : Register → ℕ → State → ℕ
 write_due Data value s =
-    if is_loopback s.modem_control then receive_due (fitting s.in_buffer (value ∷ [])) s
+    if is_loopback s.modem_control then receive_due (that_fit s.in_buffer (value ∷ [])) s
     else one_if (becomes_pending Transmit s.interrupt_enable s.interrupt_identification)
 write_due InterruptEnable value s = enable_due (masked value 0x0F) s
 write_due _ value s = 0
@@ -58,13 +56,8 @@ abbrev pub sends : State → Deed → Bool
 sends s (Writes offset value) = write_sends (register (is_dlab s.line_control) offset) (is_loopback s.modem_control)
 sends s _ = false
 
--- what was sent is told exactly where a byte is sent
-abbrev pub sent_fits : Bool → Sent → Bool
-sent_fits true what = is_sent what
-sent_fits false what = not (is_sent what)
-
 -- ---- the test
 
--- these answers of the trigger and this fate of a byte go with the call
+-- these answers of the trigger go with the call, and this fate of a byte exactly where one is sent
 abbrev pub fits : State → Deed → Asked → Sent → Bool
-fits s act asked what = asked_fits (due s act) asked && sent_fits (sends s act) what
+fits s act asked what = asked_fits (due s act) asked && beq (is_sent what) (sends s act)

@@ -114,11 +114,15 @@ left first accepted taken = drop (length taken) (first ++ accepted)
 abbrev mutual
   pub accepted : State → List Entry → List ℕ
   accepted start [] = []
-  accepted start (entry ∷ past) = accepted start past ++ accepted_by (kind start past entry.act) (left start.in_buffer (accepted start past) (taken start past))
+  accepted start (entry ∷ past) =
+      accepted start past
+      ++ accepted_by (kind start past entry.act) (left start.in_buffer (accepted start past) (taken start past))
 
   pub taken : State → List Entry → List ℕ
   taken start [] = []
-  taken start (entry ∷ past) = taken start past ++ taken_by (kind start past entry.act) (left start.in_buffer (accepted start past) (taken start past))
+  taken start (entry ∷ past) =
+      taken start past
+      ++ taken_by (kind start past entry.act) (left start.in_buffer (accepted start past) (taken start past))
 
 -- the bytes that are held
 abbrev pub held : State → List Entry → List ℕ

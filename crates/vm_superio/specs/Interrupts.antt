@@ -1,12 +1,12 @@
 -- What a past tells of a serial port, II: which conditions were raised and are pending, which trigger calls are due, and
 -- what makes a history fitting. As before, nothing is kept, and no call case is named.
-use Rattle.std.specs.Prelude.{ℕ, ◌+◌, Bool, true, false, not, ◌==◌, ◌&&◌, ◌||◌, if◌then◌else◌, List, [], ◌∷◌}
+use Rattle.std.specs.Prelude.{ℕ, ◌+◌, Bool, true, false, not, ◌==◌, ◌&&◌, ◌||◌, List, [], ◌∷◌}
 use Rattle.std.specs.Bool.{beq}
 use Rattle.vm_superio.specs.declared.run.Asked.{Asked}
 use Rattle.vm_superio.specs.declared.run.Asked.TheVariants.{Nothing, Took, Refused, TookTook, TookRefused}
 use Rattle.vm_superio.specs.State.{State, has_bits, not_empty}
 use Rattle.vm_superio.specs.Registers.{Condition, transmit_first}
-use Rattle.vm_superio.specs.Acts.{Entry, is_refused, is_sent}
+use Rattle.vm_superio.specs.Acts.{Entry, is_refused, is_sent, one_if}
 use Rattle.vm_superio.specs.History.{Kind, DataRead, IdentificationRead, EnableWrite, DataWrite, kind, interrupt_enable, sent_by, accepted_by, held}
 
 -- ---- raised, acknowledged and pending
@@ -23,7 +23,7 @@ still_raised start raises acknowledges first (entry ∷ past) =
 -- at least one byte is accepted while interrupt enable has bit 0x01
 abbrev pub receive_raised_by : Kind → List ℕ → ℕ → Bool
 receive_raised_by (EnableWrite value) held enable = has_bits value 0x01 && not_empty held
-receive_raised_by kind held enable = not_empty (accepted_by kind held) && has_bits enable 0x01
+receive_raised_by act held enable = not_empty (accepted_by act held) && has_bits enable 0x01
 
 abbrev pub receive_raised : State → List Entry → Entry → Bool
 receive_raised start past entry =
@@ -52,7 +52,8 @@ transmit_raised_by _ enable refused = false
 
 abbrev pub transmit_raised : State → List Entry → Entry → Bool
 transmit_raised start past entry =
-    transmit_raised_by (kind start past entry.act) (interrupt_enable start past) (receive_call start past entry && is_refused entry.asked)
+    transmit_raised_by (kind start past entry.act) (interrupt_enable start past)
+    (receive_call start past entry && is_refused entry.asked)
 
 -- only a read of the identification acknowledges it
 abbrev pub acknowledges_transmit : Kind → Bool
@@ -79,7 +80,7 @@ answer_count TookRefused = 2
 -- the trigger calls of a place, one for each condition that becomes pending there; a restore raises nothing
 abbrev pub trigger_calls : State → List Entry → Entry → ℕ
 trigger_calls start past entry =
-    (if receive_call start past entry then 1 else 0) + (if transmit_call start past entry then 1 else 0)
+    one_if (receive_call start past entry) + one_if (transmit_call start past entry)
 
 -- a record fits if it has as many answers as there are trigger calls, and a byte's fate exactly where one is sent
 abbrev pub record_fits : State → List Entry → Entry → Bool

@@ -145,7 +145,7 @@ TriggerBoundLaw = (start : State) (past : List Entry) → IsTrue (is_fitting sta
 -- a place where waiting bytes are told of: it accepts a byte, or is an interrupt-enable write
 abbrev pub tells_of_bytes : Kind → List ℕ → Bool
 tells_of_bytes (EnableWrite value) held = true
-tells_of_bytes kind held = not_empty (accepted_by kind held)
+tells_of_bytes act held = not_empty (accepted_by act held)
 
 -- waiting bytes: after such a place, and with no read of the identification and no data read since, the receive
 -- condition is pending where bytes are held and interrupt enable has bit 0x01
