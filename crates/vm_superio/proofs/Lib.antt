@@ -8,8 +8,10 @@ mod Pending
 mod Places
 mod RegisterSteps
 mod Rows
+mod RunRows
 mod Runs
 mod SerialRows
+mod StateRows
 mod Views
 mod Writing
 mod TriggerCalls

@@ -1,14 +1,16 @@
 -- How a worked example is computed: its calls with their answers, once by the call cases and once by the history.
-use Rattle.std.proofs.Common.{◌≡◌, ℕ, Bool, true, List, [], ◌∷◌, map}
+use Rattle.std.proofs.Common.{◌++◌, ◌≡◌, ℕ, Bool, true, List, [], ◌∷◌, map}
 use Rattle.vm_superio.specs.declared.run.Asked.{Asked}
 use Rattle.vm_superio.specs.declared.run.Asked.TheVariants.{Nothing}
 use Rattle.vm_superio.specs.declared.run.Sent.{Sent}
 use Rattle.vm_superio.specs.declared.run.Sent.TheVariants as sent
 use Rattle.vm_superio.specs.State.{State}
+use Rattle.vm_superio.specs.Registers.{Condition}
+use Rattle.vm_superio.specs.Events.{Event}
 use Rattle.vm_superio.specs.Acts.{Reads, Writes, Enqueues, Restores, Entry, Answer, Given, Written, NoAnswer}
 use Rattle.vm_superio.specs.Fits.{fits}
-use Rattle.vm_superio.specs.Calls.{answer, next}
-use Rattle.vm_superio.specs.Interrupts.{record_fits}
+use Rattle.vm_superio.specs.Calls.{answer, next, events, restore_calls}
+use Rattle.vm_superio.specs.Interrupts.{record_fits, restore_calls_due}
 use Rattle.vm_superio.specs.Replies.{reply}
 
 -- ---- calls with their answers
@@ -54,6 +56,25 @@ by_history start past (call ∷ later) =
 -- each call passes, with its answer
 abbrev pub told : List (Entry × Answer) → List (Bool × Answer)
 told calls = map (λ (call : Entry × Answer). (true, call.1)) calls
+
+-- where the calls end, by the call cases and as a past
+abbrev pub end_of : State → List (Entry × Answer) → State
+end_of s [] = s
+end_of s (call ∷ later) = end_of (next s call.0.act call.0.asked) later
+
+abbrev pub past_of : List Entry → List (Entry × Answer) → List Entry
+past_of past [] = past
+past_of past (call ∷ later) = past_of (call.0 ∷ past) later
+
+-- a restore there makes these trigger calls
+abbrev pub RestoresWith : State → List (Entry × Answer) → List Condition → Type 0
+RestoresWith start calls conditions =
+    (restore_calls (end_of start calls) ≡ conditions) × (restore_calls_due start (past_of [] calls) ≡ conditions)
+
+-- the events that the calls tell
+abbrev pub told_events : State → List (Entry × Answer) → List Event
+told_events s [] = []
+told_events s (call ∷ later) = events s call.0.act call.0.sent ++ told_events (next s call.0.act call.0.asked) later
 
 abbrev pub GivenByCases : State → List (Entry × Answer) → Type 0
 GivenByCases start calls = by_cases start calls ≡ told calls
