@@ -7,7 +7,8 @@ use Rattle.vm_superio.specs.State.{State}
 use Rattle.vm_superio.specs.Acts.{Entry, one_if}
 use Rattle.vm_superio.specs.History.{Kind, DataRead, IdentificationRead, kind}
 use Rattle.vm_superio.specs.Interrupts.{answer_count, trigger_calls, receive_raised, acknowledges_receive, receive_pending, transmit_raised, acknowledges_transmit, transmit_pending, record_fits, is_fitting}
-use Rattle.vm_superio.specs.Laws.{kinds, is_identification_read, is_data_read, TriggerBoundLaw}
+use Rattle.vm_superio.specs.Laws.{TriggerBoundLaw}
+use Rattle.vm_superio.specs.LawWords.{kinds, is_identification_read, is_data_read}
 use Rattle.vm_superio.proofs.Bytes.{and_left, and_right}
 
 -- each call makes a condition pending that was not, and only an acknowledgement makes it one that is not

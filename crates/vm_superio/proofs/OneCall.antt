@@ -16,7 +16,8 @@ use Rattle.vm_superio.specs.Asking.{becomes_pending, receive_becomes_pending, as
 use Rattle.vm_superio.specs.Fits.{receive_due, asked_fits, due, sends}
 use Rattle.vm_superio.specs.Calls.{read_events, sent_events, events}
 use Rattle.vm_superio.specs.History.{Kind, EnableWrite, DataWrite, Arrival, DataRead, read_kind, kind_of, kind, sent_by}
-use Rattle.vm_superio.specs.Laws.{tells_fate, EventsLaw, asked_when, sent_when, ExactTestLaw}
+use Rattle.vm_superio.specs.Laws.{EventsLaw, ExactTestLaw}
+use Rattle.vm_superio.specs.LawWords.{tells_fate, asked_when, sent_when}
 use Rattle.vm_superio.proofs.Bounds.{one_at_most}
 use Rattle.vm_superio.proofs.Bytes.{and_left, and_right}
 use Rattle.vm_superio.proofs.ByKind.{due_by_kind, due_by, sends_by}

@@ -9,7 +9,8 @@ use Rattle.vm_superio.specs.Acts.{Entry}
 use Rattle.vm_superio.specs.Asking.{that_fit, receive}
 use Rattle.vm_superio.specs.History.{Kind, DataRead, IdentificationRead, EnableWrite, DataWrite, Arrival, Other, kind, held, interrupt_enable}
 use Rattle.vm_superio.specs.Interrupts.{still_raised, receive_raised, acknowledges_receive, receive_pending, transmit_raised, acknowledges_transmit}
-use Rattle.vm_superio.specs.Laws.{NoneAcknowledges, PendingByPlaces, PendingByPlacesLaw, tells_of_bytes, WaitingBytesLaw, state_after}
+use Rattle.vm_superio.specs.Laws.{PendingByPlacesLaw, WaitingBytesLaw, state_after}
+use Rattle.vm_superio.specs.LawWords.{NoneAcknowledges, PendingByPlaces, tells_of_bytes}
 use Rattle.vm_superio.proofs.Bytes.{and_left, and_right, enables_receive}
 use Rattle.vm_superio.proofs.ByKind.{by_kind, next_at_place}
 use Rattle.vm_superio.proofs.RegisterSteps.{register_law}

@@ -1,20 +1,16 @@
 -- The laws: what the call cases and the history have to do with each other, and what follows from the history alone.
-use Rattle.std.specs.Prelude.{◌≡◌, ◌↔◌, ◌⊎◌, ℕ, ◌+◌, ◌*◌, ◌<◌, ◌≤◌, zero, suc, Bool, true, false, not, if◌then◌else◌, List, [], ◌∷◌, ◌++◌, length, sum_by, count_by, IsTrue}
-use Rattle.std.specs.Bool.{IsFalse}
+use Rattle.std.specs.Prelude.{◌≡◌, ◌↔◌, ℕ, ◌+◌, ◌*◌, ◌<◌, ◌≤◌, Bool, not, List, [], ◌∷◌, ◌++◌, length, sum_by, count_by, IsTrue}
 use Rattle.std.specs.List.{list_all}
 use Rattle.vm_superio.specs.declared.run.Asked.{Asked}
-use Rattle.vm_superio.specs.declared.run.Asked.TheVariants.{Nothing, Took, Refused, TookTook, TookRefused}
 use Rattle.vm_superio.specs.declared.run.Sent.{Sent}
-use Rattle.vm_superio.specs.declared.run.Sent.TheVariants as sent
 use Rattle.vm_superio.specs.State.{State, has_bits, not_empty}
 use Rattle.vm_superio.specs.Registers.{identification_of}
-use Rattle.vm_superio.specs.Events.{Event, out_byte, tx_lost_byte}
-use Rattle.vm_superio.specs.Acts.{Deed, Restores, Entry, Answer, is_lost}
+use Rattle.vm_superio.specs.Acts.{Deed, Entry, Answer, is_lost}
 use Rattle.vm_superio.specs.Fits.{due, sends, fits}
 use Rattle.vm_superio.specs.Calls.{answer, next, events, restore_calls}
 use Rattle.vm_superio.specs.Coherent.{Coherent}
-use Rattle.vm_superio.specs.Links.{written}
-use Rattle.vm_superio.specs.History.{Kind, DataRead, IdentificationRead, EnableWrite, line_control, modem_control, scratch, divisor_low, divisor_high, interrupt_enable, kind, sent_by, accepted_by, taken_by, accepted, taken, held}
+use Rattle.vm_superio.specs.LawWords.{NoneAcknowledges, PendingByPlaces, kinds, is_identification_read, is_data_read, tells_of_bytes, acts_and_asked, all_written, tells_fate, asked_when, sent_when}
+use Rattle.vm_superio.specs.History.{line_control, modem_control, scratch, divisor_low, divisor_high, interrupt_enable, kind, sent_by, accepted_by, taken_by, accepted, taken, held}
 use Rattle.vm_superio.specs.Interrupts.{receive_raised, acknowledges_receive, receive_pending, transmit_raised, acknowledges_transmit, transmit_pending, answer_count, record_fits, is_fitting, restore_calls_due}
 use Rattle.vm_superio.specs.Replies.{identification, line_status, guest_read, reply, output, described}
 
@@ -101,19 +97,6 @@ WholeRunLaw = (start end : State) (calls : List (Entry × Answer)) → Coherent 
 
 -- ---- what follows from the history alone, from any start
 
--- none of the newest records acknowledges, each at its place: before it stand those behind it and then the past
-abbrev pub NoneAcknowledges : State → (Kind → Bool) → List Entry → List Entry → Type 0
-NoneAcknowledges start acknowledges newest past =
-    (after before : List Entry) (entry : Entry) → newest ≡ after ++ entry ∷ before
-    → IsFalse (acknowledges (kind start (before ++ past) entry.act))
-
--- raised at some place, or pending at the start, and acknowledged at no later place
-abbrev pub PendingByPlaces : State → (List Entry → Entry → Bool) → (Kind → Bool) → Bool → List Entry → Type 0
-PendingByPlaces start raises acknowledges first past =
-    ((after before : List Entry) × (entry : Entry) × (past ≡ after ++ entry ∷ before)
-    × IsTrue (raises before entry) × NoneAcknowledges start acknowledges after (entry ∷ before))
-    ⊎ (IsTrue first × NoneAcknowledges start acknowledges past [])
-
 -- pending by places: the search finds what the sentence says
 pub record PendingAgrees (start : State) (past : List Entry) : Type 0 where
   pub receive : IsTrue (receive_pending start past) ↔ PendingByPlaces start (receive_raised start) acknowledges_receive (has_bits start.interrupt_identification 0x04) past
@@ -122,30 +105,12 @@ pub record PendingAgrees (start : State) (past : List Entry) : Type 0 where
 abbrev pub PendingByPlacesLaw : Type 0
 PendingByPlacesLaw = (start : State) (past : List Entry) → PendingAgrees start past
 
--- what the acts of a past were at their places, newest first
-abbrev pub kinds : State → List Entry → List Kind
-kinds start [] = []
-kinds start (entry ∷ past) = kind start past entry.act ∷ kinds start past
-
-abbrev pub is_identification_read : Kind → Bool
-is_identification_read IdentificationRead = true
-is_identification_read _ = false
-
-abbrev pub is_data_read : Kind → Bool
-is_data_read DataRead = true
-is_data_read _ = false
-
 -- the trigger bound: in a fitting history the calls of the trigger, those of restores aside, are at most two, two more
 -- for each read of the identification, and one more for each data read
 abbrev pub TriggerBoundLaw : Type 0
 TriggerBoundLaw = (start : State) (past : List Entry) → IsTrue (is_fitting start past)
     → sum_by (λ (entry : Entry). answer_count entry.asked) past
     ≤ 2 + 2 * count_by is_identification_read (kinds start past) + count_by is_data_read (kinds start past)
-
--- a place where waiting bytes are told of: it accepts a byte, or is an interrupt-enable write
-abbrev pub tells_of_bytes : Kind → List ℕ → Bool
-tells_of_bytes (EnableWrite value) held = true
-tells_of_bytes act held = not_empty (accepted_by act held)
 
 -- waiting bytes: after such a place, and with no read of the identification and no data read since, the receive
 -- condition is pending where bytes are held and interrupt enable has bit 0x01
@@ -157,15 +122,6 @@ WaitingBytesLaw = (start : State) (after before : List Entry) (entry : Entry)
     IsTrue (not_empty (held start past)) → IsTrue (has_bits (interrupt_enable start past) 0x01)
     → IsTrue (receive_pending start past)
 
-abbrev pub act_and_asked : Deed → Asked → List (Deed × Asked)
-act_and_asked Restores asked = []
-act_and_asked act asked = (act, asked) ∷ []
-
--- the acts of a past with what each asked, restores left out
-abbrev pub acts_and_asked : List Entry → List (Deed × Asked)
-acts_and_asked [] = []
-acts_and_asked (entry ∷ past) = act_and_asked entry.act entry.asked ++ acts_and_asked past
-
 -- neither the writer nor a restore changes a read: it depends on the acts and on what they asked alone
 abbrev pub SameReadsLaw : Type 0
 SameReadsLaw = (start : State) (one other : List Entry) → acts_and_asked one ≡ acts_and_asked other
@@ -175,11 +131,6 @@ SameReadsLaw = (start : State) (one other : List Entry) → acts_and_asked one �
 abbrev pub TakenThenHeldLaw : Type 0
 TakenThenHeldLaw = (start : State) (past : List Entry)
     → taken start past ++ held start past ≡ start.in_buffer ++ accepted start past
-
--- the bytes that the writer took in the newest records, in order
-abbrev pub all_written : List Entry → List ℕ
-all_written [] = []
-all_written (entry ∷ newest) = all_written newest ++ written entry.act entry.sent
 
 -- the newest records of a fitting history among which nothing is lost: the writer took exactly the output
 abbrev pub OutputLaw : Type 0
@@ -195,27 +146,10 @@ OneCallLaw = (s : State) (act : Deed) (asked : Asked)
     → taken_by (kind s [] act) s.in_buffer ++ (next s act asked).in_buffer
     ≡ s.in_buffer ++ accepted_by (kind s [] act) s.in_buffer
 
--- the events that tell the fate of a byte
-abbrev pub tells_fate : Event → Bool
-tells_fate out_byte = true
-tells_fate tx_lost_byte = true
-tells_fate _ = false
-
 -- a data write outside loopback tells exactly one of these two, once, and no other call tells either
 abbrev pub EventsLaw : Type 0
 EventsLaw = (s : State) (act : Deed) (asked : Asked) (what : Sent) → IsTrue (fits s act asked what)
     → count_by tells_fate (events s act what) ≡ length (sent_by (kind s [] act))
-
--- what is asked where so many calls are due: the answer to the first and, if it comes to that, to the second
-abbrev pub asked_when : ℕ → Bool → Bool → Asked
-asked_when zero first second = Nothing
-asked_when (suc zero) first second = if first then Took else Refused
-asked_when (suc (suc more)) first second = if first then (if second then TookTook else TookRefused) else Refused
-
--- the fate of a byte, if one is sent: the writer's success or failure
-abbrev pub sent_when : Bool → Bool → Sent
-sent_when false success = sent.Nothing
-sent_when true success = if success then sent.Out else sent.Lost
 
 -- the test passes what some answers to the calls that are due and the writer's success or failure give, and no more
 abbrev pub ExactTestLaw : Type 0

@@ -8,6 +8,7 @@ pub mod Events
 pub mod Fits
 pub mod History
 pub mod Interrupts
+pub mod LawWords
 pub mod Laws
 pub mod Links
 pub mod Port
