@@ -5,7 +5,8 @@ use Rattle.std.proofs.lemmas.List.Sums.{sum_by-cons}
 use Rattle.std.specs.Prelude.{if◌then◌else◌, IsTrue, sum_by, count_by}
 use Rattle.vm_superio.specs.State.{State}
 use Rattle.vm_superio.specs.Acts.{Entry, one_if}
-use Rattle.vm_superio.specs.History.{Kind, DataRead, IdentificationRead, kind}
+use Rattle.vm_superio.specs.Meaning.{Kind, DataRead, IdentificationRead}
+use Rattle.vm_superio.specs.History.{kind}
 use Rattle.vm_superio.specs.Interrupts.{answer_count, trigger_calls, receive_raised, acknowledges_receive, receive_pending, transmit_raised, acknowledges_transmit, transmit_pending, record_fits, is_fitting}
 use Rattle.vm_superio.specs.Laws.{TriggerBoundLaw}
 use Rattle.vm_superio.specs.LawWords.{kinds, is_identification_read, is_data_read}

@@ -1,13 +1,13 @@
 -- A call by what its act is: the call cases go by registers, the history by kinds.
-use Rattle.std.proofs.Common.{◌≡◌, ℕ, Bool, true, false, List, [], refl, ap, subst, ◌∙◌, ◌∷◌}
+use Rattle.std.proofs.Common.{◌≡◌, ℕ, Bool, true, false, List, refl, ap, subst, ◌∙◌, ◌∷◌}
 use Rattle.vm_superio.specs.declared.run.Asked.{Asked}
-use Rattle.vm_superio.specs.State.{State, masked, not_empty}
+use Rattle.vm_superio.specs.State.{State, masked}
 use Rattle.vm_superio.specs.Registers.{Register, Data, InterruptEnable, InterruptIdentification, register, is_dlab, is_loopback, Transmit}
-use Rattle.vm_superio.specs.Acts.{Deed, Reads, Writes, Enqueues, Restores, Entry, one_if}
-use Rattle.vm_superio.specs.Asking.{becomes_pending, ask, that_fit, accepted_of, receive}
-use Rattle.vm_superio.specs.Fits.{receive_due, enable_due, write_due, due, write_sends, sends}
+use Rattle.vm_superio.specs.Acts.{Deed, Reads, Writes, Enqueues, Restores, Entry}
+use Rattle.vm_superio.specs.Asking.{ask, that_fit, accepted_of, receive}
 use Rattle.vm_superio.specs.Calls.{next, data_read, enable_write, read_next, write_next}
-use Rattle.vm_superio.specs.History.{Kind, DataRead, IdentificationRead, EnableWrite, DataWrite, Arrival, Other, read_kind, write_kind, kind_of, kind, sent_by, dlab}
+use Rattle.vm_superio.specs.Meaning.{kind_in, Kind, DataRead, IdentificationRead, EnableWrite, DataWrite, Arrival, Other, read_kind, write_kind, kind_of}
+use Rattle.vm_superio.specs.History.{kind, dlab}
 use Rattle.vm_superio.specs.Laws.{state_after}
 use Rattle.vm_superio.proofs.RegisterSteps.{register_law}
 
@@ -49,71 +49,17 @@ enqueue_by_kind : (loopback dlab : Bool) (bytes : List ℕ) (asked : Asked) (s :
 enqueue_by_kind true dlab bytes asked s e = rw e (same_bytes _)
 enqueue_by_kind false dlab bytes asked s e = rw e (same_bytes _)
 
-pub next_by_kind : (s : State) (act : Deed) (asked : Asked) → SameBytes (next s act asked) (by_kind (kind s [] act) asked s)
+pub next_by_kind : (s : State) (act : Deed) (asked : Asked) → SameBytes (next s act asked) (by_kind (kind_in s act) asked s)
 next_by_kind s (Reads offset) asked = read_by_kind (register (is_dlab s.line_control) offset) asked s
 next_by_kind s (Writes offset value) asked =
     write_by_kind (register (is_dlab s.line_control) offset) (is_loopback s.modem_control) value asked s refl
 next_by_kind s (Enqueues bytes) asked = enqueue_by_kind (is_loopback s.modem_control) (is_dlab s.line_control) bytes asked s refl
 next_by_kind s Restores asked = same_bytes _
 
--- ---- the test
-
--- the trigger calls of an act of this kind, if none is refused
-abbrev pub due_by_kind : Kind → State → ℕ
-due_by_kind (EnableWrite value) s = enable_due (masked value 0x0F) s
-due_by_kind (DataWrite value) s = one_if (becomes_pending Transmit s.interrupt_enable s.interrupt_identification)
-due_by_kind (Arrival bytes) s = receive_due (that_fit s.in_buffer bytes) s
-due_by_kind _ s = 0
-
-read_due : (r : Register) (s : State) → 0 ≡ due_by_kind (read_kind r) s
-read_due Data s = refl
-read_due InterruptIdentification s = refl
-read_due _ s = refl
-
-write_due_by_kind : (r : Register) (loopback : Bool) (value : ℕ) (s : State) → is_loopback s.modem_control ≡ loopback
-    → write_due r value s ≡ due_by_kind (write_kind r loopback value) s
-write_due_by_kind Data true value s e = rw e refl
-write_due_by_kind Data false value s e = rw e refl
-write_due_by_kind InterruptEnable loopback value s e = refl
-write_due_by_kind _ loopback value s e = refl
-
-enqueue_due : (loopback dlab : Bool) (bytes : List ℕ) (s : State) → is_loopback s.modem_control ≡ loopback
-    → receive_due (accepted_of s bytes) s ≡ due_by_kind (kind_of dlab loopback (Enqueues bytes)) s
-enqueue_due true dlab bytes s e = rw e refl
-enqueue_due false dlab bytes s e = rw e refl
-
-pub due_by : (s : State) (act : Deed) → due s act ≡ due_by_kind (kind s [] act) s
-due_by s (Reads offset) = read_due (register (is_dlab s.line_control) offset) s
-due_by s (Writes offset value) =
-    write_due_by_kind (register (is_dlab s.line_control) offset) (is_loopback s.modem_control) value s refl
-due_by s (Enqueues bytes) = enqueue_due (is_loopback s.modem_control) (is_dlab s.line_control) bytes s refl
-due_by s Restores = refl
-
-read_sends : (r : Register) → false ≡ not_empty (sent_by (read_kind r))
-read_sends Data = refl
-read_sends InterruptIdentification = refl
-read_sends _ = refl
-
-write_sends_by : (r : Register) (loopback : Bool) (value : ℕ) → write_sends r loopback ≡ not_empty (sent_by (write_kind r loopback value))
-write_sends_by Data true value = refl
-write_sends_by Data false value = refl
-write_sends_by InterruptEnable loopback value = refl
-write_sends_by _ loopback value = refl
-
-enqueue_sends : (loopback dlab : Bool) (bytes : List ℕ) → false ≡ not_empty (sent_by (kind_of dlab loopback (Enqueues bytes)))
-enqueue_sends true dlab bytes = refl
-enqueue_sends false dlab bytes = refl
-
-pub sends_by : (s : State) (act : Deed) → sends s act ≡ not_empty (sent_by (kind s [] act))
-sends_by s (Reads offset) = read_sends (register (is_dlab s.line_control) offset)
-sends_by s (Writes offset value) = write_sends_by (register (is_dlab s.line_control) offset) (is_loopback s.modem_control) value
-sends_by s (Enqueues bytes) = enqueue_sends (is_loopback s.modem_control) (is_dlab s.line_control) bytes
-sends_by s Restores = refl
-
 -- ---- the place
 
 -- the state after a past tells what an act is at that place
-pub same_kind : (start : State) (past : List Entry) (act : Deed) → kind (state_after start past) [] act ≡ kind start past act
+pub same_kind : (start : State) (past : List Entry) (act : Deed) → kind_in (state_after start past) act ≡ kind start past act
 same_kind start past act =
     let s = state_after start past in
     let registers = register_law start past in

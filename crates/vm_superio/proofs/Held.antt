@@ -7,7 +7,8 @@ use Rattle.vm_superio.specs.State.{State, has_bits, without, not_empty, with_dat
 use Rattle.vm_superio.specs.Acts.{Deed, Entry}
 use Rattle.vm_superio.specs.Asking.{that_fit, receive}
 use Rattle.vm_superio.specs.Calls.{next}
-use Rattle.vm_superio.specs.History.{Kind, DataRead, IdentificationRead, Arrival, kind, accepted_by, taken_by, left, accepted, taken, held}
+use Rattle.vm_superio.specs.Meaning.{kind_in, Kind, DataRead, IdentificationRead, Arrival, accepted_by, taken_by}
+use Rattle.vm_superio.specs.History.{kind, left, accepted, taken, held}
 use Rattle.vm_superio.specs.Replies.{line_status}
 use Rattle.vm_superio.specs.Laws.{state_after, HeldBytesLaw, LineStatusLaw, TakenThenHeldLaw, OneCallLaw}
 use Rattle.vm_superio.proofs.Bytes.{data_ready_right, data_ready_twice}
@@ -41,9 +42,9 @@ left_by_kind _ asked s = sym (append-nil s.in_buffer)
 
 pub one_call : OneCallLaw
 one_call s act asked =
-    ap (λ bytes. taken_by (kind s [] act) s.in_buffer ++ bytes)
-    ((next_by_kind s act asked).in_buffer ∙ left_by_kind (kind s [] act) asked s)
-    ∙ taken_first (kind s [] act) s.in_buffer (accepted_by (kind s [] act) s.in_buffer)
+    ap (λ bytes. taken_by (kind_in s act) s.in_buffer ++ bytes)
+    ((next_by_kind s act asked).in_buffer ∙ left_by_kind (kind_in s act) asked s)
+    ∙ taken_first (kind_in s act) s.in_buffer (accepted_by (kind_in s act) s.in_buffer)
 
 -- ---- any past
 
@@ -123,7 +124,7 @@ ready_more : (s : State) (act : Deed) (asked : Asked) → IsReady s
     → (next s act asked).line_status ≡ with_data_ready s.line_status (not_empty (next s act asked).in_buffer)
 ready_more s act asked ready =
     let same = next_by_kind s act asked in
-    same.line_status ∙ ready_by_kind (kind s [] act) asked s ready
+    same.line_status ∙ ready_by_kind (kind_in s act) asked s ready
     ∙ ap (λ bytes. with_data_ready s.line_status (not_empty bytes)) (sym same.in_buffer)
 
 -- the start's line status, with data ready as bytes are held now

@@ -13,14 +13,13 @@ use Rattle.vm_superio.specs.Registers.{Register, Data, InterruptIdentification, 
 use Rattle.vm_superio.specs.Events.{buffer_read, in_buffer_empty}
 use Rattle.vm_superio.specs.Acts.{Deed, Reads, Writes, Enqueues, Restores, is_sent}
 use Rattle.vm_superio.specs.Asking.{becomes_pending, receive_becomes_pending, ask_while_held, that_fit}
-use Rattle.vm_superio.specs.Fits.{receive_due, asked_fits, due, sends}
+use Rattle.vm_superio.specs.Fits.{receive_due, due_by, asked_fits, due, sends}
 use Rattle.vm_superio.specs.Calls.{read_events, sent_events, events}
-use Rattle.vm_superio.specs.History.{Kind, EnableWrite, DataWrite, Arrival, DataRead, read_kind, kind_of, kind, sent_by}
+use Rattle.vm_superio.specs.Meaning.{kind_in, Kind, EnableWrite, DataWrite, Arrival, DataRead, read_kind, kind_of, sent_by}
 use Rattle.vm_superio.specs.Laws.{EventsLaw, ExactTestLaw}
 use Rattle.vm_superio.specs.LawWords.{tells_fate, asked_when, sent_when}
 use Rattle.vm_superio.proofs.Bounds.{one_at_most}
 use Rattle.vm_superio.proofs.Bytes.{and_left, and_right}
-use Rattle.vm_superio.proofs.ByKind.{due_by_kind, due_by, sends_by}
 
 -- what is told of a byte, where one is sent or not
 abbrev sent_fits : Bool → Sent → Bool
@@ -57,10 +56,10 @@ enqueue_told true dlab bytes = refl
 enqueue_told false dlab bytes = refl
 
 told : (s : State) (act : Deed) (what : Sent) → IsTrue (sent_fits (sends s act) what)
-    → count_by tells_fate (events s act what) ≡ length (sent_by (kind s [] act))
+    → count_by tells_fate (events s act what) ≡ length (sent_by (kind_in s act))
 told s (Reads offset) what fit = read_told (register (is_dlab s.line_control) offset) s.in_buffer
 told s (Writes offset value) what fit =
-    sent_told (kind s [] (Writes offset value)) what (subst (λ sends. IsTrue (sent_fits sends what)) (sends_by s (Writes offset value)) fit)
+    sent_told (kind_in s (Writes offset value)) what fit
 told s (Enqueues bytes) what fit = enqueue_told (is_loopback s.modem_control) (is_dlab s.line_control) bytes
 told s Restores what fit = refl
 
@@ -73,7 +72,7 @@ received_at_most : (new : List ℕ) (s : State) → receive_due new s ≤ 2
 received_at_most [] s = omega arith
 received_at_most (byte ∷ bytes) s = omega (arith, one_at_most (becomes_pending Receive s.interrupt_enable s.interrupt_identification))
 
-two_at_most : (k : Kind) (s : State) → due_by_kind k s ≤ 2
+two_at_most : (k : Kind) (s : State) → due_by k s ≤ 2
 two_at_most (EnableWrite value) s =
     let enable = masked value 0x0F in
     let old = s.interrupt_identification in
@@ -128,7 +127,7 @@ sent_passes true false = refl
 sent_passes false success = refl
 
 due_at_most : (s : State) (act : Deed) → due s act ≤ 2
-due_at_most s act = rw (due_by s act) (two_at_most (kind s [] act) s)
+due_at_most s act = two_at_most (kind_in s act) s
 
 pub exact_test_law : ExactTestLaw
 unfolding Exact

@@ -8,14 +8,15 @@ use Rattle.vm_superio.specs.State.{State, has_bits, masked, without, not_empty}
 use Rattle.vm_superio.specs.Registers.{Transmit, Receive, identification_of, transmit_first}
 use Rattle.vm_superio.specs.Acts.{Entry, is_refused, is_sent, one_if}
 use Rattle.vm_superio.specs.Asking.{ask, ask_while_held, becomes_pending, receive_becomes_pending, that_fit, receive}
-use Rattle.vm_superio.specs.Fits.{receive_due, asked_fits, due, fits}
-use Rattle.vm_superio.specs.History.{Kind, DataRead, IdentificationRead, EnableWrite, DataWrite, Arrival, Other, kind, sent_by, held}
+use Rattle.vm_superio.specs.Fits.{receive_due, due_by, asked_fits, due, fits}
+use Rattle.vm_superio.specs.Meaning.{Kind, DataRead, IdentificationRead, EnableWrite, DataWrite, Arrival, Other, sent_by}
+use Rattle.vm_superio.specs.History.{kind, held}
 use Rattle.vm_superio.specs.Interrupts.{receive_raised_by, acknowledges_receive, receive_pending, transmit_raised_by, acknowledges_transmit, transmit_pending, answer_count, record_fits, restore_calls_due}
 use Rattle.vm_superio.specs.Replies.{identification}
 use Rattle.vm_superio.specs.Calls.{restore_calls}
 use Rattle.vm_superio.specs.Laws.{state_after, InterruptLaw}
 use Rattle.vm_superio.proofs.Asks.{receive_bit, transmit_bit, read_clears, ask_receive, ask_transmit, receive_new, transmit_new, enable_receives, enable_leaves, enable_transmits, answers_counted}
-use Rattle.vm_superio.proofs.ByKind.{by_kind, next_at_place, same_kind, due_by_kind, due_by, sends_by}
+use Rattle.vm_superio.proofs.ByKind.{by_kind, next_at_place, same_kind}
 use Rattle.vm_superio.proofs.RegisterSteps.{register_law}
 use Rattle.vm_superio.proofs.Held.{held_bytes_law}
 
@@ -77,7 +78,7 @@ received_due (byte ∷ bytes) s transmit receive e =
 
 -- the calls that are due are those of the conditions that become pending, the second if the first is not refused
 due_is : (k : Kind) (s : State) (transmit receive : Bool) → s.interrupt_identification ≡ identification_of transmit receive
-    → due_by_kind k s
+    → due_by k s
     ≡ one_if (receive_called k s.in_buffer s.interrupt_enable receive)
     + one_if (transmit_raised_by k s.interrupt_enable false && not transmit)
 due_is (EnableWrite value) s transmit receive e =
@@ -111,7 +112,7 @@ and_swap false _ _ = refl
 test_by_kind : (k : Kind) (asked : Asked) (s : State) (transmit receive : Bool)
     → s.interrupt_identification ≡ identification_of transmit receive
     → let first = receive_called k s.in_buffer s.interrupt_enable receive in
-    asked_fits (due_by_kind k s) asked
+    asked_fits (due_by k s) asked
     ≡ (answer_count asked == one_if first + one_if (transmit_raised_by k s.interrupt_enable (first && is_refused asked) && not transmit))
 test_by_kind k asked s transmit receive e =
     let first = receive_called k s.in_buffer s.interrupt_enable receive in
@@ -159,8 +160,8 @@ fits_law start past transmit receive entry e =
     one_if (receive_called k bytes enable r)
     + one_if (transmit_raised_by k enable (receive_called k bytes enable r && is_refused entry.asked) && not t) in
     ap (λ test. asked_fits (due s entry.act) entry.asked && test)
-    (ap (beq (is_sent entry.sent)) (sends_by s entry.act ∙ ap (λ (k : Kind). not_empty (sent_by k)) same))
-    ∙ ap (λ calls. asked_fits calls entry.asked && fate) (due_by s entry.act ∙ ap (λ (k : Kind). due_by_kind k s) same)
+    (ap (λ (k : Kind). beq (is_sent entry.sent) (not_empty (sent_by k))) same)
+    ∙ ap (λ calls. asked_fits calls entry.asked && fate) (ap (λ (k : Kind). due_by k s) same)
     ∙ ap (λ test. test && fate)
     (test_by_kind k entry.asked s t r (pending_law start past transmit receive e)
     ∙ ap (λ bytes. answer_count entry.asked == calls_of bytes s.interrupt_enable) (held_bytes_law start past)

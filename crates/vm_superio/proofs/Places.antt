@@ -7,7 +7,8 @@ use Rattle.vm_superio.specs.declared.run.Asked.{Asked}
 use Rattle.vm_superio.specs.State.{State, has_bits, not_empty}
 use Rattle.vm_superio.specs.Acts.{Entry}
 use Rattle.vm_superio.specs.Asking.{that_fit, receive}
-use Rattle.vm_superio.specs.History.{Kind, DataRead, IdentificationRead, EnableWrite, DataWrite, Arrival, Other, kind, held, interrupt_enable}
+use Rattle.vm_superio.specs.Meaning.{Kind, DataRead, IdentificationRead, EnableWrite, DataWrite, Arrival, Other}
+use Rattle.vm_superio.specs.History.{kind, held, interrupt_enable}
 use Rattle.vm_superio.specs.Interrupts.{still_raised, receive_raised, acknowledges_receive, receive_pending, transmit_raised, acknowledges_transmit}
 use Rattle.vm_superio.specs.Laws.{PendingByPlacesLaw, WaitingBytesLaw, state_after}
 use Rattle.vm_superio.specs.LawWords.{NoneAcknowledges, PendingByPlaces, tells_of_bytes}

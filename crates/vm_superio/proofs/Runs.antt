@@ -11,7 +11,8 @@ use Rattle.vm_superio.specs.Acts.{Deed, Reads, Writes, Enqueues, Restores, Entry
 use Rattle.vm_superio.specs.Asking.{that_fit, receive}
 use Rattle.vm_superio.specs.Calls.{answer, read_answer}
 use Rattle.vm_superio.specs.Coherent.{Coherent}
-use Rattle.vm_superio.specs.History.{Kind, DataRead, IdentificationRead, EnableWrite, DataWrite, Arrival, Other, kind, accepted_by, dlab, loopback, held}
+use Rattle.vm_superio.specs.Meaning.{kind_in, Kind, DataRead, IdentificationRead, EnableWrite, DataWrite, Arrival, Other, accepted_by}
+use Rattle.vm_superio.specs.History.{dlab, loopback, held}
 use Rattle.vm_superio.specs.Replies.{register_read, reply, described}
 use Rattle.vm_superio.specs.Laws.{state_after, CoherenceLaw, StateLaw, AnswerLaw, FollowCases, FollowHistory, WholeRunLaw}
 use Rattle.vm_superio.proofs.Bytes.{data_ready_set, data_ready_cleared}
@@ -74,7 +75,7 @@ few_by_kind _ asked s few = few
 
 pub coherence_law : CoherenceLaw
 coherence_law s act asked coherent =
-    let k = kind s [] act in
+    let k = kind_in s act in
     let same = next_by_kind s act asked in
     record {
       transmit = transmit_next k s.in_buffer s.interrupt_enable asked coherent.transmit coherent.receive;

@@ -7,7 +7,8 @@ use Rattle.vm_superio.specs.State.{State, with_data_ready, not_empty}
 use Rattle.vm_superio.specs.Registers.{register, is_dlab}
 use Rattle.vm_superio.specs.Acts.{Deed, Reads, Writes, Enqueues, Restores, Entry}
 use Rattle.vm_superio.specs.Calls.{next, read_answer}
-use Rattle.vm_superio.specs.History.{Kind, kind, dlab, held, interrupt_enable}
+use Rattle.vm_superio.specs.Meaning.{kind_in, Kind}
+use Rattle.vm_superio.specs.History.{dlab, held, interrupt_enable}
 use Rattle.vm_superio.specs.Interrupts.{receive_pending, transmit_pending}
 use Rattle.vm_superio.specs.Registers.{identification_of}
 use Rattle.vm_superio.specs.Replies.{described}
@@ -33,31 +34,31 @@ record SameView (start : State) (one other : List Entry) : Type 0 where
 -- the conditions that are pending after one more act, by the state before it
 receive_by_state : (start : State) (past : List Entry) (entry : Entry) → let s = state_after start past in
     receive_pending start (entry ∷ past)
-    ≡ receive_next (kind s [] entry.act) s.in_buffer s.interrupt_enable (receive_pending start past)
+    ≡ receive_next (kind_in s entry.act) s.in_buffer s.interrupt_enable (receive_pending start past)
 receive_by_state start past entry =
     let s = state_after start past in
     let r = receive_pending start past in
     ap (λ (k : Kind). receive_next k (held start past) (interrupt_enable start past) r) (sym (same_kind start past entry.act))
-    ∙ ap (λ bytes. receive_next (kind s [] entry.act) bytes (interrupt_enable start past) r) (sym (held_bytes_law start past))
-    ∙ ap (λ enable. receive_next (kind s [] entry.act) s.in_buffer enable r) (sym (register_law start past).interrupt_enable)
+    ∙ ap (λ bytes. receive_next (kind_in s entry.act) bytes (interrupt_enable start past) r) (sym (held_bytes_law start past))
+    ∙ ap (λ enable. receive_next (kind_in s entry.act) s.in_buffer enable r) (sym (register_law start past).interrupt_enable)
 
 transmit_by_state : (start : State) (past : List Entry) (entry : Entry) → let s = state_after start past in
     transmit_pending start (entry ∷ past)
-    ≡ transmit_next (kind s [] entry.act) s.in_buffer s.interrupt_enable entry.asked (transmit_pending start past) (receive_pending start past)
+    ≡ transmit_next (kind_in s entry.act) s.in_buffer s.interrupt_enable entry.asked (transmit_pending start past) (receive_pending start past)
 transmit_by_state start past entry =
     let s = state_after start past in
     let r = receive_pending start past in
     let t = transmit_pending start past in
     ap (λ (k : Kind). transmit_next k (held start past) (interrupt_enable start past) entry.asked t r) (sym (same_kind start past entry.act))
-    ∙ ap (λ bytes. transmit_next (kind s [] entry.act) bytes (interrupt_enable start past) entry.asked t r) (sym (held_bytes_law start past))
-    ∙ ap (λ enable. transmit_next (kind s [] entry.act) s.in_buffer enable entry.asked t r) (sym (register_law start past).interrupt_enable)
+    ∙ ap (λ bytes. transmit_next (kind_in s entry.act) bytes (interrupt_enable start past) entry.asked t r) (sym (held_bytes_law start past))
+    ∙ ap (λ enable. transmit_next (kind_in s entry.act) s.in_buffer enable entry.asked t r) (sym (register_law start past).interrupt_enable)
 
 -- one more call in both pasts
 more : (start : State) (one other : List Entry) (act : Deed) (asked : Asked) (first second : Sent) → SameView start one other
     → SameView start (record { act = act; asked = asked; sent = first } ∷ one) (record { act = act; asked = asked; sent = second } ∷ other)
 more start one other act asked first second same =
-    let receive_of = λ (s : State) (r : Bool). receive_next (kind s [] act) s.in_buffer s.interrupt_enable r in
-    let transmit_of = λ (s : State) (t r : Bool). transmit_next (kind s [] act) s.in_buffer s.interrupt_enable asked t r in
+    let receive_of = λ (s : State) (r : Bool). receive_next (kind_in s act) s.in_buffer s.interrupt_enable r in
+    let transmit_of = λ (s : State) (t r : Bool). transmit_next (kind_in s act) s.in_buffer s.interrupt_enable asked t r in
     let s = state_after start other in
     record {
       state = ap (λ (s : State). next s act asked) same.state;

@@ -10,7 +10,8 @@ use Rattle.vm_superio.specs.State.{not_empty}
 use Rattle.vm_superio.specs.Registers.{Register, Data, InterruptEnable, InterruptIdentification, register}
 use Rattle.vm_superio.specs.Acts.{Deed, Reads, Writes, Enqueues, Restores, Entry, is_sent, is_lost}
 use Rattle.vm_superio.specs.Links.{written}
-use Rattle.vm_superio.specs.History.{read_kind, write_kind, kind_of, dlab, loopback, sent_by}
+use Rattle.vm_superio.specs.Meaning.{read_kind, write_kind, kind_of, sent_by}
+use Rattle.vm_superio.specs.History.{dlab, loopback}
 use Rattle.vm_superio.specs.Interrupts.{answer_count, trigger_calls, record_fits, is_fitting}
 use Rattle.vm_superio.specs.Laws.{OutputLaw}
 use Rattle.vm_superio.specs.Replies.{output}

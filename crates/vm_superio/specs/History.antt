@@ -1,11 +1,12 @@
 -- What a past tells of a serial port, I: its registers and its bytes. A past is a list of records, newest first; at the
 -- place of a record the past is what stands behind it. Nothing is kept from place to place: each definition searches
 -- the start and the past, and none names a call case. Restores are passed over.
-use Rattle.std.specs.Prelude.{ℕ, ◌-◌, Bool, true, false, ◌==◌, if◌then◌else◌, List, [], ◌∷◌, ◌++◌, length, take, drop, Option, Some, None, unwrap_or}
+use Rattle.std.specs.Prelude.{ℕ, Bool, ◌==◌, if◌then◌else◌, List, [], ◌∷◌, ◌++◌, length, drop, Option, Some, None, unwrap_or}
 use Rattle.std.specs.Option.{option_or, option_map_or}
 use Rattle.vm_superio.specs.State.{State, masked}
-use Rattle.vm_superio.specs.Registers.{Register, Data, InterruptEnable, InterruptIdentification, register, is_dlab, is_loopback}
-use Rattle.vm_superio.specs.Acts.{Deed, Reads, Writes, Enqueues, Restores, Entry}
+use Rattle.vm_superio.specs.Registers.{is_dlab, is_loopback}
+use Rattle.vm_superio.specs.Meaning.{Kind, kind_of, accepted_by, taken_by}
+use Rattle.vm_superio.specs.Acts.{Deed, Writes, Entry}
 
 -- ---- last effective write
 
@@ -51,60 +52,11 @@ interrupt_enable start past =
     option_map_or (λ value. masked value 0x0F)
     (last (λ before act. if dlab start before then None else written_at 1 act) past) start.interrupt_enable
 
--- ---- what an act is at its place
-
-pub data Kind : Type 0 where
-  -- a read at offset 0 with DLAB clear
-  DataRead : Kind
-  -- a read at offset 2
-  IdentificationRead : Kind
-  -- a write at offset 1 with DLAB clear
-  EnableWrite : ℕ → Kind
-  -- a write at offset 0 with DLAB clear, outside loopback
-  DataWrite : ℕ → Kind
-  -- bytes that come in: an enqueue outside loopback, or the byte of such a data write in loopback
-  Arrival : List ℕ → Kind
-  -- everything else, a restore and an enqueue in loopback among it
-  Other : Kind
-
-abbrev pub read_kind : Register → Kind
-read_kind Data = DataRead
-read_kind InterruptIdentification = IdentificationRead
-read_kind _ = Other
-
-abbrev pub write_kind : Register → Bool → ℕ → Kind
-write_kind Data false value = DataWrite value
-write_kind Data true value = Arrival (value ∷ [])
-write_kind InterruptEnable loopback value = EnableWrite value
-write_kind _ loopback value = Other
-
--- by DLAB and loopback
-abbrev pub kind_of : Bool → Bool → Deed → Kind
-kind_of dlab loopback (Reads offset) = read_kind (register dlab offset)
-kind_of dlab loopback (Writes offset value) = write_kind (register dlab offset) loopback value
-kind_of dlab loopback (Enqueues bytes) = if loopback then Other else Arrival bytes
-kind_of dlab loopback Restores = Other
-
--- as these stand at the place
+-- what an act is at its place
 abbrev pub kind : State → List Entry → Deed → Kind
 kind start past act = kind_of (dlab start past) (loopback start past) act
 
--- the byte that an act sends to the writer
-abbrev pub sent_by : Kind → List ℕ
-sent_by (DataWrite value) = value ∷ []
-sent_by _ = []
-
 -- ---- accepted, taken and held bytes
-
--- of the bytes that come in, as many of the first are accepted as there is room for, beside those held
-abbrev pub accepted_by : Kind → List ℕ → List ℕ
-accepted_by (Arrival bytes) held = take (64 - length held) bytes
-accepted_by _ held = []
-
--- a data read takes the first held byte, where there is one
-abbrev pub taken_by : Kind → List ℕ → List ℕ
-taken_by DataRead held = take 1 held
-taken_by _ held = []
 
 -- the bytes that are left: the first ones and those accepted, without as many of the first as were taken
 abbrev pub left : List ℕ → List ℕ → List ℕ → List ℕ

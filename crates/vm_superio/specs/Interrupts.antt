@@ -7,7 +7,8 @@ use Rattle.vm_superio.specs.declared.run.Asked.TheVariants.{Nothing, Took, Refus
 use Rattle.vm_superio.specs.State.{State, has_bits, not_empty}
 use Rattle.vm_superio.specs.Registers.{Condition, transmit_first}
 use Rattle.vm_superio.specs.Acts.{Entry, is_refused, is_sent, one_if}
-use Rattle.vm_superio.specs.History.{Kind, DataRead, IdentificationRead, EnableWrite, DataWrite, kind, interrupt_enable, sent_by, accepted_by, held}
+use Rattle.vm_superio.specs.Meaning.{Kind, DataRead, IdentificationRead, EnableWrite, DataWrite, sent_by, accepted_by}
+use Rattle.vm_superio.specs.History.{kind, interrupt_enable, held}
 
 -- ---- raised, acknowledged and pending
 

@@ -9,7 +9,8 @@ use Rattle.vm_superio.specs.State.{State, not_empty}
 use Rattle.vm_superio.specs.Events.{Event, out_byte, tx_lost_byte}
 use Rattle.vm_superio.specs.Acts.{Deed, Restores, Entry}
 use Rattle.vm_superio.specs.Links.{written}
-use Rattle.vm_superio.specs.History.{Kind, DataRead, IdentificationRead, EnableWrite, kind, accepted_by}
+use Rattle.vm_superio.specs.Meaning.{Kind, DataRead, IdentificationRead, EnableWrite, accepted_by}
+use Rattle.vm_superio.specs.History.{kind}
 
 -- ---- places of a past
 

@@ -10,7 +10,8 @@ use Rattle.vm_superio.specs.Fits.{due, sends, fits}
 use Rattle.vm_superio.specs.Calls.{answer, next, events, restore_calls}
 use Rattle.vm_superio.specs.Coherent.{Coherent}
 use Rattle.vm_superio.specs.LawWords.{NoneAcknowledges, PendingByPlaces, kinds, is_identification_read, is_data_read, tells_of_bytes, acts_and_asked, all_written, tells_fate, asked_when, sent_when}
-use Rattle.vm_superio.specs.History.{line_control, modem_control, scratch, divisor_low, divisor_high, interrupt_enable, kind, sent_by, accepted_by, taken_by, accepted, taken, held}
+use Rattle.vm_superio.specs.Meaning.{kind_in, sent_by, accepted_by, taken_by}
+use Rattle.vm_superio.specs.History.{line_control, modem_control, scratch, divisor_low, divisor_high, interrupt_enable, kind, accepted, taken, held}
 use Rattle.vm_superio.specs.Interrupts.{receive_raised, acknowledges_receive, receive_pending, transmit_raised, acknowledges_transmit, transmit_pending, answer_count, record_fits, is_fitting, restore_calls_due}
 use Rattle.vm_superio.specs.Replies.{identification, line_status, guest_read, reply, output, described}
 
@@ -143,13 +144,13 @@ OutputLaw = (start : State) (past newest : List Entry) → IsTrue (is_fitting st
 -- what it takes, then what is held after it, is what was held, then what it accepts
 abbrev pub OneCallLaw : Type 0
 OneCallLaw = (s : State) (act : Deed) (asked : Asked)
-    → taken_by (kind s [] act) s.in_buffer ++ (next s act asked).in_buffer
-    ≡ s.in_buffer ++ accepted_by (kind s [] act) s.in_buffer
+    → taken_by (kind_in s act) s.in_buffer ++ (next s act asked).in_buffer
+    ≡ s.in_buffer ++ accepted_by (kind_in s act) s.in_buffer
 
 -- a data write outside loopback tells exactly one of these two, once, and no other call tells either
 abbrev pub EventsLaw : Type 0
 EventsLaw = (s : State) (act : Deed) (asked : Asked) (what : Sent) → IsTrue (fits s act asked what)
-    → count_by tells_fate (events s act what) ≡ length (sent_by (kind s [] act))
+    → count_by tells_fate (events s act what) ≡ length (sent_by (kind_in s act))
 
 -- the test passes what some answers to the calls that are due and the writer's success or failure give, and no more
 abbrev pub ExactTestLaw : Type 0

@@ -11,6 +11,7 @@ pub mod Interrupts
 pub mod LawWords
 pub mod Laws
 pub mod Links
+pub mod Meaning
 pub mod Port
 pub mod Registers
 pub mod Replies

@@ -5,7 +5,8 @@ use Rattle.vm_superio.specs.declared.run.Sent.{Sent}
 use Rattle.vm_superio.specs.State.{State, not_empty, with_data_ready}
 use Rattle.vm_superio.specs.Registers.{Register, DivisorLow, DivisorHigh, Data, InterruptEnable, InterruptIdentification, LineControl, ModemControl, LineStatus, ModemStatus, Scratch, Unknown, register, identification_of, modem_status_read}
 use Rattle.vm_superio.specs.Acts.{Deed, Reads, Writes, Enqueues, Restores, Entry, Answer, Given, Added, TriggerRefused, FifoFull, NoAnswer, is_refused, write_answer}
-use Rattle.vm_superio.specs.History.{kind, sent_by, line_control, modem_control, scratch, dlab, loopback, divisor_low, divisor_high, interrupt_enable, accepted_by, held}
+use Rattle.vm_superio.specs.Meaning.{sent_by, accepted_by}
+use Rattle.vm_superio.specs.History.{kind, line_control, modem_control, scratch, dlab, loopback, divisor_low, divisor_high, interrupt_enable, held}
 use Rattle.vm_superio.specs.Interrupts.{receive_pending, transmit_pending}
 
 -- the identification: 0x01 where nothing is pending, else 0x02 for the transmitter and 0x04 for the receive condition
