@@ -18,11 +18,11 @@ pub and_right : (a b : Bool) → (a && b) ≡ true → b ≡ true
 and_right true b e = e
 and_right false b e = absurd (false≢true e)
 
-all_below : ℕ → (ℕ → Bool) → Bool
+unfoldable pub all_below : ℕ → (ℕ → Bool) → Bool
 all_below zero test = true
 all_below (suc n) test = test n && all_below n test
 
-holds_below : (n : ℕ) (test : ℕ → Bool) → all_below n test ≡ true → (k : ℕ) → k < n → test k ≡ true
+pub holds_below : (n : ℕ) (test : ℕ → Bool) → all_below n test ≡ true → (k : ℕ) → k < n → test k ≡ true
 unfolding all_below
 holds_below zero test all k below = absurd (omega arith)
 holds_below (suc n) test all k below =

@@ -12,6 +12,7 @@ mod RunRows
 mod Runs
 mod SerialRows
 mod StateRows
+mod Turned
 mod Views
 mod Writing
 mod TriggerCalls

@@ -5,11 +5,11 @@ use Rattle.vm_superio.specs.declared.run.Asked.{Asked}
 use Rattle.vm_superio.specs.declared.run.Sent.{Sent}
 use Rattle.vm_superio.specs.State.{State, has_bits, not_empty}
 use Rattle.vm_superio.specs.Registers.{identification_of}
-use Rattle.vm_superio.specs.Acts.{Deed, Entry, Answer, is_lost}
+use Rattle.vm_superio.specs.Acts.{one_if, Deed, Entry, Answer, is_lost}
 use Rattle.vm_superio.specs.Fits.{due, sends, fits}
 use Rattle.vm_superio.specs.Calls.{answer, next, events, restore_calls}
 use Rattle.vm_superio.specs.Coherent.{Coherent}
-use Rattle.vm_superio.specs.LawWords.{NoneAcknowledges, PendingByPlaces, kinds, is_identification_read, is_data_read, tells_of_bytes, acts_and_asked, all_written, tells_fate, asked_when, sent_when}
+use Rattle.vm_superio.specs.LawWords.{NoneAcknowledges, PendingByPlaces, kinds, is_identification_read, is_data_read, tells_of_bytes, acts_and_asked, all_written, tells_fate, turns, asked_when, sent_when}
 use Rattle.vm_superio.specs.Meaning.{kind_in, sent_by, accepted_by, taken_by}
 use Rattle.vm_superio.specs.History.{line_control, modem_control, scratch, divisor_low, divisor_high, interrupt_enable, kind, accepted, taken, held}
 use Rattle.vm_superio.specs.Interrupts.{receive_raised, acknowledges_receive, receive_pending, transmit_raised, acknowledges_transmit, transmit_pending, answer_count, record_fits, is_fitting, restore_calls_due}
@@ -151,6 +151,13 @@ OneCallLaw = (s : State) (act : Deed) (asked : Asked)
 abbrev pub EventsLaw : Type 0
 EventsLaw = (s : State) (act : Deed) (asked : Asked) (what : Sent) → IsTrue (fits s act asked what)
     → count_by tells_fate (events s act what) ≡ length (sent_by (kind_in s act))
+
+-- the trigger is called once for each of the two pending bits that the call turns from clear to set
+abbrev pub TurnedBitsLaw : Type 0
+TurnedBitsLaw = (s : State) (act : Deed) (asked : Asked) (what : Sent) → s.interrupt_identification < 256
+    → IsTrue (fits s act asked what)
+    → let turned = λ (bit : ℕ). one_if (turns bit s.interrupt_identification (next s act asked).interrupt_identification) in
+    answer_count asked ≡ turned 0x04 + turned 0x02
 
 -- the test passes what some answers to the calls that are due and the writer's success or failure give, and no more
 abbrev pub ExactTestLaw : Type 0

@@ -3,7 +3,7 @@
 //! The call cases say what one call does to a state, as a device would. A history keeps no state: from a start and the
 //! records of the calls so far it searches for the last write, for the bytes not yet taken and for a raise that nothing
 //! has acknowledged. The first laws say that both tell the same; the others follow from one of them alone.
-ghost use Rattle.vm_superio.specs.Laws.{RegisterLaw, HeldBytesLaw, LineStatusLaw, InterruptLaw, CoherenceLaw, StateLaw, AnswerLaw, WholeRunLaw, PendingByPlacesLaw, TriggerBoundLaw, WaitingBytesLaw, SameReadsLaw, TakenThenHeldLaw, OutputLaw, OneCallLaw, EventsLaw, ExactTestLaw};
+ghost use Rattle.vm_superio.specs.Laws.{RegisterLaw, HeldBytesLaw, LineStatusLaw, InterruptLaw, CoherenceLaw, StateLaw, AnswerLaw, WholeRunLaw, PendingByPlacesLaw, TriggerBoundLaw, WaitingBytesLaw, SameReadsLaw, TakenThenHeldLaw, OutputLaw, OneCallLaw, EventsLaw, TurnedBitsLaw, ExactTestLaw};
 
 /// The register law, from any start: each register holds its last effective write, and the modem status never changes.
 pub fn registers()
@@ -86,6 +86,12 @@ pub fn one_call()
 /// `tx_lost_byte`, once, and no other call tells either.
 pub fn fate_events()
     ensures { EventsLaw }
+{}
+
+/// One call in any state: the trigger is called once for each of the bits 2 and 4 of the identification that the call
+/// turns from clear to set.
+pub fn turned_bits()
+    ensures { TurnedBitsLaw }
 {}
 
 /// One call in any state: some answers to the trigger calls that are due, with the writer's success or failure, give

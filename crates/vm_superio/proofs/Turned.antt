@@ -1,0 +1,228 @@
+-- The trigger is called once for each pending bit that a call turns from clear to set, in any state.
+use Rattle.std.proofs.Common.{add-zero, zero-add, ◌≡◌, ℕ, ◌+◌, ◌<◌, Bool, true, false, not, ◌==◌, ◌&&◌, ◌||◌, List, [], ◌∷◌, refl, ap, sym, ◌∙◌}
+use Rattle.std.proofs.lemmas.Bool.{false≢true, eqb-true, ltb-true}
+use Rattle.std.proofs.Math.Bool.{and-true, and-false}
+use Rattle.std.specs.Prelude.{if◌then◌else◌, IsTrue, nat_lt}
+use Rattle.std.specs.Bool.{beq}
+use Rattle.vm_superio.specs.declared.run.Asked.{Asked}
+use Rattle.vm_superio.specs.declared.run.Asked.TheVariants.{Nothing, Took, Refused}
+use Rattle.vm_superio.specs.State.{State, has_bits, masked, joined, without, not_empty}
+use Rattle.vm_superio.specs.Registers.{Receive, Transmit}
+use Rattle.vm_superio.specs.Acts.{is_refused, one_if}
+use Rattle.vm_superio.specs.Meaning.{Kind, DataRead, IdentificationRead, EnableWrite, DataWrite, Arrival, Other, kind_in}
+use Rattle.vm_superio.specs.Asking.{becomes_pending, ask, that_fit, receive}
+use Rattle.vm_superio.specs.Fits.{receive_due, due_by, due, asked_fits}
+use Rattle.vm_superio.specs.Interrupts.{answer_count}
+use Rattle.vm_superio.specs.LawWords.{turns}
+use Rattle.vm_superio.specs.Laws.{TurnedBitsLaw}
+use Rattle.vm_superio.proofs.Asks.{answers_counted}
+use Rattle.vm_superio.proofs.Bytes.{all_below, holds_below, and_left}
+use Rattle.vm_superio.proofs.ByKind.{by_kind, next_by_kind}
+
+-- ---- the bits of each identification, computed for all
+
+beq-eq : (one other : Bool) → beq one other ≡ true → one ≡ other
+beq-eq true true e = refl
+beq-eq true false e = absurd (false≢true e)
+beq-eq false true e = absurd (false≢true e)
+beq-eq false false e = refl
+
+-- how many of the two bits are turned
+abbrev count : ℕ → ℕ → ℕ
+count old new = one_if (turns 0x04 old new) + one_if (turns 0x02 old new)
+
+module _ (old : ℕ) (below : old < 256) where
+  -- neither a data read nor a read of the identification turns any
+  data_read_turns : count old (let new = without old 0x04 in if new == 0 then 1 else new) ≡ 0
+  unfolding has_bits masked all_below
+  data_read_turns =
+      eqb-true _ _ (holds_below 256 (λ n. count n (let new = without n 0x04 in if new == 0 then 1 else new) == 0) refl old below)
+
+  identification_read_turns : count old 1 ≡ 0
+  unfolding has_bits all_below
+  identification_read_turns = eqb-true _ _ (holds_below 256 (λ n. count n 1 == 0) refl old below)
+
+  -- asking for the receive condition sets its bit and leaves the other
+  receive_sets : has_bits (joined (without old 0x01) 0x04) 0x04 ≡ true
+  unfolding has_bits masked joined all_below
+  receive_sets = holds_below 256 (λ n. has_bits (joined (without n 0x01) 0x04) 0x04) refl old below
+
+  receive_leaves : has_bits (joined (without old 0x01) 0x04) 0x02 ≡ has_bits old 0x02
+  unfolding has_bits masked joined all_below
+  receive_leaves = beq-eq _ _ (holds_below 256 (λ n. beq (has_bits (joined (without n 0x01) 0x04) 0x02) (has_bits n 0x02)) refl old below)
+
+  transmit_sets : has_bits (joined (without old 0x01) 0x02) 0x02 ≡ true
+  unfolding has_bits masked joined all_below
+  transmit_sets = holds_below 256 (λ n. has_bits (joined (without n 0x01) 0x02) 0x02) refl old below
+
+  transmit_leaves : has_bits (joined (without old 0x01) 0x02) 0x04 ≡ has_bits old 0x04
+  unfolding has_bits masked joined all_below
+  transmit_leaves = beq-eq _ _ (holds_below 256 (λ n. beq (has_bits (joined (without n 0x01) 0x02) 0x04) (has_bits n 0x04)) refl old below)
+
+  -- a byte stays one
+  receive_below : joined (without old 0x01) 0x04 < 256
+  unfolding masked joined all_below
+  receive_below = ltb-true _ _ (holds_below 256 (λ n. nat_lt (joined (without n 0x01) 0x04) 256) refl old below)
+
+  -- ---- asking, where the identification is any byte
+
+  receive_asked : (enabled pending : Bool) → has_bits old 0x04 ≡ pending
+      → has_bits (if enabled && not pending then joined (without old 0x01) 0x04 else old) 0x04 ≡ (enabled || pending)
+  receive_asked true true e = e
+  receive_asked true false e = receive_sets
+  receive_asked false pending e = e
+
+  receive_other : (new : Bool) → has_bits (if new then joined (without old 0x01) 0x04 else old) 0x02 ≡ has_bits old 0x02
+  receive_other true = receive_leaves
+  receive_other false = refl
+
+  transmit_asked : (enabled pending : Bool) → has_bits old 0x02 ≡ pending
+      → has_bits (if enabled && not pending then joined (without old 0x01) 0x02 else old) 0x02 ≡ (enabled || pending)
+  transmit_asked true true e = e
+  transmit_asked true false e = transmit_sets
+  transmit_asked false pending e = e
+
+  transmit_other : (new : Bool) → has_bits (if new then joined (without old 0x01) 0x02 else old) 0x04 ≡ has_bits old 0x04
+  transmit_other true = transmit_leaves
+  transmit_other false = refl
+
+  still_below : (new : Bool) → (if new then joined (without old 0x01) 0x04 else old) < 256
+  still_below true = receive_below
+  still_below false = below
+
+-- ---- counts
+
+-- a bit that stays is not turned, and one that is asked for is turned where it was clear
+kept : (bit : Bool) → (not bit && bit) ≡ false
+kept true = refl
+kept false = refl
+
+set_once : (enabled bit : Bool) → (not bit && (enabled || bit)) ≡ (enabled && not bit)
+set_once true true = refl
+set_once true false = refl
+set_once false true = refl
+set_once false false = refl
+
+no_answers : (asked : Asked) → IsTrue (asked_fits 0 asked) → answer_count asked ≡ 0
+no_answers Nothing fit = refl
+no_answers Took fit = absurd (false≢true fit)
+no_answers _ fit = absurd (false≢true fit)
+
+one_answer : (call : Bool) (asked : Asked) → IsTrue (asked_fits (one_if call) asked) → answer_count asked ≡ one_if call
+one_answer false asked fit = no_answers asked fit
+one_answer true Nothing fit = absurd (false≢true fit)
+one_answer true Took fit = refl
+one_answer true Refused fit = refl
+one_answer true _ fit = absurd (false≢true fit)
+
+none_turned : (old : ℕ) → 0 ≡ count old old
+none_turned old =
+    sym (ap (λ turned. one_if turned + one_if (turns 0x02 old old)) (kept (has_bits old 0x04)) ∙ ap (λ turned. 0 + one_if turned) (kept (has_bits old 0x02)))
+
+receive_turned : (enable old : ℕ) → old < 256 → one_if (becomes_pending Receive enable old) ≡ count old (ask Receive enable old)
+receive_turned enable old below =
+    let enabled = has_bits enable 0x01 in
+    let new = ask Receive enable old in
+    let bit = has_bits old 0x04 in
+    sym
+    (ap (λ after. one_if (not bit && after) + one_if (turns 0x02 old new)) (receive_asked old below enabled bit refl)
+    ∙ ap (λ turned. one_if turned + one_if (turns 0x02 old new)) (set_once enabled bit)
+    ∙ ap (λ after. one_if (enabled && not bit) + one_if (not (has_bits old 0x02) && after)) (receive_other old below (enabled && not bit))
+    ∙ ap (λ turned. one_if (enabled && not bit) + one_if turned) (kept (has_bits old 0x02))
+    ∙ add-zero _)
+
+transmit_turned : (enable old : ℕ) → old < 256 → one_if (becomes_pending Transmit enable old) ≡ count old (ask Transmit enable old)
+transmit_turned enable old below =
+    let enabled = has_bits enable 0x02 in
+    let new = ask Transmit enable old in
+    let bit = has_bits old 0x02 in
+    sym
+    (ap (λ after. one_if (not (has_bits old 0x04) && after) + one_if (turns 0x02 old new)) (transmit_other old below (enabled && not bit))
+    ∙ ap (λ turned. one_if turned + one_if (turns 0x02 old new)) (kept (has_bits old 0x04))
+    ∙ ap (λ after. 0 + one_if (not bit && after)) (transmit_asked old below enabled bit refl)
+    ∙ ap (λ turned. 0 + one_if turned) (set_once enabled bit)
+    ∙ zero-add _)
+
+-- an interrupt-enable write, first for the receive condition
+module _ (enable old : ℕ) (below : old < 256) where
+  first : Bool → ℕ
+  first held = if held then ask Receive enable old else old
+
+  first_below : (held : Bool) → first held < 256
+  unfolding first
+  first_below true = still_below old below (becomes_pending Receive enable old)
+  first_below false = below
+
+  first_turns : (held : Bool) → turns 0x04 old (first held) ≡ (held && becomes_pending Receive enable old)
+  unfolding first
+  first_turns true =
+      ap (λ after. not (has_bits old 0x04) && after) (receive_asked old below (has_bits enable 0x01) (has_bits old 0x04) refl)
+      ∙ set_once (has_bits enable 0x01) (has_bits old 0x04)
+  first_turns false = kept (has_bits old 0x04)
+
+  first_leaves : (held : Bool) → has_bits (first held) 0x02 ≡ has_bits old 0x02
+  unfolding first
+  first_leaves true = receive_other old below (becomes_pending Receive enable old)
+  first_leaves false = refl
+
+  -- and then for the transmitter condition, unless the trigger refused
+  second : Bool → Bool → ℕ
+  second held refused = if refused then first held else ask Transmit enable (first held)
+
+  second_leaves : (held refused : Bool) → has_bits (second held refused) 0x04 ≡ has_bits (first held) 0x04
+  unfolding second
+  second_leaves held true = refl
+  second_leaves held false = transmit_other (first held) (first_below held) (becomes_pending Transmit enable (first held))
+
+  second_turns : (held refused : Bool)
+      → turns 0x02 old (second held refused) ≡ (becomes_pending Transmit enable (first held) && not refused)
+  unfolding second
+  second_turns held true =
+      ap (λ after. not (has_bits old 0x02) && after) (first_leaves held) ∙ kept (has_bits old 0x02)
+      ∙ sym (and-false (becomes_pending Transmit enable (first held)))
+  second_turns held false =
+      let bit = has_bits (first held) 0x02 in
+      ap (λ before. not before && has_bits (ask Transmit enable (first held)) 0x02) (sym (first_leaves held))
+      ∙ ap (λ after. not bit && after) (transmit_asked (first held) (first_below held) (has_bits enable 0x02) bit refl)
+      ∙ set_once (has_bits enable 0x02) bit
+      ∙ sym (and-true (becomes_pending Transmit enable (first held)))
+
+  enable_turned : (held refused : Bool)
+      → one_if (held && becomes_pending Receive enable old) + one_if (becomes_pending Transmit enable (first held) && not refused)
+      ≡ count old (second held refused)
+  enable_turned held refused =
+      sym
+      (ap (λ after. one_if (not (has_bits old 0x04) && after) + one_if (turns 0x02 old (second held refused))) (second_leaves held refused)
+      ∙ ap (λ turned. one_if turned + one_if (turns 0x02 old (second held refused))) (first_turns held)
+      ∙ ap (λ turned. one_if (held && becomes_pending Receive enable old) + one_if turned) (second_turns held refused))
+
+-- ---- one act
+
+received_turned : (new : List ℕ) (s : State) (asked : Asked) → s.interrupt_identification < 256 → IsTrue (asked_fits (receive_due new s) asked)
+    → answer_count asked ≡ count s.interrupt_identification (receive new s).interrupt_identification
+received_turned [] s asked below fit = no_answers asked fit ∙ none_turned s.interrupt_identification
+received_turned (byte ∷ bytes) s asked below fit =
+    one_answer _ asked fit ∙ receive_turned s.interrupt_enable s.interrupt_identification below
+
+turned_by_kind : (k : Kind) (asked : Asked) (s : State) → s.interrupt_identification < 256 → IsTrue (asked_fits (due_by k s) asked)
+    → answer_count asked ≡ count s.interrupt_identification (by_kind k asked s).interrupt_identification
+unfolding first second
+turned_by_kind DataRead asked s below fit = no_answers asked fit ∙ sym (data_read_turns s.interrupt_identification below)
+turned_by_kind IdentificationRead asked s below fit =
+    no_answers asked fit ∙ sym (identification_read_turns s.interrupt_identification below)
+turned_by_kind (EnableWrite value) asked s below fit =
+    let enable = masked value 0x0F in
+    let old = s.interrupt_identification in
+    let held = not_empty s.in_buffer in
+    let call = held && becomes_pending Receive enable old in
+    eqb-true _ _ (sym (answers_counted call (becomes_pending Transmit enable (first enable old below held)) asked) ∙ fit)
+    ∙ enable_turned enable old below held (call && is_refused asked)
+turned_by_kind (DataWrite value) asked s below fit =
+    one_answer _ asked fit ∙ transmit_turned s.interrupt_enable s.interrupt_identification below
+turned_by_kind (Arrival bytes) asked s below fit = received_turned (that_fit s.in_buffer bytes) s asked below fit
+turned_by_kind Other asked s below fit = no_answers asked fit ∙ none_turned s.interrupt_identification
+
+pub turned_bits_law : TurnedBitsLaw
+turned_bits_law s act asked what below fit =
+    turned_by_kind (kind_in s act) asked s below (and_left (asked_fits (due s act) asked) _ fit)
+    ∙ ap (count s.interrupt_identification) (sym (next_by_kind s act asked).interrupt_identification)
