@@ -29,7 +29,8 @@ transmit_bit false false = refl
 
 -- a data read clears the receive condition
 pub read_clears : (transmit receive : Bool)
-    → (let identification = without (identification_of transmit receive) 0x04 in if identification == 0 then 1 else identification)
+    → (let identification =
+    without (identification_of transmit receive) 0x04 in if identification == 0 then 1 else identification)
     ≡ identification_of transmit false
 unfolding masked
 read_clears true true = refl
@@ -40,7 +41,8 @@ read_clears false false = refl
 -- ---- asking
 
 asked_receive : (enabled transmit receive : Bool) → let identification = identification_of transmit receive in
-    (if enabled && not (has_bits identification 0x04) then joined (without identification 0x01) 0x04 else identification)
+    (if enabled
+    && not (has_bits identification 0x04) then joined (without identification 0x01) 0x04 else identification)
     ≡ identification_of transmit (enabled || receive)
 unfolding has_bits masked joined
 asked_receive true true true = refl
@@ -50,7 +52,8 @@ asked_receive true false false = refl
 asked_receive false _ _ = refl
 
 asked_transmit : (enabled transmit receive : Bool) → let identification = identification_of transmit receive in
-    (if enabled && not (has_bits identification 0x02) then joined (without identification 0x01) 0x02 else identification)
+    (if enabled
+    && not (has_bits identification 0x02) then joined (without identification 0x01) 0x02 else identification)
     ≡ identification_of (enabled || transmit) receive
 unfolding has_bits masked joined
 asked_transmit true true true = refl
@@ -60,11 +63,13 @@ asked_transmit true false false = refl
 asked_transmit false _ _ = refl
 
 pub ask_receive : (enable : ℕ) (transmit receive : Bool)
-    → ask Receive enable (identification_of transmit receive) ≡ identification_of transmit (has_bits enable 0x01 || receive)
+    → ask Receive enable (identification_of transmit receive)
+    ≡ identification_of transmit (has_bits enable 0x01 || receive)
 ask_receive enable transmit receive = asked_receive (has_bits enable 0x01) transmit receive
 
 pub ask_transmit : (enable : ℕ) (transmit receive : Bool)
-    → ask Transmit enable (identification_of transmit receive) ≡ identification_of (has_bits enable 0x02 || transmit) receive
+    → ask Transmit enable (identification_of transmit receive)
+    ≡ identification_of (has_bits enable 0x02 || transmit) receive
 ask_transmit enable transmit receive = asked_transmit (has_bits enable 0x02) transmit receive
 
 pub receive_new : (enable : ℕ) (transmit receive : Bool)
@@ -87,7 +92,8 @@ pub enable_receives : (held : List ℕ) (value : ℕ) (transmit receive : Bool)
     → receive_becomes_pending held (masked value 0x0F) (identification_of transmit receive)
     ≡ ((has_bits value 0x01 && not_empty held) && not receive)
 enable_receives held value transmit receive =
-    ap (λ new. not_empty held && new) (receive_new (masked value 0x0F) transmit receive ∙ ap (λ bit. bit && not receive) (enables_receive value))
+    ap (λ new. not_empty held && new)
+    (receive_new (masked value 0x0F) transmit receive ∙ ap (λ bit. bit && not receive) (enables_receive value))
     ∙ held_first (not_empty held) (has_bits value 0x01) receive
 
 held_asked : (held enabled transmit receive : Bool)
@@ -103,7 +109,8 @@ pub enable_asks : (held : List ℕ) (value : ℕ) (transmit receive : Bool)
     ≡ identification_of transmit ((has_bits value 0x01 && not_empty held) || receive)
 enable_asks held value transmit receive =
     ap (λ asked. if not_empty held then asked else identification_of transmit receive)
-    (ask_receive (masked value 0x0F) transmit receive ∙ ap (λ bit. identification_of transmit (bit || receive)) (enables_receive value))
+    (ask_receive (masked value 0x0F) transmit receive
+    ∙ ap (λ bit. identification_of transmit (bit || receive)) (enables_receive value))
     ∙ held_asked (not_empty held) (has_bits value 0x01) transmit receive
 
 refused_or_asked : (refused enabled transmit receive : Bool)
@@ -118,16 +125,20 @@ refused_or_asked false false transmit receive = refl
 pub enable_leaves : (refused : Bool) (held : List ℕ) (value : ℕ) (transmit receive : Bool)
     → (let identification = ask_while_held held (masked value 0x0F) (identification_of transmit receive) in
     if refused then identification else ask Transmit (masked value 0x0F) identification)
-    ≡ identification_of ((has_bits value 0x02 && not refused) || transmit) ((has_bits value 0x01 && not_empty held) || receive)
+    ≡ identification_of ((has_bits value 0x02 && not refused) || transmit)
+    ((has_bits value 0x01 && not_empty held) || receive)
 enable_leaves refused held value transmit receive =
     let after = (has_bits value 0x01 && not_empty held) || receive in
-    ap (λ identification. if refused then identification else ask Transmit (masked value 0x0F) identification) (enable_asks held value transmit receive)
+    ap (λ identification. if refused then identification else ask Transmit (masked value 0x0F) identification)
+    (enable_asks held value transmit receive)
     ∙ ap (λ asked. if refused then identification_of transmit after else asked)
-    (ask_transmit (masked value 0x0F) transmit after ∙ ap (λ bit. identification_of (bit || transmit) after) (enables_transmit value))
+    (ask_transmit (masked value 0x0F) transmit after
+    ∙ ap (λ bit. identification_of (bit || transmit) after) (enables_transmit value))
     ∙ refused_or_asked refused (has_bits value 0x02) transmit after
 
 pub enable_transmits : (held : List ℕ) (value : ℕ) (transmit receive : Bool)
-    → becomes_pending Transmit (masked value 0x0F) (ask_while_held held (masked value 0x0F) (identification_of transmit receive))
+    → becomes_pending Transmit (masked value 0x0F)
+    (ask_while_held held (masked value 0x0F) (identification_of transmit receive))
     ≡ (has_bits value 0x02 && not transmit)
 enable_transmits held value transmit receive =
     ap (becomes_pending Transmit (masked value 0x0F)) (enable_asks held value transmit receive)

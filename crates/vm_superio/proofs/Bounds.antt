@@ -14,7 +14,8 @@ use Rattle.vm_superio.proofs.Bytes.{and_left, and_right}
 
 -- each call makes a condition pending that was not, and only an acknowledgement makes it one that is not
 one_condition : (raised acknowledged before : Bool)
-    → one_if (raised && not before) + one_if before ≤ one_if (raised || (not acknowledged && before)) + one_if acknowledged
+    → one_if (raised && not before) + one_if before
+    ≤ one_if (raised || (not acknowledged && before)) + one_if acknowledged
 one_condition true true true = omega arith
 one_condition true true false = omega arith
 one_condition true false true = omega arith
@@ -26,7 +27,8 @@ one_condition false false false = omega arith
 
 -- a read of the identification acknowledges two conditions, a data read one
 acknowledged_by : (k : Kind)
-    → one_if (acknowledges_receive k) + one_if (acknowledges_transmit k) ≤ 2 * one_if (is_identification_read k) + one_if (is_data_read k)
+    → one_if (acknowledges_receive k) + one_if (acknowledges_transmit k)
+    ≤ 2 * one_if (is_identification_read k) + one_if (is_data_read k)
 acknowledged_by DataRead = omega arith
 acknowledged_by IdentificationRead = omega arith
 acknowledged_by _ = omega arith
@@ -45,8 +47,16 @@ calls_so_far start (entry ∷ past) fitting =
     let k = kind start past entry.act in
     let here = and_left (record_fits start past entry) (is_fitting start past) fitting in
     let before = calls_so_far start past (and_right (record_fits start past entry) (is_fitting start past) fitting) in
-    let answers : answer_count entry.asked ≡ trigger_calls start past entry = eqb-true _ _ (and_left (answer_count entry.asked == trigger_calls start past entry) _ here) in
-    rw (sum_by-cons (λ (entry : Entry). answer_count entry.asked) entry past, answers, sum_by-cons (λ k. if is_identification_read k then 1 else 0) k (kinds start past), sum_by-cons (λ k. if is_data_read k then 1 else 0) k (kinds start past)) (
+    let answers : answer_count entry.asked ≡ trigger_calls start past entry =
+    eqb-true _ _ (and_left (answer_count entry.asked == trigger_calls start past entry) _ here) in
+    rw (
+      sum_by-cons (λ (entry : Entry). answer_count entry.asked) entry past,
+      answers,
+      sum_by-cons
+          (λ k. if is_identification_read k then 1 else 0) k (kinds start past),
+      sum_by-cons
+          (λ k. if is_data_read k then 1 else 0) k (kinds start past),
+    ) (
     omega (
       arith,
       before,
@@ -57,4 +67,10 @@ calls_so_far start (entry ∷ past) fitting =
 
 pub trigger_bound_law : TriggerBoundLaw
 trigger_bound_law start past fitting =
-    omega (arith, calls_so_far start past fitting, one_at_most (receive_pending start past), one_at_most (transmit_pending start past))
+    omega (
+      arith,
+      calls_so_far start past fitting,
+      one_at_most (receive_pending start past),
+      one_at_most
+          (transmit_pending start past),
+    )

@@ -37,29 +37,35 @@ read_by_kind Data asked s = same_bytes _
 read_by_kind InterruptIdentification asked s = same_bytes _
 read_by_kind _ asked s = same_bytes _
 
-write_by_kind : (r : Register) (loopback : Bool) (value : ℕ) (asked : Asked) (s : State) → is_loopback s.modem_control ≡ loopback
+write_by_kind : (r : Register) (loopback : Bool) (value : ℕ) (asked : Asked) (s : State)
+    → is_loopback s.modem_control ≡ loopback
     → SameBytes (write_next r value asked s) (by_kind (write_kind r loopback value) asked s)
 write_by_kind Data true value asked s e = rw e (same_bytes _)
 write_by_kind Data false value asked s e = rw e (same_bytes _)
 write_by_kind InterruptEnable loopback value asked s e = same_bytes _
-write_by_kind _ loopback value asked s e = record { interrupt_enable = refl; interrupt_identification = refl; line_status = refl; in_buffer = refl }
+write_by_kind _ loopback value asked s e =
+    record { interrupt_enable = refl; interrupt_identification = refl; line_status = refl; in_buffer = refl }
 
-enqueue_by_kind : (loopback dlab : Bool) (bytes : List ℕ) (asked : Asked) (s : State) → is_loopback s.modem_control ≡ loopback
+enqueue_by_kind : (loopback dlab : Bool) (bytes : List ℕ) (asked : Asked) (s : State)
+    → is_loopback s.modem_control ≡ loopback
     → SameBytes (receive (accepted_of s bytes) s) (by_kind (kind_of dlab loopback (Enqueues bytes)) asked s)
 enqueue_by_kind true dlab bytes asked s e = rw e (same_bytes _)
 enqueue_by_kind false dlab bytes asked s e = rw e (same_bytes _)
 
-pub next_by_kind : (s : State) (act : Deed) (asked : Asked) → SameBytes (next s act asked) (by_kind (kind_in s act) asked s)
+pub next_by_kind : (s : State) (act : Deed) (asked : Asked)
+    → SameBytes (next s act asked) (by_kind (kind_in s act) asked s)
 next_by_kind s (Reads offset) asked = read_by_kind (register (is_dlab s.line_control) offset) asked s
 next_by_kind s (Writes offset value) asked =
     write_by_kind (register (is_dlab s.line_control) offset) (is_loopback s.modem_control) value asked s refl
-next_by_kind s (Enqueues bytes) asked = enqueue_by_kind (is_loopback s.modem_control) (is_dlab s.line_control) bytes asked s refl
+next_by_kind s (Enqueues bytes) asked =
+    enqueue_by_kind (is_loopback s.modem_control) (is_dlab s.line_control) bytes asked s refl
 next_by_kind s Restores asked = same_bytes _
 
 -- ---- the place
 
 -- the state after a past tells what an act is at that place
-pub same_kind : (start : State) (past : List Entry) (act : Deed) → kind_in (state_after start past) act ≡ kind start past act
+pub same_kind : (start : State) (past : List Entry) (act : Deed)
+    → kind_in (state_after start past) act ≡ kind start past act
 same_kind start past act =
     let s = state_after start past in
     let registers = register_law start past in
@@ -68,8 +74,10 @@ same_kind start past act =
 
 -- so the state after one more record is that by its kind there
 pub next_at_place : (start : State) (past : List Entry) (entry : Entry)
-    → SameBytes (state_after start (entry ∷ past)) (by_kind (kind start past entry.act) entry.asked (state_after start past))
+    → SameBytes (state_after start (entry ∷ past))
+    (by_kind (kind start past entry.act) entry.asked (state_after start past))
 next_at_place start past entry =
     let s = state_after start past in
-    subst (λ (k : Kind). SameBytes (next s entry.act entry.asked) (by_kind k entry.asked s)) (same_kind start past entry.act)
+    subst (λ (k : Kind). SameBytes (next s entry.act entry.asked) (by_kind k entry.asked s))
+    (same_kind start past entry.act)
     (next_by_kind s entry.act entry.asked)

@@ -27,7 +27,8 @@ unfolding all_below
 holds_below zero test all k below = absurd (omega arith)
 holds_below (suc n) test all k below =
     ⊎_elim (λ here. ap test here.1 ∙ and_left (test n) (all_below n test) all)
-    (λ apart. holds_below n test (and_right (test n) (all_below n test) all) k (let other : k ≢ n = apart.1 in omega arith))
+    (λ apart. holds_below n test (and_right (test n) (all_below n test) all) k (let other : k ≢ n =
+    apart.1 in omega arith))
     (eqb_tells k n)
 
 -- ---- data ready, the lowest bit
@@ -36,7 +37,10 @@ pub data_ready_set : (byte : ℕ) → has_bits (joined byte 0x01) 0x01 ≡ true
 unfolding has_bits joined
 data_ready_set byte =
     ap (λ n. n == 0x01) (and_mask (joined byte 0x01) 1 ∙ or_mod byte 0x01 1)
-    ∙ elim (byte % 2) as (λ r. r < 2 → (bit_or r 1 == 1) ≡ true) [ zero ↦ λ h. refl | suc zero ↦ λ h. refl | suc (suc r) ↦ λ h. absurd (omega arith) ] (mod-lt byte (lit< tt))
+    ∙ elim (byte % 2) as
+    (λ r. r < 2
+    → (bit_or r 1 == 1) ≡ true) [ zero ↦ λ h. refl | suc zero ↦ λ h. refl | suc (suc r) ↦ λ h. absurd (omega arith) ]
+    (mod-lt byte (lit< tt))
 
 pub data_ready_cleared : (byte : ℕ) → has_bits (without byte 0x01) 0x01 ≡ false
 unfolding has_bits masked
@@ -57,7 +61,8 @@ unfolding is_only_last
 only_last byte one other below all = eqb-true _ _ (holds_below 256 (is_only_last one other) all byte below)
 
 -- only the last change counts
-pub data_ready_twice : (byte : ℕ) (one other : Bool) → byte < 256 → with_data_ready (with_data_ready byte one) other ≡ with_data_ready byte other
+pub data_ready_twice : (byte : ℕ) (one other : Bool) → byte < 256
+    → with_data_ready (with_data_ready byte one) other ≡ with_data_ready byte other
 unfolding has_bits masked joined all_below is_only_last
 data_ready_twice byte true true below = only_last byte true true below refl
 data_ready_twice byte true false below = only_last byte true false below refl

@@ -61,12 +61,15 @@ drop_more all taken left more new parts =
 held_more : (start : State) (past : List Entry) (entry : Entry)
     → taken start past ++ held start past ≡ start.in_buffer ++ accepted start past
     → let k = kind start past entry.act in
-    held start (entry ∷ past) ≡ drop (length (taken_by k (held start past))) (held start past ++ accepted_by k (held start past))
+    held start (entry ∷ past)
+    ≡ drop (length (taken_by k (held start past))) (held start past ++ accepted_by k (held start past))
 held_more start past entry parts =
     let k = kind start past entry.act in
     let bytes = held start past in
-    ap (drop (length (taken start (entry ∷ past)))) (sym (append_assoc start.in_buffer (accepted start past) (accepted_by k bytes)))
-    ∙ drop_more (start.in_buffer ++ accepted start past) (taken start past) bytes (taken_by k bytes) (accepted_by k bytes) parts
+    ap (drop (length (taken start (entry ∷ past))))
+    (sym (append_assoc start.in_buffer (accepted start past) (accepted_by k bytes)))
+    ∙ drop_more (start.in_buffer ++ accepted start past) (taken start past) bytes (taken_by k bytes)
+    (accepted_by k bytes) parts
 
 pub taken_then_held : TakenThenHeldLaw
 taken_then_held start [] = refl
@@ -107,7 +110,8 @@ received_ready [] s ready = ready
 received_ready (byte ∷ bytes) s ready = rw (not_empty-append s.in_buffer byte bytes) refl
 
 read_ready : (bytes : List ℕ) (line_status : ℕ) → line_status ≡ with_data_ready line_status (not_empty bytes)
-    → (if not_empty (drop 1 bytes) then line_status else without line_status 0x01) ≡ with_data_ready line_status (not_empty (drop 1 bytes))
+    → (if not_empty (drop 1 bytes) then line_status else without line_status 0x01)
+    ≡ with_data_ready line_status (not_empty (drop 1 bytes))
 read_ready [] line_status ready = refl
 read_ready (byte ∷ []) line_status ready = refl
 read_ready (byte ∷ other ∷ bytes) line_status ready = ready
@@ -130,14 +134,17 @@ ready_more s act asked ready =
 -- the start's line status, with data ready as bytes are held now
 ready_after : (start : State) (past : List Entry) → start.line_status < 256
     → has_bits start.line_status 0x01 ≡ not_empty start.in_buffer
-    → (state_after start past).line_status ≡ with_data_ready start.line_status (not_empty (state_after start past).in_buffer)
+    → (state_after start past).line_status
+    ≡ with_data_ready start.line_status (not_empty (state_after start past).in_buffer)
 ready_after start [] below right =
     sym (data_ready_right start.line_status below) ∙ ap (with_data_ready start.line_status) right
 ready_after start (entry ∷ past) below right =
     let s = state_after start past in
     let before = ready_after start past below right in
     let again = λ (ready : Bool). data_ready_twice start.line_status (not_empty s.in_buffer) ready below in
-    let ready : IsReady s = before ∙ sym (again (not_empty s.in_buffer)) ∙ ap (λ byte. with_data_ready byte (not_empty s.in_buffer)) (sym before) in
+    let ready : IsReady s =
+    before ∙ sym (again (not_empty s.in_buffer))
+    ∙ ap (λ byte. with_data_ready byte (not_empty s.in_buffer)) (sym before) in
     let now = not_empty (next s entry.act entry.asked).in_buffer in
     ready_more s entry.act entry.asked ready ∙ ap (λ byte. with_data_ready byte now) before ∙ again now
 

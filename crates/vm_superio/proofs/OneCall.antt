@@ -64,13 +64,15 @@ told s (Enqueues bytes) what fit = enqueue_told (is_loopback s.modem_control) (i
 told s Restores what fit = refl
 
 pub events_law : EventsLaw
-events_law s act asked what fit = told s act what (and_right (asked_fits (due s act) asked) (sent_fits (sends s act) what) fit)
+events_law s act asked what fit =
+    told s act what (and_right (asked_fits (due s act) asked) (sent_fits (sends s act) what) fit)
 
 -- ---- the test is neither too narrow nor too wide
 
 received_at_most : (new : List ℕ) (s : State) → receive_due new s ≤ 2
 received_at_most [] s = omega arith
-received_at_most (byte ∷ bytes) s = omega (arith, one_at_most (becomes_pending Receive s.interrupt_enable s.interrupt_identification))
+received_at_most (byte ∷ bytes) s =
+    omega (arith, one_at_most (becomes_pending Receive s.interrupt_enable s.interrupt_identification))
 
 two_at_most : (k : Kind) (s : State) → due_by k s ≤ 2
 two_at_most (EnableWrite value) s =
@@ -78,7 +80,8 @@ two_at_most (EnableWrite value) s =
     let old = s.interrupt_identification in
     add-le-add (one_at_most (receive_becomes_pending s.in_buffer enable old))
     (one_at_most (becomes_pending Transmit enable (ask_while_held s.in_buffer enable old)))
-two_at_most (DataWrite value) s = omega (arith, one_at_most (becomes_pending Transmit s.interrupt_enable s.interrupt_identification))
+two_at_most (DataWrite value) s =
+    omega (arith, one_at_most (becomes_pending Transmit s.interrupt_enable s.interrupt_identification))
 two_at_most (Arrival bytes) s = received_at_most (that_fit s.in_buffer bytes) s
 two_at_most DataRead s = omega arith
 two_at_most _ s = omega arith
@@ -113,7 +116,8 @@ asked_passes (suc (suc zero)) true false small = refl
 asked_passes (suc (suc zero)) false second small = refl
 asked_passes (suc (suc (suc more))) first second small = absurd (omega arith)
 
-sent_exact : (sends : Bool) (what : Sent) → IsTrue (sent_fits sends what) → (success : Bool) × (what ≡ sent_when sends success)
+sent_exact : (sends : Bool) (what : Sent) → IsTrue (sent_fits sends what)
+    → (success : Bool) × (what ≡ sent_when sends success)
 sent_exact true sent.Nothing fit = absurd (false≢true fit)
 sent_exact true sent.Out fit = (true, refl)
 sent_exact true sent.Lost fit = (false, refl)
@@ -133,8 +137,11 @@ pub exact_test_law : ExactTestLaw
 unfolding Exact
 exact_test_law s act asked what = (
   λ fit.
-      let answers = asked_exact (due s act) asked (and_left (asked_fits (due s act) asked) (sent_fits (sends s act) what) fit) in
-      let fate = sent_exact (sends s act) what (and_right (asked_fits (due s act) asked) (sent_fits (sends s act) what) fit) in
+      let answers =
+      asked_exact (due s act) asked (and_left (asked_fits (due s act) asked) (sent_fits (sends s act) what) fit) in
+      let fate = sent_exact (sends s act) what
+      (and_right (asked_fits (due s act) asked) (sent_fits (sends s act) what) fit) in
       (answers.0, answers.1, fate.0, answers.2, fate.1),
-  λ some. rw (some.3, some.4, asked_passes (due s act) some.0 some.1 (due_at_most s act)) (sent_passes (sends s act) some.2),
+  λ some. rw (some.3, some.4, asked_passes (due s act) some.0 some.1 (due_at_most s act))
+      (sent_passes (sends s act) some.2),
 )

@@ -29,7 +29,8 @@ receive_called k held enable receive = receive_raised_by k held enable && not re
 -- the conditions that are pending afterwards
 abbrev pub transmit_next : Kind → List ℕ → ℕ → Asked → Bool → Bool → Bool
 transmit_next k held enable asked transmit receive =
-    transmit_raised_by k enable (receive_called k held enable receive && is_refused asked) || (not (acknowledges_transmit k) && transmit)
+    transmit_raised_by k enable (receive_called k held enable receive && is_refused asked) ||
+    (not (acknowledges_transmit k) && transmit)
 
 abbrev pub receive_next : Kind → List ℕ → ℕ → Bool → Bool
 receive_next k held enable receive = receive_raised_by k held enable || (not (acknowledges_receive k) && receive)
@@ -49,7 +50,8 @@ enabled_if refused held value old =
     if refused then new else ask Transmit (masked value 0x0F) new
 
 abbrev enabled : List ℕ → ℕ → Asked → ℕ → ℕ
-enabled held value asked old = enabled_if (receive_becomes_pending held (masked value 0x0F) old && is_refused asked) held value old
+enabled held value asked old =
+    enabled_if (receive_becomes_pending held (masked value 0x0F) old && is_refused asked) held value old
 
 -- from the identification of two conditions to that of the next two
 pub pending_by_kind : (k : Kind) (asked : Asked) (s : State) (transmit receive : Bool)
@@ -62,11 +64,15 @@ pending_by_kind DataRead asked s transmit receive e =
 pending_by_kind IdentificationRead asked s transmit receive e = refl
 pending_by_kind (EnableWrite value) asked s transmit receive e =
     ap (λ old. enabled s.in_buffer value asked old) e
-    ∙ ap (λ new. enabled_if (new && is_refused asked) s.in_buffer value (identification_of transmit receive)) (enable_receives s.in_buffer value transmit receive)
-    ∙ enable_leaves (receive_called (EnableWrite value) s.in_buffer s.interrupt_enable receive && is_refused asked) s.in_buffer value transmit receive
+    ∙ ap (λ new. enabled_if (new && is_refused asked) s.in_buffer value (identification_of transmit receive))
+    (enable_receives s.in_buffer value transmit receive)
+    ∙ enable_leaves
+    (receive_called (EnableWrite value) s.in_buffer s.interrupt_enable receive
+    && is_refused asked) s.in_buffer value transmit receive
 pending_by_kind (DataWrite value) asked s transmit receive e =
     ap (ask Transmit s.interrupt_enable) e ∙ ask_transmit s.interrupt_enable transmit receive
-pending_by_kind (Arrival bytes) asked s transmit receive e = received_pending (that_fit s.in_buffer bytes) s transmit receive e
+pending_by_kind (Arrival bytes) asked s transmit receive e =
+    received_pending (that_fit s.in_buffer bytes) s transmit receive e
 pending_by_kind Other asked s transmit receive e = e
 
 received_due : (new : List ℕ) (s : State) (transmit receive : Bool)
@@ -74,20 +80,29 @@ received_due : (new : List ℕ) (s : State) (transmit receive : Bool)
     → receive_due new s ≡ one_if ((not_empty new && has_bits s.interrupt_enable 0x01) && not receive) + 0
 received_due [] s transmit receive e = refl
 received_due (byte ∷ bytes) s transmit receive e =
-    ap (λ old. one_if (becomes_pending Receive s.interrupt_enable old)) e ∙ ap one_if (receive_new s.interrupt_enable transmit receive) ∙ sym (add-zero _)
+    ap (λ old. one_if (becomes_pending Receive s.interrupt_enable old)) e
+    ∙ ap one_if (receive_new s.interrupt_enable transmit receive) ∙ sym (add-zero _)
 
 -- the calls that are due are those of the conditions that become pending, the second if the first is not refused
-due_is : (k : Kind) (s : State) (transmit receive : Bool) → s.interrupt_identification ≡ identification_of transmit receive
+due_is : (k : Kind) (s : State) (transmit receive : Bool)
+    → s.interrupt_identification ≡ identification_of transmit receive
     → due_by k s
     ≡ one_if (receive_called k s.in_buffer s.interrupt_enable receive)
     + one_if (transmit_raised_by k s.interrupt_enable false && not transmit)
 due_is (EnableWrite value) s transmit receive e =
     let enable = masked value 0x0F in
-    ap (λ old. one_if (receive_becomes_pending s.in_buffer enable old) + one_if (becomes_pending Transmit enable (ask_while_held s.in_buffer enable old))) e
-    ∙ ap (λ new. one_if new + one_if (becomes_pending Transmit enable (ask_while_held s.in_buffer enable (identification_of transmit receive)))) (enable_receives s.in_buffer value transmit receive)
-    ∙ ap (λ new. one_if (receive_called (EnableWrite value) s.in_buffer s.interrupt_enable receive) + one_if new) (enable_transmits s.in_buffer value transmit receive ∙ ap (λ bit. bit && not transmit) (sym (and-true (has_bits value 0x02))))
+    ap (λ old. one_if (receive_becomes_pending s.in_buffer enable old)
+    + one_if (becomes_pending Transmit enable (ask_while_held s.in_buffer enable old))) e
+    ∙ ap (λ new. one_if new
+    + one_if (becomes_pending Transmit enable
+    (ask_while_held s.in_buffer enable (identification_of transmit receive))))
+    (enable_receives s.in_buffer value transmit receive)
+    ∙ ap (λ new. one_if (receive_called (EnableWrite value) s.in_buffer s.interrupt_enable receive) + one_if new)
+    (enable_transmits s.in_buffer value transmit receive
+    ∙ ap (λ bit. bit && not transmit) (sym (and-true (has_bits value 0x02))))
 due_is (DataWrite value) s transmit receive e =
-    ap (λ old. one_if (becomes_pending Transmit s.interrupt_enable old)) e ∙ ap one_if (transmit_new s.interrupt_enable transmit receive) ∙ sym (zero-add _)
+    ap (λ old. one_if (becomes_pending Transmit s.interrupt_enable old)) e
+    ∙ ap one_if (transmit_new s.interrupt_enable transmit receive) ∙ sym (zero-add _)
 due_is (Arrival bytes) s transmit receive e = received_due (that_fit s.in_buffer bytes) s transmit receive e
 due_is DataRead s transmit receive e = refl
 due_is _ s transmit receive e = refl
@@ -97,7 +112,8 @@ ends_early : (k : Kind) (held : List ℕ) (enable : ℕ) (receive refused : Bool
     → (transmit_raised_by k enable false && not (receive_called k held enable receive && refused))
     ≡ transmit_raised_by k enable (receive_called k held enable receive && refused)
 ends_early (EnableWrite value) held enable receive refused =
-    ap (λ raised. raised && not (receive_called (EnableWrite value) held enable receive && refused)) (and-true (has_bits value 0x02))
+    ap (λ raised. raised && not (receive_called (EnableWrite value) held enable receive && refused))
+    (and-true (has_bits value 0x02))
 ends_early (DataWrite value) held enable receive refused = and-true (has_bits enable 0x02)
 ends_early _ held enable receive refused = refl
 
@@ -113,7 +129,8 @@ test_by_kind : (k : Kind) (asked : Asked) (s : State) (transmit receive : Bool)
     → s.interrupt_identification ≡ identification_of transmit receive
     → let first = receive_called k s.in_buffer s.interrupt_enable receive in
     asked_fits (due_by k s) asked
-    ≡ (answer_count asked == one_if first + one_if (transmit_raised_by k s.interrupt_enable (first && is_refused asked) && not transmit))
+    ≡ (answer_count asked == one_if first
+    + one_if (transmit_raised_by k s.interrupt_enable (first && is_refused asked) && not transmit))
 test_by_kind k asked s transmit receive e =
     let first = receive_called k s.in_buffer s.interrupt_enable receive in
     let second = transmit_raised_by k s.interrupt_enable false in
@@ -130,15 +147,19 @@ pending_law : (start : State) (past : List Entry) (transmit receive : Bool)
     → start.interrupt_identification ≡ identification_of transmit receive
     → (state_after start past).interrupt_identification ≡ identification start past
 pending_law start [] transmit receive e =
-    e ∙ ap (λ bit. identification_of bit receive) (sym (transmit_bit transmit receive) ∙ ap (λ byte. has_bits byte 0x02) (sym e))
-    ∙ ap (identification_of (has_bits start.interrupt_identification 0x02)) (sym (receive_bit transmit receive) ∙ ap (λ byte. has_bits byte 0x04) (sym e))
+    e ∙ ap (λ bit. identification_of bit receive)
+    (sym (transmit_bit transmit receive) ∙ ap (λ byte. has_bits byte 0x02) (sym e))
+    ∙ ap (identification_of (has_bits start.interrupt_identification 0x02))
+    (sym (receive_bit transmit receive) ∙ ap (λ byte. has_bits byte 0x04) (sym e))
 pending_law start (entry ∷ past) transmit receive e =
     let s = state_after start past in
     let k = kind start past entry.act in
     let registers = register_law start past in
     let t = transmit_pending start past in
     let r = receive_pending start past in
-    let next_of = λ (bytes : List ℕ) (enable : ℕ). identification_of (transmit_next k bytes enable entry.asked t r) (receive_next k bytes enable r) in
+    let next_of =
+    λ (bytes : List ℕ) (enable : ℕ). identification_of (transmit_next k bytes enable entry.asked t r)
+    (receive_next k bytes enable r) in
     (next_at_place start past entry).interrupt_identification
     ∙ pending_by_kind k entry.asked s t r (pending_law start past transmit receive e)
     ∙ ap (λ bytes. next_of bytes s.interrupt_enable) (held_bytes_law start past)
@@ -174,9 +195,11 @@ restoring_law : (start : State) (past : List Entry) (transmit receive : Bool)
 restoring_law start past transmit receive e =
     let t = transmit_pending start past in
     let r = receive_pending start past in
-    let calls_of = λ (t r : Bool) (enable : ℕ). transmit_first (t && has_bits enable 0x02) (r && has_bits enable 0x01) in
+    let calls_of =
+    λ (t r : Bool) (enable : ℕ). transmit_first (t && has_bits enable 0x02) (r && has_bits enable 0x01) in
     let s = state_after start past in
-    ap (λ old. calls_of (has_bits old 0x02) (has_bits old 0x04) s.interrupt_enable) (pending_law start past transmit receive e)
+    ap (λ old. calls_of (has_bits old 0x02) (has_bits old 0x04) s.interrupt_enable)
+    (pending_law start past transmit receive e)
     ∙ ap (λ bit. calls_of bit (has_bits (identification_of t r) 0x04) s.interrupt_enable) (transmit_bit t r)
     ∙ ap (λ bit. calls_of t bit s.interrupt_enable) (receive_bit t r)
     ∙ ap (calls_of t r) (register_law start past).interrupt_enable

@@ -39,7 +39,8 @@ none_more start acknowledges newest past entry not_here none (y ∷ after) befor
 -- and one fewer
 none_fewer : (start : State) (acknowledges : Kind → Bool) (newest past : List Entry) (entry : Entry)
     → NoneAcknowledges start acknowledges (entry ∷ newest) past → NoneAcknowledges start acknowledges newest past
-none_fewer start acknowledges newest past entry none after before x e = none (entry ∷ after) before x (ap (λ rest. entry ∷ rest) e)
+none_fewer start acknowledges newest past entry none after before x e =
+    none (entry ∷ after) before x (ap (λ rest. entry ∷ rest) e)
 
 nowhere : (start : State) (acknowledges : Kind → Bool) (past : List Entry) → NoneAcknowledges start acknowledges [] past
 nowhere start acknowledges past after before entry absent = absurd (nothing_there after before entry absent)
@@ -57,7 +58,8 @@ not_false false e = refl
 module _ (start : State) (raises : List Entry → Entry → Bool) (acknowledges : Kind → Bool) (first : Bool) where
   -- what was raised stays raised while none acknowledges
   stays : (newest past : List Entry) → NoneAcknowledges start acknowledges newest past
-      → IsTrue (still_raised start raises acknowledges first past) → IsTrue (still_raised start raises acknowledges first (newest ++ past))
+      → IsTrue (still_raised start raises acknowledges first past)
+      → IsTrue (still_raised start raises acknowledges first (newest ++ past))
   stays [] past none raised = raised
   stays (entry ∷ newest) past none raised =
       let rest = stays newest past (none_fewer start acknowledges newest past entry none) raised in
@@ -66,7 +68,8 @@ module _ (start : State) (raises : List Entry → Entry → Bool) (acknowledges 
 
   -- a place for the others is one for all, where the newest record does not acknowledge
   grown : (entry : Entry) (past : List Entry) → IsFalse (acknowledges (kind start past entry.act))
-      → PendingByPlaces start raises acknowledges first past → PendingByPlaces start raises acknowledges first (entry ∷ past)
+      → PendingByPlaces start raises acknowledges first past
+      → PendingByPlaces start raises acknowledges first (entry ∷ past)
   grown entry past not_here (inl (after, before, x, place, raised, none)) =
       inl (
         entry ∷ after,
@@ -74,39 +77,61 @@ module _ (start : State) (raises : List Entry → Entry → Bool) (acknowledges 
         x,
         ap (λ rest. entry ∷ rest) place,
         raised,
-        none_more start acknowledges after (x ∷ before) entry (subst (λ (past : List Entry). IsFalse (acknowledges (kind start past entry.act))) place not_here) none,
+        none_more start acknowledges after (x ∷ before) entry
+            (subst (λ (past : List Entry). IsFalse (acknowledges (kind start past entry.act))) place not_here) none,
       )
   grown entry past not_here (inr (pending, none)) =
-      inr (pending, none_more start acknowledges past [] entry (subst (λ (past : List Entry). IsFalse (acknowledges (kind start past entry.act))) (sym (append-nil past)) not_here) none)
+      inr (
+        pending,
+        none_more start acknowledges past [] entry
+            (subst (λ (past : List Entry). IsFalse (acknowledges (kind start past entry.act)))
+            (sym (append-nil past)) not_here) none,
+      )
 
   found : (entry : Entry) (past : List Entry) (here : Bool) → raises past entry ≡ here
-      → (IsTrue (still_raised start raises acknowledges first past) → PendingByPlaces start raises acknowledges first past)
-      → IsTrue (here || (not (acknowledges (kind start past entry.act)) && still_raised start raises acknowledges first past))
+      → (IsTrue (still_raised start raises acknowledges first past)
+      → PendingByPlaces start raises acknowledges first past)
+      → IsTrue (here ||
+      (not (acknowledges (kind start past entry.act)) && still_raised start raises acknowledges first past))
       → PendingByPlaces start raises acknowledges first (entry ∷ past)
-  found entry past true raised earlier e = inl ([], past, entry, refl, raised, nowhere start acknowledges (entry ∷ past))
+  found entry past true raised earlier e =
+      inl ([], past, entry, refl, raised, nowhere start acknowledges (entry ∷ past))
   found entry past false raised earlier e =
       let acknowledged = acknowledges (kind start past entry.act) in
       let rest = still_raised start raises acknowledges first past in
-      grown entry past (not_false acknowledged (and_left (not acknowledged) rest e)) (earlier (and_right (not acknowledged) rest e))
+      grown entry past (not_false acknowledged (and_left (not acknowledged) rest e))
+      (earlier (and_right (not acknowledged) rest e))
 
-  to_places : (past : List Entry) → IsTrue (still_raised start raises acknowledges first past) → PendingByPlaces start raises acknowledges first past
+  to_places : (past : List Entry) → IsTrue (still_raised start raises acknowledges first past)
+      → PendingByPlaces start raises acknowledges first past
   to_places [] e = inr (e, nowhere start acknowledges [])
   to_places (entry ∷ past) e = found entry past (raises past entry) refl (to_places past) e
 
-  from_places : (past : List Entry) → PendingByPlaces start raises acknowledges first past → IsTrue (still_raised start raises acknowledges first past)
+  from_places : (past : List Entry) → PendingByPlaces start raises acknowledges first past
+      → IsTrue (still_raised start raises acknowledges first past)
   from_places past (inl (after, before, entry, place, raised, none)) =
       let there : IsTrue (still_raised start raises acknowledges first (entry ∷ before)) = rw raised refl in
-      subst (λ (past : List Entry). IsTrue (still_raised start raises acknowledges first past)) (sym place) (stays after (entry ∷ before) none there)
+      subst (λ (past : List Entry). IsTrue (still_raised start raises acknowledges first past)) (sym place)
+      (stays after (entry ∷ before) none there)
   from_places past (inr (pending, none)) =
-      subst (λ (past : List Entry). IsTrue (still_raised start raises acknowledges first past)) (append-nil past) (stays past [] none pending)
+      subst (λ (past : List Entry). IsTrue (still_raised start raises acknowledges first past)) (append-nil past)
+      (stays past [] none pending)
 
 pub pending_by_places_law : PendingByPlacesLaw
 pending_by_places_law start past =
     let r = has_bits start.interrupt_identification 0x04 in
     let t = has_bits start.interrupt_identification 0x02 in
     record {
-      receive = (to_places start (receive_raised start) acknowledges_receive r past, from_places start (receive_raised start) acknowledges_receive r past);
-      transmit = (to_places start (transmit_raised start) acknowledges_transmit t past, from_places start (transmit_raised start) acknowledges_transmit t past);
+      receive = (
+        to_places start (receive_raised start) acknowledges_receive r past,
+        from_places start
+            (receive_raised start) acknowledges_receive r past,
+      );
+      transmit = (
+        to_places start (transmit_raised start) acknowledges_transmit t past,
+        from_places start
+            (transmit_raised start) acknowledges_transmit t past,
+      );
     }
 
 -- ---- waiting bytes
@@ -129,7 +154,8 @@ received_told [] s pending before held enabled = before held enabled
 received_told (byte ∷ bytes) s pending before held enabled = or_left (has_bits s.interrupt_enable 0x01) pending enabled
 
 -- an act that does not acknowledge leaves it so
-told_by_kind : (k : Kind) (asked : Asked) (s : State) (pending : Bool) → IsFalse (acknowledges_receive k) → IsTold s pending
+told_by_kind : (k : Kind) (asked : Asked) (s : State) (pending : Bool) → IsFalse (acknowledges_receive k)
+    → IsTold s pending
     → IsTold (by_kind k asked s) (receive_next k s.in_buffer s.interrupt_enable pending)
 told_by_kind DataRead asked s pending not_here before some enabled = absurd (false≢true (sym not_here))
 told_by_kind IdentificationRead asked s pending not_here before some enabled = absurd (false≢true (sym not_here))
@@ -137,13 +163,15 @@ told_by_kind (EnableWrite value) asked s pending not_here before some enabled =
     or_left (has_bits value 0x01 && not_empty s.in_buffer) pending
     (and_both (has_bits value 0x01) (not_empty s.in_buffer) (sym (enables_receive value) ∙ enabled) some)
 told_by_kind (DataWrite value) asked s pending not_here before some enabled = before some enabled
-told_by_kind (Arrival bytes) asked s pending not_here before some enabled = received_told (that_fit s.in_buffer bytes) s pending before some enabled
+told_by_kind (Arrival bytes) asked s pending not_here before some enabled =
+    received_told (that_fit s.in_buffer bytes) s pending before some enabled
 told_by_kind Other asked s pending not_here before some enabled = before some enabled
 
 received_first : (new : List ℕ) (s : State) (pending : Bool) → IsTrue (not_empty new)
     → IsTold (receive new s) ((not_empty new && has_bits s.interrupt_enable 0x01) || pending)
 received_first [] s pending arrived some enabled = absurd (false≢true arrived)
-received_first (byte ∷ bytes) s pending arrived some enabled = or_left (has_bits s.interrupt_enable 0x01) pending enabled
+received_first (byte ∷ bytes) s pending arrived some enabled =
+    or_left (has_bits s.interrupt_enable 0x01) pending enabled
 
 -- and a place that tells of bytes makes it so
 first_told : (k : Kind) (asked : Asked) (s : State) (pending : Bool) → IsTrue (tells_of_bytes k s.in_buffer)
@@ -151,17 +179,21 @@ first_told : (k : Kind) (asked : Asked) (s : State) (pending : Bool) → IsTrue 
 first_told (EnableWrite value) asked s pending tells some enabled =
     or_left (has_bits value 0x01 && not_empty s.in_buffer) pending
     (and_both (has_bits value 0x01) (not_empty s.in_buffer) (sym (enables_receive value) ∙ enabled) some)
-first_told (Arrival bytes) asked s pending tells some enabled = received_first (that_fit s.in_buffer bytes) s pending tells some enabled
+first_told (Arrival bytes) asked s pending tells some enabled =
+    received_first (that_fit s.in_buffer bytes) s pending tells some enabled
 first_told DataRead asked s pending tells some enabled = absurd (false≢true tells)
 first_told _ asked s pending tells some enabled = absurd (false≢true tells)
 
 -- the same at a place of a past
 abbrev IsToldAt : State → List Entry → Type 0
-IsToldAt start past = IsTrue (not_empty (held start past)) → IsTrue (has_bits (interrupt_enable start past) 0x01) → IsTrue (receive_pending start past)
+IsToldAt start past =
+    IsTrue (not_empty (held start past)) → IsTrue (has_bits (interrupt_enable start past) 0x01)
+    → IsTrue (receive_pending start past)
 
 at_place : (start : State) (past : List Entry) (entry : Entry)
     → let s = state_after start past in let k = kind start past entry.act in
-    IsTold (by_kind k entry.asked s) (receive_next k s.in_buffer s.interrupt_enable (receive_pending start past)) → IsToldAt start (entry ∷ past)
+    IsTold (by_kind k entry.asked s) (receive_next k s.in_buffer s.interrupt_enable (receive_pending start past))
+    → IsToldAt start (entry ∷ past)
 at_place start past entry told some enabled =
     let s = state_after start past in
     let k = kind start past entry.act in
@@ -193,4 +225,5 @@ waiting_bytes_law start after before entry tells none =
     let s = state_after start before in
     stays_told start after (entry ∷ before) none
     (at_place start before entry
-    (first_told k entry.asked s (receive_pending start before) (ap (tells_of_bytes k) (held_bytes_law start before) ∙ tells)))
+    (first_told k entry.asked s (receive_pending start before)
+    (ap (tells_of_bytes k) (held_bytes_law start before) ∙ tells)))

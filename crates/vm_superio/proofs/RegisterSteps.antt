@@ -1,5 +1,5 @@
 -- The register law: one call leaves in each register what it wrote there, and otherwise what was there.
-use Rattle.std.proofs.Common.{◌≡◌, ℕ, zero, suc, Bool, true, false, eqb, List, [], ◌∷◌, Option, Some, None, refl, ap, sym, ◌∙◌, ⊎_elim, ◌<◌, lit<, arith}
+use Rattle.std.proofs.Common.{rules, ◌≡◌, ℕ, zero, suc, Bool, true, false, eqb, List, [], ◌∷◌, Option, Some, None, refl, ap, sym, ◌∙◌, ⊎_elim, ◌<◌, lit<, arith}
 use Rattle.std.proofs.lemmas.Bool.Decides.{eqb_tells}
 use Rattle.std.specs.Prelude.{if◌then◌else◌, unwrap_or}
 use Rattle.std.specs.Option.{option_or, option_map_or}
@@ -18,7 +18,8 @@ use Rattle.vm_superio.specs.Laws.{RegisterLaw, state_after}
 pub record Steps (dlab : Bool) (act : Deed) (s new : State) : Type 0 where
   pub divisor_low : new.baud_divisor_low ≡ unwrap_or (if dlab then written_at 0 act else None) s.baud_divisor_low
   pub divisor_high : new.baud_divisor_high ≡ unwrap_or (if dlab then written_at 1 act else None) s.baud_divisor_high
-  pub interrupt_enable : new.interrupt_enable ≡ option_map_or (λ value. masked value 0x0F) (if dlab then None else written_at 1 act) s.interrupt_enable
+  pub interrupt_enable : new.interrupt_enable
+      ≡ option_map_or (λ value. masked value 0x0F) (if dlab then None else written_at 1 act) s.interrupt_enable
   pub line_control : new.line_control ≡ unwrap_or (written_at 3 act) s.line_control
   pub modem_control : new.modem_control ≡ unwrap_or (written_at 4 act) s.modem_control
   pub modem_status : new.modem_status ≡ s.modem_status
@@ -65,7 +66,8 @@ read_done Data s = refl
 read_done InterruptIdentification s = refl
 read_done _ s = refl
 
-data_written : (value : ℕ) (loopback : Bool) (s : State) → is_loopback s.modem_control ≡ loopback → SameRegisters s (data_write value s)
+data_written : (value : ℕ) (loopback : Bool) (s : State) → is_loopback s.modem_control ≡ loopback
+    → SameRegisters s (data_write value s)
 unfolding SameRegisters
 data_written value true s e = rw e (received (that_fit s.in_buffer (value ∷ [])) s)
 data_written value false s e = rw e refl
@@ -93,46 +95,72 @@ all_kept s = refl
 -- no register stands from offset 8 on
 apart : (n k : ℕ) → k < 8 → eqb (suc (suc (suc (suc (suc (suc (suc (suc n)))))))) k ≡ false
 apart n k below =
-    ⊎_elim (λ same. let e : suc (suc (suc (suc (suc (suc (suc (suc n))))))) ≡ k = same.1 in absurd (omega arith)) (λ other. other.0)
+    ⊎_elim (λ same. let e : suc (suc (suc (suc (suc (suc (suc (suc n))))))) ≡ k =
+    same.1 in absurd (omega arith)) (λ other. other.0)
     (eqb_tells (suc (suc (suc (suc (suc (suc (suc (suc n)))))))) k)
 
 unknown : (dlab : Bool) (n : ℕ) → register dlab (suc (suc (suc (suc (suc (suc (suc (suc n)))))))) ≡ Unknown
 unknown dlab n =
-    simp (apart n 0 (lit< tt), apart n 1 (lit< tt), apart n 2 (lit< tt), apart n 3 (lit< tt), apart n 4 (lit< tt), apart n 5 (lit< tt), apart n 6 (lit< tt), apart n 7 (lit< tt))
+    simp (
+      apart n 0 (lit< tt),
+      apart n 1 (lit< tt),
+      apart n 2 (lit< tt),
+      apart n 3 (lit< tt),
+      apart n 4
+          (lit< tt),
+      apart n 5 (lit< tt),
+      apart n 6 (lit< tt),
+      apart n 7 (lit< tt),
+    )
 
-nothing_there : (dlab : Bool) (n value : ℕ) → WritesNothing dlab (Writes (suc (suc (suc (suc (suc (suc (suc (suc n)))))))) value)
+nothing_there : (dlab : Bool) (n value : ℕ)
+    → WritesNothing dlab (Writes (suc (suc (suc (suc (suc (suc (suc (suc n)))))))) value)
 unfolding WritesNothing
-nothing_there true n value = simp (apart n 0 (lit< tt), apart n 1 (lit< tt), apart n 3 (lit< tt), apart n 4 (lit< tt), apart n 7 (lit< tt)) (refl, refl, refl, refl, refl, refl)
-nothing_there false n value = simp (apart n 1 (lit< tt), apart n 3 (lit< tt), apart n 4 (lit< tt), apart n 7 (lit< tt)) (refl, refl, refl, refl, refl, refl)
+nothing_there true n value =
+    simp (apart n 0 (lit< tt), apart n 1 (lit< tt), apart n 3 (lit< tt), apart n 4 (lit< tt), apart n 7 (lit< tt))
+    (refl, refl, refl, refl, refl, refl)
+nothing_there false n value =
+    simp (apart n 1 (lit< tt), apart n 3 (lit< tt), apart n 4 (lit< tt), apart n 7 (lit< tt))
+    (refl, refl, refl, refl, refl, refl)
 
 -- a write, offset by offset
-write_done : (dlab : Bool) (offset value : ℕ) (asked : Asked) (s : State) → Steps dlab (Writes offset value) s (write_next (register dlab offset) value asked s)
+write_done : (dlab : Bool) (offset value : ℕ) (asked : Asked) (s : State)
+    → Steps dlab (Writes offset value) s (write_next (register dlab offset) value asked s)
 unfolding WritesNothing SameRegisters
-write_done true zero value asked s = record { divisor_low = refl; divisor_high = refl; interrupt_enable = refl; line_control = refl; modem_control = refl; modem_status = refl; scratch = refl }
-write_done false zero value asked s = kept false (Writes 0 value) s (data_write value s) (refl, refl, refl, refl, refl, refl) (data_written value _ s refl)
-write_done true (suc zero) value asked s = record { divisor_low = refl; divisor_high = refl; interrupt_enable = refl; line_control = refl; modem_control = refl; modem_status = refl; scratch = refl }
-write_done false (suc zero) value asked s = record { divisor_low = refl; divisor_high = refl; interrupt_enable = refl; line_control = refl; modem_control = refl; modem_status = refl; scratch = refl }
-write_done dlab (suc (suc zero)) value asked s = kept dlab (Writes 2 value) s s (none_either dlab, none_either dlab, none_either dlab, refl, refl, refl) refl
-write_done true (suc (suc (suc zero))) value asked s = record { divisor_low = refl; divisor_high = refl; interrupt_enable = refl; line_control = refl; modem_control = refl; modem_status = refl; scratch = refl }
-write_done false (suc (suc (suc zero))) value asked s = record { divisor_low = refl; divisor_high = refl; interrupt_enable = refl; line_control = refl; modem_control = refl; modem_status = refl; scratch = refl }
-write_done true (suc (suc (suc (suc zero)))) value asked s = record { divisor_low = refl; divisor_high = refl; interrupt_enable = refl; line_control = refl; modem_control = refl; modem_status = refl; scratch = refl }
-write_done false (suc (suc (suc (suc zero)))) value asked s = record { divisor_low = refl; divisor_high = refl; interrupt_enable = refl; line_control = refl; modem_control = refl; modem_status = refl; scratch = refl }
-write_done dlab (suc (suc (suc (suc (suc zero))))) value asked s = kept dlab (Writes 5 value) s s (none_either dlab, none_either dlab, none_either dlab, refl, refl, refl) refl
-write_done dlab (suc (suc (suc (suc (suc (suc zero)))))) value asked s = kept dlab (Writes 6 value) s s (none_either dlab, none_either dlab, none_either dlab, refl, refl, refl) refl
-write_done true (suc (suc (suc (suc (suc (suc (suc zero))))))) value asked s = record { divisor_low = refl; divisor_high = refl; interrupt_enable = refl; line_control = refl; modem_control = refl; modem_status = refl; scratch = refl }
-write_done false (suc (suc (suc (suc (suc (suc (suc zero))))))) value asked s = record { divisor_low = refl; divisor_high = refl; interrupt_enable = refl; line_control = refl; modem_control = refl; modem_status = refl; scratch = refl }
+write_done true zero value asked s = search rules
+write_done false zero value asked s =
+    kept false (Writes 0 value) s (data_write value s) (refl, refl, refl, refl, refl, refl)
+    (data_written value _ s refl)
+write_done true (suc zero) value asked s = search rules
+write_done false (suc zero) value asked s = search rules
+write_done true (suc (suc zero)) value asked s = search rules
+write_done false (suc (suc zero)) value asked s = search rules
+write_done true (suc (suc (suc zero))) value asked s = search rules
+write_done false (suc (suc (suc zero))) value asked s = search rules
+write_done true (suc (suc (suc (suc zero)))) value asked s = search rules
+write_done false (suc (suc (suc (suc zero)))) value asked s = search rules
+write_done true (suc (suc (suc (suc (suc zero))))) value asked s = search rules
+write_done false (suc (suc (suc (suc (suc zero))))) value asked s = search rules
+write_done true (suc (suc (suc (suc (suc (suc zero)))))) value asked s = search rules
+write_done false (suc (suc (suc (suc (suc (suc zero)))))) value asked s = search rules
+write_done true (suc (suc (suc (suc (suc (suc (suc zero))))))) value asked s = search rules
+write_done false (suc (suc (suc (suc (suc (suc (suc zero))))))) value asked s = search rules
 write_done dlab (suc (suc (suc (suc (suc (suc (suc (suc n)))))))) value asked s =
-    rw (unknown dlab n) (kept dlab (Writes (suc (suc (suc (suc (suc (suc (suc (suc n)))))))) value) s s (nothing_there dlab n value) refl)
+    rw (unknown dlab n)
+    (kept dlab (Writes (suc (suc (suc (suc (suc (suc (suc (suc n)))))))) value) s s (nothing_there dlab n value) refl)
 
 pub call_done : (s : State) (act : Deed) (asked : Asked) → Steps (is_dlab s.line_control) act s (next s act asked)
-call_done s (Reads offset) asked = kept _ (Reads offset) s _ (reads_nothing _ offset) (read_done (register (is_dlab s.line_control) offset) s)
+call_done s (Reads offset) asked =
+    kept _ (Reads offset) s _ (reads_nothing _ offset) (read_done (register (is_dlab s.line_control) offset) s)
 call_done s (Writes offset value) asked = write_done _ offset value asked s
-call_done s (Enqueues bytes) asked = kept _ (Enqueues bytes) s _ (enqueues_nothing _ bytes) (received (accepted_of s bytes) s)
+call_done s (Enqueues bytes) asked =
+    kept _ (Enqueues bytes) s _ (enqueues_nothing _ bytes) (received (accepted_of s bytes) s)
 call_done s Restores asked = kept _ Restores s s (restores_nothing _) (all_kept s)
 
 -- ---- any past
 
-unwrap_or-or : (one other : Option ℕ) (byte : ℕ) → unwrap_or (option_or one other) byte ≡ unwrap_or one (unwrap_or other byte)
+unwrap_or-or : (one other : Option ℕ) (byte : ℕ)
+    → unwrap_or (option_or one other) byte ≡ unwrap_or one (unwrap_or other byte)
 unwrap_or-or None other byte = refl
 unwrap_or-or (Some value) other byte = refl
 
@@ -146,7 +174,8 @@ more : (found : List Entry → Deed → Option ℕ) (entry : Entry) (past : List
     → old ≡ unwrap_or (last found past) byte → new ≡ unwrap_or (found past entry.act) old
     → new ≡ unwrap_or (last found (entry ∷ past)) byte
 more found entry past byte old new before step =
-    step ∙ ap (unwrap_or (found past entry.act)) before ∙ sym (unwrap_or-or (found past entry.act) (last found past) byte)
+    step ∙ ap (unwrap_or (found past entry.act)) before
+    ∙ sym (unwrap_or-or (found past entry.act) (last found past) byte)
 
 more_masked : (found : List Entry → Deed → Option ℕ) (entry : Entry) (past : List Entry) (byte old new : ℕ)
     → old ≡ option_map_or (λ value. masked value 0x0F) (last found past) byte
@@ -157,7 +186,7 @@ more_masked found entry past byte old new before step =
     ∙ sym (option_map_or-or (λ value. masked value 0x0F) (found past entry.act) (last found past) byte)
 
 pub register_law : RegisterLaw
-register_law start [] = record { divisor_low = refl; divisor_high = refl; interrupt_enable = refl; line_control = refl; modem_control = refl; modem_status = refl; scratch = refl }
+register_law start [] = search rules
 register_law start (entry ∷ past) =
     let before = register_law start past in
     let step = call_done (state_after start past) entry.act entry.asked in

@@ -51,7 +51,8 @@ by_cases s (call ∷ later) =
 abbrev pub by_history : State → List Entry → List (Entry × Answer) → List (Bool × Answer)
 by_history start past [] = []
 by_history start past (call ∷ later) =
-    (record_fits start past call.0, reply start past call.0.act call.0.asked call.0.sent) ∷ by_history start (call.0 ∷ past) later
+    (record_fits start past call.0, reply start past call.0.act call.0.asked call.0.sent)
+    ∷ by_history start (call.0 ∷ past) later
 
 -- each call passes, with its answer
 abbrev pub told : List (Entry × Answer) → List (Bool × Answer)

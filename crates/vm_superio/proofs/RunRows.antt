@@ -28,7 +28,9 @@ loopback_writes (suc n) later = loopback_writes n (store 0 n ∷ later)
 
 -- a full FIFO in loopback drops a written byte and accepts no other
 full_loopback : List (Entry × Answer)
-full_loopback = store 4 0x10 ∷ loopback_writes 64 (store 0 0xAA ∷ enqueue (0xFF ∷ []) Nothing (Added 0) ∷ read 5 0x61 ∷ read 0 0x00 ∷ [])
+full_loopback =
+    store 4 0x10
+    ∷ loopback_writes 64 (store 0 0xAA ∷ enqueue (0xFF ∷ []) Nothing (Added 0) ∷ read 5 0x61 ∷ read 0 0x00 ∷ [])
 
 loopback_drops_when_full : GivenByBoth fresh full_loopback
 unfolding has_bits masked joined full_loopback loopback_writes

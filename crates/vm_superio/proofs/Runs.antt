@@ -34,18 +34,22 @@ enabled_held bit true before kept now = refl
 enabled_held true false before kept now = kept now
 enabled_held false false before kept now = kept now
 
-received_by_kind : (k : Kind) (asked : Asked) (s : State) (before : Bool) → (IsTrue before → IsTrue (not_empty s.in_buffer))
+received_by_kind : (k : Kind) (asked : Asked) (s : State) (before : Bool)
+    → (IsTrue before → IsTrue (not_empty s.in_buffer))
     → IsTrue (receive_next k s.in_buffer s.interrupt_enable before) → IsTrue (not_empty (by_kind k asked s).in_buffer)
 received_by_kind DataRead asked s before kept now = absurd (false≢true now)
 received_by_kind IdentificationRead asked s before kept now = absurd (false≢true now)
-received_by_kind (EnableWrite value) asked s before kept now = enabled_held (has_bits value 0x01) (not_empty s.in_buffer) before kept now
+received_by_kind (EnableWrite value) asked s before kept now =
+    enabled_held (has_bits value 0x01) (not_empty s.in_buffer) before kept now
 received_by_kind (DataWrite value) asked s before kept now = kept now
-received_by_kind (Arrival bytes) asked s before kept now = received_kept (that_fit s.in_buffer bytes) s (has_bits s.interrupt_enable 0x01) before kept now
+received_by_kind (Arrival bytes) asked s before kept now =
+    received_kept (that_fit s.in_buffer bytes) s (has_bits s.interrupt_enable 0x01) before kept now
 received_by_kind Other asked s before kept now = kept now
 
 -- data ready is set exactly while a byte is held
 read_shows : (bytes : List ℕ) (line_status : ℕ) → has_bits line_status 0x01 ≡ not_empty bytes
-    → has_bits (if not_empty (drop 1 bytes) then line_status else without line_status 0x01) 0x01 ≡ not_empty (drop 1 bytes)
+    → has_bits (if not_empty (drop 1 bytes) then line_status else without line_status 0x01) 0x01
+    ≡ not_empty (drop 1 bytes)
 read_shows [] line_status shows = data_ready_cleared line_status
 read_shows (byte ∷ []) line_status shows = data_ready_cleared line_status
 read_shows (byte ∷ other ∷ bytes) line_status shows = shows
@@ -67,7 +71,8 @@ received_length : (new : List ℕ) (s : State) → length (receive new s).in_buf
 received_length [] s = omega arith
 received_length (byte ∷ bytes) s = length-append s.in_buffer (byte ∷ bytes)
 
-few_by_kind : (k : Kind) (asked : Asked) (s : State) → length s.in_buffer ≤ 64 → length (by_kind k asked s).in_buffer ≤ 64
+few_by_kind : (k : Kind) (asked : Asked) (s : State) → length s.in_buffer ≤ 64
+    → length (by_kind k asked s).in_buffer ≤ 64
 few_by_kind DataRead asked s few = simp length-drop (omega arith)
 few_by_kind (Arrival bytes) asked s few = rw received_length (simp length-take (omega arith))
 few_by_kind IdentificationRead asked s few = few
@@ -80,16 +85,20 @@ coherence_law s act asked coherent =
     record {
       transmit = transmit_next k s.in_buffer s.interrupt_enable asked coherent.transmit coherent.receive;
       receive = receive_next k s.in_buffer s.interrupt_enable coherent.receive;
-      identification = same.interrupt_identification ∙ pending_by_kind k asked s coherent.transmit coherent.receive coherent.identification;
+      identification =
+          same.interrupt_identification
+          ∙ pending_by_kind k asked s coherent.transmit coherent.receive coherent.identification;
       received = λ now. ap not_empty same.in_buffer ∙ received_by_kind k asked s coherent.receive coherent.received now;
       data_ready =
-          ap (λ byte. has_bits byte 0x01) same.line_status ∙ shown_by_kind k asked s coherent.data_ready ∙ ap not_empty (sym same.in_buffer);
+          ap (λ byte. has_bits byte 0x01) same.line_status ∙ shown_by_kind k asked s coherent.data_ready
+          ∙ ap not_empty (sym same.in_buffer);
       few = rw same.in_buffer (few_by_kind k asked s coherent.few);
     }
 
 coherent_after : (start : State) (past : List Entry) → Coherent start → Coherent (state_after start past)
 coherent_after start [] coherent = coherent
-coherent_after start (entry ∷ past) coherent = coherence_law (state_after start past) entry.act entry.asked (coherent_after start past coherent)
+coherent_after start (entry ∷ past) coherent =
+    coherence_law (state_after start past) entry.act entry.asked (coherent_after start past coherent)
 
 -- ---- the state is described, and the answers are the replies
 
@@ -110,14 +119,16 @@ state_law start past coherent below =
       in_buffer = held_bytes_law start past i;
     }
 
-fifos_shown : (transmit receive : Bool) → joined (identification_of transmit receive) 0xC0 ≡ 0xC0 + identification_of transmit receive
+fifos_shown : (transmit receive : Bool)
+    → joined (identification_of transmit receive) 0xC0 ≡ 0xC0 + identification_of transmit receive
 unfolding joined
 fifos_shown true true = refl
 fifos_shown true false = refl
 fifos_shown false true = refl
 fifos_shown false false = refl
 
-pub read_told : (r : Register) (start : State) (past : List Entry) → read_answer r (described start past) ≡ register_read r start past
+pub read_told : (r : Register) (start : State) (past : List Entry)
+    → read_answer r (described start past) ≡ register_read r start past
 read_told InterruptIdentification start past = fifos_shown _ _
 read_told _ start past = refl
 
@@ -147,7 +158,8 @@ answer_law start past entry coherent below =
 
 -- ---- a whole run
 
-run_from : (start : State) (past : List Entry) (calls : List (Entry × Answer)) (end : State) → Coherent start → start.line_status < 256
+run_from : (start : State) (past : List Entry) (calls : List (Entry × Answer)) (end : State) → Coherent start
+    → start.line_status < 256
     → FollowCases (state_after start past) calls end → FollowHistory start past calls end × Coherent end
 run_from start past [] end coherent below follow =
     (follow ∙ state_law start past coherent below, subst Coherent (sym follow) (coherent_after start past coherent))

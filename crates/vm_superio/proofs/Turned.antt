@@ -36,7 +36,8 @@ module _ (old : ℕ) (below : old < 256) where
   data_read_turns : count old (let new = without old 0x04 in if new == 0 then 1 else new) ≡ 0
   unfolding has_bits masked all_below
   data_read_turns =
-      eqb-true _ _ (holds_below 256 (λ n. count n (let new = without n 0x04 in if new == 0 then 1 else new) == 0) refl old below)
+      eqb-true _ _
+      (holds_below 256 (λ n. count n (let new = without n 0x04 in if new == 0 then 1 else new) == 0) refl old below)
 
   identification_read_turns : count old 1 ≡ 0
   unfolding has_bits all_below
@@ -49,7 +50,9 @@ module _ (old : ℕ) (below : old < 256) where
 
   receive_leaves : has_bits (joined (without old 0x01) 0x04) 0x02 ≡ has_bits old 0x02
   unfolding has_bits masked joined all_below
-  receive_leaves = beq-eq _ _ (holds_below 256 (λ n. beq (has_bits (joined (without n 0x01) 0x04) 0x02) (has_bits n 0x02)) refl old below)
+  receive_leaves =
+      beq-eq _ _ (holds_below 256
+      (λ n. beq (has_bits (joined (without n 0x01) 0x04) 0x02) (has_bits n 0x02)) refl old below)
 
   transmit_sets : has_bits (joined (without old 0x01) 0x02) 0x02 ≡ true
   unfolding has_bits masked joined all_below
@@ -57,7 +60,9 @@ module _ (old : ℕ) (below : old < 256) where
 
   transmit_leaves : has_bits (joined (without old 0x01) 0x02) 0x04 ≡ has_bits old 0x04
   unfolding has_bits masked joined all_below
-  transmit_leaves = beq-eq _ _ (holds_below 256 (λ n. beq (has_bits (joined (without n 0x01) 0x02) 0x04) (has_bits n 0x04)) refl old below)
+  transmit_leaves =
+      beq-eq _ _ (holds_below 256
+      (λ n. beq (has_bits (joined (without n 0x01) 0x02) 0x04) (has_bits n 0x04)) refl old below)
 
   -- a byte stays one
   receive_below : joined (without old 0x01) 0x04 < 256
@@ -82,7 +87,8 @@ module _ (old : ℕ) (below : old < 256) where
   transmit_asked true false e = transmit_sets
   transmit_asked false pending e = e
 
-  transmit_other : (new : Bool) → has_bits (if new then joined (without old 0x01) 0x02 else old) 0x04 ≡ has_bits old 0x04
+  transmit_other : (new : Bool)
+      → has_bits (if new then joined (without old 0x01) 0x02 else old) 0x04 ≡ has_bits old 0x04
   transmit_other true = transmit_leaves
   transmit_other false = refl
 
@@ -117,9 +123,11 @@ one_answer true _ fit = absurd (false≢true fit)
 
 none_turned : (old : ℕ) → 0 ≡ count old old
 none_turned old =
-    sym (ap (λ turned. one_if turned + one_if (turns 0x02 old old)) (kept (has_bits old 0x04)) ∙ ap (λ turned. 0 + one_if turned) (kept (has_bits old 0x02)))
+    sym (ap (λ turned. one_if turned + one_if (turns 0x02 old old)) (kept (has_bits old 0x04))
+    ∙ ap (λ turned. 0 + one_if turned) (kept (has_bits old 0x02)))
 
-receive_turned : (enable old : ℕ) → old < 256 → one_if (becomes_pending Receive enable old) ≡ count old (ask Receive enable old)
+receive_turned : (enable old : ℕ) → old < 256
+    → one_if (becomes_pending Receive enable old) ≡ count old (ask Receive enable old)
 receive_turned enable old below =
     let enabled = has_bits enable 0x01 in
     let new = ask Receive enable old in
@@ -127,17 +135,20 @@ receive_turned enable old below =
     sym
     (ap (λ after. one_if (not bit && after) + one_if (turns 0x02 old new)) (receive_asked old below enabled bit refl)
     ∙ ap (λ turned. one_if turned + one_if (turns 0x02 old new)) (set_once enabled bit)
-    ∙ ap (λ after. one_if (enabled && not bit) + one_if (not (has_bits old 0x02) && after)) (receive_other old below (enabled && not bit))
+    ∙ ap (λ after. one_if (enabled && not bit) + one_if (not (has_bits old 0x02) && after))
+    (receive_other old below (enabled && not bit))
     ∙ ap (λ turned. one_if (enabled && not bit) + one_if turned) (kept (has_bits old 0x02))
     ∙ add-zero _)
 
-transmit_turned : (enable old : ℕ) → old < 256 → one_if (becomes_pending Transmit enable old) ≡ count old (ask Transmit enable old)
+transmit_turned : (enable old : ℕ) → old < 256
+    → one_if (becomes_pending Transmit enable old) ≡ count old (ask Transmit enable old)
 transmit_turned enable old below =
     let enabled = has_bits enable 0x02 in
     let new = ask Transmit enable old in
     let bit = has_bits old 0x02 in
     sym
-    (ap (λ after. one_if (not (has_bits old 0x04) && after) + one_if (turns 0x02 old new)) (transmit_other old below (enabled && not bit))
+    (ap (λ after. one_if (not (has_bits old 0x04) && after) + one_if (turns 0x02 old new))
+    (transmit_other old below (enabled && not bit))
     ∙ ap (λ turned. one_if turned + one_if (turns 0x02 old new)) (kept (has_bits old 0x04))
     ∙ ap (λ after. 0 + one_if (not bit && after)) (transmit_asked old below enabled bit refl)
     ∙ ap (λ turned. 0 + one_if turned) (set_once enabled bit)
@@ -156,7 +167,8 @@ module _ (enable old : ℕ) (below : old < 256) where
   first_turns : (held : Bool) → turns 0x04 old (first held) ≡ (held && becomes_pending Receive enable old)
   unfolding first
   first_turns true =
-      ap (λ after. not (has_bits old 0x04) && after) (receive_asked old below (has_bits enable 0x01) (has_bits old 0x04) refl)
+      ap (λ after. not (has_bits old 0x04) && after)
+      (receive_asked old below (has_bits enable 0x01) (has_bits old 0x04) refl)
       ∙ set_once (has_bits enable 0x01) (has_bits old 0x04)
   first_turns false = kept (has_bits old 0x04)
 
@@ -172,7 +184,8 @@ module _ (enable old : ℕ) (below : old < 256) where
   second_leaves : (held refused : Bool) → has_bits (second held refused) 0x04 ≡ has_bits (first held) 0x04
   unfolding second
   second_leaves held true = refl
-  second_leaves held false = transmit_other (first held) (first_below held) (becomes_pending Transmit enable (first held))
+  second_leaves held false =
+      transmit_other (first held) (first_below held) (becomes_pending Transmit enable (first held))
 
   second_turns : (held refused : Bool)
       → turns 0x02 old (second held refused) ≡ (becomes_pending Transmit enable (first held) && not refused)
@@ -188,26 +201,31 @@ module _ (enable old : ℕ) (below : old < 256) where
       ∙ sym (and-true (becomes_pending Transmit enable (first held)))
 
   enable_turned : (held refused : Bool)
-      → one_if (held && becomes_pending Receive enable old) + one_if (becomes_pending Transmit enable (first held) && not refused)
+      → one_if (held && becomes_pending Receive enable old)
+      + one_if (becomes_pending Transmit enable (first held) && not refused)
       ≡ count old (second held refused)
   enable_turned held refused =
       sym
-      (ap (λ after. one_if (not (has_bits old 0x04) && after) + one_if (turns 0x02 old (second held refused))) (second_leaves held refused)
+      (ap (λ after. one_if (not (has_bits old 0x04) && after) + one_if (turns 0x02 old (second held refused)))
+      (second_leaves held refused)
       ∙ ap (λ turned. one_if turned + one_if (turns 0x02 old (second held refused))) (first_turns held)
       ∙ ap (λ turned. one_if (held && becomes_pending Receive enable old) + one_if turned) (second_turns held refused))
 
 -- ---- one act
 
-received_turned : (new : List ℕ) (s : State) (asked : Asked) → s.interrupt_identification < 256 → IsTrue (asked_fits (receive_due new s) asked)
+received_turned : (new : List ℕ) (s : State) (asked : Asked) → s.interrupt_identification < 256
+    → IsTrue (asked_fits (receive_due new s) asked)
     → answer_count asked ≡ count s.interrupt_identification (receive new s).interrupt_identification
 received_turned [] s asked below fit = no_answers asked fit ∙ none_turned s.interrupt_identification
 received_turned (byte ∷ bytes) s asked below fit =
     one_answer _ asked fit ∙ receive_turned s.interrupt_enable s.interrupt_identification below
 
-turned_by_kind : (k : Kind) (asked : Asked) (s : State) → s.interrupt_identification < 256 → IsTrue (asked_fits (due_by k s) asked)
+turned_by_kind : (k : Kind) (asked : Asked) (s : State) → s.interrupt_identification < 256
+    → IsTrue (asked_fits (due_by k s) asked)
     → answer_count asked ≡ count s.interrupt_identification (by_kind k asked s).interrupt_identification
 unfolding first second
-turned_by_kind DataRead asked s below fit = no_answers asked fit ∙ sym (data_read_turns s.interrupt_identification below)
+turned_by_kind DataRead asked s below fit =
+    no_answers asked fit ∙ sym (data_read_turns s.interrupt_identification below)
 turned_by_kind IdentificationRead asked s below fit =
     no_answers asked fit ∙ sym (identification_read_turns s.interrupt_identification below)
 turned_by_kind (EnableWrite value) asked s below fit =
@@ -215,7 +233,8 @@ turned_by_kind (EnableWrite value) asked s below fit =
     let old = s.interrupt_identification in
     let held = not_empty s.in_buffer in
     let call = held && becomes_pending Receive enable old in
-    eqb-true _ _ (sym (answers_counted call (becomes_pending Transmit enable (first enable old below held)) asked) ∙ fit)
+    eqb-true _ _
+    (sym (answers_counted call (becomes_pending Transmit enable (first enable old below held)) asked) ∙ fit)
     ∙ enable_turned enable old below held (call && is_refused asked)
 turned_by_kind (DataWrite value) asked s below fit =
     one_answer _ asked fit ∙ transmit_turned s.interrupt_enable s.interrupt_identification below

@@ -38,27 +38,37 @@ receive_by_state : (start : State) (past : List Entry) (entry : Entry) → let s
 receive_by_state start past entry =
     let s = state_after start past in
     let r = receive_pending start past in
-    ap (λ (k : Kind). receive_next k (held start past) (interrupt_enable start past) r) (sym (same_kind start past entry.act))
-    ∙ ap (λ bytes. receive_next (kind_in s entry.act) bytes (interrupt_enable start past) r) (sym (held_bytes_law start past))
-    ∙ ap (λ enable. receive_next (kind_in s entry.act) s.in_buffer enable r) (sym (register_law start past).interrupt_enable)
+    ap (λ (k : Kind). receive_next k (held start past) (interrupt_enable start past) r)
+    (sym (same_kind start past entry.act))
+    ∙ ap (λ bytes. receive_next (kind_in s entry.act) bytes (interrupt_enable start past) r)
+    (sym (held_bytes_law start past))
+    ∙ ap (λ enable. receive_next (kind_in s entry.act) s.in_buffer enable r)
+    (sym (register_law start past).interrupt_enable)
 
 transmit_by_state : (start : State) (past : List Entry) (entry : Entry) → let s = state_after start past in
     transmit_pending start (entry ∷ past)
-    ≡ transmit_next (kind_in s entry.act) s.in_buffer s.interrupt_enable entry.asked (transmit_pending start past) (receive_pending start past)
+    ≡ transmit_next (kind_in s entry.act) s.in_buffer s.interrupt_enable entry.asked (transmit_pending start past)
+    (receive_pending start past)
 transmit_by_state start past entry =
     let s = state_after start past in
     let r = receive_pending start past in
     let t = transmit_pending start past in
-    ap (λ (k : Kind). transmit_next k (held start past) (interrupt_enable start past) entry.asked t r) (sym (same_kind start past entry.act))
-    ∙ ap (λ bytes. transmit_next (kind_in s entry.act) bytes (interrupt_enable start past) entry.asked t r) (sym (held_bytes_law start past))
-    ∙ ap (λ enable. transmit_next (kind_in s entry.act) s.in_buffer enable entry.asked t r) (sym (register_law start past).interrupt_enable)
+    ap (λ (k : Kind). transmit_next k (held start past) (interrupt_enable start past) entry.asked t r)
+    (sym (same_kind start past entry.act))
+    ∙ ap (λ bytes. transmit_next (kind_in s entry.act) bytes (interrupt_enable start past) entry.asked t r)
+    (sym (held_bytes_law start past))
+    ∙ ap (λ enable. transmit_next (kind_in s entry.act) s.in_buffer enable entry.asked t r)
+    (sym (register_law start past).interrupt_enable)
 
 -- one more call in both pasts
-more : (start : State) (one other : List Entry) (act : Deed) (asked : Asked) (first second : Sent) → SameView start one other
-    → SameView start (record { act = act; asked = asked; sent = first } ∷ one) (record { act = act; asked = asked; sent = second } ∷ other)
+more : (start : State) (one other : List Entry) (act : Deed) (asked : Asked) (first second : Sent)
+    → SameView start one other
+    → SameView start (record { act = act; asked = asked; sent = first } ∷ one)
+    (record { act = act; asked = asked; sent = second } ∷ other)
 more start one other act asked first second same =
     let receive_of = λ (s : State) (r : Bool). receive_next (kind_in s act) s.in_buffer s.interrupt_enable r in
-    let transmit_of = λ (s : State) (t r : Bool). transmit_next (kind_in s act) s.in_buffer s.interrupt_enable asked t r in
+    let transmit_of =
+    λ (s : State) (t r : Bool). transmit_next (kind_in s act) s.in_buffer s.interrupt_enable asked t r in
     let s = state_after start other in
     record {
       state = ap (λ (s : State). next s act asked) same.state;
@@ -77,23 +87,29 @@ more start one other act asked first second same =
 -- a restore in one of them
 restored : (start : State) (one other : List Entry) (asked : Asked) (what : Sent) → SameView start one other
     → SameView start (record { act = Restores; asked = asked; sent = what } ∷ one) other
-restored start one other asked what same = record { state = same.state; receive = same.receive; transmit = same.transmit }
+restored start one other asked what same =
+    record { state = same.state; receive = same.receive; transmit = same.transmit }
 
-one_unsent : (start : State) (past other : List Entry) (calls : List (Deed × Asked)) (act : Deed) (asked : Asked) (what : Sent)
+one_unsent : (start : State) (past other : List Entry) (calls : List (Deed × Asked)) (act : Deed) (asked : Asked)
+    (what : Sent)
     → SameView start past (unsent calls)
-    → SameView start (record { act = act; asked = asked; sent = what } ∷ past) (unsent (act_and_asked act asked ++ calls))
+    → SameView start (record { act = act; asked = asked; sent = what } ∷ past)
+    (unsent (act_and_asked act asked ++ calls))
 unfolding unsent
-one_unsent start past other calls (Reads offset) asked what same = more start past (unsent calls) (Reads offset) asked what sent.Nothing same
+one_unsent start past other calls (Reads offset) asked what same =
+    more start past (unsent calls) (Reads offset) asked what sent.Nothing same
 one_unsent start past other calls (Writes offset value) asked what same =
     more start past (unsent calls) (Writes offset value) asked what sent.Nothing same
-one_unsent start past other calls (Enqueues bytes) asked what same = more start past (unsent calls) (Enqueues bytes) asked what sent.Nothing same
+one_unsent start past other calls (Enqueues bytes) asked what same =
+    more start past (unsent calls) (Enqueues bytes) asked what sent.Nothing same
 one_unsent start past other calls Restores asked what same = restored start past (unsent calls) asked what same
 
 -- every past shows what its acts and what they asked show
 as_unsent : (start : State) (past : List Entry) → SameView start past (unsent (acts_and_asked past))
 unfolding unsent
 as_unsent start [] = record { state = refl; receive = refl; transmit = refl }
-as_unsent start (entry ∷ past) = one_unsent start past past (acts_and_asked past) entry.act entry.asked entry.sent (as_unsent start past)
+as_unsent start (entry ∷ past) =
+    one_unsent start past past (acts_and_asked past) entry.act entry.asked entry.sent (as_unsent start past)
 
 -- the state that a past describes, by the state after it and the conditions that are pending
 shown : State → State → Bool → Bool → State
@@ -103,7 +119,8 @@ shown start s transmit receive = record s {
 }
 
 described_by_state : (start : State) (past : List Entry)
-    → described start past ≡ shown start (state_after start past) (transmit_pending start past) (receive_pending start past)
+    → described start past
+    ≡ shown start (state_after start past) (transmit_pending start past) (receive_pending start past)
 unfolding shown
 described_by_state start past =
     let registers = register_law start past in
@@ -121,7 +138,8 @@ described_by_state start past =
       in_buffer = sym bytes i;
     }
 
-same_described : (start : State) (one other : List Entry) → SameView start one other → described start one ≡ described start other
+same_described : (start : State) (one other : List Entry) → SameView start one other
+    → described start one ≡ described start other
 same_described start one other same =
     described_by_state start one
     ∙ ap (λ (s : State). shown start s (transmit_pending start one) (receive_pending start one)) same.state
@@ -136,4 +154,5 @@ same_reads_law start one other same offset =
     same_described start one (unsent (acts_and_asked one)) (as_unsent start one)
     ∙ ap (λ calls. described start (unsent calls)) same
     ∙ sym (same_described start other (unsent (acts_and_asked other)) (as_unsent start other)) in
-    sym (read_told (register (dlab start one) offset) start one) ∙ ap read_of all ∙ read_told (register (dlab start other) offset) start other
+    sym (read_told (register (dlab start one) offset) start one) ∙ ap read_of all
+    ∙ read_told (register (dlab start other) offset) start other

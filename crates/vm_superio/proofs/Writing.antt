@@ -28,13 +28,15 @@ written_none offset value sent.Nothing fate = refl
 written_none offset value sent.Out fate = absurd (false≢true fate)
 written_none offset value sent.Lost fate = absurd (false≢true fate)
 
-written_one : (offset value : ℕ) (what : Sent) → IsTrue (not (is_lost what)) → Fate (value ∷ []) what → written (Writes offset value) what ≡ value ∷ []
+written_one : (offset value : ℕ) (what : Sent) → IsTrue (not (is_lost what)) → Fate (value ∷ []) what
+    → written (Writes offset value) what ≡ value ∷ []
 written_one offset value sent.Nothing kept fate = absurd (false≢true fate)
 written_one offset value sent.Out kept fate = refl
 written_one offset value sent.Lost kept fate = absurd (false≢true kept)
 
 write_written : (r : Register) (loopback : Bool) (offset value : ℕ) (what : Sent) → IsTrue (not (is_lost what))
-    → Fate (sent_by (write_kind r loopback value)) what → written (Writes offset value) what ≡ sent_by (write_kind r loopback value)
+    → Fate (sent_by (write_kind r loopback value)) what
+    → written (Writes offset value) what ≡ sent_by (write_kind r loopback value)
 write_written Data true offset value what kept fate = written_none offset value what fate
 write_written Data false offset value what kept fate = written_one offset value what kept fate
 write_written InterruptEnable loopback offset value what kept fate = written_none offset value what fate
@@ -53,7 +55,8 @@ enqueue_sends dlab false bytes = refl
 call_written : (dlab loopback : Bool) (act : Deed) (what : Sent) → IsTrue (not (is_lost what))
     → Fate (sent_by (kind_of dlab loopback act)) what → written act what ≡ sent_by (kind_of dlab loopback act)
 call_written dlab loopback (Reads offset) what kept fate = read_sends (register dlab offset)
-call_written dlab loopback (Writes offset value) what kept fate = write_written (register dlab offset) loopback offset value what kept fate
+call_written dlab loopback (Writes offset value) what kept fate =
+    write_written (register dlab offset) loopback offset value what kept fate
 call_written dlab loopback (Enqueues bytes) what kept fate = enqueue_sends dlab loopback bytes
 call_written dlab loopback Restores what kept fate = refl
 
