@@ -90,26 +90,26 @@ restored : (start : State) (one other : List Entry) (asked : Asked) (what : Sent
 restored start one other asked what same =
     record { state = same.state; receive = same.receive; transmit = same.transmit }
 
-one_unsent : (start : State) (past other : List Entry) (calls : List (Deed × Asked)) (act : Deed) (asked : Asked)
+one_unsent : (start : State) (past : List Entry) (calls : List (Deed × Asked)) (act : Deed) (asked : Asked)
     (what : Sent)
     → SameView start past (unsent calls)
     → SameView start (record { act = act; asked = asked; sent = what } ∷ past)
     (unsent (act_and_asked act asked ++ calls))
 unfolding unsent
-one_unsent start past other calls (Reads offset) asked what same =
+one_unsent start past calls (Reads offset) asked what same =
     more start past (unsent calls) (Reads offset) asked what sent.Nothing same
-one_unsent start past other calls (Writes offset value) asked what same =
+one_unsent start past calls (Writes offset value) asked what same =
     more start past (unsent calls) (Writes offset value) asked what sent.Nothing same
-one_unsent start past other calls (Enqueues bytes) asked what same =
+one_unsent start past calls (Enqueues bytes) asked what same =
     more start past (unsent calls) (Enqueues bytes) asked what sent.Nothing same
-one_unsent start past other calls Restores asked what same = restored start past (unsent calls) asked what same
+one_unsent start past calls Restores asked what same = restored start past (unsent calls) asked what same
 
 -- every past shows what its acts and what they asked show
 as_unsent : (start : State) (past : List Entry) → SameView start past (unsent (acts_and_asked past))
 unfolding unsent
 as_unsent start [] = record { state = refl; receive = refl; transmit = refl }
 as_unsent start (entry ∷ past) =
-    one_unsent start past past (acts_and_asked past) entry.act entry.asked entry.sent (as_unsent start past)
+    one_unsent start past (acts_and_asked past) entry.act entry.asked entry.sent (as_unsent start past)
 
 -- the state that a past describes, by the state after it and the conditions that are pending
 shown : State → State → Bool → Bool → State

@@ -1,5 +1,5 @@
--- What a past tells of a serial port, II: which conditions were raised and are pending, which trigger calls are due, and
--- what makes a history fitting. As before, nothing is kept, and no call case is named.
+-- What a past tells of a serial port, II: which conditions were raised and are pending, which trigger calls are due,
+-- and what makes a history fitting. As before, nothing is kept, and no call case is named.
 use Rattle.std.specs.Prelude.{ℕ, ◌+◌, Bool, true, false, not, ◌==◌, ◌&&◌, ◌||◌, List, [], ◌∷◌}
 use Rattle.std.specs.Bool.{beq}
 use Rattle.vm_superio.specs.declared.run.Asked.{Asked}
@@ -45,7 +45,8 @@ abbrev pub receive_call : State → List Entry → Entry → Bool
 receive_call start past entry = receive_raised start past entry && not (receive_pending start past)
 
 -- the transmitter condition is raised by a data write outside loopback while interrupt enable has bit 0x02, and by an
--- interrupt-enable write whose value has bit 0x02, unless the trigger refused that write's call for the receive condition
+-- interrupt-enable write whose value has bit 0x02, unless the trigger refused that write's call for the receive
+-- condition
 abbrev pub transmit_raised_by : Kind → ℕ → Bool → Bool
 transmit_raised_by (DataWrite value) enable refused = has_bits enable 0x02
 transmit_raised_by (EnableWrite value) enable refused = has_bits value 0x02 && not refused

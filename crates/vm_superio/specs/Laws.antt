@@ -71,7 +71,8 @@ StateLaw = (start : State) (past : List Entry) → Coherent start → start.line
 -- and a call answers what the history replies: the guest read, or the other answer
 abbrev pub AnswerLaw : Type 0
 AnswerLaw = (start : State) (past : List Entry) (entry : Entry) → Coherent start → start.line_status < 256
-    → answer (state_after start past) entry.act entry.asked entry.sent ≡ reply start past entry.act entry.asked entry.sent
+    → answer (state_after start past) entry.act entry.asked entry.sent
+    ≡ reply start past entry.act entry.asked entry.sent
 
 -- ---- a whole run
 
@@ -100,8 +101,12 @@ WholeRunLaw = (start end : State) (calls : List (Entry × Answer)) → Coherent 
 
 -- pending by places: the search finds what the sentence says
 pub record PendingAgrees (start : State) (past : List Entry) : Type 0 where
-  pub receive : IsTrue (receive_pending start past) ↔ PendingByPlaces start (receive_raised start) acknowledges_receive (has_bits start.interrupt_identification 0x04) past
-  pub transmit : IsTrue (transmit_pending start past) ↔ PendingByPlaces start (transmit_raised start) acknowledges_transmit (has_bits start.interrupt_identification 0x02) past
+  pub receive :
+      IsTrue (receive_pending start past)
+      ↔ PendingByPlaces start (receive_raised start) acknowledges_receive (has_bits start.interrupt_identification 0x04) past
+  pub transmit :
+      IsTrue (transmit_pending start past)
+      ↔ PendingByPlaces start (transmit_raised start) acknowledges_transmit (has_bits start.interrupt_identification 0x02) past
 
 abbrev pub PendingByPlacesLaw : Type 0
 PendingByPlacesLaw = (start : State) (past : List Entry) → PendingAgrees start past
@@ -156,11 +161,14 @@ EventsLaw = (s : State) (act : Deed) (asked : Asked) (what : Sent) → IsTrue (f
 abbrev pub TurnedBitsLaw : Type 0
 TurnedBitsLaw = (s : State) (act : Deed) (asked : Asked) (what : Sent) → s.interrupt_identification < 256
     → IsTrue (fits s act asked what)
-    → let turned = λ (bit : ℕ). one_if (turns bit s.interrupt_identification (next s act asked).interrupt_identification) in
-    answer_count asked ≡ turned 0x04 + turned 0x02
+    → let new = next s act asked in
+    answer_count asked
+    ≡ one_if (turns 0x04 s.interrupt_identification new.interrupt_identification)
+    + one_if (turns 0x02 s.interrupt_identification new.interrupt_identification)
 
 -- the test passes what some answers to the calls that are due and the writer's success or failure give, and no more
 abbrev pub ExactTestLaw : Type 0
 ExactTestLaw = (s : State) (act : Deed) (asked : Asked) (what : Sent)
     → IsTrue (fits s act asked what)
-    ↔ ((first second success : Bool) × (asked ≡ asked_when (due s act) first second) × (what ≡ sent_when (sends s act) success))
+    ↔ ((first second success : Bool)
+    × (asked ≡ asked_when (due s act) first second) × (what ≡ sent_when (sends s act) success))

@@ -24,6 +24,7 @@ written _ _ = []
 
 -- a writer over calls with these fates of bytes, in order, of which it took `bytes`: it is unchanged where nothing was
 -- sent; where nothing was lost it grew by these bytes, if it tells its bytes; else nothing is said of it
-pub record WriterLink {W : Type 0} (contents : W → Option (List ℕ)) (fates : List Sent) (bytes : List ℕ) (old new : W) : Type 0 where
+pub record WriterLink
+    {W : Type 0} (contents : W → Option (List ℕ)) (fates : List Sent) (bytes : List ℕ) (old new : W) : Type 0 where
   pub unchanged : IsTrue (list_all (λ what. not (is_sent what)) fates) → new ≡ old
   pub grown : IsTrue (list_all (λ what. not (is_lost what)) fates) → Appends (contents old) (contents new) bytes

@@ -1,4 +1,4 @@
--- What a past tells of a serial port, III: what a guest reads, what the other calls answer, and what went to the writer.
+-- What a past tells of a serial port, III: what a guest reads, what the other calls answer, what went to the writer.
 use Rattle.std.specs.Prelude.{ℕ, ◌+◌, ◌==◌, ◌||◌, nat_le, if◌then◌else◌, List, [], ◌∷◌, ◌++◌, length, slice_index}
 use Rattle.vm_superio.specs.declared.run.Asked.{Asked}
 use Rattle.vm_superio.specs.declared.run.Sent.{Sent}

@@ -37,8 +37,8 @@ pub fn described_states()
     ensures answers { AnswerLaw }
 {}
 
-/// From a coherent start, records that follow each other by the call cases are a fitting history with these answers, and
-/// end in the state that it describes, which is coherent.
+/// From a coherent start, records that follow each other by the call cases are a fitting history with these answers,
+/// and end in the state that it describes, which is coherent.
 pub fn whole_runs()
     ensures { WholeRunLaw }
 {}
@@ -49,8 +49,8 @@ pub fn pending_by_places()
     ensures { PendingByPlacesLaw }
 {}
 
-/// From any start, a fitting history calls the trigger at most twice, twice more for each read of the identification and
-/// once more for each data read. The calls of restores are not counted.
+/// From any start, a fitting history calls the trigger at most twice, twice more for each read of the identification
+/// and once more for each data read. The calls of restores are not counted.
 pub fn trigger_bound()
     ensures { TriggerBoundLaw }
 {}
