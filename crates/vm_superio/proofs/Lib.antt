@@ -1,7 +1,10 @@
 mod Asks
-mod ByKind
 mod Bounds
+mod ByKind
 mod Bytes
+pub mod ClockBits
+pub mod ClockLemmas
+mod ClockRows
 mod Held
 mod OneCall
 mod Pending
@@ -12,7 +15,7 @@ mod RunRows
 mod Runs
 mod SerialRows
 mod StateRows
+mod TriggerCalls
 mod Turned
 mod Views
 mod Writing
-mod TriggerCalls

@@ -2,6 +2,10 @@ pub mod Acts
 pub mod Answers
 pub mod Asking
 pub mod Calls
+pub mod Clock
+pub mod ClockHistory
+pub mod ClockLaws
+pub mod ClockRegisters
 pub mod Coherent
 pub mod Errors
 pub mod Events
@@ -17,5 +21,6 @@ pub mod Registers
 pub mod Replies
 pub mod Reset
 pub mod Restoring
+pub mod RtcEvents
 pub mod SavedState
 pub mod State

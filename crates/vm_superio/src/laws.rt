@@ -1,9 +1,13 @@
-//! The laws over the serial port's definitions. Each function does nothing: its contract is the law.
+//! The laws over the definitions. Each function does nothing: its contract is the law.
 //!
 //! The call cases say what one call does to a state, as a device would. A history keeps no state: from a start and the
 //! records of the calls so far it searches for the last write, for the bytes not yet taken and for a raise that nothing
 //! has acknowledged. The first laws say that both tell the same; the others follow from one of them alone.
 ghost use Rattle.vm_superio.specs.Laws.{RegisterLaw, HeldBytesLaw, LineStatusLaw, InterruptLaw, CoherenceLaw, StateLaw, AnswerLaw, WholeRunLaw, PendingByPlacesLaw, TriggerBoundLaw, WaitingBytesLaw, SameReadsLaw, TakenThenHeldLaw, OutputLaw, OneCallLaw, EventsLaw, TurnedBitsLaw, ExactTestLaw};
+
+mod clock;
+
+pub use clock::{clock_is_history, raw_bits_by_history};
 
 /// The register law, from any start: each register holds its last effective write, and the modem status never changes.
 pub fn registers()

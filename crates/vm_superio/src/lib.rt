@@ -4,12 +4,14 @@
 ghost use Rattle.std.specs.Prelude.{◌≡◌, ◌↔◌, List, [], ◌∷◌, ◌++◌, Result};
 
 pub use i8042::I8042Device;
+pub use rtc_pl031::{Rtc, RtcState};
 pub use serial::{Serial, SerialState};
 use std::fmt::Debug;
 
 mod fifo;
 pub mod i8042;
 pub mod laws;
+pub mod rtc_pl031;
 pub mod run;
 pub mod serial;
 

@@ -1,13 +1,15 @@
 //! The steps that the calls of a serial port are made of.
 ghost use Rattle.std.specs.Prelude.{◌≡◌, length, [], ◌∷◌, ◌++◌, if◌then◌else◌, slice_index, is_some, is_ok, IsTrue, OnOk};
 ghost use Rattle.std.specs.Io.KnownBytes.{Appends};
+ghost use Rattle.std.specs.Bool.{beq};
 ghost use Rattle.std.specs.Option.{option_to_list};
-ghost use Rattle.vm_superio.specs.State.{masked};
+ghost use Rattle.vm_superio.specs.State.{masked, not_empty};
 ghost use Rattle.vm_superio.specs.Registers.{is_loopback};
+ghost use Rattle.vm_superio.specs.Meaning.{write_kind, sent_by};
 ghost use Rattle.vm_superio.specs.Events.{out_byte, tx_lost_byte, in_buffer_empty, buffer_read};
-ghost use Rattle.vm_superio.specs.Acts.{Reads, Writes, Enqueues, Given, Written, TriggerRefused, WriterFailed, is_lost};
-ghost use Rattle.vm_superio.specs.Asking.{becomes_pending, ask, receive_becomes_pending, ask_while_held, fitting, receive};
-ghost use Rattle.vm_superio.specs.Fits.{asked_fits, enable_due, receive_due, write_due, sent_fits, write_sends, one_if};
+ghost use Rattle.vm_superio.specs.Acts.{Reads, Writes, Enqueues, Given, Written, TriggerRefused, WriterFailed, is_lost, is_sent, one_if};
+ghost use Rattle.vm_superio.specs.Asking.{becomes_pending, ask, receive_becomes_pending, ask_while_held, that_fit, receive};
+ghost use Rattle.vm_superio.specs.Fits.{asked_fits, enable_due, receive_due, due_by};
 ghost use Rattle.vm_superio.specs.Calls.{read_answer, read_next, enable_write, data_read, data_write, write_next, read_events, sent_events};
 ghost use Rattle.vm_superio.specs.Links.{answers, written, WriterLink};
 ghost use Rattle.vm_superio.specs.Answers.{asked_of, refusal_in_answers, sent_of};
@@ -93,9 +95,9 @@ impl<T: Trigger, EV: SerialEvents, W: Write> Serial<T, EV, W> {
     /// Bytes that come in: the first of them, as many as there is room for, stand behind those that are held. If there
     /// is one, data ready is set and the receive condition is asked for. Answers how many were added.
     fn receive(&mut self, bytes: &[u8]) -> (usize, Option<Result<(), T::E>>)
-        ensures count { result.0 ≡ length (fitting self.old.state.in_buffer bytes.now) }
-        ensures called { one_if (is_some result.1) ≡ receive_due (fitting self.old.state.in_buffer bytes.now) self.old.state }
-        ensures state { self.new.state ≡ receive (fitting self.old.state.in_buffer bytes.now) self.old.state }
+        ensures count { result.0 ≡ length (that_fit self.old.state.in_buffer bytes.now) }
+        ensures called { one_if (is_some result.1) ≡ receive_due (that_fit self.old.state.in_buffer bytes.now) self.old.state }
+        ensures state { self.new.state ≡ receive (that_fit self.old.state.in_buffer bytes.now) self.old.state }
         ensures trigger { T.link self.old.trigger (option_to_list result.1) self.new.trigger }
         ensures events { self.new.events ≡ self.old.events }
         ensures out { self.new.out ≡ self.old.out }
@@ -145,8 +147,10 @@ impl<T: Trigger, EV: SerialEvents, W: Write> Serial<T, EV, W> {
     /// The data write: in loopback the byte comes in, and else it is sent, after which the transmitter condition is asked
     /// for, whatever became of the byte.
     fn write_data(&mut self, value: u8) -> (Answers<T::E>, Option<io::Result<()>>)
-        ensures asked { IsTrue (asked_fits (write_due Register.Data value self.old.state) (asked_of result.0)) }
-        ensures sent { IsTrue (sent_fits (write_sends Register.Data (is_loopback self.old.state.modem_control)) (sent_of result.1)) }
+        ensures asked { let kind = write_kind Register.Data (is_loopback self.old.state.modem_control) value in
+            IsTrue (asked_fits (due_by kind self.old.state) (asked_of result.0)) }
+        ensures sent { let kind = write_kind Register.Data (is_loopback self.old.state.modem_control) value in
+            IsTrue (beq (is_sent (sent_of result.1)) (not_empty (sent_by kind))) }
         ensures state { self.new.state ≡ data_write value self.old.state }
         ensures trigger { T.link self.old.trigger (answers (asked_of result.0) (refusal_in_answers result.0)) self.new.trigger }
         ensures events { EV.link self.old.events (sent_events (sent_of result.1)) self.new.events }
@@ -194,8 +198,10 @@ impl<T: Trigger, EV: SerialEvents, W: Write> Serial<T, EV, W> {
         register: Register,
         value: u8,
     ) -> (Answers<T::E>, Option<io::Result<()>>)
-        ensures asked { IsTrue (asked_fits (write_due register value self.old.state) (asked_of result.0)) }
-        ensures sent { IsTrue (sent_fits (write_sends register (is_loopback self.old.state.modem_control)) (sent_of result.1)) }
+        ensures asked { let kind = write_kind register (is_loopback self.old.state.modem_control) value in
+            IsTrue (asked_fits (due_by kind self.old.state) (asked_of result.0)) }
+        ensures sent { let kind = write_kind register (is_loopback self.old.state.modem_control) value in
+            IsTrue (beq (is_sent (sent_of result.1)) (not_empty (sent_by kind))) }
         ensures state { self.new.state ≡ write_next register value (asked_of result.0) self.old.state }
         ensures trigger { T.link self.old.trigger (answers (asked_of result.0) (refusal_in_answers result.0)) self.new.trigger }
         ensures events { EV.link self.old.events (sent_events (sent_of result.1)) self.new.events }

@@ -1,0 +1,264 @@
+//! The clock, at moments that are handed in.
+ghost use Rattle.std.specs.Prelude.{◌+◌, ◌-◌, ◌^◌, min};
+ghost use Rattle.vm_superio.specs.RtcEvents.{invalid_read, invalid_write};
+ghost use Rattle.superio_tests.specs.Counting.{StepsBy, StepsBy-none, StepsBy-joined};
+
+mod carried;
+
+use std::process::Abort;
+use vm_superio::rtc_pl031::{NoEvents, RtcEvents};
+use vm_superio::{Rtc, RtcState, laws};
+
+const RTCDR: u16 = 0x000;
+
+const RTCMR: u16 = 0x004;
+
+const RTCLR: u16 = 0x008;
+
+const RTCCR: u16 = 0x00C;
+
+const RTCIMSC: u16 = 0x010;
+
+const RTCRIS: u16 = 0x014;
+
+const RTCMIS: u16 = 0x018;
+
+const RTCICR: u16 = 0x01C;
+
+/// How often each event was told.
+#[derive(Clone, Copy, Debug, Default, Eq, PartialEq)]
+struct Counts {
+    invalid_reads: u64,
+    invalid_writes: u64,
+}
+
+impl RtcEvents for Counts {
+    ghost link = { StepsBy (λ counts event. elim event [
+      | invalid_read ↦ record counts { invalid_reads = min (counts.invalid_reads + 1) (2 ^ 64 - 1) }
+      | invalid_write ↦ record counts { invalid_writes = min (counts.invalid_writes + 1) (2 ^ 64 - 1) }
+    ]) };
+
+    ghost no_event = { StepsBy-none };
+
+    ghost joined = { StepsBy-joined };
+
+    fn invalid_read(&mut self) {
+        self.invalid_reads = self.invalid_reads.saturating_add(1);
+    }
+
+    fn invalid_write(&mut self) {
+        self.invalid_writes = self.invalid_writes.saturating_add(1);
+    }
+}
+
+/// An access, and what it must show.
+#[derive(Clone, Copy, Debug)]
+enum Access {
+    /// A write of a number at an offset.
+    Write(u16, u32),
+    /// A read at an offset that shows a number.
+    Read(u16, u32),
+    /// A read at an offset that leaves the bytes as they were.
+    Invalid(u16),
+}
+
+use Access::{Invalid, Read, Write};
+
+/// Makes the accesses at one moment, and asserts what the reads show.
+fn follow<EV: RtcEvents>(rt: &impl Abort, clock: &mut Rtc<EV>, now: u64, accesses: &[Access]) {
+    const BEFORE: u32 = 0xA5A5_A5A5;
+    for access in accesses {
+        let (offset, want) = match *access {
+            Write(offset, value) => {
+                clock.write(offset, &value.to_le_bytes(), now);
+                continue;
+            }
+            Read(offset, number) => (offset, number),
+            Invalid(offset) => (offset, BEFORE),
+        };
+        let mut bytes = BEFORE.to_le_bytes();
+        clock.read(offset, &mut bytes, now);
+        assert_eq!(rt; u32::from_le_bytes(bytes), want, "{access:?} at {now}");
+    }
+}
+
+/// A clock with these interrupt registers, and zeros else, that counts its events.
+fn with_interrupts(ris: u32, imsc: u32) -> Rtc<Counts> {
+    let state = RtcState {
+        ris,
+        imsc,
+        ..RtcState::default()
+    };
+    Rtc::from_state(&state, Counts::default())
+}
+
+#[test]
+fn a_fresh_clock_has_zeros(rt: HostRuntime) {
+    let zeros = RtcState {
+        lr: 0,
+        offset: 0,
+        mr: 0,
+        imsc: 0,
+        ris: 0,
+    };
+    assert_eq!(rt; RtcState::default(), zeros);
+    assert_eq!(rt; Rtc::new().state(), zeros);
+    assert_eq!(rt; Rtc::with_events(Counts::default()).state(), zeros);
+}
+
+#[test]
+fn a_load_sets_guest_time(rt: HostRuntime) {
+    let mut clock = Rtc::new();
+    follow(&rt, &mut clock, 1000, &[Write(RTCLR, 100)]);
+    follow(&rt, &mut clock, 1007, &[Read(RTCDR, 107)]);
+}
+
+#[test]
+fn only_a_control_write_of_1_resets(rt: HostRuntime) {
+    let mut clock = Rtc::with_events(Counts::default());
+    follow(&rt, &mut clock, 1000, &[Write(RTCLR, 100)]);
+    follow(&rt, &mut clock, 1001, &[Write(RTCCR, 2)]);
+    follow(&rt, &mut clock, 1007, &[Read(RTCDR, 107)]);
+    follow(&rt, &mut clock, 1008, &[Write(RTCCR, 1)]);
+    follow(
+        &rt,
+        &mut clock,
+        1009,
+        &[Read(RTCDR, 1009), Read(RTCLR, 0), Read(RTCCR, 1)],
+    );
+    assert_eq!(rt; *clock.events(), Counts::default());
+}
+
+#[test]
+fn guest_time_before_0_is_the_host_time(rt: HostRuntime) {
+    let mut clock = Rtc::new();
+    follow(&rt, &mut clock, 1000, &[Write(RTCLR, 5)]);
+    for (now, guest_time) in [(996, 1), (995, 0), (994, 994)] {
+        follow(&rt, &mut clock, now, &[Read(RTCDR, guest_time)]);
+    }
+}
+
+#[test]
+fn any_offset_may_be_restored(rt: HostRuntime) {
+    for (offset, now, guest_time) in [
+        (i64::MIN, 0, 0),
+        (i64::MIN, 4_294_967_295, 4_294_967_295),
+        (i64::MAX, 1, 1),
+        (-1, 0, 0),
+        (-1, 4_294_967_295, 4_294_967_294),
+        (1, 4_294_967_294, 4_294_967_295),
+        (1, 4_294_967_295, 4_294_967_295),
+        (-4_294_967_295, 4_294_967_295, 0),
+        (4_294_967_295, 0, 4_294_967_295),
+    ] {
+        let state = RtcState {
+            offset,
+            ..RtcState::default()
+        };
+        let mut clock = Rtc::from_state(&state, NoEvents);
+        follow(&rt, &mut clock, now, &[Read(RTCDR, guest_time)]);
+        assert_eq!(rt; clock.state(), state);
+    }
+}
+
+#[test]
+fn the_low_32_bits_of_a_moment_count(rt: HostRuntime) {
+    let mut clock = Rtc::new();
+    follow(&rt, &mut clock, 4_294_967_297, &[Write(RTCLR, 5)]);
+    follow(&rt, &mut clock, 3, &[Read(RTCDR, 7)]);
+    assert_eq!(rt; clock.state().offset, 4);
+}
+
+#[test]
+fn the_mask_is_one_bit(rt: HostRuntime) {
+    let mut clock = with_interrupts(1, 1);
+    follow(&rt, &mut clock, 1000, &[Read(RTCRIS, 1), Read(RTCMIS, 1)]);
+    follow(
+        &rt,
+        &mut clock,
+        1000,
+        &[Write(RTCIMSC, 2), Read(RTCIMSC, 0), Read(RTCMIS, 0)],
+    );
+    follow(&rt, &mut clock, 1000, &[Write(RTCICR, 1), Read(RTCRIS, 0)]);
+}
+
+#[test]
+fn a_clear_takes_its_bits_alone(rt: HostRuntime) {
+    let mut clock = with_interrupts(0xFFFF_FFFF, 0xFFFF_FFFF);
+    follow(
+        &rt,
+        &mut clock,
+        1000,
+        &[Write(RTCICR, 0x8000_0001), Read(RTCRIS, 0x7FFF_FFFE)],
+    );
+    follow(
+        &rt,
+        &mut clock,
+        1000,
+        &[Read(RTCIMSC, 0xFFFF_FFFF), Read(RTCMIS, 0x7FFF_FFFE)],
+    );
+}
+
+#[test]
+fn an_identification_byte_stands_at_four_offsets(rt: HostRuntime) {
+    let mut clock = Rtc::with_events(Counts::default());
+    let mut offset = 0xFE0;
+    for byte in [0x31, 0x10, 0x04, 0x00, 0x0D, 0xF0, 0x05, 0xB1] {
+        for _ in 0..4 {
+            follow(&rt, &mut clock, 1000, &[Read(offset, byte)]);
+            offset = offset.saturating_add(1);
+        }
+    }
+    assert_eq!(rt; offset, 0x1000);
+    assert_eq!(rt; *clock.events(), Counts::default());
+}
+
+#[test]
+fn an_invalid_read_leaves_the_bytes(rt: HostRuntime) {
+    let mut clock = Rtc::with_events(Counts::default());
+    let mut bytes = 123u32.to_le_bytes();
+    for (offset, want, invalid_reads) in [
+        (RTCICR, [0x7B, 0x00, 0x00, 0x00], 1),
+        (0xFE5, [0x10, 0x00, 0x00, 0x00], 1),
+        (0xFFF, [0xB1, 0x00, 0x00, 0x00], 1),
+        (0x1003, [0xB1, 0x00, 0x00, 0x00], 2),
+    ] {
+        clock.read(offset, &mut bytes, 1000);
+        assert_eq!(rt; bytes, want, "{offset}");
+        assert_eq!(rt; clock.events().invalid_reads, invalid_reads, "{offset}");
+    }
+}
+
+#[test]
+fn offsets_between_the_registers_are_invalid(rt: HostRuntime) {
+    let mut clock = Rtc::with_events(Counts::default());
+    for offset in [0x001, 0x002, 0x01D, 0x020, 0xFDC, 0xFDF, 0x1000, 0xFFFF] {
+        follow(&rt, &mut clock, 1000, &[Invalid(offset), Write(offset, 7)]);
+    }
+    let eight = Counts {
+        invalid_reads: 8,
+        invalid_writes: 8,
+    };
+    assert_eq!(rt; *clock.events(), eight);
+    assert_eq!(rt; clock.state(), RtcState::default());
+}
+
+#[test]
+fn no_events_hears_every_event(rt: HostRuntime) {
+    let mut clock = Rtc::new();
+    follow(
+        &rt,
+        &mut clock,
+        1000,
+        &[Invalid(RTCICR), Write(RTCDR, 7), Read(RTCDR, 1000)],
+    );
+    let mut events = *clock.events();
+    events.invalid_read();
+    events.invalid_write();
+}
+
+#[test]
+fn the_laws_are_calls() {
+    laws::clock_is_history();
+    laws::raw_bits_by_history();
+}

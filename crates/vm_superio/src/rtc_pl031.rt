@@ -1,0 +1,264 @@
+//! A real-time clock with the registers of an ARM PL031. It counts seconds.
+//!
+//! The clock reads no clock of the host: each access is handed its moment, in seconds since the start of 1970. The low
+//! 32 bits of a moment are the host's time. Guest time is the host's time and the clock's offset together where 32
+//! bits hold the sum, and the host's time elsewhere; it does not wrap.
+ghost use Rattle.std.specs.Prelude.{◌≡◌, ◌↔◌, List, [], ◌∷◌, ◌++◌, pos, ◌+ℤ◌};
+ghost use Rattle.std.specs.Bool.{OnTrue, OnFalse};
+ghost use Rattle.std.proofs.Common.{◌∙◌};
+ghost use Rattle.vm_superio.specs.RtcEvents.{RtcEvent, invalid_read, invalid_write};
+ghost use Rattle.vm_superio.specs.ClockRegisters.{read, write_of, register_at, is_readable, is_writable};
+ghost use Rattle.vm_superio.specs.ClockRegisters.{host_time, guest_time, shown, bytes_left};
+ghost use Rattle.vm_superio.specs.Clock.{Device, fresh, answer, written, next, events_of};
+ghost use Rattle.vm_superio.specs.ClockLaws.{ReadsByHistory, GoesOnByHistory};
+
+mod registers;
+
+use registers::Register;
+use std::marker::Model;
+
+/// Hears of the accesses that a clock cannot serve.
+///
+/// A clock is handed an events object when it is made, and owns it. It calls the object for nothing but what its
+/// documentation says.
+///
+/// An implementation states its `link`: how a value before some events, the names of these events in order, and the
+/// value after them belong together. The clock's contracts say by which events an object is linked.
+pub trait RtcEvents {
+    /// The first value becomes the second by these events.
+    ghost link: { Self → List RtcEvent → Self → Type 0 };
+
+    /// The guest read at an offset that shows nothing.
+    fn invalid_read(&mut self)
+        ensures { link self.old (invalid_read ∷ []) self.new };
+
+    /// The guest wrote at an offset that takes no write.
+    fn invalid_write(&mut self)
+        ensures { link self.old (invalid_write ∷ []) self.new };
+
+    /// With no event the value stays, and only then.
+    ghost no_event: { (x y : Self) → link x [] y ↔ (x ≡ y) };
+
+    /// Events that follow each other are one list of events.
+    ghost joined: { (x y z : Self) (first second : List RtcEvent) →
+        link x first y → link y second z → link x (first ++ second) z };
+}
+
+/// An events object that ignores every event, and stays the same.
+#[derive(Debug, Clone, Copy)]
+pub struct NoEvents;
+
+impl RtcEvents for NoEvents {
+    ghost link = { λ old _ new. old ≡ new };
+
+    ghost no_event = { λ _ _. (λ same. same, λ same. same) };
+
+    ghost joined = { λ _ _ _ _ _ first second. first ∙ second };
+
+    fn invalid_read(&mut self) {}
+
+    fn invalid_write(&mut self) {}
+}
+
+/// What a clock's registers hold: enough to make the same clock again.
+///
+/// Any numbers may be restored, and reads show them as they are. The default state has zeros.
+#[derive(Clone, Copy, Debug, Default, Eq, PartialEq)]
+pub struct RtcState {
+    /// The load register, RTCLR: the value that was loaded last, or 0 after a reset.
+    pub lr: u32,
+    /// How far guest time is ahead of the host's time, in seconds.
+    pub offset: i64,
+    /// The match register, RTCMR. It has no effect but its own reading.
+    pub mr: u32,
+    /// The interrupt mask, RTCIMSC. A write sets bit 0 alone.
+    pub imsc: u32,
+    /// The raw interrupt status, RTCRIS. No access sets a bit.
+    pub ris: u32,
+}
+
+impl RtcState {
+    /// Guest time where the host's time is `time`.
+    fn guest_time(&self, time: u32) -> u32
+        ensures { result ≡ guest_time (pos time +ℤ self.now.offset) time }
+    {
+        match i64::from(time).checked_add(self.offset) {
+            Some(counter) => u32::try_from(counter).unwrap_or(time),
+            None => time,
+        }
+    }
+
+    /// The number that a read of `register` shows where the host's time is `time`, or `None` where it shows nothing.
+    fn shown(&self, register: Register, time: u32) -> Option<u32>
+        ensures { result ≡ shown register (guest_time (pos time +ℤ self.now.offset) time) self.now }
+    {
+        match register {
+            Register::Data => Some(self.guest_time(time)),
+            Register::Match => Some(self.mr),
+            Register::Load => Some(self.lr),
+            Register::Control => Some(1),
+            Register::InterruptMask => Some(self.imsc),
+            Register::RawInterrupts => Some(self.ris),
+            Register::MaskedInterrupts => Some(self.ris & self.imsc),
+            Register::Identification(byte) => Some(u32::from(byte)),
+            Register::InterruptClear | Register::Reserved => None,
+        }
+    }
+
+    /// Writes `value` to `register` where the host's time is `time`, and answers whether the register takes a write.
+    /// Where it takes none nothing changes.
+    #[tactic(auto, using(crate::proofs::ClockBits::and_not_is_without_bits))]
+    fn store(&mut self, register: Register, value: u32, time: u32) -> bool
+        ensures state { self.new ≡ written self.old register value time }
+        ensures taken { result ≡ is_writable register }
+    {
+        match register {
+            Register::Match => self.mr = value,
+            Register::Load => {
+                self.lr = value;
+                self.offset = i64::from(value) - i64::from(time);
+            }
+            Register::Control => {
+                if value == 1 {
+                    self.lr = 0;
+                    self.offset = 0;
+                }
+            }
+            Register::InterruptMask => self.imsc = value & 1,
+            Register::InterruptClear => self.ris &= !value,
+            _ => return false,
+        }
+        true
+    }
+}
+
+/// A PL031 real-time clock, which tells its events to an `EV`.
+///
+/// An access is four bytes, lowest byte first. In a contract the clock is its state and its events object.
+#[derive(Drop)]
+pub struct Rtc<EV: RtcEvents> {
+    state: RtcState,
+    events: EV,
+}
+
+impl<EV: RtcEvents> Model for Rtc<EV> {
+    ghost Value = { Device EV };
+
+    ghost view = { λ clock. record { state = clock.state; events = clock.events } };
+}
+
+impl Default for Rtc<NoEvents> {
+    ghost is_default = { λ clock. clock.state ≡ fresh };
+
+    /// Makes a clock as `new` does.
+    fn default() -> Self {
+        Self::new()
+    }
+}
+
+impl Rtc<NoEvents> {
+    /// Makes a clock of the default state, which tells its events to nobody.
+    pub fn new() -> Rtc<NoEvents>
+        ensures { result.state ≡ fresh }
+    {
+        Self::with_events(NoEvents)
+    }
+}
+
+impl<EV: RtcEvents> Rtc<EV> {
+    /// Makes a clock of the state `state`, whatever numbers it has, which owns the events object `rtc_events`. The
+    /// object is not called.
+    pub fn from_state(state: &RtcState, rtc_events: EV) -> Self
+        ensures state { result.state ≡ state.now }
+        ensures events { result.events ≡ rtc_events }
+    {
+        Rtc {
+            state: *state,
+            events: rtc_events,
+        }
+    }
+
+    /// Makes a clock of the default state, which owns the events object `rtc_events`. The object is not called.
+    pub fn with_events(rtc_events: EV) -> Self
+        ensures state { result.state ≡ fresh }
+        ensures events { result.events ≡ rtc_events }
+    {
+        Self::from_state(&RtcState::default(), rtc_events)
+    }
+
+    /// The state, from which `from_state` makes the same clock again.
+    pub fn state(&self) -> RtcState
+        ensures { result ≡ self.now.state }
+    {
+        self.state
+    }
+
+    /// The events object.
+    pub fn events(&self) -> &EV
+        ensures { result.now ≡ self.now.events }
+    {
+        &self.events
+    }
+
+    /// Begins an access at the moment `now`, and gives the host's time.
+    ///
+    /// Every access begins here, before it has its own effect, a read as well as a write and an invalid one too.
+    fn begin_access(&mut self, now: u64) -> u32
+        ensures time { result ≡ host_time now }
+        ensures unchanged { self.new ≡ self.old }
+    {
+        (now % (1 << 32)) as u32
+    }
+
+    /// Writes `bytes`, lowest byte first, at `offset` from the clock's base address, at the moment `now` in seconds
+    /// since 1970, of which the low 32 bits count.
+    ///
+    /// RTCMR (0x004) stores the value. RTCLR (0x008) stores it and makes it guest time. RTCCR (0x00C) resets the load
+    /// register and guest time where the value is 1, and else changes nothing. RTCIMSC (0x010) stores bit 0 alone.
+    /// RTCICR (0x01C) clears in the raw interrupt status the bits that the value has.
+    ///
+    /// A write at any other offset changes no register and calls `invalid_write` of the events object once.
+    pub fn write(&mut self, offset: u16, bytes: &[u8; 4], now: u64)
+        ensures state { self.new.state ≡ next self.old.state (write_of offset bytes.now now) }
+        ensures invalid { OnFalse (is_writable (register_at offset)) (self.new.state ≡ self.old.state) }
+        ensures history { GoesOnByHistory self.old.state (write_of offset bytes.now now) self.new.state }
+
+        // The events object hears of an invalid write, and of nothing else.
+        ensures events { EV.link self.old.events (events_of (write_of offset bytes.now now)) self.new.events }
+        ensures quiet { OnTrue (is_writable (register_at offset)) (self.new.events ≡ self.old.events) }
+    {
+        let time = self.begin_access(now);
+        let value = u32::from_le_bytes(*bytes);
+        if !self.state.store(Register::at(offset), value, time) {
+            self.events.invalid_write();
+        }
+    }
+
+    /// Reads into `bytes`, lowest byte first, at `offset` from the clock's base address, at the moment `now` in
+    /// seconds since 1970, of which the low 32 bits count. No read changes a register.
+    ///
+    /// RTCDR (0x000) shows guest time, RTCCR (0x00C) shows 1, RTCMIS (0x018) shows the raw interrupt status under the
+    /// mask, and RTCMR (0x004), RTCLR (0x008), RTCIMSC (0x010) and RTCRIS (0x014) show what the state has. The offsets
+    /// 0xFE0 to 0xFFF show the identification, each byte at four offsets.
+    ///
+    /// A read at any other offset, RTCICR (0x01C) among them, leaves `bytes` as they were and calls `invalid_read` of
+    /// the events object once.
+    pub fn read(&mut self, offset: u16, bytes: &mut [u8; 4], now: u64)
+        ensures answer { bytes.new ≡ bytes_left (answer self.old.state (read offset now)) bytes.old }
+        ensures invalid { OnFalse (is_readable (register_at offset)) (bytes.new ≡ bytes.old) }
+        ensures answer_by_history { ReadsByHistory self.old.state offset now bytes.old bytes.new }
+
+        ensures unchanged { self.new.state ≡ self.old.state }
+        ensures history { GoesOnByHistory self.old.state (read offset now) self.new.state }
+
+        // The events object hears of an invalid read, and of nothing else.
+        ensures events { EV.link self.old.events (events_of (read offset now)) self.new.events }
+        ensures quiet { OnTrue (is_readable (register_at offset)) (self.new.events ≡ self.old.events) }
+    {
+        let time = self.begin_access(now);
+        match self.state.shown(Register::at(offset), time) {
+            Some(number) => *bytes = number.to_le_bytes(),
+            None => self.events.invalid_read(),
+        }
+    }
+}

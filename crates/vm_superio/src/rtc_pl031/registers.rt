@@ -1,0 +1,84 @@
+//! The PL031's register map.
+ghost use Rattle.std.specs.Prelude.{◌≡◌};
+ghost use Rattle.vm_superio.specs.ClockRegisters.{register_at};
+
+/// The data register: guest time. Read only.
+pub(super) const RTCDR: u16 = 0x000;
+
+/// The match register.
+pub(super) const RTCMR: u16 = 0x004;
+
+/// The load register, whose value becomes guest time.
+pub(super) const RTCLR: u16 = 0x008;
+
+/// The control register. The clock always runs, and a write of 1 resets it.
+pub(super) const RTCCR: u16 = 0x00C;
+
+/// The interrupt mask set or clear register, of one bit.
+pub(super) const RTCIMSC: u16 = 0x010;
+
+/// The raw interrupt status. Read only.
+pub(super) const RTCRIS: u16 = 0x014;
+
+/// The masked interrupt status. Read only.
+pub(super) const RTCMIS: u16 = 0x018;
+
+/// The interrupt clear register. Write only.
+pub(super) const RTCICR: u16 = 0x01C;
+
+/// The first offset of the peripheral and PrimeCell identification. Read only.
+pub(super) const AMBA_ID_LOW: u16 = 0xFE0;
+
+/// The last offset of the identification.
+pub(super) const AMBA_ID_HIGH: u16 = 0xFFF;
+
+/// The bytes of the identification, each of which stands at four offsets.
+const AMBA_IDS: [u8; 8] = [0x31, 0x10, 0x04, 0x00, 0x0D, 0xF0, 0x05, 0xB1];
+
+/// What the clock has at an offset from its base address.
+#[derive(Clone, Copy)]
+pub(super) enum Register {
+    /// RTCDR.
+    Data,
+    /// RTCMR.
+    Match,
+    /// RTCLR.
+    Load,
+    /// RTCCR.
+    Control,
+    /// RTCIMSC.
+    InterruptMask,
+    /// RTCRIS.
+    RawInterrupts,
+    /// RTCMIS.
+    MaskedInterrupts,
+    /// RTCICR.
+    InterruptClear,
+    /// An identification register, which shows this byte.
+    Identification(u8),
+    /// No register.
+    Reserved,
+}
+
+impl Register {
+    /// The register at `offset`.
+    pub(super) fn at(offset: u16) -> Register
+        ensures { result ≡ register_at offset }
+    {
+        match offset {
+            RTCDR => Register::Data,
+            RTCMR => Register::Match,
+            RTCLR => Register::Load,
+            RTCCR => Register::Control,
+            RTCIMSC => Register::InterruptMask,
+            RTCRIS => Register::RawInterrupts,
+            RTCMIS => Register::MaskedInterrupts,
+            RTCICR => Register::InterruptClear,
+            AMBA_ID_LOW..=AMBA_ID_HIGH => {
+                let index = (offset - AMBA_ID_LOW) / 4;
+                Register::Identification(AMBA_IDS[usize::from(index)])
+            }
+            _ => Register::Reserved,
+        }
+    }
+}
