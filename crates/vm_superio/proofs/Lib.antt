@@ -12,6 +12,7 @@ mod Places
 mod RegisterSteps
 mod Rows
 mod RunRows
+mod RunSteps
 mod Runs
 mod SerialRows
 mod StateRows

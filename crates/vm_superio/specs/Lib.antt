@@ -22,5 +22,7 @@ pub mod Replies
 pub mod Reset
 pub mod Restoring
 pub mod RtcEvents
+pub mod RunCalls
 pub mod SavedState
 pub mod State
+pub mod Stretches

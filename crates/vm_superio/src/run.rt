@@ -1,4 +1,14 @@
-//! What each call of a run asked of its trigger, and what became of the byte that it sent.
+//! Runs: a list of calls of a serial port as one call, with a record of each.
+ghost use Rattle.std.specs.Prelude.{◌≡◌, IfOk, OnErr};
+ghost use Rattle.vm_superio.specs.Stretches.{first_stretch};
+ghost use Rattle.vm_superio.specs.RunCalls.{act_of, Makes, RunsCalls};
+
+use crate::Trigger;
+use crate::serial::{Error, Refused, Serial, SerialEvents};
+use std::alloc::{AllocError, Global};
+use std::collections::VecDeque;
+use std::io::Write;
+use std::mem;
 
 /// The answers to the device's trigger calls in one call, in order.
 #[derive(Clone, Copy, Debug, PartialEq, Eq)]
@@ -32,4 +42,156 @@ pub(crate) struct Traced<R> {
     pub(crate) reply: R,
     pub(crate) asked: Asked,
     pub(crate) sent: Sent,
+}
+
+/// A call of a serial port, with the objects that a restore brings.
+#[derive(Drop)]
+pub enum Call<T, EV, W> {
+    /// `read` at this offset.
+    Read(u8),
+    /// `write` at this offset, of this value.
+    Write(u8, u8),
+    /// `enqueue_raw_bytes` of these bytes.
+    Enqueue(Vec<u8>),
+    /// The port is made anew from its own state, with this trigger, events object and writer.
+    Restore(T, EV, W),
+}
+
+/// A call without its objects.
+#[derive(Debug, Drop, Eq, PartialEq)]
+pub enum Act {
+    /// `read` at this offset.
+    Read(u8),
+    /// `write` at this offset, of this value.
+    Write(u8, u8),
+    /// `enqueue_raw_bytes` of these bytes.
+    Enqueue(Vec<u8>),
+    /// The port was to be made anew.
+    Restore,
+}
+
+/// What a call answered.
+#[derive(Drop)]
+pub enum Reply<T: Trigger, EV: SerialEvents, W: Write> {
+    /// The byte that was read.
+    Byte(u8),
+    /// What `write` answered.
+    Wrote(Result<(), Error<T::E>>),
+    /// What `enqueue_raw_bytes` answered.
+    Enqueued(Result<usize, Error<T::E>>),
+    /// The port was made anew: the old one, with its own objects.
+    Restored(Serial<T, EV, W>),
+    /// The port stayed: why, and the objects that the restore brought.
+    NotRestored(Refused<T, EV, W>),
+}
+
+/// The record of a call.
+#[derive(Drop)]
+pub struct Done<T: Trigger, EV: SerialEvents, W: Write> {
+    /// The call.
+    pub act: Act,
+    /// The answers to the port's own trigger calls in it; `Nothing` for a restore.
+    pub asked: Asked,
+    /// What became of the byte that it sent.
+    pub sent: Sent,
+    /// What it answered.
+    pub reply: Reply<T, EV, W>,
+}
+
+/// Makes the calls in order, and answers a record of each.
+///
+/// Nothing stops a run early: a refusal of the trigger, a failure of the writer or a restore that is refused stands in
+/// the record of its call, and the next call is made. A restore takes the port's state and makes a port of it with the
+/// objects that it brings, which then takes the old port's place. Where it is refused the old port stays.
+///
+/// # Errors
+///
+/// `AllocError` where room for all records was refused. No call was made then, and the calls are dropped.
+pub fn run<T: Trigger + Drop, EV: SerialEvents + Drop, W: Write + Drop>(
+    alloc: Global,
+    serial: &mut Serial<T, EV, W>,
+    calls: Vec<Call<T, EV, W>>,
+) -> Result<Vec<Done<T, EV, W>>, AllocError>
+    ensures run { IfOk result (λ done.
+        RunsCalls T.link EV.link W.contents serial.old.state (first_stretch serial.old) calls.items done.items
+        serial.new) }
+    ensures refused { OnErr result (serial.new ≡ serial.old) }
+{
+    let mut done = Vec::with_capacity(alloc, calls.len())?;
+    let mut calls = VecDeque::from_vec(calls);
+    while let Some(call) = calls.pop_front() {
+        done.push_reserved(make(alloc, serial, call));
+    }
+    Ok(done)
+}
+
+/// Makes one call.
+fn make<T: Trigger, EV: SerialEvents, W: Write>(
+    alloc: Global,
+    serial: &mut Serial<T, EV, W>,
+    call: Call<T, EV, W>,
+) -> Done<T, EV, W>
+    ensures act { result.act ≡ act_of call }
+    ensures made { Makes T.link EV.link W.contents call result.asked result.sent result.reply serial.old serial.new }
+{
+    match call {
+        Call::Read(offset) => {
+            let read = serial.traced_read(offset);
+            Done {
+                act: Act::Read(offset),
+                asked: read.asked,
+                sent: read.sent,
+                reply: Reply::Byte(read.reply),
+            }
+        }
+        Call::Write(offset, value) => {
+            let Traced { reply, asked, sent } = serial.traced_write(offset, value);
+            Done {
+                act: Act::Write(offset, value),
+                asked,
+                sent,
+                reply: Reply::Wrote(reply),
+            }
+        }
+        Call::Enqueue(bytes) => {
+            let Traced { reply, asked, sent } = serial.traced_enqueue(&bytes);
+            Done {
+                act: Act::Enqueue(bytes),
+                asked,
+                sent,
+                reply: Reply::Enqueued(reply),
+            }
+        }
+        Call::Restore(trigger, events, out) => Done {
+            act: Act::Restore,
+            asked: Asked::Nothing,
+            sent: Sent::Nothing,
+            reply: restore(alloc, serial, trigger, events, out),
+        },
+    }
+}
+
+/// Makes the port anew from its own state, with these objects.
+fn restore<T: Trigger, EV: SerialEvents, W: Write>(
+    alloc: Global,
+    serial: &mut Serial<T, EV, W>,
+    trigger: T,
+    events: EV,
+    out: W,
+) -> Reply<T, EV, W>
+    ensures { Makes T.link EV.link W.contents (Call.Restore trigger events out) Asked.Nothing Sent.Nothing result serial.old
+        serial.new }
+{
+    let Ok(state) = serial.state(alloc) else {
+        return Reply::NotRestored(Refused {
+            error: Error::Memory,
+            trigger,
+            events,
+            out,
+        });
+    };
+    match Serial::from_state(alloc, &state, trigger, events, out) {
+        Ok(anew) => Reply::Restored(mem::replace(serial, anew)),
+        Err(refused) => Reply::NotRestored(refused),
+    }
 }
