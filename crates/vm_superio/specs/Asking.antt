@@ -5,12 +5,14 @@ use Rattle.vm_superio.specs.Registers.{is_loopback, Condition, Receive, enable_b
 
 -- ---- asking for a condition
 
--- a condition that is asked for becomes pending where its enable bit is set and its pending bit is clear
+-- a condition that is asked for becomes pending where its enable bit is set and its pending bit is clear; the trigger is
+-- called exactly then
 abbrev pub becomes_pending : Condition → ℕ → ℕ → Bool
 becomes_pending condition enable identification =
     has_bits enable (enable_bit condition) && not (has_bits identification (pending_bit condition))
 
--- the identification afterwards: where the condition became pending, bit 0x01 is cleared and the pending bit set
+-- the identification afterwards: where the condition became pending, bit 0x01 is cleared and the pending bit set, and
+-- a refusal of the trigger takes neither back
 abbrev pub ask : Condition → ℕ → ℕ → ℕ
 ask condition enable identification =
     if becomes_pending condition enable identification
@@ -21,6 +23,7 @@ ask condition enable identification =
 abbrev pub receive_becomes_pending : List ℕ → ℕ → ℕ → Bool
 receive_becomes_pending held enable identification = not_empty held && becomes_pending Receive enable identification
 
+-- the identification after that
 abbrev pub ask_while_held : List ℕ → ℕ → ℕ → ℕ
 ask_while_held held enable identification = if not_empty held then ask Receive enable identification else identification
 

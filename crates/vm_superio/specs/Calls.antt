@@ -12,22 +12,27 @@ use Rattle.vm_superio.specs.Asking.{ask, receive_becomes_pending, ask_while_held
 
 -- ---- what a call answers
 
--- offsets 0 and 1 give the divisor under DLAB; a data read gives the oldest held byte, or 0; the identification shows
--- bits 0xC0, that the FIFOs are on; the modem status shows the outputs in loopback; an unknown offset gives 0
+-- a read, by the register that it reaches
 abbrev pub read_answer : Register → State → ℕ
+-- the divisor latch, offsets 0 and 1 with DLAB set
 read_answer DivisorLow s = s.baud_divisor_low
 read_answer DivisorHigh s = s.baud_divisor_high
+-- the data read: the oldest held byte, or 0
 read_answer Data s = slice_index s.in_buffer 0
 read_answer InterruptEnable s = s.interrupt_enable
+-- the identification read: with bits 0xC0, which say that the FIFOs are on
 read_answer InterruptIdentification s = joined s.interrupt_identification 0xC0
 read_answer LineControl s = s.line_control
 read_answer ModemControl s = s.modem_control
 read_answer LineStatus s = s.line_status
+-- the modem status read: in loopback it shows the outputs
 read_answer ModemStatus s = modem_status_read s.modem_control s.modem_status
 read_answer Scratch s = s.scratch
+-- an unknown offset, from 8 on
 read_answer Unknown s = 0
 
--- loopback accepts nothing and no bytes are no arrival; then a full FIFO, then a refused trigger, is the answer
+-- an enqueue: 0 in loopback, whatever is given, and for no bytes; that the FIFO is full; the trigger's refusal; else how
+-- many bytes were added
 abbrev pub enqueue_answer : State → List ℕ → Asked → Answer
 enqueue_answer s bytes asked =
     if is_loopback s.modem_control || (length bytes == 0) then Added 0
@@ -35,6 +40,7 @@ enqueue_answer s bytes asked =
     else (if is_refused asked then TriggerRefused
     else Added (length (accepted_of s bytes))))
 
+-- any call
 abbrev pub answer : State → Deed → Asked → Sent → Answer
 answer s (Reads offset) asked what = Given (read_answer (register (is_dlab s.line_control) offset) s)
 answer s (Writes offset value) asked what = write_answer asked what
@@ -43,8 +49,8 @@ answer s Restores asked what = NoAnswer
 
 -- ---- the state that a call leaves
 
--- a data read clears the receive bit, and nothing pending is 1; it takes the oldest byte, and with the last one goes
--- data ready
+-- the data read clears the receive bit, and an identification of 0 is then 1; it takes the oldest byte, and data ready
+-- goes when no byte is left
 abbrev pub data_read : State → State
 data_read s =
     let identification = without s.interrupt_identification 0x04 in
@@ -55,14 +61,16 @@ data_read s =
       line_status = if not_empty held then s.line_status else without s.line_status 0x01;
     }
 
--- a read of the identification clears both conditions; no other read but these two changes anything
+-- a read, by the register that it reaches
 abbrev pub read_next : Register → State → State
 read_next Data s = data_read s
+-- the identification read: nothing is pending any more
 read_next InterruptIdentification s = record s { interrupt_identification = 1 }
+-- no other read changes anything
 read_next _ s = s
 
--- an interrupt-enable write keeps the low four bits; where the trigger refuses for the receive condition the call ends,
--- and the transmitter condition is not asked for. It clears no pending bit
+-- the interrupt-enable write asks for the receive condition while bytes are held, and then for the transmitter
+-- condition, unless the trigger refused the first call; it clears no pending bit
 abbrev pub enable_write : ℕ → Asked → State → State
 enable_write enable asked s =
     let refused = receive_becomes_pending s.in_buffer enable s.interrupt_identification && is_refused asked in
@@ -72,24 +80,29 @@ enable_write enable asked s =
       interrupt_identification = if refused then identification else ask Transmit enable identification;
     }
 
--- a data write asks for the transmitter condition, whatever became of its byte; in loopback the byte comes in
+-- the loopback data write puts its byte into the FIFO, if there is room; the data write outside loopback asks for the
+-- transmitter condition, whatever became of its byte
 abbrev pub data_write : ℕ → State → State
 data_write value s =
     if is_loopback s.modem_control then receive (that_fit s.in_buffer (value ∷ [])) s
     else record s { interrupt_identification = ask Transmit s.interrupt_enable s.interrupt_identification }
 
--- the identification, both statuses and unknown offsets ignore writes
+-- a write, by the register that it reaches
 abbrev pub write_next : Register → ℕ → Asked → State → State
+-- the divisor latch, offsets 0 and 1 with DLAB set
 write_next DivisorLow value asked s = record s { baud_divisor_low = value }
 write_next DivisorHigh value asked s = record s { baud_divisor_high = value }
 write_next Data value asked s = data_write value s
+-- of interrupt enable the low four bits are kept
 write_next InterruptEnable value asked s = enable_write (masked value 0x0F) asked s
+-- the plain registers
 write_next LineControl value asked s = record s { line_control = value }
 write_next ModemControl value asked s = record s { modem_control = value }
 write_next Scratch value asked s = record s { scratch = value }
+-- the identification, both statuses and unknown offsets ignore writes
 write_next _ value asked s = s
 
--- an enqueue receives what it accepts; a restore keeps the state
+-- any call: an enqueue receives what it accepts, and a restore keeps the state
 abbrev pub next : State → Deed → Asked → State
 next s (Reads offset) asked = read_next (register (is_dlab s.line_control) offset) s
 next s (Writes offset value) asked = write_next (register (is_dlab s.line_control) offset) value asked s
@@ -109,6 +122,7 @@ sent_events sent.Nothing = []
 sent_events sent.Out = out_byte ∷ []
 sent_events sent.Lost = tx_lost_byte ∷ []
 
+-- any call
 abbrev pub events : State → Deed → Sent → List Event
 events s (Reads offset) what = read_events (register (is_dlab s.line_control) offset) s.in_buffer
 events s (Writes offset value) what = sent_events what

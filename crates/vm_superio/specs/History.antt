@@ -20,28 +20,32 @@ abbrev pub last : (List Entry → Deed → Option ℕ) → List Entry → Option
 last found [] = None
 last found (entry ∷ past) = option_or (found past entry.act) (last found past)
 
--- line control, modem control and scratch: the last write at offset 3, 4 and 7, or the start's byte
+-- line control: the last write at offset 3, or the start's byte
 abbrev pub line_control : State → List Entry → ℕ
 line_control start past = unwrap_or (last (λ before act. written_at 3 act) past) start.line_control
 
+-- modem control: the last write at offset 4, or the start's byte
 abbrev pub modem_control : State → List Entry → ℕ
 modem_control start past = unwrap_or (last (λ before act. written_at 4 act) past) start.modem_control
 
+-- scratch: the last write at offset 7, or the start's byte
 abbrev pub scratch : State → List Entry → ℕ
 scratch start past = unwrap_or (last (λ before act. written_at 7 act) past) start.scratch
 
--- whether DLAB is set, and whether the port is in loopback
+-- DLAB is set
 abbrev pub dlab : State → List Entry → Bool
 dlab start past = is_dlab (line_control start past)
 
+-- the port is in loopback
 abbrev pub loopback : State → List Entry → Bool
 loopback start past = is_loopback (modem_control start past)
 
--- the divisor: the last write at offset 0 and 1 with DLAB set, as it was at that write's place
+-- divisor low: the last write at offset 0 with DLAB set, as it was at that write's own place, or the start's byte
 abbrev pub divisor_low : State → List Entry → ℕ
 divisor_low start past =
     unwrap_or (last (λ before act. if dlab start before then written_at 0 act else None) past) start.baud_divisor_low
 
+-- divisor high: the last write at offset 1 with DLAB set, or the start's byte
 abbrev pub divisor_high : State → List Entry → ℕ
 divisor_high start past =
     unwrap_or (last (λ before act. if dlab start before then written_at 1 act else None) past) start.baud_divisor_high

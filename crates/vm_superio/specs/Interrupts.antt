@@ -26,6 +26,7 @@ abbrev pub receive_raised_by : Kind → List ℕ → ℕ → Bool
 receive_raised_by (EnableWrite value) held enable = has_bits value 0x01 && not_empty held
 receive_raised_by act held enable = not_empty (accepted_by act held) && has_bits enable 0x01
 
+-- the same at the place of a record
 abbrev pub receive_raised : State → List Entry → Entry → Bool
 receive_raised start past entry =
     receive_raised_by (kind start past entry.act) (held start past) (interrupt_enable start past)
@@ -36,6 +37,7 @@ acknowledges_receive IdentificationRead = true
 acknowledges_receive DataRead = true
 acknowledges_receive _ = false
 
+-- the receive condition is pending; at the start by bit 0x04 of the identification
 abbrev pub receive_pending : State → List Entry → Bool
 receive_pending start past =
     still_raised start (receive_raised start) acknowledges_receive (has_bits start.interrupt_identification 0x04) past
@@ -52,6 +54,7 @@ transmit_raised_by (DataWrite value) enable refused = has_bits enable 0x02
 transmit_raised_by (EnableWrite value) enable refused = has_bits value 0x02 && not refused
 transmit_raised_by _ enable refused = false
 
+-- the same at the place of a record
 abbrev pub transmit_raised : State → List Entry → Entry → Bool
 transmit_raised start past entry =
     transmit_raised_by (kind start past entry.act) (interrupt_enable start past)
@@ -62,10 +65,12 @@ abbrev pub acknowledges_transmit : Kind → Bool
 acknowledges_transmit IdentificationRead = true
 acknowledges_transmit _ = false
 
+-- the transmitter condition is pending; at the start by bit 0x02 of the identification
 abbrev pub transmit_pending : State → List Entry → Bool
 transmit_pending start past =
     still_raised start (transmit_raised start) acknowledges_transmit (has_bits start.interrupt_identification 0x02) past
 
+-- a trigger call is due for it where it is raised and was not pending
 abbrev pub transmit_call : State → List Entry → Entry → Bool
 transmit_call start past entry = transmit_raised start past entry && not (transmit_pending start past)
 

@@ -33,10 +33,12 @@ abbrev pub kinds : State → List Entry → List Kind
 kinds start [] = []
 kinds start (entry ∷ past) = kind start past entry.act ∷ kinds start past
 
+-- reads of offset 2 among them
 abbrev pub is_identification_read : Kind → Bool
 is_identification_read IdentificationRead = true
 is_identification_read _ = false
 
+-- data reads among them
 abbrev pub is_data_read : Kind → Bool
 is_data_read DataRead = true
 is_data_read _ = false

@@ -33,6 +33,7 @@ pub record RegistersAgree (start : State) (past : List Entry) (s : State) : Type
   pub modem_status : s.modem_status ≡ start.modem_status
   pub scratch : s.scratch ≡ scratch start past
 
+-- for the state that the call cases give
 abbrev pub RegisterLaw : Type 0
 RegisterLaw = (start : State) (past : List Entry) → RegistersAgree start past (state_after start past)
 
@@ -54,6 +55,7 @@ pub record InterruptsAgree (start : State) (past : List Entry) (s : State) : Typ
   pub calls : (entry : Entry) → fits s entry.act entry.asked entry.sent ≡ record_fits start past entry
   pub restoring : restore_calls s ≡ restore_calls_due start past
 
+-- for the state that the call cases give
 abbrev pub InterruptLaw : Type 0
 InterruptLaw = (start : State) (past : List Entry) (transmit receive : Bool)
     → start.interrupt_identification ≡ identification_of transmit receive
@@ -108,6 +110,7 @@ pub record PendingAgrees (start : State) (past : List Entry) : Type 0 where
       IsTrue (transmit_pending start past)
       ↔ PendingByPlaces start (transmit_raised start) acknowledges_transmit (has_bits start.interrupt_identification 0x02) past
 
+-- for every past
 abbrev pub PendingByPlacesLaw : Type 0
 PendingByPlacesLaw = (start : State) (past : List Entry) → PendingAgrees start past
 

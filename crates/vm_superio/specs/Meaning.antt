@@ -4,6 +4,7 @@ use Rattle.vm_superio.specs.State.{State}
 use Rattle.vm_superio.specs.Registers.{Register, Data, InterruptEnable, InterruptIdentification, register, is_dlab, is_loopback}
 use Rattle.vm_superio.specs.Acts.{Deed, Reads, Writes, Enqueues, Restores}
 
+-- what an act is
 pub data Kind : Type 0 where
   -- a read at offset 0 with DLAB clear
   DataRead : Kind
@@ -18,11 +19,13 @@ pub data Kind : Type 0 where
   -- everything else, a restore and an enqueue in loopback among it
   Other : Kind
 
+-- a read, by the register that it reaches
 abbrev pub read_kind : Register → Kind
 read_kind Data = DataRead
 read_kind InterruptIdentification = IdentificationRead
 read_kind _ = Other
 
+-- a write, by the register that it reaches and by loopback
 abbrev pub write_kind : Register → Bool → ℕ → Kind
 write_kind Data false value = DataWrite value
 write_kind Data true value = Arrival (value ∷ [])

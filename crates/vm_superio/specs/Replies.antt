@@ -17,19 +17,22 @@ identification start past = identification_of (transmit_pending start past) (rec
 abbrev pub line_status : State → List Entry → ℕ
 line_status start past = with_data_ready start.line_status (not_empty (held start past))
 
--- what a read of the register gives: the first held byte or 0 as data, bits 0xC0 with the identification, the start's
--- modem status (in loopback its low four bits, with the outputs shown above them), and 0 at an unknown offset
+-- what a read of the register gives
 abbrev pub register_read : Register → State → List Entry → ℕ
 register_read DivisorLow start past = divisor_low start past
 register_read DivisorHigh start past = divisor_high start past
+-- the first held byte, or 0
 register_read Data start past = slice_index (held start past) 0
 register_read InterruptEnable start past = interrupt_enable start past
+-- bits 0xC0 and the conditions that are pending
 register_read InterruptIdentification start past = 0xC0 + identification start past
 register_read LineControl start past = line_control start past
 register_read ModemControl start past = modem_control start past
 register_read LineStatus start past = line_status start past
+-- the start's modem status, and in loopback its low four bits with the outputs above them
 register_read ModemStatus start past = modem_status_read (modem_control start past) start.modem_status
 register_read Scratch start past = scratch start past
+-- from offset 8 on
 register_read Unknown start past = 0
 
 -- what a guest reads at an offset
