@@ -12,7 +12,7 @@ use Rattle.vm_superio.specs.History.{kind, held, interrupt_enable}
 use Rattle.vm_superio.specs.Interrupts.{still_raised, receive_raised, acknowledges_receive, receive_pending, transmit_raised, acknowledges_transmit}
 use Rattle.vm_superio.specs.Laws.{PendingByPlacesLaw, WaitingBytesLaw, state_after}
 use Rattle.vm_superio.specs.LawWords.{NoneAcknowledges, PendingByPlaces, tells_of_bytes}
-use Rattle.vm_superio.proofs.Bytes.{and_left, and_right, enables_receive}
+use Rattle.vm_superio.proofs.Bytes.{and_both, and_left, and_right, enables_receive}
 use Rattle.vm_superio.proofs.ByKind.{by_kind, next_at_place}
 use Rattle.vm_superio.proofs.RegisterSteps.{register_law}
 use Rattle.vm_superio.proofs.Held.{held_bytes_law}
@@ -139,10 +139,6 @@ pending_by_places_law start past =
 -- where bytes are held and the receive condition is enabled it is pending
 abbrev IsTold : State → Bool → Type 0
 IsTold s pending = IsTrue (not_empty s.in_buffer) → IsTrue (has_bits s.interrupt_enable 0x01) → IsTrue pending
-
-and_both : (a b : Bool) → IsTrue a → IsTrue b → IsTrue (a && b)
-and_both true b here there = there
-and_both false b here there = absurd (false≢true here)
 
 or_left : (a b : Bool) → IsTrue a → IsTrue (a || b)
 or_left true b here = refl

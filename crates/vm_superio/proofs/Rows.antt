@@ -11,6 +11,7 @@ use Rattle.vm_superio.specs.Acts.{Reads, Writes, Enqueues, Restores, Entry, Answ
 use Rattle.vm_superio.specs.Fits.{fits}
 use Rattle.vm_superio.specs.Calls.{answer, next, events, restore_calls}
 use Rattle.vm_superio.specs.Interrupts.{record_fits, restore_calls_due}
+use Rattle.vm_superio.specs.LawWords.{past_of}
 use Rattle.vm_superio.specs.Replies.{reply}
 
 -- ---- calls with their answers
@@ -58,14 +59,10 @@ by_history start past (call ∷ later) =
 abbrev pub told : List (Entry × Answer) → List (Bool × Answer)
 told calls = map (λ (call : Entry × Answer). (true, call.1)) calls
 
--- where the calls end, by the call cases and as a past
+-- the state in which the calls end, by the call cases
 abbrev pub end_of : State → List (Entry × Answer) → State
 end_of s [] = s
 end_of s (call ∷ later) = end_of (next s call.0.act call.0.asked) later
-
-abbrev pub past_of : List Entry → List (Entry × Answer) → List Entry
-past_of past [] = past
-past_of past (call ∷ later) = past_of (call.0 ∷ past) later
 
 -- a restore there makes these trigger calls
 abbrev pub RestoresWith : State → List (Entry × Answer) → List Condition → Type 0

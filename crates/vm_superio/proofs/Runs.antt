@@ -14,8 +14,9 @@ use Rattle.vm_superio.specs.Coherent.{Coherent}
 use Rattle.vm_superio.specs.Meaning.{kind_in, Kind, DataRead, IdentificationRead, EnableWrite, DataWrite, Arrival, Other, accepted_by}
 use Rattle.vm_superio.specs.History.{dlab, loopback, held}
 use Rattle.vm_superio.specs.Replies.{register_read, reply, described}
-use Rattle.vm_superio.specs.Laws.{state_after, CoherenceLaw, StateLaw, AnswerLaw, FollowCases, FollowHistory, WholeRunLaw}
-use Rattle.vm_superio.proofs.Bytes.{data_ready_set, data_ready_cleared}
+use Rattle.vm_superio.specs.Interrupts.{record_fits, is_fitting}
+use Rattle.vm_superio.specs.Laws.{state_after, CoherenceLaw, StateLaw, AnswerLaw, FollowCases, RunAgrees, WholeRunLaw}
+use Rattle.vm_superio.proofs.Bytes.{and_both, data_ready_set, data_ready_cleared}
 use Rattle.vm_superio.proofs.ByKind.{by_kind, next_by_kind}
 use Rattle.vm_superio.proofs.RegisterSteps.{register_law}
 use Rattle.vm_superio.proofs.Held.{held_bytes_law, line_status_law, not_empty-append}
@@ -159,14 +160,25 @@ answer_law start past entry coherent below =
 -- ---- a whole run
 
 run_from : (start : State) (past : List Entry) (calls : List (Entry × Answer)) (end : State) → Coherent start
-    → start.line_status < 256
-    → FollowCases (state_after start past) calls end → FollowHistory start past calls end × Coherent end
-run_from start past [] end coherent below follow =
-    (follow ∙ state_law start past coherent below, subst Coherent (sym follow) (coherent_after start past coherent))
-run_from start past (call ∷ later) end coherent below follow =
+    → start.line_status < 256 → IsTrue (is_fitting start past) → FollowCases (state_after start past) calls end
+    → RunAgrees start past calls end
+run_from start past [] end coherent below fitting follow = record {
+  fitting = fitting;
+  answers = tt;
+  state = follow ∙ state_law start past coherent below;
+  coherent = subst Coherent (sym follow) (coherent_after start past coherent);
+}
+run_from start past (call ∷ later) end coherent below fitting follow =
     let interrupts = interrupt_law start past coherent.transmit coherent.receive coherent.identification in
-    let rest = run_from start (call.0 ∷ past) later end coherent below follow.2 in
-    ((sym (interrupts.calls call.0) ∙ follow.0, follow.1 ∙ answer_law start past call.0 coherent below, rest.0), rest.1)
+    let here = sym (interrupts.calls call.0) ∙ follow.0 in
+    let all = and_both (record_fits start past call.0) (is_fitting start past) here fitting in
+    let rest = run_from start (call.0 ∷ past) later end coherent below all follow.2 in
+    record {
+      fitting = rest.fitting;
+      answers = (follow.1 ∙ answer_law start past call.0 coherent below, rest.answers);
+      state = rest.state;
+      coherent = rest.coherent;
+    }
 
 pub whole_run_law : WholeRunLaw
-whole_run_law start end calls coherent below follow = run_from start [] calls end coherent below follow
+whole_run_law start end calls coherent below follow = run_from start [] calls end coherent below refl follow

@@ -7,7 +7,7 @@ use Rattle.vm_superio.specs.declared.run.Sent.{Sent}
 use Rattle.vm_superio.specs.declared.run.Sent.TheVariants as sent
 use Rattle.vm_superio.specs.State.{State, has_bits, not_empty}
 use Rattle.vm_superio.specs.Events.{Event, out_byte, tx_lost_byte}
-use Rattle.vm_superio.specs.Acts.{Deed, Restores, Entry}
+use Rattle.vm_superio.specs.Acts.{Deed, Restores, Entry, Answer}
 use Rattle.vm_superio.specs.Links.{written}
 use Rattle.vm_superio.specs.Meaning.{Kind, DataRead, IdentificationRead, EnableWrite, accepted_by}
 use Rattle.vm_superio.specs.History.{kind}
@@ -49,6 +49,11 @@ tells_of_bytes (EnableWrite value) held = true
 tells_of_bytes act held = not_empty (accepted_by act held)
 
 -- ---- records of a past
+
+-- the past after further calls, which stand oldest first
+abbrev pub past_of : List Entry → List (Entry × Answer) → List Entry
+past_of past [] = past
+past_of past (call ∷ later) = past_of (call.0 ∷ past) later
 
 -- an act with what it asked, but for a restore
 abbrev pub act_and_asked : Deed → Asked → List (Deed × Asked)

@@ -1,5 +1,5 @@
 -- The laws: what the call cases and the history have to do with each other, and what follows from the history alone.
-use Rattle.std.specs.Prelude.{◌≡◌, ◌↔◌, ℕ, ◌+◌, ◌*◌, ◌<◌, ◌≤◌, Bool, not, List, [], ◌∷◌, ◌++◌, length, sum_by, count_by, IsTrue}
+use Rattle.std.specs.Prelude.{◌≡◌, ◌↔◌, ℕ, ◌+◌, ◌*◌, ◌<◌, ◌≤◌, Bool, not, List, [], ◌∷◌, ◌++◌, length, sum_by, count_by, IsTrue, ⊤}
 use Rattle.std.specs.List.{list_all}
 use Rattle.vm_superio.specs.declared.run.Asked.{Asked}
 use Rattle.vm_superio.specs.declared.run.Sent.{Sent}
@@ -9,7 +9,7 @@ use Rattle.vm_superio.specs.Acts.{one_if, Deed, Entry, Answer, is_lost}
 use Rattle.vm_superio.specs.Fits.{due, sends, fits}
 use Rattle.vm_superio.specs.Calls.{answer, next, events, restore_calls}
 use Rattle.vm_superio.specs.Coherent.{Coherent}
-use Rattle.vm_superio.specs.LawWords.{NoneAcknowledges, PendingByPlaces, kinds, is_identification_read, is_data_read, tells_of_bytes, acts_and_asked, all_written, tells_fate, turns, asked_when, sent_when}
+use Rattle.vm_superio.specs.LawWords.{past_of, NoneAcknowledges, PendingByPlaces, kinds, is_identification_read, is_data_read, tells_of_bytes, acts_and_asked, all_written, tells_fate, turns, asked_when, sent_when}
 use Rattle.vm_superio.specs.Meaning.{kind_in, sent_by, accepted_by, taken_by}
 use Rattle.vm_superio.specs.History.{line_control, modem_control, scratch, divisor_low, divisor_high, interrupt_enable, kind, accepted, taken, held}
 use Rattle.vm_superio.specs.Interrupts.{receive_raised, acknowledges_receive, receive_pending, transmit_raised, acknowledges_transmit, transmit_pending, answer_count, record_fits, is_fitting, restore_calls_due}
@@ -86,18 +86,24 @@ FollowCases s (call ∷ later) end =
     × (call.1 ≡ answer s call.0.act call.0.asked call.0.sent)
     × FollowCases (next s call.0.act call.0.asked) later end
 
--- records that go on from a past as a fitting history, with the answers and to the end that it tells
-abbrev pub FollowHistory : State → List Entry → List (Entry × Answer) → State → Type 0
-FollowHistory start past [] end = end ≡ described start past
-FollowHistory start past (call ∷ later) end =
-    IsTrue (record_fits start past call.0)
-    × (call.1 ≡ reply start past call.0.act call.0.asked call.0.sent)
-    × FollowHistory start (call.0 ∷ past) later end
+-- each call's answer is what the history replies at its place
+abbrev pub RepliesAre : State → List Entry → List (Entry × Answer) → Type 0
+RepliesAre start past [] = ⊤
+RepliesAre start past (call ∷ later) =
+    (call.1 ≡ reply start past call.0.act call.0.asked call.0.sent) × RepliesAre start (call.0 ∷ past) later
 
--- from a coherent start the first is the second, and the end is coherent
+-- with the past before them the calls are a fitting history, with these answers, and end in the state that it describes,
+-- which is coherent
+pub record RunAgrees (start : State) (past : List Entry) (calls : List (Entry × Answer)) (end : State) : Type 0 where
+  pub fitting : IsTrue (is_fitting start (past_of past calls))
+  pub answers : RepliesAre start past calls
+  pub state : end ≡ described start (past_of past calls)
+  pub coherent : Coherent end
+
+-- so it is from a coherent start
 abbrev pub WholeRunLaw : Type 0
 WholeRunLaw = (start end : State) (calls : List (Entry × Answer)) → Coherent start → start.line_status < 256
-    → FollowCases start calls end → FollowHistory start [] calls end × Coherent end
+    → FollowCases start calls end → RunAgrees start [] calls end
 
 -- ---- what follows from the history alone, from any start
 
