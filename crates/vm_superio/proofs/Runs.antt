@@ -5,15 +5,14 @@ use Rattle.std.proofs.lemmas.Bool.{false≢true}
 use Rattle.std.specs.Prelude.{if◌then◌else◌, nat_le, IsTrue}
 use Rattle.vm_superio.specs.declared.run.Asked.{Asked}
 use Rattle.vm_superio.specs.declared.run.Sent.{Sent}
-use Rattle.vm_superio.specs.State.{State, has_bits, joined, without, not_empty}
-use Rattle.vm_superio.specs.Registers.{Register, InterruptIdentification, register, identification_of}
-use Rattle.vm_superio.specs.Acts.{Deed, Reads, Writes, Enqueues, Restores, Entry, Answer, Given, Added, FifoFull, TriggerRefused, is_refused}
+use Rattle.vm_superio.specs.State.{State, has_bits, without, not_empty}
+use Rattle.vm_superio.specs.Acts.{Deed, Reads, Writes, Enqueues, Restores, Entry, Answer, Added, FifoFull, TriggerRefused, is_refused}
 use Rattle.vm_superio.specs.Asking.{that_fit, receive}
-use Rattle.vm_superio.specs.Calls.{answer, read_answer}
+use Rattle.vm_superio.specs.Calls.{answer}
 use Rattle.vm_superio.specs.Coherent.{Coherent}
 use Rattle.vm_superio.specs.Meaning.{kind_in, Kind, DataRead, IdentificationRead, EnableWrite, DataWrite, Arrival, Other, accepted_by}
-use Rattle.vm_superio.specs.History.{dlab, loopback, held}
-use Rattle.vm_superio.specs.Replies.{register_read, reply, described}
+use Rattle.vm_superio.specs.History.{loopback, held}
+use Rattle.vm_superio.specs.Replies.{reply, described}
 use Rattle.vm_superio.specs.Interrupts.{record_fits, is_fitting}
 use Rattle.vm_superio.specs.Laws.{state_after, CoherenceLaw, StateLaw, AnswerLaw, FollowCases, RunAgrees, WholeRunLaw}
 use Rattle.vm_superio.proofs.Bytes.{and_both, data_ready_set, data_ready_cleared}
@@ -120,19 +119,6 @@ state_law start past coherent below =
       in_buffer = held_bytes_law start past i;
     }
 
-fifos_shown : (transmit receive : Bool)
-    → joined (identification_of transmit receive) 0xC0 ≡ 0xC0 + identification_of transmit receive
-unfolding joined
-fifos_shown true true = refl
-fifos_shown true false = refl
-fifos_shown false true = refl
-fifos_shown false false = refl
-
-pub read_told : (r : Register) (start : State) (past : List Entry)
-    → read_answer r (described start past) ≡ register_read r start past
-read_told InterruptIdentification start past = fifos_shown _ _
-read_told _ start past = refl
-
 enqueue_told : (loopback : Bool) (bytes held : List ℕ) (asked : Asked)
     → (if loopback || (length bytes == 0) then Added 0
     else (if nat_le 64 (length held) then FifoFull
@@ -147,7 +133,7 @@ enqueue_told false bytes held asked = refl
 
 answer_told : (start : State) (past : List Entry) (act : Deed) (asked : Asked) (what : Sent)
     → answer (described start past) act asked what ≡ reply start past act asked what
-answer_told start past (Reads offset) asked what = ap Given (read_told (register (dlab start past) offset) start past)
+answer_told start past (Reads offset) asked what = refl
 answer_told start past (Writes offset value) asked what = refl
 answer_told start past (Enqueues bytes) asked what = enqueue_told (loopback start past) bytes (held start past) asked
 answer_told start past Restores asked what = refl

@@ -4,11 +4,11 @@ use Rattle.vm_superio.specs.declared.run.Asked.{Asked}
 use Rattle.vm_superio.specs.declared.run.Sent.{Sent}
 use Rattle.vm_superio.specs.declared.run.Sent.TheVariants as sent
 use Rattle.vm_superio.specs.State.{State, with_data_ready, not_empty}
-use Rattle.vm_superio.specs.Registers.{register, is_dlab}
+use Rattle.vm_superio.specs.Registers.{shown, register, is_dlab}
 use Rattle.vm_superio.specs.Acts.{Deed, Reads, Writes, Enqueues, Restores, Entry}
-use Rattle.vm_superio.specs.Calls.{next, read_answer}
+use Rattle.vm_superio.specs.Calls.{next}
 use Rattle.vm_superio.specs.Meaning.{kind_in, Kind}
-use Rattle.vm_superio.specs.History.{dlab, held, interrupt_enable}
+use Rattle.vm_superio.specs.History.{held, interrupt_enable}
 use Rattle.vm_superio.specs.Interrupts.{receive_pending, transmit_pending}
 use Rattle.vm_superio.specs.Registers.{identification_of}
 use Rattle.vm_superio.specs.Replies.{described}
@@ -18,7 +18,6 @@ use Rattle.vm_superio.proofs.ByKind.{same_kind}
 use Rattle.vm_superio.proofs.RegisterSteps.{register_law}
 use Rattle.vm_superio.proofs.Held.{held_bytes_law}
 use Rattle.vm_superio.proofs.Pending.{transmit_next, receive_next}
-use Rattle.vm_superio.proofs.Runs.{read_told}
 
 -- the past of these acts, in which nothing is sent
 unsent : List (Deed × Asked) → List Entry
@@ -112,16 +111,16 @@ as_unsent start (entry ∷ past) =
     one_unsent start past (acts_and_asked past) entry.act entry.asked entry.sent (as_unsent start past)
 
 -- the state that a past describes, by the state after it and the conditions that are pending
-shown : State → State → Bool → Bool → State
-shown start s transmit receive = record s {
+view_of : State → State → Bool → Bool → State
+view_of start s transmit receive = record s {
   interrupt_identification = identification_of transmit receive;
   line_status = with_data_ready start.line_status (not_empty s.in_buffer);
 }
 
 described_by_state : (start : State) (past : List Entry)
     → described start past
-    ≡ shown start (state_after start past) (transmit_pending start past) (receive_pending start past)
-unfolding shown
+    ≡ view_of start (state_after start past) (transmit_pending start past) (receive_pending start past)
+unfolding view_of
 described_by_state start past =
     let registers = register_law start past in
     let bytes = held_bytes_law start past in
@@ -142,17 +141,15 @@ same_described : (start : State) (one other : List Entry) → SameView start one
     → described start one ≡ described start other
 same_described start one other same =
     described_by_state start one
-    ∙ ap (λ (s : State). shown start s (transmit_pending start one) (receive_pending start one)) same.state
-    ∙ ap (λ t. shown start (state_after start other) t (receive_pending start one)) same.transmit
-    ∙ ap (shown start (state_after start other) (transmit_pending start other)) same.receive
+    ∙ ap (λ (s : State). view_of start s (transmit_pending start one) (receive_pending start one)) same.state
+    ∙ ap (λ t. view_of start (state_after start other) t (receive_pending start one)) same.transmit
+    ∙ ap (view_of start (state_after start other) (transmit_pending start other)) same.receive
     ∙ sym (described_by_state start other)
 
 pub same_reads_law : SameReadsLaw
 same_reads_law start one other same offset =
-    let read_of = λ (s : State). read_answer (register (is_dlab s.line_control) offset) s in
-    let all : described start one ≡ described start other =
-    same_described start one (unsent (acts_and_asked one)) (as_unsent start one)
+    let read_of = λ (s : State). shown (register (is_dlab s.line_control) offset) s in
+    ap read_of
+    (same_described start one (unsent (acts_and_asked one)) (as_unsent start one)
     ∙ ap (λ calls. described start (unsent calls)) same
-    ∙ sym (same_described start other (unsent (acts_and_asked other)) (as_unsent start other)) in
-    sym (read_told (register (dlab start one) offset) start one) ∙ ap read_of all
-    ∙ read_told (register (dlab start other) offset) start other
+    ∙ sym (same_described start other (unsent (acts_and_asked other)) (as_unsent start other)))

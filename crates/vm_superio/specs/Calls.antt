@@ -1,35 +1,16 @@
 -- The call cases: what a call answers, the state that it leaves and the events that it tells, in any state, with the
 -- answers of the trigger and the fate of a byte that go with it. A state need not be coherent.
-use Rattle.std.specs.Prelude.{ℕ, Bool, ◌==◌, ◌&&◌, ◌||◌, nat_le, if◌then◌else◌, List, [], ◌∷◌, ◌++◌, length, drop, slice_index}
+use Rattle.std.specs.Prelude.{ℕ, Bool, ◌==◌, ◌&&◌, ◌||◌, nat_le, if◌then◌else◌, List, [], ◌∷◌, ◌++◌, length, drop}
 use Rattle.vm_superio.specs.declared.run.Asked.{Asked}
 use Rattle.vm_superio.specs.declared.run.Sent.{Sent}
 use Rattle.vm_superio.specs.declared.run.Sent.TheVariants as sent
-use Rattle.vm_superio.specs.State.{State, has_bits, masked, joined, without, not_empty}
-use Rattle.vm_superio.specs.Registers.{Register, DivisorLow, DivisorHigh, Data, InterruptEnable, InterruptIdentification, LineControl, ModemControl, LineStatus, ModemStatus, Scratch, Unknown, register, is_dlab, is_loopback, Condition, Receive, Transmit, enable_bit, pending_bit, modem_status_read, transmit_first}
+use Rattle.vm_superio.specs.State.{State, has_bits, masked, without, not_empty}
+use Rattle.vm_superio.specs.Registers.{Register, DivisorLow, DivisorHigh, Data, InterruptEnable, InterruptIdentification, LineControl, ModemControl, Scratch, register, is_dlab, is_loopback, Condition, Receive, Transmit, enable_bit, pending_bit, transmit_first, shown}
 use Rattle.vm_superio.specs.Events.{Event, buffer_read, out_byte, tx_lost_byte, in_buffer_empty}
 use Rattle.vm_superio.specs.Acts.{Deed, Reads, Writes, Enqueues, Restores, Answer, Given, Added, TriggerRefused, FifoFull, NoAnswer, is_refused, write_answer}
 use Rattle.vm_superio.specs.Asking.{ask, receive_becomes_pending, ask_while_held, that_fit, accepted_of, receive}
 
 -- ---- what a call answers
-
--- a read, by the register that it reaches
-abbrev pub read_answer : Register → State → ℕ
--- the divisor latch, offsets 0 and 1 with DLAB set
-read_answer DivisorLow s = s.baud_divisor_low
-read_answer DivisorHigh s = s.baud_divisor_high
--- the data read: the oldest held byte, or 0
-read_answer Data s = slice_index s.in_buffer 0
-read_answer InterruptEnable s = s.interrupt_enable
--- the identification read: with bits 0xC0, which say that the FIFOs are on
-read_answer InterruptIdentification s = joined s.interrupt_identification 0xC0
-read_answer LineControl s = s.line_control
-read_answer ModemControl s = s.modem_control
-read_answer LineStatus s = s.line_status
--- the modem status read: in loopback it shows the outputs
-read_answer ModemStatus s = modem_status_read s.modem_control s.modem_status
-read_answer Scratch s = s.scratch
--- an unknown offset, from 8 on
-read_answer Unknown s = 0
 
 -- an enqueue: 0 in loopback, whatever is given, and for no bytes; that the FIFO is full; the trigger's refusal; else how
 -- many bytes were added
@@ -40,9 +21,9 @@ enqueue_answer s bytes asked =
     else (if is_refused asked then TriggerRefused
     else Added (length (accepted_of s bytes))))
 
--- any call
+-- any call: a read shows the register that it reaches
 abbrev pub answer : State → Deed → Asked → Sent → Answer
-answer s (Reads offset) asked what = Given (read_answer (register (is_dlab s.line_control) offset) s)
+answer s (Reads offset) asked what = Given (shown (register (is_dlab s.line_control) offset) s)
 answer s (Writes offset value) asked what = write_answer asked what
 answer s (Enqueues bytes) asked what = enqueue_answer s bytes asked
 answer s Restores asked what = NoAnswer

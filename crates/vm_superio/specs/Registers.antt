@@ -1,6 +1,6 @@
 -- The serial port's registers: which one an offset reaches, and the bits that have a meaning.
-use Rattle.std.specs.Prelude.{ℕ, Bool, true, false, ◌==◌, if◌then◌else◌, List, [], ◌∷◌, ◌++◌}
-use Rattle.vm_superio.specs.State.{has_bits, masked, joined}
+use Rattle.std.specs.Prelude.{ℕ, Bool, true, false, ◌==◌, if◌then◌else◌, List, [], ◌∷◌, ◌++◌, slice_index}
+use Rattle.vm_superio.specs.State.{State, has_bits, masked, joined}
 pub use Rattle.vm_superio.specs.declared.serial.registers.Register.{Register}
 pub use Rattle.vm_superio.specs.declared.serial.registers.Register.TheVariants.{DivisorLow, DivisorHigh, Data, InterruptEnable, InterruptIdentification, LineControl, ModemControl, LineStatus, ModemStatus, Scratch, Unknown}
 pub use Rattle.vm_superio.specs.declared.serial.registers.Condition.{Condition}
@@ -60,3 +60,22 @@ modem_status_read modem_control modem_status =
     (if has_bits modem_control 0x04 then 0x40 else 0))
     (if has_bits modem_control 0x08 then 0x80 else 0)
     else modem_status
+
+-- what a read of the register shows
+abbrev pub shown : Register → State → ℕ
+-- the divisor latch, offsets 0 and 1 with DLAB set
+shown DivisorLow s = s.baud_divisor_low
+shown DivisorHigh s = s.baud_divisor_high
+-- the data read: the oldest held byte, or 0
+shown Data s = slice_index s.in_buffer 0
+shown InterruptEnable s = s.interrupt_enable
+-- the identification read: with bits 0xC0, which say that the FIFOs are on
+shown InterruptIdentification s = joined s.interrupt_identification 0xC0
+shown LineControl s = s.line_control
+shown ModemControl s = s.modem_control
+shown LineStatus s = s.line_status
+-- the modem status read: in loopback it shows the outputs
+shown ModemStatus s = modem_status_read s.modem_control s.modem_status
+shown Scratch s = s.scratch
+-- an unknown offset, from 8 on
+shown Unknown s = 0
