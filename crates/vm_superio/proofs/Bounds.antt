@@ -5,11 +5,11 @@ use Rattle.std.proofs.lemmas.List.Sums.{sum_by-cons}
 use Rattle.std.specs.Prelude.{if◌then◌else◌, IsTrue, sum_by, count_by}
 use Rattle.vm_superio.specs.State.{State}
 use Rattle.vm_superio.specs.Acts.{Entry, one_if}
-use Rattle.vm_superio.specs.Meaning.{Kind, DataRead, IdentificationRead}
+use Rattle.vm_superio.specs.Meaning.{Kind, DataRead, IdentificationRead, is_identification_read, is_data_read}
 use Rattle.vm_superio.specs.History.{kind}
-use Rattle.vm_superio.specs.Interrupts.{answer_count, trigger_calls, receive_raised, acknowledges_receive, receive_pending, transmit_raised, acknowledges_transmit, transmit_pending, record_fits, is_fitting}
+use Rattle.vm_superio.specs.Interrupts.{answer_count, trigger_calls, receive_raised, acknowledges_receive, receive_pending, transmit_raised, transmit_pending, record_fits, is_fitting}
 use Rattle.vm_superio.specs.Laws.{TriggerBoundLaw}
-use Rattle.vm_superio.specs.LawWords.{kinds, is_identification_read, is_data_read}
+use Rattle.vm_superio.specs.LawWords.{kinds}
 use Rattle.vm_superio.proofs.Bytes.{and_left, and_right}
 
 -- each call makes a condition pending that was not, and only an acknowledgement makes it one that is not
@@ -27,7 +27,7 @@ one_condition false false false = omega arith
 
 -- a read of the identification acknowledges two conditions, a data read one
 acknowledged_by : (k : Kind)
-    → one_if (acknowledges_receive k) + one_if (acknowledges_transmit k)
+    → one_if (acknowledges_receive k) + one_if (is_identification_read k)
     ≤ 2 * one_if (is_identification_read k) + one_if (is_data_read k)
 acknowledged_by DataRead = omega arith
 acknowledged_by IdentificationRead = omega arith
@@ -61,7 +61,7 @@ calls_so_far start (entry ∷ past) fitting =
       arith,
       before,
       one_condition (receive_raised start past entry) (acknowledges_receive k) (receive_pending start past),
-      one_condition (transmit_raised start past entry) (acknowledges_transmit k) (transmit_pending start past),
+      one_condition (transmit_raised start past entry) (is_identification_read k) (transmit_pending start past),
       acknowledged_by k,
     ))
 

@@ -9,9 +9,9 @@ use Rattle.vm_superio.specs.Registers.{Transmit, Receive, identification_of, tra
 use Rattle.vm_superio.specs.Acts.{Entry, is_refused, is_sent, one_if}
 use Rattle.vm_superio.specs.Asking.{ask, ask_while_held, becomes_pending, receive_becomes_pending, that_fit, receive}
 use Rattle.vm_superio.specs.Fits.{receive_due, due_by, asked_fits, due, fits}
-use Rattle.vm_superio.specs.Meaning.{Kind, DataRead, IdentificationRead, EnableWrite, DataWrite, Arrival, Other, sent_by}
+use Rattle.vm_superio.specs.Meaning.{Kind, DataRead, IdentificationRead, EnableWrite, DataWrite, Arrival, Other, sent_by, is_identification_read}
 use Rattle.vm_superio.specs.History.{kind, held}
-use Rattle.vm_superio.specs.Interrupts.{receive_raised_by, acknowledges_receive, receive_pending, transmit_raised_by, acknowledges_transmit, transmit_pending, answer_count, record_fits, restore_calls_due}
+use Rattle.vm_superio.specs.Interrupts.{receive_raised_by, acknowledges_receive, receive_pending, transmit_raised_by, transmit_pending, answer_count, record_fits, restore_calls_due}
 use Rattle.vm_superio.specs.Replies.{identification}
 use Rattle.vm_superio.specs.Calls.{restore_calls}
 use Rattle.vm_superio.specs.Laws.{state_after, InterruptLaw}
@@ -30,7 +30,7 @@ receive_called k held enable receive = receive_raised_by k held enable && not re
 abbrev pub transmit_next : Kind → List ℕ → ℕ → Asked → Bool → Bool → Bool
 transmit_next k held enable asked transmit receive =
     transmit_raised_by k enable (receive_called k held enable receive && is_refused asked) ||
-    (not (acknowledges_transmit k) && transmit)
+    (not (is_identification_read k) && transmit)
 
 abbrev pub receive_next : Kind → List ℕ → ℕ → Bool → Bool
 receive_next k held enable receive = receive_raised_by k held enable || (not (acknowledges_receive k) && receive)

@@ -7,9 +7,9 @@ use Rattle.vm_superio.specs.declared.run.Asked.{Asked}
 use Rattle.vm_superio.specs.State.{State, has_bits, not_empty}
 use Rattle.vm_superio.specs.Acts.{Entry}
 use Rattle.vm_superio.specs.Asking.{that_fit, receive}
-use Rattle.vm_superio.specs.Meaning.{Kind, DataRead, IdentificationRead, EnableWrite, DataWrite, Arrival, Other}
+use Rattle.vm_superio.specs.Meaning.{Kind, DataRead, IdentificationRead, EnableWrite, DataWrite, Arrival, Other, is_identification_read}
 use Rattle.vm_superio.specs.History.{kind, held, interrupt_enable}
-use Rattle.vm_superio.specs.Interrupts.{still_raised, receive_raised, acknowledges_receive, receive_pending, transmit_raised, acknowledges_transmit}
+use Rattle.vm_superio.specs.Interrupts.{still_raised, receive_raised, acknowledges_receive, receive_pending, transmit_raised}
 use Rattle.vm_superio.specs.Laws.{PendingByPlacesLaw, WaitingBytesLaw, state_after}
 use Rattle.vm_superio.specs.LawWords.{NoneAcknowledges, PendingByPlaces, tells_of_bytes}
 use Rattle.vm_superio.proofs.Bytes.{and_both, and_left, and_right, enables_receive}
@@ -128,9 +128,9 @@ pending_by_places_law start past =
             (receive_raised start) acknowledges_receive r past,
       );
       transmit = (
-        to_places start (transmit_raised start) acknowledges_transmit t past,
+        to_places start (transmit_raised start) is_identification_read t past,
         from_places start
-            (transmit_raised start) acknowledges_transmit t past,
+            (transmit_raised start) is_identification_read t past,
       );
     }
 

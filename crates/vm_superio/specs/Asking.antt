@@ -5,8 +5,8 @@ use Rattle.vm_superio.specs.Registers.{is_loopback, Condition, Receive, enable_b
 
 -- ---- asking for a condition
 
--- a condition that is asked for becomes pending where its enable bit is set and its pending bit is clear; the trigger is
--- called exactly then
+-- a condition that is asked for becomes pending where its enable bit is set and its pending bit is clear; the trigger
+-- is called exactly then
 abbrev pub becomes_pending : Condition → ℕ → ℕ → Bool
 becomes_pending condition enable identification =
     has_bits enable (enable_bit condition) && not (has_bits identification (pending_bit condition))

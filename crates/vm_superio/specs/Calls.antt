@@ -12,8 +12,8 @@ use Rattle.vm_superio.specs.Asking.{ask, receive_becomes_pending, ask_while_held
 
 -- ---- what a call answers
 
--- an enqueue: 0 in loopback, whatever is given, and for no bytes; that the FIFO is full; the trigger's refusal; else how
--- many bytes were added
+-- an enqueue: 0 in loopback, whatever is given, and for no bytes; that the FIFO is full; the trigger's refusal; else
+-- how many bytes were added
 abbrev pub enqueue_answer : State → List ℕ → Asked → Answer
 enqueue_answer s bytes asked =
     if is_loopback s.modem_control || (length bytes == 0) then Added 0

@@ -7,7 +7,7 @@ use Rattle.vm_superio.specs.declared.run.Asked.TheVariants.{Nothing, Took, Refus
 use Rattle.vm_superio.specs.State.{State, has_bits, not_empty}
 use Rattle.vm_superio.specs.Registers.{Condition, transmit_first}
 use Rattle.vm_superio.specs.Acts.{Entry, is_refused, is_sent, one_if}
-use Rattle.vm_superio.specs.Meaning.{Kind, DataRead, IdentificationRead, EnableWrite, DataWrite, sent_by, accepted_by}
+use Rattle.vm_superio.specs.Meaning.{Kind, EnableWrite, DataWrite, sent_by, accepted_by, is_identification_read, is_data_read}
 use Rattle.vm_superio.specs.History.{kind, interrupt_enable, held}
 
 -- ---- raised, acknowledged and pending
@@ -33,11 +33,9 @@ receive_raised start past entry =
 
 -- a read of the identification acknowledges it, and so does a data read, also where it takes nothing
 abbrev pub acknowledges_receive : Kind → Bool
-acknowledges_receive IdentificationRead = true
-acknowledges_receive DataRead = true
-acknowledges_receive _ = false
+acknowledges_receive act = is_identification_read act || is_data_read act
 
--- the receive condition is pending; at the start by bit 0x04 of the identification
+-- the receive condition is pending; at the start bit 0x04 of the identification tells it
 abbrev pub receive_pending : State → List Entry → Bool
 receive_pending start past =
     still_raised start (receive_raised start) acknowledges_receive (has_bits start.interrupt_identification 0x04) past
@@ -60,15 +58,11 @@ transmit_raised start past entry =
     transmit_raised_by (kind start past entry.act) (interrupt_enable start past)
     (receive_call start past entry && is_refused entry.asked)
 
--- only a read of the identification acknowledges it
-abbrev pub acknowledges_transmit : Kind → Bool
-acknowledges_transmit IdentificationRead = true
-acknowledges_transmit _ = false
-
--- the transmitter condition is pending; at the start by bit 0x02 of the identification
+-- the transmitter condition is pending; only a read of the identification acknowledges it, and at the start bit 0x02 of
+-- the identification tells it
 abbrev pub transmit_pending : State → List Entry → Bool
 transmit_pending start past =
-    still_raised start (transmit_raised start) acknowledges_transmit (has_bits start.interrupt_identification 0x02) past
+    still_raised start (transmit_raised start) is_identification_read (has_bits start.interrupt_identification 0x02) past
 
 -- a trigger call is due for it where it is raised and was not pending
 abbrev pub transmit_call : State → List Entry → Entry → Bool

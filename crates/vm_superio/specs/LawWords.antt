@@ -9,7 +9,7 @@ use Rattle.vm_superio.specs.State.{State, has_bits, not_empty}
 use Rattle.vm_superio.specs.Events.{Event, out_byte, tx_lost_byte}
 use Rattle.vm_superio.specs.Acts.{Deed, Restores, Entry, Answer}
 use Rattle.vm_superio.specs.Links.{written}
-use Rattle.vm_superio.specs.Meaning.{Kind, DataRead, IdentificationRead, EnableWrite, accepted_by}
+use Rattle.vm_superio.specs.Meaning.{Kind, EnableWrite, accepted_by}
 use Rattle.vm_superio.specs.History.{kind}
 
 -- ---- places of a past
@@ -32,16 +32,6 @@ PendingByPlaces start raises acknowledges first past =
 abbrev pub kinds : State → List Entry → List Kind
 kinds start [] = []
 kinds start (entry ∷ past) = kind start past entry.act ∷ kinds start past
-
--- reads of offset 2 among them
-abbrev pub is_identification_read : Kind → Bool
-is_identification_read IdentificationRead = true
-is_identification_read _ = false
-
--- data reads among them
-abbrev pub is_data_read : Kind → Bool
-is_data_read DataRead = true
-is_data_read _ = false
 
 -- a place where waiting bytes are told of: it accepts a byte, or is an interrupt-enable write
 abbrev pub tells_of_bytes : Kind → List ℕ → Bool

@@ -9,10 +9,10 @@ use Rattle.vm_superio.specs.Acts.{one_if, Deed, Entry, Answer, is_lost}
 use Rattle.vm_superio.specs.Fits.{due, sends, fits}
 use Rattle.vm_superio.specs.Calls.{answer, next, events, restore_calls}
 use Rattle.vm_superio.specs.Coherent.{Coherent}
-use Rattle.vm_superio.specs.LawWords.{past_of, NoneAcknowledges, PendingByPlaces, kinds, is_identification_read, is_data_read, tells_of_bytes, acts_and_asked, all_written, tells_fate, turns, asked_when, sent_when}
-use Rattle.vm_superio.specs.Meaning.{kind_in, sent_by, accepted_by, taken_by}
+use Rattle.vm_superio.specs.LawWords.{past_of, NoneAcknowledges, PendingByPlaces, kinds, tells_of_bytes, acts_and_asked, all_written, tells_fate, turns, asked_when, sent_when}
+use Rattle.vm_superio.specs.Meaning.{kind_in, sent_by, accepted_by, taken_by, is_identification_read, is_data_read}
 use Rattle.vm_superio.specs.History.{line_control, modem_control, scratch, divisor_low, divisor_high, interrupt_enable, kind, accepted, taken, held}
-use Rattle.vm_superio.specs.Interrupts.{receive_raised, acknowledges_receive, receive_pending, transmit_raised, acknowledges_transmit, transmit_pending, answer_count, record_fits, is_fitting, restore_calls_due}
+use Rattle.vm_superio.specs.Interrupts.{receive_raised, acknowledges_receive, receive_pending, transmit_raised, transmit_pending, answer_count, record_fits, is_fitting, restore_calls_due}
 use Rattle.vm_superio.specs.Replies.{identification, line_status, guest_read, reply, output, described}
 
 -- the state that the call cases give after a past
@@ -92,8 +92,8 @@ RepliesAre start past [] = ⊤
 RepliesAre start past (call ∷ later) =
     (call.1 ≡ reply start past call.0.act call.0.asked call.0.sent) × RepliesAre start (call.0 ∷ past) later
 
--- with the past before them the calls are a fitting history, with these answers, and end in the state that it describes,
--- which is coherent
+-- with the past before them the calls are a fitting history, with these answers, and end in the state that it
+-- describes, which is coherent
 pub record RunAgrees (start : State) (past : List Entry) (calls : List (Entry × Answer)) (end : State) : Type 0 where
   pub fitting : IsTrue (is_fitting start (past_of past calls))
   pub answers : RepliesAre start past calls
@@ -111,10 +111,12 @@ WholeRunLaw = (start end : State) (calls : List (Entry × Answer)) → Coherent 
 pub record PendingAgrees (start : State) (past : List Entry) : Type 0 where
   pub receive :
       IsTrue (receive_pending start past)
-      ↔ PendingByPlaces start (receive_raised start) acknowledges_receive (has_bits start.interrupt_identification 0x04) past
+      ↔ PendingByPlaces start (receive_raised start) acknowledges_receive
+      (has_bits start.interrupt_identification 0x04) past
   pub transmit :
       IsTrue (transmit_pending start past)
-      ↔ PendingByPlaces start (transmit_raised start) acknowledges_transmit (has_bits start.interrupt_identification 0x02) past
+      ↔ PendingByPlaces start (transmit_raised start) is_identification_read
+      (has_bits start.interrupt_identification 0x02) past
 
 -- for every past
 abbrev pub PendingByPlacesLaw : Type 0

@@ -43,6 +43,16 @@ kind_of dlab loopback Restores = Other
 abbrev pub kind_in : State → Deed → Kind
 kind_in s act = kind_of (is_dlab s.line_control) (is_loopback s.modem_control) act
 
+-- a read of the identification
+abbrev pub is_identification_read : Kind → Bool
+is_identification_read IdentificationRead = true
+is_identification_read _ = false
+
+-- a data read
+abbrev pub is_data_read : Kind → Bool
+is_data_read DataRead = true
+is_data_read _ = false
+
 -- the byte that an act sends to the writer
 abbrev pub sent_by : Kind → List ℕ
 sent_by (DataWrite value) = value ∷ []
