@@ -1,7 +1,6 @@
 -- One call of a run, and what it makes of the stretch.
 use Rattle.std.proofs.Common.{◌≡◌, ℕ, List, [], ◌∷◌, ◌++◌, Option, Some, None, Result, refl, sym, ap, ◌∙◌, subst, append_assoc, append-nil}
-use Rattle.std.specs.Prelude.{◌↔◌, not, IsTrue}
-use Rattle.std.specs.List.{list_all}
+use Rattle.std.specs.Prelude.{◌↔◌}
 use Rattle.std.proofs.lemmas.Bool.{and_parts}
 use Rattle.std.proofs.lemmas.List.Folds.{list_all-append}
 use Rattle.std.specs.Io.KnownBytes.{Appends}
@@ -15,7 +14,6 @@ use Rattle.vm_superio.specs.declared.run.Done.{Done}
 use Rattle.vm_superio.specs.State.{State}
 use Rattle.vm_superio.specs.Events.{Event}
 use Rattle.vm_superio.specs.Acts.{Deed, Answer}
-use Rattle.vm_superio.specs.Calls.{next}
 use Rattle.vm_superio.specs.Links.{answers, written, WriterLink}
 use Rattle.vm_superio.specs.Port.{Port, IsCase}
 use Rattle.vm_superio.specs.Stretches.{Stretch, first_stretch, stretch_from, extended, IsAfter}

@@ -1,5 +1,5 @@
 -- Two calls of a trigger in a row, of which the first was taken.
-use Rattle.std.proofs.Common.{◌≡◌, List, [], ◌∷◌, ◌++◌, Result, Ok, Err, refl, inl, inr}
+use Rattle.std.proofs.Common.{List, [], ◌∷◌, ◌++◌, Result, Ok, Err, refl, inl, inr}
 use Rattle.std.specs.Prelude.{OnOk, IfErr}
 use Rattle.vm_superio.specs.Registers.{Receive, Transmit}
 use Rattle.vm_superio.specs.Restoring.{EndsRefused}

@@ -1,5 +1,5 @@
 -- The answers to the trigger calls of one call, with the refusal itself.
-use Rattle.std.specs.Prelude.{List, [], ◌∷◌, Option, Some, None, Result, Ok, Err}
+use Rattle.std.specs.Prelude.{Option, Some, None, Result, Ok, Err}
 use Rattle.vm_superio.specs.declared.run.Asked.{Asked}
 use Rattle.vm_superio.specs.declared.run.Asked.TheVariants as asked
 use Rattle.vm_superio.specs.declared.run.Sent.{Sent}

@@ -13,7 +13,6 @@ use Rattle.vm_superio.specs.declared.run.Reply.TheVariants.{Byte, Wrote, Enqueue
 use Rattle.vm_superio.specs.declared.run.Done.{Done}
 use Rattle.vm_superio.specs.declared.serial.errors.Error.{Error}
 use Rattle.vm_superio.specs.declared.serial.errors.Error.TheVariants.{Trigger, Memory}
-use Rattle.vm_superio.specs.declared.serial.errors.Refused.{Refused}
 use Rattle.vm_superio.specs.State.{State}
 use Rattle.vm_superio.specs.Events.{Event}
 use Rattle.vm_superio.specs.Acts.{Deed, Reads, Writes, Enqueues, Answer, Given}

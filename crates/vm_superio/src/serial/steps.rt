@@ -4,13 +4,13 @@ ghost use Rattle.std.specs.Io.KnownBytes.{Appends};
 ghost use Rattle.std.specs.Bool.{beq};
 ghost use Rattle.std.specs.Option.{option_to_list};
 ghost use Rattle.vm_superio.specs.State.{masked, not_empty};
-ghost use Rattle.vm_superio.specs.Registers.{is_loopback};
+ghost use Rattle.vm_superio.specs.Registers.{is_loopback, shown};
 ghost use Rattle.vm_superio.specs.Meaning.{write_kind, sent_by};
 ghost use Rattle.vm_superio.specs.Events.{out_byte, tx_lost_byte, in_buffer_empty, buffer_read};
 ghost use Rattle.vm_superio.specs.Acts.{Reads, Writes, Enqueues, Given, Written, TriggerRefused, WriterFailed, is_lost, is_sent, one_if};
 ghost use Rattle.vm_superio.specs.Asking.{becomes_pending, ask, receive_becomes_pending, ask_while_held, that_fit, receive};
 ghost use Rattle.vm_superio.specs.Fits.{asked_fits, enable_due, receive_due, due_by};
-ghost use Rattle.vm_superio.specs.Calls.{read_answer, read_next, enable_write, data_read, data_write, write_next, read_events, sent_events};
+ghost use Rattle.vm_superio.specs.Calls.{read_next, enable_write, data_read, data_write, write_next, read_events, sent_events};
 ghost use Rattle.vm_superio.specs.Links.{answers, written, WriterLink};
 ghost use Rattle.vm_superio.specs.Answers.{asked_of, refusal_in_answers, sent_of};
 ghost use Rattle.vm_superio.specs.Port.{write_reply, enqueue_reply, refusal_of};
@@ -167,7 +167,7 @@ impl<T: Trigger, EV: SerialEvents, W: Write> Serial<T, EV, W> {
 
     /// Reads a register.
     fn read_register(&mut self, register: Register) -> u8
-        ensures value { result ≡ read_answer register self.old.state }
+        ensures value { result ≡ shown register self.old.state }
         ensures state { self.new.state ≡ read_next register self.old.state }
         ensures trigger { self.new.trigger ≡ self.old.trigger }
         ensures events { EV.link self.old.events (read_events register self.old.state.in_buffer) self.new.events }

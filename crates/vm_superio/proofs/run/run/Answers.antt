@@ -1,8 +1,7 @@
 -- A call that was made goes from the run that is left to the run so far.
-use Rattle.std.proofs.Common.{sym, subst, ◌∙◌, ap, append_assoc, append-nil, ◌++◌, ◌∷◌, [], arith, rules}
+use Rattle.std.proofs.Common.{append_assoc, append-nil, ◌∷◌, [], arith}
 use Rattle.std.proofs.lemmas.List.{nil_from_length}
 use Rattle.vm_superio.specs.Stretches.{first_stretch}
-use Rattle.vm_superio.specs.RunCalls.{RunsCalls}
 use Rattle.vm_superio.proofs.RunSteps.{IsAfter-first, GoesOn-made, RunsCalls-step}
 use Rattle.vm_superio.proofs.run.run.Goals as goal
 

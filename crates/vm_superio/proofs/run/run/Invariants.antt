@@ -1,5 +1,5 @@
 -- The stretch so far, and that what goes on from it makes the whole run. The calls that are left get fewer.
-use Rattle.std.proofs.Common.{◌≤◌, ◌+◌, ℕ, List, ◌++◌, vec_len}
+use Rattle.std.proofs.Common.{◌≤◌, ◌+◌, List, ◌++◌, vec_len}
 use Rattle.std.specs.Prelude.{vec_capacity}
 use Rattle.std.specs.VecDeque.{deque_len}
 use Rattle.vm_superio.specs.Port.{Port}
