@@ -9,6 +9,7 @@ mod Held
 mod OneCall
 mod Pending
 mod Places
+mod PortLemmas
 mod RegisterSteps
 mod Rows
 mod RunRows

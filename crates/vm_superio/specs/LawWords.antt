@@ -1,11 +1,11 @@
 -- The words of the laws.
-use Rattle.std.specs.Prelude.{◌≡◌, ◌⊎◌, ℕ, zero, suc, Bool, true, false, not, ◌&&◌, if◌then◌else◌, List, [], ◌∷◌, ◌++◌, IsTrue}
+use Rattle.std.specs.Prelude.{◌≡◌, ◌⊎◌, ℕ, zero, suc, Bool, true, false, if◌then◌else◌, List, [], ◌∷◌, ◌++◌, IsTrue}
 use Rattle.std.specs.Bool.{IsFalse}
 use Rattle.vm_superio.specs.declared.run.Asked.{Asked}
 use Rattle.vm_superio.specs.declared.run.Asked.TheVariants.{Nothing, Took, Refused, TookTook, TookRefused}
 use Rattle.vm_superio.specs.declared.run.Sent.{Sent}
 use Rattle.vm_superio.specs.declared.run.Sent.TheVariants as sent
-use Rattle.vm_superio.specs.State.{State, has_bits, not_empty}
+use Rattle.vm_superio.specs.State.{State, not_empty}
 use Rattle.vm_superio.specs.Events.{Event, out_byte, tx_lost_byte}
 use Rattle.vm_superio.specs.Acts.{Deed, Restores, Entry, Answer}
 use Rattle.vm_superio.specs.Links.{written}
@@ -67,10 +67,6 @@ abbrev pub tells_fate : Event → Bool
 tells_fate out_byte = true
 tells_fate tx_lost_byte = true
 tells_fate _ = false
-
--- a bit that a call turns from clear to set
-abbrev pub turns : ℕ → ℕ → ℕ → Bool
-turns bit old new = not (has_bits old bit) && has_bits new bit
 
 -- what is asked where so many calls are due: the answer to the first and, if it comes to that, to the second
 abbrev pub asked_when : ℕ → Bool → Bool → Asked

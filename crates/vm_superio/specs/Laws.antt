@@ -4,12 +4,12 @@ use Rattle.std.specs.List.{list_all}
 use Rattle.vm_superio.specs.declared.run.Asked.{Asked}
 use Rattle.vm_superio.specs.declared.run.Sent.{Sent}
 use Rattle.vm_superio.specs.State.{State, has_bits, not_empty}
-use Rattle.vm_superio.specs.Registers.{identification_of}
+use Rattle.vm_superio.specs.Registers.{identification_of, turns}
 use Rattle.vm_superio.specs.Acts.{one_if, Deed, Entry, Answer, is_lost}
 use Rattle.vm_superio.specs.Fits.{due, sends, fits}
 use Rattle.vm_superio.specs.Calls.{answer, next, events, restore_calls}
 use Rattle.vm_superio.specs.Coherent.{Coherent}
-use Rattle.vm_superio.specs.LawWords.{past_of, NoneAcknowledges, PendingByPlaces, kinds, tells_of_bytes, acts_and_asked, all_written, tells_fate, turns, asked_when, sent_when}
+use Rattle.vm_superio.specs.LawWords.{past_of, NoneAcknowledges, PendingByPlaces, kinds, tells_of_bytes, acts_and_asked, all_written, tells_fate, asked_when, sent_when}
 use Rattle.vm_superio.specs.Meaning.{kind_in, sent_by, accepted_by, taken_by, is_identification_read, is_data_read}
 use Rattle.vm_superio.specs.History.{line_control, modem_control, scratch, divisor_low, divisor_high, interrupt_enable, kind, accepted, taken, held}
 use Rattle.vm_superio.specs.Interrupts.{receive_raised, acknowledges_receive, receive_pending, transmit_raised, transmit_pending, answer_count, record_fits, is_fitting, restore_calls_due}

@@ -1,5 +1,5 @@
 -- The serial port's registers: which one an offset reaches, and the bits that have a meaning.
-use Rattle.std.specs.Prelude.{ℕ, Bool, true, false, ◌==◌, if◌then◌else◌, List, [], ◌∷◌, ◌++◌, slice_index}
+use Rattle.std.specs.Prelude.{ℕ, Bool, true, false, not, ◌&&◌, ◌==◌, if◌then◌else◌, List, [], ◌∷◌, ◌++◌, slice_index}
 use Rattle.vm_superio.specs.State.{State, has_bits, masked, joined}
 pub use Rattle.vm_superio.specs.declared.serial.registers.Register.{Register}
 pub use Rattle.vm_superio.specs.declared.serial.registers.Register.TheVariants.{DivisorLow, DivisorHigh, Data, InterruptEnable, InterruptIdentification, LineControl, ModemControl, LineStatus, ModemStatus, Scratch, Unknown}
@@ -36,6 +36,10 @@ enable_bit Transmit = 0x02
 abbrev pub pending_bit : Condition → ℕ
 pending_bit Receive = 0x04
 pending_bit Transmit = 0x02
+
+-- the bit goes from clear to set
+abbrev pub turns : ℕ → ℕ → ℕ → Bool
+turns bit old new = not (has_bits old bit) && has_bits new bit
 
 -- the identification while exactly these conditions are pending, the transmitter's and the receive condition
 abbrev pub identification_of : Bool → Bool → ℕ

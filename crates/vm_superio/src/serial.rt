@@ -97,7 +97,7 @@ impl<T: Trigger, W: Write> Serial<T, NoEvents, W> {
 impl<T: Trigger, EV: SerialEvents, W: Write> Serial<T, EV, W> {
     ghost use Rattle.std.specs.Borrow.{Lends, sem};
     ghost use Rattle.vm_superio.specs.contracts.serial.Serial.{the_row};
-    ghost use Rattle.vm_superio.specs.Port.{IsCase, with_writer};
+    ghost use Rattle.vm_superio.specs.Port.{IsCase, CallsPerBit, with_writer};
 
     /// Makes a serial port as `new` does, which tells its events to `serial_evts`. Neither the trigger nor the events
     /// object is called.
@@ -289,6 +289,7 @@ impl<T: Trigger, EV: SerialEvents, W: Write> Serial<T, EV, W> {
         ensures case { (asked : Asked) × (sent : Sent)
             × IsCase T.link EV.link W.contents (Writes offset value) asked sent (write_reply result) (refusal_of result)
             self.old self.new }
+        ensures calls { CallsPerBit T.link self.old self.new }
         ensures coherent { Coherent self.old.state → Coherent self.new.state }
     {
         self.traced_write(offset, value).reply
@@ -326,6 +327,7 @@ impl<T: Trigger, EV: SerialEvents, W: Write> Serial<T, EV, W> {
             (refusal_of result) self.old self.new }
         ensures full { result ≡ Err Error.FullFifo → self.new ≡ self.old }
         ensures out { self.new.out ≡ self.old.out }
+        ensures calls { CallsPerBit T.link self.old self.new }
         ensures coherent { Coherent self.old.state → Coherent self.new.state }
     {
         self.traced_enqueue(input).reply

@@ -1,5 +1,5 @@
 //! The steps that the calls of a serial port are made of.
-ghost use Rattle.std.specs.Prelude.{◌≡◌, length, [], ◌∷◌, ◌++◌, if◌then◌else◌, slice_index, is_some, is_ok, IsTrue, OnOk};
+ghost use Rattle.std.specs.Prelude.{◌≡◌, ◌<◌, length, [], ◌∷◌, ◌++◌, if◌then◌else◌, slice_index, is_some, is_ok, IsTrue, OnOk};
 ghost use Rattle.std.specs.Io.KnownBytes.{Appends};
 ghost use Rattle.std.specs.Bool.{beq};
 ghost use Rattle.std.specs.Option.{option_to_list};
@@ -239,9 +239,12 @@ impl<T: Trigger, EV: SerialEvents, W: Write> Serial<T, EV, W> {
 
     /// `write`, with what it asked and sent.
     pub(crate) fn traced_write(&mut self, offset: u8, value: u8) -> Traced<Result<(), Error<T::E>>>
-        ensures { IsCase T.link EV.link W.contents (Writes offset value) result.asked result.sent (write_reply result.reply)
+        ensures case { IsCase T.link EV.link W.contents (Writes offset value) result.asked result.sent (write_reply result.reply)
             (refusal_of result.reply) self.old self.new }
+        ensures byte { self.old.state.interrupt_identification < 256 }
     {
+        // No effect at run time. The proof takes from this read that the identification is a byte.
+        let _identification = self.interrupt_identification;
         let register = Register::at(has_bits(self.line_control, LCR_DLAB_BIT), offset);
         let (answers, fate) = self.write_register(register, value);
         let asked = answers.asked();
@@ -255,9 +258,12 @@ impl<T: Trigger, EV: SerialEvents, W: Write> Serial<T, EV, W> {
 
     /// `enqueue_raw_bytes`, with what it asked and sent.
     pub(crate) fn traced_enqueue(&mut self, input: &[u8]) -> Traced<Result<usize, Error<T::E>>>
-        ensures { IsCase T.link EV.link W.contents (Enqueues input.now) result.asked result.sent (enqueue_reply result.reply)
+        ensures case { IsCase T.link EV.link W.contents (Enqueues input.now) result.asked result.sent (enqueue_reply result.reply)
             (refusal_of result.reply) self.old self.new }
+        ensures byte { self.old.state.interrupt_identification < 256 }
     {
+        // No effect at run time. The proof takes from this read that the identification is a byte.
+        let _identification = self.interrupt_identification;
         if has_bits(self.modem_control, MCR_LOOP_BIT) || input.is_empty() {
             return Traced {
                 reply: Ok(0),
