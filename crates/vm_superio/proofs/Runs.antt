@@ -5,7 +5,7 @@ use Rattle.std.proofs.lemmas.Bool.{false≢true}
 use Rattle.std.specs.Prelude.{if◌then◌else◌, nat_le, IsTrue}
 use Rattle.vm_superio.specs.declared.run.Asked.{Asked}
 use Rattle.vm_superio.specs.declared.run.Sent.{Sent}
-use Rattle.vm_superio.specs.State.{State, has_bits, without, not_empty}
+use Rattle.vm_superio.specs.State.{State, fresh, has_bits, without, not_empty}
 use Rattle.vm_superio.specs.Acts.{Deed, Reads, Writes, Enqueues, Restores, Entry, Answer, Added, FifoFull, TriggerRefused, is_refused}
 use Rattle.vm_superio.specs.Asking.{that_fit, receive}
 use Rattle.vm_superio.specs.Calls.{answer}
@@ -20,6 +20,19 @@ use Rattle.vm_superio.proofs.ByKind.{by_kind, next_by_kind}
 use Rattle.vm_superio.proofs.RegisterSteps.{register_law}
 use Rattle.vm_superio.proofs.Held.{held_bytes_law, line_status_law, not_empty-append}
 use Rattle.vm_superio.proofs.Pending.{interrupt_law, pending_by_kind, transmit_next, receive_next}
+
+-- ---- a new port is coherent: nothing is pending, and no byte is held
+
+pub fresh_coherent : Coherent fresh
+unfolding has_bits
+fresh_coherent = record {
+  transmit = false;
+  receive = false;
+  identification = refl;
+  received = λ impossible. impossible;
+  data_ready = refl;
+  few = omega arith;
+}
 
 -- ---- a coherent state stays coherent
 

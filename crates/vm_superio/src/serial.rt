@@ -89,6 +89,7 @@ impl<T: Trigger, W: Write> Serial<T, NoEvents, W> {
         ensures state { IfOk result (λ serial. serial.state ≡ fresh) }
         ensures trigger { IfOk result (λ serial. serial.trigger ≡ trigger) }
         ensures out { IfOk result (λ serial. serial.out ≡ out) }
+        ensures coherent { IfOk result (λ serial. Coherent serial.state) }
     {
         Self::with_events(alloc, trigger, NoEvents, out)
     }
@@ -116,6 +117,7 @@ impl<T: Trigger, EV: SerialEvents, W: Write> Serial<T, EV, W> {
         ensures trigger { IfOk result (λ serial. serial.trigger ≡ trigger) }
         ensures events { IfOk result (λ serial. serial.events ≡ serial_evts) }
         ensures out { IfOk result (λ serial. serial.out ≡ out) }
+        ensures coherent { IfOk result (λ serial. Coherent serial.state) }
     {
         let Ok(in_buffer) = Fifo::new(alloc) else {
             return Err(Refused {
@@ -162,6 +164,7 @@ impl<T: Trigger, EV: SerialEvents, W: Write> Serial<T, EV, W> {
         ensures called { IfOk result (λ serial. T.link trigger (all_taken (restore_calls (state_of state.now))) serial.trigger) }
         ensures events { IfOk result (λ serial. serial.events ≡ serial_evts) }
         ensures out { IfOk result (λ serial. serial.out ≡ out) }
+        ensures coherent { IfOk result (λ serial. Coherent (state_of state.now) → Coherent serial.state) }
 
         // Where it is refused: why, and the objects.
         ensures too_many { FIFO_SIZE < vec_len state.now.in_buffer → IsErr result }

@@ -1,0 +1,6 @@
+-- A new port is coherent.
+use Rattle.vm_superio.proofs.Runs.{fresh_coherent}
+use Rattle.vm_superio.proofs.serial.Serial.with_events.Goals as goal
+
+pub returns-clause-coherent : goal.returns-clause-coherent
+returns-clause-coherent g c = rw c.in-Ok.ensures.empty fresh_coherent
