@@ -1,3 +1,4 @@
 pub mod PiecesLemmas
 pub mod ReadLemmas
+pub mod SessionLemmas
 pub mod ScriptLemmas

@@ -1,7 +1,10 @@
 pub mod Pieces
 pub mod Command
 pub mod Line
+pub mod Counts
+pub mod Output
 pub mod Reply
+pub mod Session
 pub mod Board
 pub mod Script
 pub mod Fault

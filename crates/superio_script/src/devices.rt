@@ -1,17 +1,21 @@
 //! A board of devices, and what a line does on it.
-ghost use Rattle.std.specs.Prelude.{◌≡◌, ◌≢◌, ◌↔◌, IfOk, IsErrOf, IsSomeAnd, IsOk};
+ghost use Rattle.std.specs.Prelude.{◌≡◌, ◌≢◌, ◌↔◌, IfOk, IsSomeAnd, IsErrOf, IsOk, OnErr};
 ghost use Rattle.superio_script.specs.Line.{fresh_line};
 ghost use Rattle.superio_script.specs.Command.{command_of};
 ghost use Rattle.superio_script.specs.Reply.{controller_reply};
 ghost use Rattle.superio_script.specs.declared.devices.LineFault.TheVariants.{Bad, Memory};
 
-use crate::command::{Command, parse};
+use crate::command::{Command, ControllerLine, parse};
+use crate::counts::Counts;
+use crate::output::Output;
 use crate::replies::{Reply, byte, word};
 use crate::script::ScriptFault;
+use crate::serial_lines::serial_line;
 use crate::trigger::Line;
 use std::alloc::Global;
 use std::marker::Model;
 use vm_superio::I8042Device;
+use vm_superio::serial::Serial;
 
 /// Why a line was not carried out.
 #[derive(Clone, Copy, Debug, PartialEq, Eq)]
@@ -25,6 +29,7 @@ pub enum LineFault {
 /// The devices that a script drives.
 #[derive(Drop)]
 pub struct Board {
+    serial: Serial<Line, Counts, Output>,
     controller: I8042Device<Line>,
 }
 
@@ -35,21 +40,23 @@ impl Model for Board {
 
     ghost Value = { Devices };
 
-    ghost view = { λ board. record { controller = board.controller } };
+    ghost view = { λ board. record { serial = board.serial; controller = board.controller } };
 
     // Between two lines the reset line was not called: a controller that was reset gives way to a fresh one.
     ghost invariant = { λ board. board.controller ≡ fresh_line 0 };
 }
 
 impl Board {
-    ghost use Rattle.superio_script.specs.Board.{Devices, fresh_devices};
+    ghost use Rattle.superio_script.specs.Board.{IsFresh, IsStep};
 
     /// A board of fresh devices. The mask names the calls that the serial port's line refuses.
     pub fn new(alloc: Global, mask: u64) -> Result<Board, ScriptFault>
         ensures made { IsOk result }
-        ensures fresh { IfOk result (λ board. board ≡ fresh_devices mask) }
+        ensures fresh { IfOk result (λ board. IsFresh mask board) }
     {
+        let serial = Serial::with_events(alloc, Line::new(mask), Counts::new(), Output::new());
         Ok(Board {
+            serial: serial.map_err(|_| ScriptFault::Memory)?,
             controller: I8042Device::new(Line::new(0)),
         })
     }
@@ -62,21 +69,24 @@ impl Board {
     pub fn line(&mut self, alloc: Global, line: &[u8]) -> Result<Reply, LineFault>
         ensures bad { IsErrOf result LineFault.Bad ↔ (command_of line.now ≡ None) }
         ensures memory { result ≢ Err LineFault.Memory }
-        ensures reply { IfOk result (λ reply. IsSomeAnd (command_of line.now) (λ command. reply.items ≡ controller_reply command)) }
-        ensures same { self.new ≡ self.old }
+        ensures step { IfOk result (λ reply. IsSomeAnd (command_of line.now) (λ command. IsStep command reply.items self.old self.new)) }
+        ensures unchanged { OnErr result (self.new ≡ self.old) }
     {
-        let command = parse(line).ok_or(LineFault::Bad)?;
-        Ok(match command {
-            Command::ControllerRead { offset } => byte(self.controller.read(offset)),
-            Command::ControllerWrite { offset, value } => self.write_controller(offset, value),
+        Ok(match parse(line).ok_or(LineFault::Bad)? {
+            Command::Serial(line) => serial_line(&mut self.serial, line),
+            Command::Controller(line) => self.controller_line(line),
         })
     }
 
-    /// A write to the controller, which is fresh again afterwards.
-    fn write_controller(&mut self, offset: u8, value: u8) -> Reply
-        ensures reply { result.items ≡ controller_reply (Command.ControllerWrite offset value) }
+    /// A line of the controller, which is fresh again afterwards.
+    fn controller_line(&mut self, line: ControllerLine) -> Reply
+        ensures reply { result.items ≡ controller_reply line }
         ensures same { self.new ≡ self.old }
     {
+        let (offset, value) = match line {
+            ControllerLine::Read { offset } => return byte(self.controller.read(offset)),
+            ControllerLine::Write { offset, value } => (offset, value),
+        };
         // The reset line refuses no call, so the answer says nothing that its count does not.
         let _ = self.controller.write(offset, value);
         if self.controller.reset_evt().calls() == 0 {

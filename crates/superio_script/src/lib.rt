@@ -2,13 +2,18 @@
 #![tactic(auto)]
 
 mod command;
+mod counts;
 mod devices;
+mod output;
 mod pieces;
 mod replies;
 mod script;
+mod serial_lines;
 mod trigger;
 
+pub use counts::Counts;
 pub use devices::{Board, LineFault};
+pub use output::Output;
 pub use replies::Reply;
 pub use script::{ScriptFault, run_script};
 pub use trigger::{Line, LineRefused};

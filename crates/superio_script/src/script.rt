@@ -1,7 +1,8 @@
 //! A whole script, from a reader to a writer.
 ghost use Rattle.std.specs.Prelude.{◌≡◌, ◌≢◌, ℕ, ◌<◌, ◌≤◌, length, IfOk, IfErr, IfSome, OnOk, vec_len, take, Some, None};
 ghost use Rattle.std.specs.Io.KnownBytes.{Keeps, Appends, Consumes, IsAtEnd};
-ghost use Rattle.superio_script.specs.Script.{text_of, first_bad_of, RunsUpTo};
+ghost use Rattle.superio_script.specs.Board.{IsFresh};
+ghost use Rattle.superio_script.specs.Script.{Prints, first_bad_of, RunsUpTo};
 
 use crate::devices::{Board, LineFault};
 use crate::pieces::Lines;
@@ -119,10 +120,11 @@ fn write_replies<W: Write>(
     script: &[u8],
     writer: &mut W,
 ) -> Result<(), ScriptFault>
+    requires { IsFresh 0 board.old }
     ensures ok { OnOk result ((first_bad_of script.now ≡ None)
-        × Appends (W.contents writer.old) (W.contents writer.new) (text_of 0 script.now)) }
+        × Prints 0 script.now (W.contents writer.old) (W.contents writer.new)) }
     ensures bad { (number : ℕ) → result ≡ Err (ScriptFault.Bad number) → (first_bad_of script.now ≡ Some number)
-        × Appends (W.contents writer.old) (W.contents writer.new) (text_of 0 script.now) }
+        × Prints 0 script.now (W.contents writer.old) (W.contents writer.new) }
     ensures never_memory { result ≢ Err ScriptFault.Memory }
     ensures never_long { result ≢ Err ScriptFault.TooLong }
 {

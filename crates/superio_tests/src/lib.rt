@@ -7,6 +7,8 @@ mod clock;
 #[cfg(test)]
 mod memory;
 #[cfg(test)]
+mod objects;
+#[cfg(test)]
 mod reset_controller;
 #[cfg(test)]
 mod scripts;

@@ -23,7 +23,7 @@ fn expect_run(
 
 #[test]
 fn scripts_print_their_replies(rt: HostRuntime) {
-    let rows: [(&[u8], &[u8], Result<(), ScriptFault>); 22] = [
+    let rows: [(&[u8], &[u8], Result<(), ScriptFault>); 34] = [
         (
             b"kw 04 fe\nkw 05 fe\nsr 5\n",
             b"reset\nok\n",
@@ -55,6 +55,27 @@ fn scripts_print_their_replies(rt: HostRuntime) {
         (b"kr 0g\n", b"", Err(ScriptFault::Bad(1))),
         (b"kr\n", b"", Err(ScriptFault::Bad(1))),
         (b"kw 04\n", b"", Err(ScriptFault::Bad(1))),
+        (b"sr 00\n", b"00\n", Ok(())),
+        (
+            b"sc\nsq\nsq aB\nsc\nsr 00\nsc",
+            b"40\n00\n01\n3f\nab\n40\n",
+            Ok(()),
+        ),
+        // Each device goes by its own lines.
+        (
+            b"sq 61\nkw 04 fe\nsq 62\nkr 04\nsr 00\nsr 00\n",
+            b"01\nreset\n01\n00\n61\n62\n",
+            Ok(()),
+        ),
+        (b"sq 61 62\n", b"", Err(ScriptFault::Bad(1))),
+        (b"sq \n", b"", Err(ScriptFault::Bad(1))),
+        (b"sq 6\n", b"", Err(ScriptFault::Bad(1))),
+        (b"sq 616\n", b"", Err(ScriptFault::Bad(1))),
+        (b"sq 6g\n", b"", Err(ScriptFault::Bad(1))),
+        (b"sc 00\n", b"", Err(ScriptFault::Bad(1))),
+        (b"sr\n", b"", Err(ScriptFault::Bad(1))),
+        (b"sr 00 00\n", b"", Err(ScriptFault::Bad(1))),
+        (b"sr 05\n", b"", Err(ScriptFault::Bad(1))),
         (
             b"refuse 0000000000000000\nkr 04\n",
             b"",
@@ -87,6 +108,38 @@ fn a_script_ends_at_its_limit(rt: HostRuntime) -> Result<(), Fail> {
     script.extend_from_slice(b"kr 0")?;
     expect_run(&rt, alloc, &script, &replies, Err(ScriptFault::Bad(10_923)));
     script.extend_from_slice(b"4")?;
+    expect_run(&rt, alloc, &script, b"", Err(ScriptFault::TooLong));
+    Ok(())
+}
+
+#[test]
+fn an_enqueue_line_has_at_most_128_bytes(rt: HostRuntime) -> Result<(), Fail> {
+    let alloc = rt.alloc();
+    let mut script = Vec::new(alloc);
+    script.extend_from_slice(b"sr 00\nsq ")?;
+    script.extend_from_slice(&repeated(alloc, b"01", 128)?)?;
+    expect_run(&rt, alloc, &script, b"00\n40\n", Ok(()));
+    script.extend_from_slice(b"01")?;
+    expect_run(&rt, alloc, &script, b"00\n", Err(ScriptFault::Bad(2)));
+    Ok(())
+}
+
+#[test]
+fn enqueues_stop_at_sixty_four(rt: HostRuntime) -> Result<(), Fail> {
+    let alloc = rt.alloc();
+    let mut script = Vec::new(alloc);
+    script.extend_from_slice(b"sq ")?;
+    script.extend_from_slice(&repeated(alloc, b"01", 65)?)?;
+    script.extend_from_slice(b"\nsq\nsq 01\nsr 00\nsq 0101\nsc\n")?;
+    expect_run(&rt, alloc, &script, b"40\n00\nfull\n01\n01\n00\n", Ok(()));
+
+    // A script of the greatest length.
+    let mut script = repeated(alloc, b"sq 6162\n", 8_192)?;
+    assert_eq!(rt; script.len(), 65_536);
+    let mut replies = repeated(alloc, b"02\n", 32)?;
+    replies.extend_from_slice(&repeated(alloc, b"full\n", 8_160)?)?;
+    expect_run(&rt, alloc, &script, &replies, Ok(()));
+    script.extend_from_slice(b"s")?;
     expect_run(&rt, alloc, &script, b"", Err(ScriptFault::TooLong));
     Ok(())
 }

@@ -1,0 +1,112 @@
+//! Counts of what the devices of a board tell.
+ghost use Rattle.std.specs.Prelude.{◌≡◌};
+ghost use Rattle.superio_script.specs.Line.{counted};
+
+use std::marker::Model;
+use vm_superio::serial::SerialEvents;
+
+/// An events object that counts how often each of its functions was called. Each count stays at 2^64 - 1.
+#[derive(Clone, Copy)]
+pub struct Counts {
+    buffer_reads: u64,
+    out_bytes: u64,
+    tx_lost_bytes: u64,
+    in_buffer_empties: u64,
+}
+
+impl Model for Counts {
+    ghost use Rattle.superio_script.specs.Counts.{EventCounts};
+
+    ghost Value = { EventCounts };
+
+    ghost view = { λ counts. record {
+      buffer_reads = counts.buffer_reads;
+      out_bytes = counts.out_bytes;
+      tx_lost_bytes = counts.tx_lost_bytes;
+      in_buffer_empties = counts.in_buffer_empties;
+    } };
+
+    ghost inverse = { λ counts. record {
+      buffer_reads = counts.buffer_reads;
+      out_bytes = counts.out_bytes;
+      tx_lost_bytes = counts.tx_lost_bytes;
+      in_buffer_empties = counts.in_buffer_empties;
+    } };
+}
+
+impl Counts {
+    ghost use Rattle.superio_script.specs.Counts.{no_counts};
+
+    /// Counts of nothing yet.
+    pub fn new() -> Counts
+        ensures { result ≡ no_counts }
+    {
+        Counts {
+            buffer_reads: 0,
+            out_bytes: 0,
+            tx_lost_bytes: 0,
+            in_buffer_empties: 0,
+        }
+    }
+
+    /// How often the guest read the data register.
+    pub fn buffer_read_count(&self) -> u64
+        ensures { result ≡ self.now.buffer_reads }
+    {
+        self.buffer_reads
+    }
+
+    /// How many bytes went out.
+    pub fn out_byte_count(&self) -> u64
+        ensures { result ≡ self.now.out_bytes }
+    {
+        self.out_bytes
+    }
+
+    /// How many bytes were lost, because the writer failed.
+    pub fn tx_lost_byte_count(&self) -> u64
+        ensures { result ≡ self.now.tx_lost_bytes }
+    {
+        self.tx_lost_bytes
+    }
+
+    /// How often a read of the data register left no byte.
+    pub fn in_buffer_empty_count(&self) -> u64
+        ensures { result ≡ self.now.in_buffer_empties }
+    {
+        self.in_buffer_empties
+    }
+}
+
+impl SerialEvents for Counts {
+    ghost use Rattle.superio_script.specs.Counts.{CountsLink, CountsLink-append};
+
+    ghost link = { CountsLink };
+
+    ghost no_event = { λ x y. (λ same. same, λ same. same) };
+
+    ghost joined = { CountsLink-append };
+
+    fn buffer_read(&mut self) {
+        count(&mut self.buffer_reads);
+    }
+
+    fn out_byte(&mut self) {
+        count(&mut self.out_bytes);
+    }
+
+    fn tx_lost_byte(&mut self) {
+        count(&mut self.tx_lost_bytes);
+    }
+
+    fn in_buffer_empty(&mut self) {
+        count(&mut self.in_buffer_empties);
+    }
+}
+
+/// One more, which stays at 2^64 - 1.
+fn count(count: &mut u64)
+    ensures { count.new ≡ counted count.old }
+{
+    *count = count.saturating_add(1);
+}
