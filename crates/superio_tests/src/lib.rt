@@ -13,4 +13,6 @@ mod reset_controller;
 #[cfg(test)]
 mod scripts;
 #[cfg(test)]
+mod serial;
+#[cfg(test)]
 mod streams;

@@ -4,7 +4,7 @@ use std::test::Fail;
 use superio_script::{ScriptFault, run_script};
 
 /// Takes blocks of memory, ever smaller ones, until none of 1,024 bytes is left.
-fn all_memory(alloc: Global) -> Result<Vec<Vec<u8>>, AllocError> {
+pub fn all_memory(alloc: Global) -> Result<Vec<Vec<u8>>, AllocError> {
     let mut blocks = Vec::with_capacity(alloc, 1 << 17)?;
     let mut size = 1usize << 46;
     while size >= 1024 {

@@ -1,0 +1,336 @@
+//! What each rule shows, worked out by hand.
+
+use super::writers::{Fate, Fated, Slots};
+use super::*;
+use std::io::sink;
+use std::test::Fail;
+
+/// Follows each row on a fresh port. The mask names the trigger calls that are refused.
+fn follow_each(
+    rt: &impl Abort,
+    alloc: Global,
+    mask: u64,
+    rows: &[&[Step<'_>]],
+) -> Result<(), Error<LineRefused>> {
+    for row in rows {
+        let mut serial = fresh(alloc, mask, sink())?;
+        follow(rt, &mut serial, row);
+    }
+    Ok(())
+}
+
+#[test]
+fn a_fresh_port_shows_the_registers_of_a_reset(rt: HostRuntime) -> Result<(), Fail> {
+    follow_each(
+        &rt,
+        rt.alloc(),
+        0,
+        &[&[
+            Get(DATA, 0x00),
+            Get(IER, 0x00),
+            Get(IIR, 0xC1),
+            Get(LCR, 0x03),
+            Get(MCR, 0x08),
+            Get(LSR, 0x60),
+            Get(MSR, 0xB0),
+            Get(SCR, 0x00),
+        ]],
+    )?;
+    Ok(())
+}
+
+#[test]
+fn the_divisor_latch_is_at_offsets_0_and_1(rt: HostRuntime) -> Result<(), Fail> {
+    let rows: [&[Step<'_>]; 3] = [
+        &[
+            Put(LCR, 0x80),
+            Put(1, 0x12),
+            Get(0, 0x0C),
+            Get(1, 0x12),
+            Put(0, 0x34),
+            Get(0, 0x34),
+            Get(1, 0x12),
+            Put(LCR, 0x03),
+            Get(IER, 0x00),
+        ],
+        // An enqueue reaches the FIFO under the latch too.
+        &[
+            Put(LCR, 0x80),
+            Enqueue(b"a", 1),
+            Get(0, 0x0C),
+            Get(LSR, 0x61),
+            Put(LCR, 0x03),
+            Get(DATA, b'a'),
+            Get(LSR, 0x60),
+        ],
+        &[
+            Put(LCR, 0x80),
+            Put(1, 0xFF),
+            Put(LCR, 0x03),
+            Get(IER, 0x00),
+            Put(SCR, 0x12),
+            Get(SCR, 0x12),
+        ],
+    ];
+    follow_each(&rt, rt.alloc(), 0, &rows)?;
+    Ok(())
+}
+
+#[test]
+fn an_enqueue_takes_what_fits(rt: HostRuntime) -> Result<(), Fail> {
+    follow_each(
+        &rt,
+        rt.alloc(),
+        0,
+        &[&[
+            Get(DATA, 0x00),
+            Room(64),
+            Enqueue(&[0x01; 128], 64),
+            Room(0),
+        ]],
+    )?;
+    Ok(())
+}
+
+#[test]
+fn the_transmitter_condition_is_told_once_until_it_is_read(rt: HostRuntime) -> Result<(), Fail> {
+    let rows: [&[Step<'_>]; 3] = [
+        &[
+            Put(IER, 0x02),
+            Calls(1),
+            Put(DATA, b'a'),
+            Calls(1),
+            Get(IIR, 0xC2),
+            Get(IIR, 0xC1),
+        ],
+        // It stays pending when it is disabled.
+        &[
+            Put(IER, 0x02),
+            Put(IER, 0x00),
+            Get(IIR, 0xC2),
+            Get(IIR, 0xC1),
+        ],
+        // Bits 0x04 and 0x08 of the interrupt enable are kept without effect.
+        &[
+            Put(IER, 0x03),
+            Calls(1),
+            Get(IIR, 0xC2),
+            Put(IER, 0x0C),
+            Calls(1),
+            Get(IER, 0x0C),
+            Get(IIR, 0xC1),
+        ],
+    ];
+    follow_each(&rt, rt.alloc(), 0, &rows)?;
+    Ok(())
+}
+
+#[test]
+fn the_receive_condition_is_told_once_until_it_is_read(rt: HostRuntime) -> Result<(), Fail> {
+    let rows: [&[Step<'_>]; 2] = [
+        // An interrupt-enable write asks for it while bytes are held.
+        &[
+            Put(IER, 0x01),
+            Put(IER, 0x00),
+            Enqueue(b"abc", 3),
+            Calls(0),
+            Get(LSR, 0x61),
+            Put(IER, 0x01),
+            Calls(1),
+            Get(IIR, 0xC4),
+            Put(IER, 0x01),
+            Calls(2),
+            Get(IIR, 0xC4),
+        ],
+        // A data read acknowledges it, though a byte is left.
+        &[
+            Put(IER, 0x01),
+            Enqueue(b"ab", 2),
+            Calls(1),
+            Get(DATA, b'a'),
+            Get(IIR, 0xC1),
+            Enqueue(b"c", 1),
+            Calls(2),
+            Get(IIR, 0xC4),
+        ],
+    ];
+    follow_each(&rt, rt.alloc(), 0, &rows)?;
+    Ok(())
+}
+
+#[test]
+fn a_refused_first_call_is_not_made_again(rt: HostRuntime) -> Result<(), Fail> {
+    let rows: [&[Step<'_>]; 3] = [
+        &[
+            Enqueue(b"a", 1),
+            Calls(0),
+            PutFails(IER, 0x03, Failure::Trigger),
+            Calls(1),
+            Get(IER, 0x03),
+            Put(IER, 0x03),
+            Calls(2),
+            Get(IIR, 0xC6),
+        ],
+        // Once it was acknowledged it is.
+        &[
+            Enqueue(b"a", 1),
+            Calls(0),
+            PutFails(IER, 0x03, Failure::Trigger),
+            Calls(1),
+            Get(IIR, 0xC4),
+            Put(IER, 0x03),
+            Calls(3),
+            Get(IIR, 0xC6),
+        ],
+        // The bytes are kept.
+        &[
+            Put(IER, 0x01),
+            EnqueueFails(b"a", Failure::Trigger),
+            Enqueue(b"b", 1),
+            Calls(1),
+            Get(DATA, b'a'),
+            Get(DATA, b'b'),
+            Get(LSR, 0x60),
+            Calls(1),
+        ],
+    ];
+    follow_each(&rt, rt.alloc(), 1 << 0, &rows)?;
+    Ok(())
+}
+
+#[test]
+fn a_refused_second_call_leaves_both_conditions_pending(rt: HostRuntime) -> Result<(), Fail> {
+    follow_each(
+        &rt,
+        rt.alloc(),
+        1 << 1,
+        &[&[
+            Enqueue(b"a", 1),
+            PutFails(IER, 0x03, Failure::Trigger),
+            Calls(2),
+            Get(IIR, 0xC6),
+        ]],
+    )?;
+    Ok(())
+}
+
+#[test]
+fn loopback_receives_what_is_written(rt: HostRuntime) -> Result<(), Fail> {
+    let alloc = rt.alloc();
+    let one_read = Counts {
+        buffer_reads: 1,
+        ..Counts::default()
+    };
+
+    let mut serial = fresh(alloc, 0, Vec::new(alloc))?;
+    follow(&rt, &mut serial, &[Put(MCR, 0x10)]);
+    for byte in 0..64 {
+        follow(&rt, &mut serial, &[Put(DATA, byte)]);
+    }
+    // A byte without room is dropped, and an enqueue accepts none.
+    follow(
+        &rt,
+        &mut serial,
+        &[
+            Put(DATA, 0xAA),
+            Enqueue(&[0xFF], 0),
+            Room(0),
+            Get(LSR, 0x61),
+            Get(DATA, 0x00),
+        ],
+    );
+    assert_eq!(rt; *serial.events(), one_read);
+    assert_eq!(rt; serial.writer().len(), 0);
+
+    let mut serial = fresh(alloc, 0, Vec::new(alloc))?;
+    follow(
+        &rt,
+        &mut serial,
+        &[
+            Put(MCR, 0x10),
+            Put(IER, 0x01),
+            Calls(0),
+            Put(DATA, b'a'),
+            Calls(1),
+            Put(DATA, b'b'),
+            Calls(1),
+            Get(DATA, b'a'),
+            Put(DATA, b'c'),
+            Calls(2),
+        ],
+    );
+    assert_eq!(rt; *serial.events(), one_read);
+    assert_eq!(rt; serial.writer().len(), 0);
+    Ok(())
+}
+
+#[test]
+fn a_refusal_is_answered_before_a_fault_of_the_writer(rt: HostRuntime) -> Result<(), Fail> {
+    let no_room = Slots {
+        bytes: Vec::new(rt.alloc()),
+        slots: 0,
+    };
+    let mut serial = fresh(rt.alloc(), 1 << 1, no_room)?;
+    follow(
+        &rt,
+        &mut serial,
+        &[
+            Put(IER, 0x02),
+            Get(IIR, 0xC2),
+            PutFails(DATA, 0x05, Failure::Trigger),
+            Get(IIR, 0xC2),
+        ],
+    );
+    let one_lost = Counts {
+        lost_bytes: 1,
+        ..Counts::default()
+    };
+    assert_eq!(rt; *serial.events(), one_lost);
+    Ok(())
+}
+
+#[test]
+fn a_flush_that_fails_loses_the_byte(rt: HostRuntime) -> Result<(), Fail> {
+    let writer = Fated::new([Fate::FlushFails, Fate::Taken, Fate::Taken]);
+    let mut serial = fresh(rt.alloc(), 0, writer)?;
+    follow(
+        &rt,
+        &mut serial,
+        &[
+            PutFails(DATA, b'A', Failure::Io(ErrorKind::Other)),
+            Get(IIR, 0xC1),
+        ],
+    );
+    let one_lost = Counts {
+        lost_bytes: 1,
+        ..Counts::default()
+    };
+    assert_eq!(rt; *serial.events(), one_lost);
+    assert_eq!(rt; (serial.writer().writes, serial.writer().flushes), (1, 1));
+    Ok(())
+}
+
+#[test]
+fn each_byte_goes_out_or_is_lost(rt: HostRuntime) -> Result<(), Fail> {
+    let one_slot = Slots {
+        bytes: Vec::new(rt.alloc()),
+        slots: 1,
+    };
+    let mut serial = fresh(rt.alloc(), 0, one_slot)?;
+    follow(
+        &rt,
+        &mut serial,
+        &[
+            Put(DATA, b'A'),
+            PutFails(DATA, b'B', Failure::Io(ErrorKind::WriteZero)),
+        ],
+    );
+    let one_each = Counts {
+        out_bytes: 1,
+        lost_bytes: 1,
+        ..Counts::default()
+    };
+    assert_eq!(rt; *serial.events(), one_each);
+    assert_eq!(rt; serial.writer().bytes.as_slice(), b"A".as_slice());
+    Ok(())
+}
