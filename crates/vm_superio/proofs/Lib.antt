@@ -3,20 +3,21 @@ mod Bounds
 mod ByKind
 mod Bytes
 pub mod ClockBits
+mod ClockExamples
 pub mod ClockLemmas
-mod ClockRows
+mod Examples
 mod Held
 mod OneCall
 mod Pending
 mod Places
 mod PortLemmas
 mod RegisterSteps
-mod Rows
-mod RunRows
-mod RunSteps
+mod RunExamples
+mod RunHistory
 mod Runs
-mod SerialRows
-mod StateRows
+mod RunSteps
+mod SerialExamples
+mod StateExamples
 mod TriggerCalls
 mod Turned
 mod Views

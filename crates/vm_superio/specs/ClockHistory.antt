@@ -3,7 +3,6 @@
 use Rattle.std.specs.Prelude.{ℕ, ◌+◌, ◌%◌, ℤ, pos, ◌+ℤ◌, ◌-ℤ◌, ◌==◌, ◌&&◌, if◌then◌else◌, List, [], ◌∷◌, Option, Some, None, unwrap_or, bit_or}
 use Rattle.std.specs.Option.{option_or, option_map_or}
 use Rattle.vm_superio.specs.declared.rtc_pl031.RtcState.{RtcState}
-use Rattle.vm_superio.specs.declared.rtc_pl031.registers.TheConstants.{RTCMR, RTCLR, RTCCR, RTCIMSC, RTCICR}
 use Rattle.vm_superio.specs.ClockRegisters.{Access, read, write, register_at, host_time, guest_time, shown, without_bits}
 
 -- what the newest access that gives something gives
@@ -23,12 +22,13 @@ pub data Setting : Type 0 where
   loaded : (value time : ℕ) → Setting
   reset : Setting
 
--- how an access sets the counter: a write to RTCLR loads its value, and a write of 1 to RTCCR resets
+-- how an access sets the counter: a write to RTCLR, at 0x008, loads its value, and a write of 1 to RTCCR, at 0x00C,
+-- resets
 abbrev pub setting_of : Access → Option Setting
 setting_of (read _ _) = None
 setting_of (write offset value now) =
-    if offset == RTCLR then Some (loaded value (host_time now)) else
-    if (offset == RTCCR) && (value == 1) then Some reset else
+    if offset == 0x008 then Some (loaded value (host_time now)) else
+    if (offset == 0x00C) && (value == 1) then Some reset else
     None
 
 -- the counter at a host's time, by its last setting: the loaded value and the seconds since, or the host's time, or
@@ -50,9 +50,9 @@ load_by None start = start.lr
 
 -- ---- the interrupt bits
 
--- the bits that an access clears: those that a write to RTCICR has
+-- the bits that an access clears: those that a write to RTCICR, at 0x01C, has
 abbrev pub cleared_by : Access → ℕ
-cleared_by access = unwrap_or (value_at RTCICR access) 0
+cleared_by access = unwrap_or (value_at 0x01C access) 0
 
 -- the bits that any access of the past cleared
 abbrev pub cleared : List Access → ℕ
@@ -62,13 +62,14 @@ cleared (access ∷ past) = bit_or (cleared_by access) (cleared past)
 -- ---- the clock
 
 -- the registers: the offset is what the counter is ahead of the host's time, so the counter at host's time 0; the
--- mask is bit 0 of the last value written; a raw bit is set where the start has it and no write to RTCICR had it
+-- match register is the last value written to RTCMR, at 0x004, and the mask bit 0 of the last value written to RTCIMSC,
+-- at 0x010; a raw bit is set where the start has it and no write to RTCICR had it
 abbrev pub state_by_history : (start : RtcState) → List Access → RtcState
 state_by_history start past = record {
   lr = load_by (newest setting_of past) start;
   offset = counter start past 0;
-  mr = unwrap_or (newest (value_at RTCMR) past) start.mr;
-  imsc = option_map_or (λ value. value % 2) (newest (value_at RTCIMSC) past) start.imsc;
+  mr = unwrap_or (newest (value_at 0x004) past) start.mr;
+  imsc = option_map_or (λ value. value % 2) (newest (value_at 0x010) past) start.imsc;
   ris = without_bits start.ris (cleared past);
 }
 

@@ -5,7 +5,6 @@ use Rattle.std.specs.Int.{w32, to_le_bytes, from_le_bytes}
 use Rattle.vm_superio.specs.declared.rtc_pl031.RtcState.{RtcState}
 use Rattle.vm_superio.specs.declared.rtc_pl031.registers.Register.{Register}
 use Rattle.vm_superio.specs.declared.rtc_pl031.registers.Register.TheVariants.{Data, Match, Load, Control, InterruptMask, RawInterrupts, MaskedInterrupts, InterruptClear, Identification, Reserved}
-use Rattle.vm_superio.specs.declared.rtc_pl031.registers.TheConstants.{RTCDR, RTCMR, RTCLR, RTCCR, RTCIMSC, RTCRIS, RTCMIS, RTCICR, AMBA_ID_LOW, AMBA_ID_HIGH}
 
 -- an access by the guest: its offset, for a write the value, and its moment in seconds since 1970
 pub data Access : Type 0 where
@@ -23,16 +22,16 @@ identification = 0x31 ∷ 0x10 ∷ 0x04 ∷ 0x00 ∷ 0x0D ∷ 0xF0 ∷ 0x05 ∷ 
 -- the register at an offset; each identification byte stands at four offsets
 abbrev pub register_at : ℕ → Register
 register_at offset =
-    if offset == RTCDR then Data else
-    if offset == RTCMR then Match else
-    if offset == RTCLR then Load else
-    if offset == RTCCR then Control else
-    if offset == RTCIMSC then InterruptMask else
-    if offset == RTCRIS then RawInterrupts else
-    if offset == RTCMIS then MaskedInterrupts else
-    if offset == RTCICR then InterruptClear else
-    if nat_le AMBA_ID_LOW offset && nat_le offset AMBA_ID_HIGH
-    then Identification (slice_index identification ((offset - AMBA_ID_LOW) / 4)) else
+    if offset == 0x000 then Data else
+    if offset == 0x004 then Match else
+    if offset == 0x008 then Load else
+    if offset == 0x00C then Control else
+    if offset == 0x010 then InterruptMask else
+    if offset == 0x014 then RawInterrupts else
+    if offset == 0x018 then MaskedInterrupts else
+    if offset == 0x01C then InterruptClear else
+    if nat_le 0xFE0 offset && nat_le offset 0xFFF
+    then Identification (slice_index identification ((offset - 0xFE0) / 4)) else
     Reserved
 
 -- a register that may be read

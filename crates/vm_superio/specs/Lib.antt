@@ -10,6 +10,7 @@ pub mod Coherent
 pub mod Errors
 pub mod Events
 pub mod Fits
+pub mod Headline
 pub mod History
 pub mod Interrupts
 pub mod LawWords

@@ -23,7 +23,7 @@ pub record Port (T EV W : Type 0) : Type 0 where
 abbrev pub with_writer : {T EV W : Type 0} → Port T EV W → W → Port T EV W
 with_writer port writer = record port { out = writer }
 
--- what a write answers, and what an enqueue does
+-- what a write answers, and what an enqueue does; neither ever answers want of memory, and no call case does
 abbrev pub failure : {E : Type 0} → Error E → Answer
 failure (Trigger refusal) = TriggerRefused
 failure (IOError fault) = WriterFailed

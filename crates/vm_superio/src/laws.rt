@@ -92,14 +92,14 @@ pub fn fate_events()
     ensures { EventsLaw }
 {}
 
-/// One call in any state: the trigger is called once for each of the bits 2 and 4 of the identification that the call
+/// One call in any state: the trigger is called once for each of bits 0x02 and 0x04 of the identification that the call
 /// turns from clear to set.
 pub fn turned_bits()
     ensures { TurnedBitsLaw }
 {}
 
-/// One call in any state: some answers to the trigger calls that are due, with the writer's success or failure, give
-/// exactly one pair of asked and sent, which passes the test, and no other pair passes it.
+/// One call in any state: each choice of answers to the trigger calls that are due, and of the writer's success or
+/// failure, gives one pair of asked and sent. These pairs pass the test, and no others.
 pub fn exact_test()
     ensures { ExactTestLaw }
 {}

@@ -33,7 +33,7 @@ pub trait Trigger {
     fn trigger(&mut self) -> Result<(), Self::E>
         ensures { link self.old (result ∷ []) self.new };
 
-    /// With no call the value stays, and only then.
+    /// The empty list links equal values, and no others.
     ghost no_call: { (x y : Self) → link x [] y ↔ (x ≡ y) };
 
     /// Calls that follow each other are one list of calls.

@@ -36,7 +36,7 @@ pub trait RtcEvents {
     fn invalid_write(&mut self)
         ensures { link self.old (invalid_write ∷ []) self.new };
 
-    /// With no event the value stays, and only then.
+    /// The empty list links equal values, and no others.
     ghost no_event: { (x y : Self) → link x [] y ↔ (x ≡ y) };
 
     /// Events that follow each other are one list of events.
@@ -71,7 +71,7 @@ pub struct RtcState {
     pub offset: i64,
     /// The match register, RTCMR. It has no effect but its own reading.
     pub mr: u32,
-    /// The interrupt mask, RTCIMSC. A write sets bit 0 alone.
+    /// The interrupt mask, RTCIMSC. A write stores bit 0 of its value, and clears the others.
     pub imsc: u32,
     /// The raw interrupt status, RTCRIS. No access sets a bit.
     pub ris: u32,

@@ -74,12 +74,12 @@ impl<T: Trigger, EV: SerialEvents, W: Write> Model for Serial<T, EV, W> {
 }
 
 impl<T: Trigger, W: Write> Serial<T, NoEvents, W> {
-    /// Makes a serial port with the registers of a reset 16550, which owns the trigger and the writer and tells its
-    /// events to nobody. The trigger is not called.
+    /// Makes a fresh serial port, which owns the trigger and the writer and tells its events to nobody: divisor 12,
+    /// 8 bits a character, OUT2 set, and nothing enabled, pending or held. The trigger is not called.
     ///
     /// # Errors
     ///
-    /// None today. [`Error::Memory`] is for a FIFO whose room is allocated.
+    /// None: no memory is taken.
     pub fn new(
         alloc: Global,
         trigger: T,
@@ -150,9 +150,9 @@ impl<T: Trigger, EV: SerialEvents, W: Write> Serial<T, EV, W> {
     ///
     /// # Errors
     ///
-    /// In each case the objects are handed back. [`Error::FullFifo`] where the state holds more than 64 bytes, and
-    /// [`Error::Memory`] where memory was refused (which does not happen today): the trigger was not called then.
-    /// [`Error::Trigger`] at the first call that the trigger refused.
+    /// In each case the objects are handed back. [`Error::FullFifo`] where the state holds more than 64 bytes: the
+    /// trigger was not called then. [`Error::Trigger`] at the first call that the trigger refused. [`Error::Memory`]
+    /// never: no memory is taken.
     pub fn from_state(
         alloc: Global,
         state: &SerialState,

@@ -30,7 +30,7 @@ pub trait SerialEvents {
     fn in_buffer_empty(&mut self)
         ensures { link self.old (in_buffer_empty ∷ []) self.new };
 
-    /// With no event the value stays, and only then.
+    /// The empty list links equal values, and no others.
     ghost no_event: { (x y : Self) → link x [] y ↔ (x ≡ y) };
 
     /// Events that follow each other are one list of events.

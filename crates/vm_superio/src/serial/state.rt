@@ -71,12 +71,12 @@ impl SerialState {
         })
     }
 
-    /// Whether the state is one that a new port can get into by any calls: at most 64 bytes are held, data ready shows
-    /// whether any is, the identification is 1, 2, 4 or 6, and the receive condition is pending only while a byte is
-    /// held.
+    /// Whether the state's parts agree as those of each port that `new` made do: at most 64 bytes are held, data ready
+    /// shows whether any is, the identification is 1, 2, 4 or 6, and the receive condition is pending only while a byte
+    /// is held. The other fields are free.
     ///
-    /// A port that was made of a coherent state stays coherent. Of another state each call does what its contract
-    /// says, but what a guest reads is then no function of its own accesses alone.
+    /// A port that was made of a coherent state stays coherent. Of another state each call still does what its contract
+    /// says, but the laws that tell a guest's reads from the history do not speak of it.
     pub fn is_coherent(&self) -> bool
         ensures { IsTrue result ↔ Coherent (state_of self.now) }
     {

@@ -1,7 +1,6 @@
 -- Worked examples of the clock, each computed by the cases of the accesses and by the history.
 use Rattle.std.specs.Prelude.{◌≡◌, ℕ, pos, List, [], ◌∷◌, ◌++◌, Option, Some, None, refl}
 use Rattle.vm_superio.specs.declared.rtc_pl031.RtcState.{RtcState}
-use Rattle.vm_superio.specs.declared.rtc_pl031.registers.TheConstants.{RTCDR, RTCMR, RTCLR, RTCCR, RTCIMSC, RTCRIS, RTCMIS, RTCICR}
 use Rattle.vm_superio.specs.RtcEvents.{RtcEvent, invalid_read, invalid_write}
 use Rattle.vm_superio.specs.ClockRegisters.{Access, read, write, bytes_left}
 use Rattle.vm_superio.specs.Clock.{fresh, answer, next, events_of, state_after}
@@ -30,19 +29,19 @@ record Gives (start : RtcState) (accesses : List Access) (answers : List (Option
   tells : told accesses ≡ events
 
 load_sets_guest_time : Gives fresh
-    (write RTCLR 100 1000 ∷ read RTCDR 1007 ∷ [])
+    (write 0x008 100 1000 ∷ read 0x000 1007 ∷ [])
     (None ∷ Some 107 ∷ [])
     []
 load_sets_guest_time = record { cases = refl; history = refl; tells = refl }
 
 guest_time_does_not_wrap : Gives fresh
-    (write RTCLR 4294967295 1000 ∷ read RTCDR 1000 ∷ read RTCDR 1001 ∷ read RTCLR 1001 ∷ [])
+    (write 0x008 4294967295 1000 ∷ read 0x000 1000 ∷ read 0x000 1001 ∷ read 0x008 1001 ∷ [])
     (None ∷ Some 4294967295 ∷ Some 1001 ∷ Some 4294967295 ∷ [])
     []
 guest_time_does_not_wrap = record { cases = refl; history = refl; tells = refl }
 
 guest_time_before_the_first_second_is_the_host_time : Gives fresh
-    (write RTCLR 5 1000 ∷ read RTCDR 996 ∷ read RTCDR 995 ∷ read RTCDR 994 ∷ [])
+    (write 0x008 5 1000 ∷ read 0x000 996 ∷ read 0x000 995 ∷ read 0x000 994 ∷ [])
     (None ∷ Some 1 ∷ Some 0 ∷ Some 994 ∷ [])
     []
 guest_time_before_the_first_second_is_the_host_time = record { cases = refl; history = refl; tells = refl }
@@ -52,23 +51,23 @@ abbrev far_ahead : RtcState
 far_ahead = record { lr = 65535; offset = pos 9223372036854710636; mr = 0; imsc = 0; ris = 0 }
 
 a_sum_past_64_bits_is_the_host_time : Gives far_ahead
-    (read RTCDR 65172 ∷ read RTCDR 4294967301 ∷ [])
+    (read 0x000 65172 ∷ read 0x000 4294967301 ∷ [])
     (Some 65172 ∷ Some 5 ∷ [])
     []
 a_sum_past_64_bits_is_the_host_time = record { cases = refl; history = refl; tells = refl }
 
 only_a_control_write_of_1_resets : Gives fresh
-    (write RTCLR 100 1000 ∷ write RTCCR 2 1001 ∷ read RTCDR 1007 ∷ write RTCCR 1 1008 ∷ read RTCDR 1009 ∷ read RTCLR 1009 ∷ read RTCCR 1009 ∷ [])
+    (write 0x008 100 1000 ∷ write 0x00C 2 1001 ∷ read 0x000 1007 ∷ write 0x00C 1 1008 ∷ read 0x000 1009 ∷ read 0x008 1009 ∷ read 0x00C 1009 ∷ [])
     (None ∷ None ∷ Some 107 ∷ None ∷ Some 1009 ∷ Some 0 ∷ Some 1 ∷ [])
     []
 only_a_control_write_of_1_resets = record { cases = refl; history = refl; tells = refl }
 
 -- a load at a moment past 32 bits, of which the low 32 bits are 1
 abbrev loaded_late : List Access
-loaded_late = write RTCLR 5 4294967297 ∷ []
+loaded_late = write 0x008 5 4294967297 ∷ []
 
 the_low_32_bits_of_a_moment_count : Gives fresh
-    (write RTCLR 5 4294967297 ∷ read RTCDR 3 ∷ [])
+    (write 0x008 5 4294967297 ∷ read 0x000 3 ∷ [])
     (None ∷ Some 7 ∷ [])
     []
 the_low_32_bits_of_a_moment_count = record { cases = refl; history = refl; tells = refl }
@@ -81,25 +80,25 @@ abbrev raised : RtcState
 raised = record { lr = 0; offset = pos 0; mr = 0; imsc = 1; ris = 1 }
 
 the_mask_is_one_bit_and_a_clear_takes_bits_away : Gives raised
-    (read RTCRIS 1000 ∷ read RTCMIS 1000 ∷ write RTCIMSC 2 1000 ∷ read RTCIMSC 1000 ∷ read RTCMIS 1000 ∷ write RTCICR 1 1000 ∷ read RTCRIS 1000 ∷ [])
+    (read 0x014 1000 ∷ read 0x018 1000 ∷ write 0x010 2 1000 ∷ read 0x010 1000 ∷ read 0x018 1000 ∷ write 0x01C 1 1000 ∷ read 0x014 1000 ∷ [])
     (Some 1 ∷ Some 1 ∷ None ∷ Some 0 ∷ Some 0 ∷ None ∷ Some 0 ∷ [])
     []
 the_mask_is_one_bit_and_a_clear_takes_bits_away = record { cases = refl; history = refl; tells = refl }
 
 the_match_register_shows_what_was_written : Gives fresh
-    (write RTCMR 123 1000 ∷ read RTCMR 1000 ∷ read RTCRIS 1000 ∷ [])
+    (write 0x004 123 1000 ∷ read 0x004 1000 ∷ read 0x014 1000 ∷ [])
     (None ∷ Some 123 ∷ Some 0 ∷ [])
     []
 the_match_register_shows_what_was_written = record { cases = refl; history = refl; tells = refl }
 
 an_invalid_read_answers_nothing_and_is_told : Gives fresh
-    (read RTCICR 1000 ∷ read 0xFE5 1000 ∷ read 0xFFF 1000 ∷ read 0x1003 1000 ∷ [])
+    (read 0x01C 1000 ∷ read 0xFE5 1000 ∷ read 0xFFF 1000 ∷ read 0x1003 1000 ∷ [])
     (None ∷ Some 0x10 ∷ Some 0xB1 ∷ None ∷ [])
     (invalid_read ∷ invalid_read ∷ [])
 an_invalid_read_answers_nothing_and_is_told = record { cases = refl; history = refl; tells = refl }
 
 an_invalid_write_changes_nothing_and_is_told : Gives raised
-    (write RTCDR 7 1000 ∷ write RTCRIS 0 1000 ∷ write RTCMIS 0 1000 ∷ write 0xFE0 7 1000 ∷ write 0x009 7 1000 ∷ read RTCMIS 1000 ∷ read RTCDR 1000 ∷ [])
+    (write 0x000 7 1000 ∷ write 0x014 0 1000 ∷ write 0x018 0 1000 ∷ write 0xFE0 7 1000 ∷ write 0x009 7 1000 ∷ read 0x018 1000 ∷ read 0x000 1000 ∷ [])
     (None ∷ None ∷ None ∷ None ∷ None ∷ Some 1 ∷ Some 1000 ∷ [])
     (invalid_write ∷ invalid_write ∷ invalid_write ∷ invalid_write ∷ invalid_write ∷ [])
 an_invalid_write_changes_nothing_and_is_told = record { cases = refl; history = refl; tells = refl }
@@ -108,7 +107,7 @@ an_invalid_write_changes_nothing_and_is_told = record { cases = refl; history = 
 abbrev bytes_of_123 : List ℕ
 bytes_of_123 = 0x7B ∷ 0x00 ∷ 0x00 ∷ 0x00 ∷ []
 
-an_invalid_read_leaves_the_bytes : bytes_left (answer fresh (read RTCICR 1000)) bytes_of_123 ≡ bytes_of_123
+an_invalid_read_leaves_the_bytes : bytes_left (answer fresh (read 0x01C 1000)) bytes_of_123 ≡ bytes_of_123
 an_invalid_read_leaves_the_bytes = refl
 
 the_identification_shows_a_byte_and_three_zeros : bytes_left (answer fresh (read 0xFE5 1000)) bytes_of_123 ≡ 0x10 ∷ 0x00 ∷ 0x00 ∷ 0x00 ∷ []

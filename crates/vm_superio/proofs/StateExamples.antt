@@ -6,7 +6,7 @@ use Rattle.vm_superio.specs.State.{State, fresh, has_bits, masked, joined}
 use Rattle.vm_superio.specs.Registers.{Receive, Transmit}
 use Rattle.vm_superio.specs.Events.{buffer_read, in_buffer_empty}
 use Rattle.vm_superio.specs.Calls.{restore_calls}
-use Rattle.vm_superio.proofs.Rows.{read, write, store, restore, told_events, GivenByCases, GivenByBoth, RestoresWith}
+use Rattle.vm_superio.proofs.Examples.{read, write, store, restore, told_events, GivenByCases, GivenByBoth, RestoresWith}
 
 -- both conditions are pending and enabled, and a byte is held
 both_pending : State

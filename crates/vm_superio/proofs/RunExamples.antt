@@ -6,7 +6,7 @@ use Rattle.vm_superio.specs.State.{fresh, has_bits, masked, joined}
 use Rattle.vm_superio.specs.Registers.{Receive, Transmit}
 use Rattle.vm_superio.specs.Events.{buffer_read}
 use Rattle.vm_superio.specs.Acts.{Entry, Answer, Added, TriggerRefused, WriterFailed}
-use Rattle.vm_superio.proofs.Rows.{read, write, store, write_fails, enqueue, restore, told_events, GivenByBoth, RestoresWith}
+use Rattle.vm_superio.proofs.Examples.{read, write, store, write_fails, enqueue, restore, told_events, GivenByBoth, RestoresWith}
 
 loopback_receives : GivenByBoth fresh (
     store 4 0x10 ∷ store 1 0x01 ∷ write 0 0x61 Took sent.Nothing ∷ write 0 0x62 Nothing sent.Nothing ∷

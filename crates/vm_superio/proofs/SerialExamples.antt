@@ -4,7 +4,7 @@ use Rattle.vm_superio.specs.declared.run.Asked.TheVariants.{Nothing, Took, Refus
 use Rattle.vm_superio.specs.declared.run.Sent.TheVariants as sent
 use Rattle.vm_superio.specs.State.{fresh, has_bits, masked, joined}
 use Rattle.vm_superio.specs.Acts.{Added, TriggerRefused, WriterFailed, FifoFull}
-use Rattle.vm_superio.proofs.Rows.{read, write, store, write_fails, enqueue, GivenByBoth}
+use Rattle.vm_superio.proofs.Examples.{read, write, store, write_fails, enqueue, GivenByBoth}
 
 -- each offset of a fresh port
 fresh_registers : GivenByBoth fresh (
