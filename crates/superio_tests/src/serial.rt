@@ -14,7 +14,7 @@ use std::alloc::{AllocError, Global};
 use std::io::{ErrorKind, Write};
 use std::process::Abort;
 use superio_script::{Line, LineRefused};
-use vm_superio::serial::{Error, NoEvents, SerialEvents};
+use vm_superio::serial::{Error, NoEvents, Refused, SerialEvents};
 use vm_superio::{Serial, SerialState};
 
 const DATA: u8 = 0;
@@ -167,10 +167,7 @@ fn fresh<W: Write + Drop>(
     mask: u64,
     out: W,
 ) -> Result<Serial<Line, Counts, W>, Error<LineRefused>> {
-    match Serial::with_events(alloc, Line::new(mask), Counts::default(), out) {
-        Ok(serial) => Ok(serial),
-        Err(refused) => Err(refused.into_error()),
-    }
+    Serial::with_events(alloc, Line::new(mask), Counts::default(), out).map_err(Refused::into_error)
 }
 
 /// A fresh port that tells its events to nobody.
@@ -178,10 +175,7 @@ fn silent<W: Write + Drop>(
     alloc: Global,
     out: W,
 ) -> Result<Serial<Line, NoEvents, W>, Error<LineRefused>> {
-    match Serial::new(alloc, Line::new(0), out) {
-        Ok(serial) => Ok(serial),
-        Err(refused) => Err(refused.into_error()),
-    }
+    Serial::new(alloc, Line::new(0), out).map_err(Refused::into_error)
 }
 
 /// A port that is made of a state, and counts its events.
@@ -191,10 +185,9 @@ fn restored<W: Write + Drop>(
     mask: u64,
     out: W,
 ) -> Result<Serial<Line, Counts, W>, Error<LineRefused>> {
-    match Serial::from_state(alloc, state, Line::new(mask), Counts::default(), out) {
-        Ok(serial) => Ok(serial),
-        Err(refused) => Err(refused.into_error()),
-    }
+    Serial::from_state(alloc, state, Line::new(mask), Counts::default(), out).map_err(
+        Refused::into_error,
+    )
 }
 
 /// A state that differs from the default in these fields.
