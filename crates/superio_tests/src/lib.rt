@@ -11,6 +11,8 @@ mod objects;
 #[cfg(test)]
 mod reset_controller;
 #[cfg(test)]
+mod runs;
+#[cfg(test)]
 mod scripts;
 #[cfg(test)]
 mod serial;
