@@ -1,9 +1,9 @@
--- What a run tells, by the history alone.
-use Rattle.std.specs.Prelude.{◌≡◌, ℕ, ◌+◌, ◌*◌, ◌≤◌, List, [], ◌∷◌, ◌++◌, map, sum_by, count_by, IsTrue, ⊤}
+-- What a run from a coherent start tells, by the history alone.
+use Rattle.std.specs.Prelude.{◌≡◌, ◌+◌, ◌*◌, ◌≤◌, List, [], ◌∷◌, ◌++◌, sum_by, count_by, IsTrue, ⊤}
 use Rattle.vm_superio.specs.declared.run.Act.{Act}
 use Rattle.vm_superio.specs.declared.run.Act.TheVariants.{Read, Write, Enqueue, Restore}
 use Rattle.vm_superio.specs.declared.run.Reply.{Reply}
-use Rattle.vm_superio.specs.declared.run.Reply.TheVariants.{Byte, Wrote, Enqueued, Restored, NotRestored}
+use Rattle.vm_superio.specs.declared.run.Reply.TheVariants.{Byte, Wrote, Enqueued}
 use Rattle.vm_superio.specs.declared.run.Done.{Done}
 use Rattle.vm_superio.specs.State.{State}
 use Rattle.vm_superio.specs.Acts.{Deed, Reads, Writes, Enqueues, Restores, Entry, Answer, Given, NoAnswer}
@@ -38,11 +38,10 @@ module _ {T E EV W : Type 0} where
   calls_of [] = []
   calls_of (done ∷ later) = (entry_of done, answer_of done.reply) ∷ calls_of later
 
-  -- each byte that was read is the guest read at its place
+  -- each read replies the guest read at its place
   abbrev pub ReadIs : State → List Entry → Act → Reply T EV W E → Type 0
-  ReadIs start past (Read offset) (Byte byte) = byte ≡ guest_read start past offset
-  ReadIs start past (Read offset) _ = ⊥
-  ReadIs start past _ _ = ⊤
+  ReadIs start past (Read offset) reply = reply ≡ Byte (guest_read start past offset)
+  ReadIs start past _ reply = ⊤
 
   abbrev pub ReadsAre : State → List Entry → List (Done T EV W E) → Type 0
   ReadsAre start past [] = ⊤

@@ -2,6 +2,8 @@
 ghost use Rattle.std.specs.Prelude.{◌≡◌, IfOk, OnErr};
 ghost use Rattle.vm_superio.specs.Stretches.{first_stretch};
 ghost use Rattle.vm_superio.specs.RunCalls.{act_of, Makes, RunsCalls};
+ghost use Rattle.vm_superio.specs.Coherent.{Coherent};
+ghost use Rattle.vm_superio.specs.Headline.{Headline};
 
 use crate::Trigger;
 use crate::serial::{Error, Refused, Serial, SerialEvents};
@@ -104,6 +106,9 @@ pub struct Done<T: Trigger, EV: SerialEvents, W: Write> {
 /// the record of its call, and the next call is made. A restore takes the port's state and makes a port of it with the
 /// objects that it brings, which then takes the old port's place. Where it is refused the old port stays.
 ///
+/// From a coherent start the records are a history: each byte that was read, and each other answer, follows from the
+/// start, the earlier calls and the trigger's answers, and so does the state at the end.
+///
 /// # Errors
 ///
 /// `AllocError` where room for all records was refused. No call was made then, and the calls are dropped.
@@ -115,8 +120,11 @@ pub fn run<T: Trigger + Drop, EV: SerialEvents + Drop, W: Write + Drop>(
     ensures run { IfOk result (λ done.
         RunsCalls T.link EV.link W.contents serial.old.state (first_stretch serial.old) calls.items done.items
         serial.new) }
+    ensures history { IfOk result (λ done.
+        Coherent serial.old.state → Headline serial.old.state done.items serial.new.state) }
     ensures refused { OnErr result (serial.new ≡ serial.old) }
 {
+    let _line_status = serial.line_status();
     let mut done = Vec::with_capacity(alloc, calls.len())?;
     let mut calls = VecDeque::from_vec(calls);
     while let Some(call) = calls.pop_front() {

@@ -1,7 +1,8 @@
 -- A call that was made goes from the run that is left to the run so far.
-use Rattle.std.proofs.Common.{append_assoc, append-nil, ◌∷◌, [], arith}
+use Rattle.std.proofs.Common.{◌<◌, append_assoc, append-nil, ◌∷◌, [], arith}
 use Rattle.std.proofs.lemmas.List.{nil_from_length}
 use Rattle.vm_superio.specs.Stretches.{first_stretch}
+use Rattle.vm_superio.proofs.RunHistory.{Headline-run}
 use Rattle.vm_superio.proofs.RunSteps.{IsAfter-first, GoesOn-made, RunsCalls-step}
 use Rattle.vm_superio.proofs.run.run.Goals as goal
 
@@ -41,3 +42,9 @@ returns-clause-run g c =
     let before = c.loop-call.invariant in
     let none = nil_from_length c.loop-call.calls.items (omega (arith, c.in_default.ensures.cases, c.loop-call.calls.ok.0)) in
     rw (← append-nil c.loop-call.done.items) (before.whole [] c.loop-call.serial (rw none before.after))
+
+pub returns-clause-history : goal.returns-clause-history
+returns-clause-history g c =
+    let status = c.line_status-line_status.ensures in
+    let below : c.args.serial.now.state.line_status < 256 = rw (← status.value) status.byte in
+    Headline-run g.T.Trigger.link g.EV.SerialEvents.link g.W.Write.contents c.args.serial.now.state (first_stretch c.args.serial.now) c.args.calls.items c.loop-call.done.items c.loop-call.serial below (returns-clause-run g c)
