@@ -1,33 +1,31 @@
--- What one good line adds to what was written, and takes from what is still to be written.
+-- What one good line adds to what was written, whatever is still to come.
 use Rattle.std.proofs.Common.{◌≡◌, ℕ, ◌+◌, ◌≤◌, Bool, true, false, List, [], ◌∷◌, ◌++◌, length, Option, Some, None, refl, ap, sym, ◌∙◌, subst, arith, append_assoc, append-nil, length-append}
 use Rattle.std.proofs.lemmas.Bool.{false≢true}
 use Rattle.std.specs.Io.KnownBytes.{Appends}
-use Rattle.std.specs.Prelude.{IsTrue, IsSomeAnd, IfSome, is_some, if◌then◌else◌, map, ◌==◌, ◌&&◌}
+use Rattle.std.specs.Prelude.{IsTrue, IsSomeAnd, IfSome, is_some, if◌then◌else◌, ◌&&◌}
 use Rattle.std.specs.List.{list_all}
 use Rattle.vm_superio.specs.declared.run.Sent.{Sent}
 use Rattle.vm_superio.specs.declared.run.Sent.TheVariants as sent
-use Rattle.vm_superio.specs.State.{State, not_empty}
-use Rattle.vm_superio.specs.Registers.{is_dlab, is_loopback, register}
-use Rattle.vm_superio.specs.Meaning.{Other, Arrival, sent_by, read_kind}
-use Rattle.vm_superio.specs.Acts.{Deed, Reads, Writes, Enqueues, Restores, is_sent}
-use Rattle.vm_superio.specs.Calls.{answer}
+use Rattle.vm_superio.specs.declared.rtc_pl031.RtcState.{RtcState}
+use Rattle.vm_superio.specs.State.{State}
+use Rattle.vm_superio.specs.Acts.{Writes, is_sent}
 use Rattle.vm_superio.specs.Fits.{sends}
 use Rattle.vm_superio.specs.Links.{written}
+use Rattle.vm_superio.specs.Clock as clock
 use Rattle.vm_superio.specs.Port.{Port}
 use Rattle.superio_script.specs.Line.{LineCalls}
 use Rattle.superio_script.specs.Counts.{EventCounts}
 use Rattle.superio_script.specs.Output.{bytes_of}
-use Rattle.superio_script.specs.Pieces.{lines_of}
-use Rattle.superio_script.specs.Command.{command_of}
-use Rattle.superio_script.specs.Reply.{answer_reply}
-use Rattle.superio_script.specs.Session.{Session, fresh_session, Choice, IsPossible, first_fate, out_before_loss, sent_where, rest_where, output_after, asked_by, after, after_call, call_reply, serial_reply, serial_after, choice_after}
-use Rattle.superio_script.specs.Board.{Devices, IsAt, IsSerialStep, IsStep}
-use Rattle.superio_script.specs.Script.{onto_good, good_commands, first_bad, text_from, text_of, Prints}
+use Rattle.superio_script.specs.Command.{command_of, AsksForRestore}
+use Rattle.superio_script.specs.Reply.{digits_reply, clock_reply, clock_after}
+use Rattle.superio_script.specs.Session.{Session, fresh_session, Choice, IsPossible, first_fate, first_shown, out_before_loss, is_short, sent_where, rest_where, shown_where, rest_shown, output_after, call_reply, after_call, serial_reply, serial_after, choice_after}
+use Rattle.superio_script.specs.Board.{Devices, IsAt, IsFresh, IsSerialStep, IsStep}
+use Rattle.superio_script.specs.Script.{has_form, onto_good, good_commands, first_bad, text_from, PrintsLines, StopsAtRestore}
 use Rattle.superio_script.specs.declared.output.Output.{Output}
 use Rattle.superio_script.specs.declared.command.Command.{Command}
-use Rattle.superio_script.specs.declared.command.Command.TheVariants.{Serial, Controller}
+use Rattle.superio_script.specs.declared.command.Command.TheVariants.{Serial, Clock, Controller}
 use Rattle.superio_script.specs.declared.command.SerialLine.{SerialLine}
-use Rattle.superio_script.specs.declared.command.SerialLine.TheVariants.{Read, Enqueue, Capacity}
+use Rattle.superio_script.specs.declared.command.SerialLine.TheVariants as line
 
 -- two writes, one after the other
 Appends-append :
@@ -53,37 +51,19 @@ HasRoom (Some output) fates = length output + out_before_loss fates ≤ 256
 pub record Fits (output : Option (List ℕ)) (choice : Choice) : Type 0 where
   pub sent : IsTrue (list_all is_sent choice.fates)
   pub room : HasRoom output choice.fates
+  pub short : IsTrue (list_all is_short choice.shown)
 
--- at a place where this went out, there is the choice of no more bytes
-pub Fits-none : (output : Option (List ℕ)) → IfSome output (λ all. length all ≤ 256) → Fits output (record { fates = [] })
-Fits-none None few = record { sent = refl; room = tt }
-Fits-none (Some all) few = record { sent = refl; room = omega arith }
+-- the choice that nothing more is free
+abbrev nothing-more : Choice
+nothing-more = record { fates = []; shown = [] }
 
--- the choice of a call that sends a byte of this fate, and of what follows
-abbrev joined_to : Bool → Sent → Choice → Choice
-joined_to true what later = record { fates = what ∷ later.fates }
-joined_to false what later = later
+Fits-nothing : (output : Option (List ℕ)) → IfSome output (λ all. length all ≤ 256) → Fits output nothing-more
+Fits-nothing None few = record { sent = refl; room = tt; short = refl }
+Fits-nothing (Some all) few = record { sent = refl; room = omega arith; short = refl }
 
--- a call writes a byte only where it sends one, and no read and no enqueue sends one
-none-either : {A : Type 0} (sent : A → List ℕ) (test : Bool) (a b : A) → sent a ≡ [] → sent b ≡ [] → sent (if test then a else b) ≡ []
-none-either sent true a b first second = first
-none-either sent false a b first second = second
-
-none-read : (dlab : Bool) (offset : ℕ) → sent_by (read_kind (register dlab offset)) ≡ []
-none-read dlab offset =
-    let either = none-either (λ reached. sent_by (read_kind reached)) in
-    either (offset == 0) _ _ (either dlab _ _ refl refl) (either (offset == 1) _ _ (either dlab _ _ refl refl)
-    (either (offset == 2) _ _ refl (either (offset == 3) _ _ refl (either (offset == 4) _ _ refl
-    (either (offset == 5) _ _ refl (either (offset == 6) _ _ refl (either (offset == 7) _ _ refl refl)))))))
-
-none-sent : (bytes : List ℕ) → bytes ≡ [] → not_empty bytes ≡ true → ⊥
-none-sent bytes none is = false≢true (sym (ap not_empty none) ∙ is)
-
-one-written : (s : State) (act : Deed) → sends s act ≡ true → length (written act sent.Out) ≡ 1
-one-written s (Writes offset value) is = refl
-one-written s (Reads offset) is = absurd (none-sent _ (none-read (is_dlab s.line_control) offset) is)
-one-written s (Enqueues bytes) is = absurd (none-sent _ (none-either sent_by (is_loopback s.modem_control) Other (Arrival bytes) refl refl) is)
-one-written s Restores is = absurd (false≢true is)
+both-true : (a b : Bool) → IsTrue a → IsTrue b → IsTrue (a && b)
+both-true true b h k = k
+both-true false b h k = absurd (false≢true h)
 
 first-sent : (fates : List Sent) → IsTrue (list_all is_sent fates) → IsTrue (is_sent (first_fate fates))
 first-sent [] all = refl
@@ -91,11 +71,15 @@ first-sent (sent.Nothing ∷ fates) all = absurd (false≢true all)
 first-sent (sent.Out ∷ fates) all = refl
 first-sent (sent.Lost ∷ fates) all = refl
 
-both-true : (a b : Bool) → IsTrue a → IsTrue b → IsTrue (a && b)
-both-true true b h k = k
-both-true false b h k = absurd (false≢true h)
+first-short : (shown : List (List ℕ)) → IsTrue (list_all is_short shown) → IsTrue (is_short (first_shown shown))
+first-short [] all = refl
+first-short (bytes ∷ shown) all = and-left (is_short bytes) (list_all is_short shown) all
+  where
+    and-left : (a b : Bool) → IsTrue (a && b) → IsTrue a
+    and-left true b h = refl
+    and-left false b h = h
 
--- the room for a call and for what follows
+-- the room for a write of this fate and for what follows it
 room-before :
     (output : Option (List ℕ)) (what : Sent) (bytes : List ℕ) (later : List Sent) → IsTrue (is_sent what) →
     (what ≡ sent.Out → length bytes ≡ 1) → IfSome output (λ all. length all ≤ 256) →
@@ -106,168 +90,281 @@ room-before (Some all) sent.Out bytes later is one few room = omega (arith, one 
 room-before (Some all) sent.Lost bytes later is one few room = omega arith
 
 room-unsent :
-    (output : Option (List ℕ)) (bytes : List ℕ) (later : List Sent) →
-    HasRoom (output_after output sent.Nothing bytes) later → HasRoom output later
-room-unsent None bytes later room = tt
-room-unsent (Some all) bytes later room = omega (arith, length-append all bytes)
+    (output : Option (List ℕ)) (what : Sent) (bytes : List ℕ) (later : List Sent) → what ≡ sent.Nothing →
+    HasRoom (output_after output what bytes) later → HasRoom output later
+room-unsent None what bytes later none room = tt
+room-unsent (Some all) sent.Nothing bytes later none room = omega (arith, length-append all bytes)
+room-unsent (Some all) sent.Out bytes later none room = absurd cc
+room-unsent (Some all) sent.Lost bytes later none room = absurd cc
 
-module _ (before : Session) (few : IfSome before.output (λ all. length all ≤ 256)) (act : Deed) (choice later : Choice) (possible : IsPossible choice) where
-  -- the fate that the choice gives the call
-  abbrev fate : Sent
-  fate = sent_where (sends before.state act) choice
+-- ---- a line of the serial port
 
-  -- a choice for the call and for what follows it, by whether the call sends a byte
-  abbrev Joins : Bool → Type 0
-  Joins sending =
-      (whole : Choice) × Fits before.output whole × (sent_where sending whole ≡ sent_where sending choice) × (rest_where sending whole ≡ later)
-
-  joins :
-      (sending : Bool) → (sending ≡ true → length (written act sent.Out) ≡ 1) →
-      Fits (output_after before.output (sent_where sending choice) (written act (sent_where sending choice))) later → Joins sending
-  joins true one fits =
+module _ (choice later : Choice) (possible : IsPossible choice) where
+  -- a choice for a write that sends a byte or none, and for what follows it
+  write-joins :
+      (sending : Bool) (output : Option (List ℕ)) (bytes : Sent → List ℕ) → length (bytes sent.Out) ≡ 1 → IfSome output (λ all. length all ≤ 256) →
+      Fits (output_after output (sent_where sending choice) (bytes (sent_where sending choice))) later →
+      (whole : Choice) × Fits output whole × (sent_where sending whole ≡ sent_where sending choice) × (rest_where sending whole ≡ later)
+  write-joins true output bytes one few fits =
       let what = first_fate choice.fates in
-      let is = first-sent choice.fates possible.sent in (
-        joined_to true what later,
-        record {
-          sent = both-true (is_sent what) (list_all is_sent later.fates) is fits.sent;
-          room = room-before before.output what (written act what) later.fates is (λ out. ap (λ w. length (written act w)) out ∙ one refl) few fits.room;
-        },
-        refl,
-        refl,
-      )
-  joins false one fits =
-      (later, record { sent = fits.sent; room = room-unsent before.output (written act sent.Nothing) later.fates fits.room }, refl, refl)
+      let is = first-sent choice.fates possible.sent in
+      (record { fates = what ∷ later.fates; shown = later.shown },
+      record {
+        sent = both-true (is_sent what) (list_all is_sent later.fates) is fits.sent;
+        room = room-before output what (bytes what) later.fates is (λ out. ap (λ w. length (bytes w)) out ∙ one) few fits.room;
+        short = fits.short;
+      }, refl, refl)
+  write-joins false output bytes one few fits =
+      (later, record { sent = fits.sent; room = room-unsent output sent.Nothing (bytes sent.Nothing) later.fates refl fits.room; short = fits.short }, refl, refl)
 
-  -- a choice for the call and for what follows it
-  abbrev CallJoins : Type 0
-  CallJoins =
-      (whole : Choice) × Fits before.output whole × (call_reply before whole act ≡ call_reply before choice act)
-      × (after_call before whole act ≡ after_call before choice act) × (rest_where (sends before.state act) whole ≡ later)
+  -- a choice for a line that shows the output, and for what follows it
+  output-joins :
+      (output : Option (List ℕ)) → Fits output later →
+      (whole : Choice) × Fits output whole × (shown_where output whole ≡ shown_where output choice) × (rest_shown output whole ≡ later)
+  output-joins (Some all) fits = (later, fits, refl, refl)
+  output-joins None fits =
+      let bytes = first_shown choice.shown in
+      (record { fates = later.fates; shown = bytes ∷ later.shown },
+      record {
+        sent = fits.sent;
+        room = tt;
+        short = both-true (is_short bytes) (list_all is_short later.shown) (first-short choice.shown possible.short) fits.short;
+      }, refl, refl)
 
-  call-joins : Fits (after_call before choice act).output later → CallJoins
-  call-joins fits =
-      let sending = sends before.state act in
-      let asked = asked_by before act in
-      let found = joins sending (one-written before.state act) fits in
-      (found.0, found.1, ap (λ what. answer_reply (answer before.state act asked what)) found.2, ap (after before act asked) found.2, found.3)
+  module _ (before : Session) (few : IfSome before.output (λ all. length all ≤ 256)) where
+    -- a choice for a line and for what follows it
+    abbrev LineJoins : SerialLine → Type 0
+    LineJoins line =
+        (whole : Choice) × Fits before.output whole × (serial_reply before whole line ≡ serial_reply before choice line)
+        × (serial_after before whole line ≡ serial_after before choice line) × (choice_after before whole line ≡ later)
 
--- ---- a line
+    unsent-joins : (bytes : List ℕ) → Fits (output_after before.output sent.Nothing bytes) later → Fits before.output later
+    unsent-joins bytes fits =
+        record { sent = fits.sent; room = room-unsent before.output sent.Nothing bytes later.fates refl fits.room; short = fits.short }
 
-module _ (before : Session) (few : IfSome before.output (λ all. length all ≤ 256)) (choice later : Choice) (possible : IsPossible choice) where
-  -- a choice for a line of the serial port and for what follows it
-  abbrev LineJoins : SerialLine → Type 0
-  LineJoins line =
-      (whole : Choice) × Fits before.output whole × (serial_reply before whole line ≡ serial_reply before choice line)
-      × (serial_after before whole line ≡ serial_after before choice line) × (choice_after before whole line ≡ later)
+    restored-output : (refused : Bool) (line : LineCalls) → (if refused then before else record before { line = line }).output ≡ before.output
+    restored-output true line = refl
+    restored-output false line = refl
 
-  line-joins : (line : SerialLine) → Fits (serial_after before choice line).output later → LineJoins line
-  line-joins (Read offset) fits = call-joins before few (Reads offset) choice later possible fits
-  line-joins (Enqueue bytes) fits = call-joins before few (Enqueues bytes) choice later possible fits
-  line-joins Capacity fits = (later, fits, refl, refl, refl)
+    line-joins : (line : SerialLine) → Fits (serial_after before choice line).output later → LineJoins line
+    line-joins (line.Read offset) fits = (later, unsent-joins _ fits, refl, refl, refl)
+    line-joins (line.Write offset value) fits =
+        let act = Writes offset value in
+        let found = write-joins (sends before.state act) before.output (written act) refl few fits in
+        (found.0, found.1, ap (call_reply before act) found.2, ap (after_call before act) found.2, found.3)
+    line-joins (line.Enqueue bytes) fits = (later, unsent-joins _ fits, refl, refl, refl)
+    line-joins line.Capacity fits = (later, fits, refl, refl, refl)
+    line-joins line.Restore fits = (later, subst (λ output. Fits output later) (restored-output _ _) fits, refl, refl, refl)
+    line-joins line.Output fits =
+        let found = output-joins before.output fits in
+        (found.0, found.1, ap digits_reply found.2, refl, found.3)
+    line-joins line.Calls fits = (later, fits, refl, refl, refl)
+    line-joins line.Events fits = (later, fits, refl, refl, refl)
+
+-- ---- a line of the board
 
 -- the output of a session is that of its port, which has at most 256 bytes
 output-few : (output : Option (List ℕ)) (out : Output) → IfSome output (λ all. bytes_of out ≡ all) → IfSome output (λ all. length all ≤ 256)
 output-few None out was = tt
 output-few (Some all) out was = subst (λ bytes. length bytes ≤ 256) was out.few
 
-module _ (script : List ℕ) (start : Option (List ℕ)) where
-  -- from before, whatever is chosen for the replies to these commands, they complete the text of the script that began
-  -- at start, for some choice
-  abbrev pub Completes : Option (List ℕ) → Session → List Command → Type 0
-  Completes before session commands =
-      (choice : Choice) → Fits session.output choice → (end : Option (List ℕ)) →
-      Appends before end (text_from session choice commands) → Prints 0 script start end
+module _ (mask : ℕ) (start : Option (List ℕ)) where
+  -- for some choice, the text of these commands was written from the start on
+  abbrev Prints : List Command → Option (List ℕ) → Type 0
+  Prints commands end =
+      (choice : Choice) × IsPossible choice × Appends start end (text_from (fresh_session mask) clock.fresh choice commands)
 
-  -- a step of the board leads to what is still to come
+  -- whatever commands follow those before, and whatever is chosen for them, their text completes that of all of them,
+  -- for some choice
+  abbrev Completes : Option (List ℕ) → Session → RtcState → List Command → Type 0
+  Completes before session state earlier =
+      (commands : List Command) (choice : Choice) → Fits session.output choice → (end : Option (List ℕ)) →
+      Appends before end (text_from session state choice commands) → Prints (earlier ++ commands) end
+
+  -- a board to which these commands led, which were replied
   abbrev pub Continues : Option (List ℕ) → Devices → List Command → Type 0
-  Continues before board commands = (session : Session) × IsAt session board.serial × Completes before session commands
+  Continues before board earlier =
+      (session : Session) × IsAt session board.serial × Completes before session board.clock.state earlier
 
-  module _ (before after : Option (List ℕ)) (reply : List ℕ) (wrote : Appends before after reply) where
+  -- nothing need follow
+  Prints-so_far : (before : Option (List ℕ)) (board : Devices) (earlier : List Command) → Continues before board earlier → Prints earlier before
+  Prints-so_far before board earlier (session, at, completes) =
+      let few = output-few session.output board.serial.out at.output in
+      subst (λ commands. Prints commands before) (append-nil earlier)
+      (completes [] nothing-more (Fits-nothing session.output few) before (Appends-nothing before))
+
+  -- at the start, no command was carried out
+  pub Continues-at_start : (board : Devices) → IsFresh mask board → Continues start board []
+  Continues-at_start board is_fresh =
+      (fresh_session mask, is_fresh.serial, λ commands choice fits end text.
+      (choice, record { sent = fits.sent; room = omega (arith, fits.room); short = fits.short },
+      subst (λ (s : RtcState). Appends start end (text_from (fresh_session mask) s choice commands)) (ap (λ (c : clock.Device EventCounts). c.state) is_fresh.clock) text))
+
+  module _ (before after : Option (List ℕ)) (reply : List ℕ) (wrote : Appends before after reply) (earlier : List Command) where
+    -- one more command was carried out
+    one-more : (command : Command) (commands : List Command) (end : Option (List ℕ)) →
+        Prints (earlier ++ command ∷ commands) end → Prints ((earlier ++ command ∷ []) ++ commands) end
+    one-more command commands end = subst (λ all. Prints all end) (sym (append_assoc earlier (command ∷ []) commands))
+
     Continues-after_serial :
-        (line : SerialLine) (old new : Port LineCalls EventCounts Output) (commands : List Command) (session : Session) →
-        IsAt session old → IsSerialStep line reply old new → Completes before session (Serial line ∷ commands) →
-        (next : Session) × IsAt next new × Completes after next commands
-    Continues-after_serial line old new commands session at step completes =
+        (line : SerialLine) (old new : Port LineCalls EventCounts Output) (state : RtcState) (session : Session) →
+        IsAt session old → IsSerialStep line reply old new → Completes before session state earlier →
+        (next : Session) × IsAt next new × Completes after next state (earlier ++ Serial line ∷ [])
+    Continues-after_serial line old new state session at step completes =
         let taken = step session at in
         let choice = taken.0 in
-        let next = serial_after session choice line in (
-          next,
-          taken.3,
-          λ later fits end rest.
-              let few = output-few session.output old.out at.output in
-              let whole = line-joins session few choice later taken.1 line fits in
-              let same : text_from session whole.0 (Serial line ∷ commands) ≡ reply ++ text_from next later commands =
-              ap (λ xs. xs ++ text_from (serial_after session whole.0 line) (choice_after session whole.0 line) commands) (whole.2 ∙ sym taken.2)
-              ∙ ap (λ (s : Session). reply ++ text_from s (choice_after session whole.0 line) commands) whole.3
-              ∙ ap (λ (c : Choice). reply ++ text_from next c commands) whole.4 in
-              completes whole.0 whole.1 end
-              (subst (λ xs. Appends before end xs) (sym same) (Appends-append before after end reply (text_from next later commands) wrote rest)),
-        )
+        let next = serial_after session choice line in
+        (next, taken.3, λ commands later fits end rest.
+            let few = output-few session.output old.out at.output in
+            let whole = line-joins choice later taken.1 session few line fits in
+            let same : text_from session state whole.0 (Serial line ∷ commands) ≡ reply ++ text_from next state later commands =
+                ap (λ xs. xs ++ text_from (serial_after session whole.0 line) state (choice_after session whole.0 line) commands) (whole.2 ∙ sym taken.2)
+                ∙ ap (λ (s : Session). reply ++ text_from s state (choice_after session whole.0 line) commands) whole.3
+                ∙ ap (λ (c : Choice). reply ++ text_from next state c commands) whole.4 in
+            one-more (Serial line) commands end (completes (Serial line ∷ commands) whole.0 whole.1 end
+            (subst (λ xs. Appends before end xs) (sym same) (Appends-append before after end reply (text_from next state later commands) wrote rest))))
 
     Continues-after_command :
-        (command : Command) (old new : Devices) (commands : List Command) → IsStep command reply old new →
-        Continues before old (command ∷ commands) → Continues after new commands
-    Continues-after_command (Serial line) old new commands step (session, at, completes) =
-        Continues-after_serial line old.serial new.serial commands session at step.0 completes
-    Continues-after_command (Controller line) old new commands step (session, at, completes) = (
-      session,
-      subst (λ (board : Devices). IsAt session board.serial) (sym step.1) at,
-      λ choice fits end rest.
-          completes choice fits end
-          (subst (λ xs. Appends before end (xs ++ text_from session choice commands)) step.0
-          (Appends-append before after end reply (text_from session choice commands) wrote rest)),
-    )
+        (command : Command) (old new : Devices) → IsStep command reply old new →
+        Continues before old earlier → Continues after new (earlier ++ command ∷ [])
+    Continues-after_command (Serial line) old new step (session, at, completes) =
+        subst (λ (c : clock.Device EventCounts). (next : Session) × IsAt next new.serial × Completes after next c.state (earlier ++ Serial line ∷ [])) (sym step.1)
+        (Continues-after_serial line old.serial new.serial old.clock.state session at step.0 completes)
+    Continues-after_command (Clock line) old new step (session, at, completes) =
+        (session, subst (λ (port : Port LineCalls EventCounts Output). IsAt session port) (sym step.2) at, λ commands choice fits end rest.
+            let next = clock_after old.clock.state line in
+            one-more (Clock line) commands end (completes (Clock line ∷ commands) choice fits end
+            (subst (λ xs. Appends before end (xs ++ text_from session next choice commands)) step.0
+            (Appends-append before after end reply (text_from session next choice commands) wrote
+            (subst (λ (s : RtcState). Appends after end (text_from session s choice commands)) step.1 rest)))))
+    Continues-after_command (Controller line) old new step (session, at, completes) =
+        subst (λ (board : Devices). Continues after board (earlier ++ Controller line ∷ [])) (sym step.1)
+        (session, at, λ commands choice fits end rest.
+            one-more (Controller line) commands end (completes (Controller line ∷ commands) choice fits end
+            (subst (λ xs. Appends before end (xs ++ text_from session old.clock.state choice commands)) step.0
+            (Appends-append before after end reply (text_from session old.clock.state choice commands) wrote rest))))
 
-    -- a line that was carried out and replied
-    pub Continues-after_line :
-        (line : List ℕ) (lines more : List (List ℕ)) (old new : Devices) → lines ≡ line ∷ more →
-        IsSomeAnd (command_of line) (λ command. IsStep command reply old new) →
-        Continues before old (good_commands lines) → Continues after new (good_commands more)
-    Continues-after_line line lines more old new same step continues =
-        after-good (command_of line) step (subst (λ ls. Continues before old (good_commands ls)) same continues)
-      where
-        after-good : (command : Option Command) → IsSomeAnd command (λ command. IsStep command reply old new) →
-            Continues before old (onto_good command (good_commands more)) → Continues after new (good_commands more)
-        after-good None step continues = absurd step
-        after-good (Some command) step continues = Continues-after_command command old new (good_commands more) step continues
+-- ---- the lines
 
--- at the end, and at a line that has no form, nothing is still to come
-pub Prints-at_end :
-    (script : List ℕ) (start before : Option (List ℕ)) (board : Devices) (commands : List Command) → commands ≡ [] →
-    Continues script start before board commands → Prints 0 script start before
-Prints-at_end script start before board commands none (session, at, completes) =
-    let few = output-few session.output board.serial.out at.output in
-    completes (record { fates = [] }) (Fits-none session.output few) before
-    (subst (λ cs. Appends before before (text_from session (record { fates = [] }) cs)) (sym none) (Appends-nothing before))
+-- among good lines, each has a command
+onto_good-append : (command : Option Command) (earlier : List Command) (commands : List Command) → IsTrue (is_some command) →
+    onto_good command (earlier ++ commands) ≡ onto_good command earlier ++ commands
+onto_good-append None earlier commands good = absurd (false≢true good)
+onto_good-append (Some command) earlier commands good = refl
 
--- at the start, all is still to come
-pub Continues-at_start :
-    (script : List ℕ) (start : Option (List ℕ)) (board : Devices) → IsAt (fresh_session 0) board.serial →
-    Continues script start start board (good_commands (lines_of script))
-Continues-at_start script start board at =
-    (fresh_session 0, at, λ choice fits end text. (choice, record { sent = fits.sent; room = omega (arith, fits.room) }, text))
-
--- a line that was replied is not the first bad one
-first_bad-after_command :
-    (number : ℕ) (others : Option ℕ) (command : Option Command) (P : Command → Type 0) → IsSomeAnd command P →
+first_bad-step : (command : Option Command) (number : ℕ) (others : Option ℕ) → IsTrue (is_some command) →
     (if is_some command then others else Some number) ≡ others
-first_bad-after_command number others None P good = absurd good
-first_bad-after_command number others (Some command) P good = refl
+first_bad-step None number others good = absurd (false≢true good)
+first_bad-step (Some command) number others good = refl
 
-pub first_bad-after_line :
-    (number : ℕ) (line : List ℕ) (lines more : List (List ℕ)) (P : Command → Type 0) → lines ≡ line ∷ more →
-    IsSomeAnd (command_of line) P → first_bad number lines ≡ first_bad (number + 1) more
-first_bad-after_line number line lines more P same good =
-    ap (first_bad number) same ∙ first_bad-after_command number (first_bad (number + 1) more) (command_of line) P good
+and-left : (a b : Bool) → IsTrue (a && b) → IsTrue a
+and-left true b h = refl
+and-left false b h = h
 
--- a line that has no form is the first bad one, and no good line is left
-pub first_bad-at_bad :
-    (number : ℕ) (line : List ℕ) (lines more : List (List ℕ)) → lines ≡ line ∷ more → command_of line ≡ None →
-    first_bad number lines ≡ Some number
-first_bad-at_bad number line lines more same none =
-    ap (first_bad number) same ∙ ap (λ (command : Option Command). if is_some command then first_bad (number + 1) more else Some number) none
+and-right : (a b : Bool) → IsTrue (a && b) → IsTrue b
+and-right true b h = h
+and-right false b h = absurd (false≢true h)
 
-pub good_commands-at_bad :
-    (line : List ℕ) (lines more : List (List ℕ)) → lines ≡ line ∷ more → command_of line ≡ None → good_commands lines ≡ []
-good_commands-at_bad line lines more same none =
-    ap good_commands same ∙ ap (λ (command : Option Command). onto_good command (good_commands more)) none
+good_commands-append : (earlier lines : List (List ℕ)) → IsTrue (list_all has_form earlier) →
+    good_commands (earlier ++ lines) ≡ good_commands earlier ++ good_commands lines
+good_commands-append [] lines good = refl
+good_commands-append (line ∷ earlier) lines good =
+    let rest = and-right (has_form line) (list_all has_form earlier) good in
+    ap (onto_good (command_of line)) (good_commands-append earlier lines rest)
+    ∙ onto_good-append (command_of line) (good_commands earlier) (good_commands lines) (and-left (has_form line) (list_all has_form earlier) good)
+
+first_bad-append : (number : ℕ) (earlier lines : List (List ℕ)) → IsTrue (list_all has_form earlier) →
+    first_bad number (earlier ++ lines) ≡ first_bad (number + length earlier) lines
+first_bad-append number [] lines good = ap (λ n. first_bad n lines) (omega arith)
+first_bad-append number (line ∷ earlier) lines good =
+    let rest = and-right (has_form line) (list_all has_form earlier) good in
+    let same : number + 1 + length earlier ≡ number + length (line ∷ earlier) = omega arith in
+    first_bad-step (command_of line) number (first_bad (number + 1) (earlier ++ lines)) (and-left (has_form line) (list_all has_form earlier) good)
+    ∙ first_bad-append (number + 1) earlier lines rest ∙ ap (λ n. first_bad n lines) same
+
+all_good-append : (earlier : List (List ℕ)) (line : List ℕ) → IsTrue (list_all has_form earlier) → IsTrue (has_form line) →
+    IsTrue (list_all has_form (earlier ++ line ∷ []))
+all_good-append [] line good one = both-true (has_form line) true one refl
+all_good-append (first ∷ earlier) line good one =
+    both-true (has_form first) (list_all has_form (earlier ++ line ∷ [])) (and-left (has_form first) (list_all has_form earlier) good)
+    (all_good-append earlier line (and-right (has_form first) (list_all has_form earlier) good) one)
+
+-- ---- the lines that were carried out
+
+-- so many lines were carried out, of all of them, and led to this board
+pub record Carried (mask : ℕ) (start : Option (List ℕ)) (all rest : List (List ℕ)) (before : Option (List ℕ)) (board : Devices) (count : ℕ) : Type 0 where
+  pub earlier : List (List ℕ)
+  pub counted : length earlier ≡ count
+  pub split : all ≡ earlier ++ rest
+  pub all_good : IsTrue (list_all has_form earlier)
+  pub text : Continues mask start before board (good_commands earlier)
+
+pub Carried-at_start : (mask : ℕ) (start : Option (List ℕ)) (all : List (List ℕ)) (board : Devices) → IsFresh mask board → Carried mask start all all start board 0
+Carried-at_start mask start all board is_fresh =
+    record { earlier = []; counted = refl; split = refl; all_good = refl; text = Continues-at_start mask start board is_fresh }
+
+module _ (mask : ℕ) (start : Option (List ℕ)) (all rest : List (List ℕ)) (before : Option (List ℕ)) (board : Devices) (count : ℕ) (carried : Carried mask start all rest before board count) where
+  module _ (line : List ℕ) (more : List (List ℕ)) (next : rest ≡ line ∷ more) where
+    -- one more line was carried out and replied
+    pub Carried-after_line :
+        (after : Option (List ℕ)) (reply : List ℕ) (new : Devices) → Appends before after reply →
+        IsSomeAnd (command_of line) (λ command. IsStep command reply board new) → Carried mask start all more after new (count + 1)
+    Carried-after_line after reply new wrote step =
+        let earlier = carried.earlier in
+        let form = has-form (command_of line) step in
+        record {
+          earlier = earlier ++ line ∷ [];
+          counted = length-append earlier (line ∷ []) ∙ ap (λ n. n + 1) carried.counted;
+          split = carried.split ∙ ap (λ lines. earlier ++ lines) next ∙ sym (append_assoc earlier (line ∷ []) more);
+          all_good = all_good-append earlier line carried.all_good form;
+          text = subst (λ commands. Continues mask start after new commands) (sym (good_commands-append earlier (line ∷ []) carried.all_good))
+              (by-command (command_of line) step);
+        }
+      where
+        has-form : (command : Option Command) → IsSomeAnd command (λ command. IsStep command reply board new) → IsTrue (is_some command)
+        has-form None step = absurd step
+        has-form (Some command) step = refl
+
+        by-command : (command : Option Command) → IsSomeAnd command (λ command. IsStep command reply board new) →
+            Continues mask start after new (good_commands carried.earlier ++ onto_good command [])
+        by-command None step = absurd step
+        by-command (Some command) step =
+            Continues-after_command mask start before after reply wrote (good_commands carried.earlier) command board new step carried.text
+
+    -- the next line has no form
+    pub first_bad-here : (number : ℕ) → command_of line ≡ None → first_bad number all ≡ Some (number + count)
+    first_bad-here number none =
+        ap (first_bad number) (carried.split ∙ ap (λ lines. carried.earlier ++ lines) next)
+        ∙ first_bad-append number carried.earlier (line ∷ more) carried.all_good
+        ∙ ap (λ (command : Option Command). if is_some command then first_bad (number + length carried.earlier + 1) more else Some (number + length carried.earlier)) none
+        ∙ ap (λ n. Some (number + n)) carried.counted
+
+    pub Prints-before_bad : command_of line ≡ None → PrintsLines mask all start before
+    Prints-before_bad none =
+        let no_more = ap (λ (command : Option Command). onto_good command (good_commands more)) none in
+        let same = ap good_commands (carried.split ∙ ap (λ lines. carried.earlier ++ lines) next) ∙ good_commands-append carried.earlier (line ∷ more) carried.all_good
+            ∙ ap (λ commands. good_commands carried.earlier ++ commands) no_more ∙ append-nil (good_commands carried.earlier) in
+        subst (λ commands. Prints mask start commands before) (sym same) (Prints-so_far mask start before board (good_commands carried.earlier) carried.text)
+
+    -- the next line asks for a restore, for which memory was refused
+    pub Stops-here : AsksForRestore line → StopsAtRestore mask all start before
+    Stops-here restore = record {
+      earlier = carried.earlier;
+      line = line;
+      later = more;
+      split = carried.split ∙ ap (λ lines. carried.earlier ++ lines) next;
+      all_good = carried.all_good;
+      restore = restore;
+      text = Prints-so_far mask start before board (good_commands carried.earlier) carried.text;
+    }
+
+  -- all lines were carried out
+  pub none-bad : (number : ℕ) → rest ≡ [] → first_bad number all ≡ None
+  none-bad number done =
+      ap (first_bad number) (carried.split ∙ ap (λ lines. carried.earlier ++ lines) done)
+      ∙ first_bad-append number carried.earlier [] carried.all_good
+
+  pub Prints-all : rest ≡ [] → PrintsLines mask all start before
+  Prints-all done =
+      let same = ap good_commands (carried.split ∙ ap (λ lines. carried.earlier ++ lines) done ∙ append-nil carried.earlier) in
+      subst (λ commands. Prints mask start commands before) (sym same) (Prints-so_far mask start before board (good_commands carried.earlier) carried.text)

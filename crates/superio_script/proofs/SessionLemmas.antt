@@ -1,34 +1,33 @@
--- A call of the serial port is a step of its session.
-use Rattle.std.proofs.Common.{◌≡◌, ℕ, zero, suc, ◌+◌, ◌-◌, ◌<◌, ◌≤◌, Bool, true, false, List, [], ◌∷◌, ◌++◌, length, take, Option, Some, None, Result, Ok, Err, refl, ap, sym, ◌∙◌, subst, arith, length-append}
-use Rattle.std.specs.Prelude.{IsTrue, IsSome, IfSome, if◌then◌else◌, nat_le, ◌==◌, ◌||◌, ◌&&◌}
+-- A line of the serial port is a step of its session.
+use Rattle.std.proofs.Common.{◌≡◌, ℕ, zero, suc, ◌-◌, ◌≤◌, Bool, true, false, List, [], ◌∷◌, ◌++◌, length, Option, Some, None, Result, Ok, Err, refl, ap, sym, ◌∙◌, subst, arith, inl, inr}
+use Rattle.std.specs.Prelude.{◌⊎◌, IsTrue, IsSome, IfSome, if◌then◌else◌, nat_le, ◌&&◌, codes}
+use Rattle.std.specs.Bool.{beq}
 use Rattle.std.proofs.lemmas.Bool.{false≢true}
 use Rattle.std.proofs.lemmas.Bool.Decides.{nat_tests}
-use Rattle.std.specs.Bool.{beq}
-use Rattle.std.specs.List.{list_all}
-use Rattle.std.proofs.lemmas.Grind.{common_steps}
 use Rattle.vm_superio.specs.declared.run.Asked.{Asked}
 use Rattle.vm_superio.specs.declared.run.Asked.TheVariants.{Nothing, Took, Refused, TookTook, TookRefused}
 use Rattle.vm_superio.specs.declared.run.Sent.{Sent}
 use Rattle.vm_superio.specs.declared.run.Sent.TheVariants as sent
-use Rattle.vm_superio.specs.State.{State}
-use Rattle.vm_superio.specs.Registers.{is_loopback}
-use Rattle.vm_superio.specs.Acts.{Deed, Reads, Writes, Enqueues, Answer, Added, TriggerRefused, FifoFull, is_sent, one_if, ends_refused, is_refused as is_refused_asked}
-use Rattle.vm_superio.specs.Asking.{that_fit}
-use Rattle.vm_superio.specs.Meaning.{Other, Arrival}
-use Rattle.vm_superio.specs.Fits.{asked_fits, receive_due, due_by, due, sends, fits}
-use Rattle.vm_superio.specs.Calls.{answer, enqueue_answer}
+use Rattle.vm_superio.specs.State.{State, not_empty}
+use Rattle.vm_superio.specs.Registers.{is_loopback, transmit_first}
+use Rattle.vm_superio.specs.Acts.{Deed, Reads, Writes, Enqueues, Answer, is_sent, ends_refused}
+use Rattle.vm_superio.specs.Meaning.{Arrival, Other, sent_by}
+use Rattle.vm_superio.specs.Fits.{asked_fits, due, sends}
+use Rattle.vm_superio.specs.Calls.{answer, next, events, restore_calls}
 use Rattle.vm_superio.specs.Links.{answers, written, WriterLink}
-use Rattle.vm_superio.specs.Port.{Port, IsCase, failure, enqueue_reply, refusal_in, refusal_of}
+use Rattle.vm_superio.specs.Port.{Port, IsCase, failure}
+use Rattle.vm_superio.specs.Restoring.{all_taken, EndsRefused, RefusesRestore}
 use Rattle.vm_superio.specs.declared.serial.errors.Error.{Error}
 use Rattle.vm_superio.specs.declared.serial.errors.Error.TheVariants.{Trigger, IOError, FullFifo, Memory}
 use Rattle.superio_script.specs.Line.{LineCalls, LineLink, is_refused, called}
-use Rattle.superio_script.specs.Counts.{EventCounts, CountsLink}
+use Rattle.superio_script.specs.Counts.{EventCounts, CountsLink, after_events}
 use Rattle.superio_script.specs.Output.{bytes_of}
-use Rattle.superio_script.specs.Reply.{answer_reply}
-use Rattle.superio_script.specs.Session.{Session, Choice, IsPossible, first_fate, answered, line_after, asked_by, sent_where, output_after, after, after_call, call_reply}
-use Rattle.superio_script.specs.Board.{IsAt}
+use Rattle.superio_script.specs.Reply.{ended, answer_reply, digits_reply, count_digits, counts_reply}
+use Rattle.superio_script.specs.Session.{Session, Choice, IsPossible, answered, line_after, sent_where, output_after, call_reply, after_call, shown_where, is_not_restored, restored, serial_reply}
+use Rattle.superio_script.specs.Board.{IsAt, IsSerialStep}
 use Rattle.superio_script.specs.declared.output.Output.{Output}
 use Rattle.superio_script.specs.declared.trigger.LineRefused.{LineRefused}
+use Rattle.superio_script.specs.declared.command.SerialLine.TheVariants as line
 
 -- ---- both of two tests
 
@@ -39,6 +38,10 @@ and_left false b h = h
 and_right : (a b : Bool) → IsTrue (a && b) → IsTrue b
 and_right true b h = h
 and_right false b h = absurd (false≢true h)
+
+both-true : (a b : Bool) → IsTrue a → IsTrue b → IsTrue (a && b)
+both-true true b h k = k
+both-true false b h k = absurd (false≢true h)
 
 -- ---- the interrupt line
 
@@ -94,95 +97,25 @@ answered-from_link line new calls TookRefused (Some refusal) fits some link =
       sym link.1.1,
     )
 
--- ---- what an enqueue answers where the trigger refused
-
-take-none : (count : ℕ) → take {A = ℕ} count [] ≡ []
-take-none count = grind (arith, common_steps)
-
--- with no bytes there is no call to refuse
-none-accepted : (s : State) (accepted : List ℕ) (asked : Asked) →
-    accepted ≡ [] → IsTrue (asked_fits (receive_due accepted s) asked) → IsTrue (ends_refused asked) → ⊥
-none-accepted s accepted asked none fits refused =
-    elim asked as (λ (a : Asked). IsTrue (asked_fits 0 a) → IsTrue (ends_refused a) → ⊥) [
-      | Nothing ↦ λ _ h. absurd (false≢true h)
-      | Took ↦ λ _ h. absurd (false≢true h)
-      | Refused ↦ λ h _. absurd (false≢true h)
-      | TookTook ↦ λ _ h. absurd (false≢true h)
-      | TookRefused ↦ λ h _. absurd (false≢true h)
-    ] (subst (λ bytes. IsTrue (asked_fits (receive_due bytes s) asked)) none fits) refused
-
--- a refusal that ends an enqueue is its only call's
-only-refused : (due : Bool) (asked : Asked) → IsTrue (asked_fits (one_if due) asked) → IsTrue (ends_refused asked) → is_refused_asked asked ≡ true
-only-refused due Nothing fits refused = absurd (false≢true refused)
-only-refused due Took fits refused = absurd (false≢true refused)
-only-refused due Refused fits refused = refl
-only-refused due TookTook fits refused = absurd (false≢true refused)
-only-refused true TookRefused fits refused = absurd (false≢true fits)
-only-refused false TookRefused fits refused = absurd (false≢true fits)
-
-only-refused-bytes : (s : State) (accepted : List ℕ) (asked : Asked) →
-    IsTrue (asked_fits (receive_due accepted s) asked) → IsTrue (ends_refused asked) → is_refused_asked asked ≡ true
-only-refused-bytes s [] asked fits refused = absurd (none-accepted s [] asked refl fits refused)
-only-refused-bytes s (byte ∷ bytes) asked fits refused =
-    only-refused _ asked fits refused
-
-no-room : (count : ℕ) → nat_le 64 count ≡ true → 64 - count ≡ 0
-no-room count full = grind (arith, nat_tests)
-
--- the answer where neither test holds and the trigger refused
-refused-answer : (empty full refused : Bool) (count : ℕ) → (empty ≡ true → ⊥) → (full ≡ true → ⊥) → refused ≡ true →
-    (if empty then Added 0 else (if full then FifoFull else (if refused then TriggerRefused else Added count))) ≡ TriggerRefused
-refused-answer true full refused count some room is = absurd (some refl)
-refused-answer false true refused count some room is = absurd (room refl)
-refused-answer false false true count some room is = refl
-refused-answer false false false count some room is = absurd (false≢true is)
-
-no-bytes : (bytes : List ℕ) → (length bytes == 0) ≡ true → bytes ≡ []
-no-bytes [] e = refl
-no-bytes (byte ∷ bytes) e = absurd (grind (arith, nat_tests))
-
-enqueue-refused_outside : (s : State) (bytes : List ℕ) (asked : Asked) →
-    IsTrue (asked_fits (receive_due (that_fit s.in_buffer bytes) s) asked) → IsTrue (ends_refused asked) →
-    (if length bytes == 0 then Added 0 else (if nat_le 64 (length s.in_buffer) then FifoFull
-    else (if is_refused_asked asked then TriggerRefused else Added (length (that_fit s.in_buffer bytes))))) ≡ TriggerRefused
-enqueue-refused_outside s bytes asked fitted refused =
-    let none : that_fit s.in_buffer bytes ≡ [] → ⊥ = λ none. none-accepted s (that_fit s.in_buffer bytes) asked none fitted refused in
-    refused-answer (length bytes == 0) (nat_le 64 (length s.in_buffer)) (is_refused_asked asked) (length (that_fit s.in_buffer bytes))
-    (λ empty. none (ap (take (64 - length s.in_buffer)) (no-bytes bytes empty) ∙ take-none (64 - length s.in_buffer)))
-    (λ full. none (ap (λ room. take room bytes) (no-room (length s.in_buffer) full)))
-    (only-refused-bytes s (that_fit s.in_buffer bytes) asked fitted refused)
-
--- an enqueue whose trigger refused answers so
-enqueue-refused : (s : State) (bytes : List ℕ) (asked : Asked) →
-    IsTrue (asked_fits (due s (Enqueues bytes)) asked) → IsTrue (ends_refused asked) → enqueue_answer s bytes asked ≡ TriggerRefused
-enqueue-refused s bytes asked fits refused =
-    elim (is_loopback s.modem_control) as (λ (loopback : Bool).
-    IsTrue (asked_fits (due_by (if loopback then Other else Arrival bytes) s) asked) →
-    (if loopback || (length bytes == 0) then Added 0 else (if nat_le 64 (length s.in_buffer) then FifoFull
-    else (if is_refused_asked asked then TriggerRefused else Added (length (if loopback then [] else that_fit s.in_buffer bytes))))) ≡ TriggerRefused) [
-      | true ↦ λ h. absurd (none-accepted s [] asked refl h refused)
-      | false ↦ λ h. enqueue-refused_outside s bytes asked h refused
-    ] fits
-
 -- ---- the byte that was sent
-
--- a choice by which the first byte has this fate
-abbrev chosen : Sent → Choice
-chosen sent.Nothing = record { fates = [] }
-chosen sent.Out = record { fates = sent.Out ∷ [] }
-chosen sent.Lost = record { fates = sent.Lost ∷ [] }
-
-chosen-possible : (what : Sent) → IsPossible (chosen what)
-chosen-possible sent.Nothing = record { sent = refl; room = omega arith }
-chosen-possible sent.Out = record { sent = refl; room = omega arith }
-chosen-possible sent.Lost = record { sent = refl; room = omega arith }
 
 -- where nothing is free
 abbrev pub none-chosen : Choice
-none-chosen = record { fates = [] }
+none-chosen = record { fates = []; shown = [] }
 
 pub none-chosen-possible : IsPossible none-chosen
-none-chosen-possible = record { sent = refl; room = omega arith }
+none-chosen-possible = record { sent = refl; room = omega arith; short = refl }
+
+-- a choice by which the first byte has this fate
+abbrev pub chosen : Sent → Choice
+chosen sent.Nothing = none-chosen
+chosen sent.Out = record { fates = sent.Out ∷ []; shown = [] }
+chosen sent.Lost = record { fates = sent.Lost ∷ []; shown = [] }
+
+pub chosen-possible : (what : Sent) → IsPossible (chosen what)
+chosen-possible sent.Nothing = none-chosen-possible
+chosen-possible sent.Out = record { sent = refl; room = omega arith; short = refl }
+chosen-possible sent.Lost = record { sent = refl; room = omega arith; short = refl }
 
 chosen-sent : (sends : Bool) (what : Sent) → IsTrue (beq (is_sent what) sends) → what ≡ sent_where sends (chosen what)
 chosen-sent true sent.Nothing fits = absurd (false≢true fits)
@@ -191,6 +124,18 @@ chosen-sent true sent.Lost fits = refl
 chosen-sent false sent.Nothing fits = refl
 chosen-sent false sent.Out fits = absurd (false≢true fits)
 chosen-sent false sent.Lost fits = absurd (false≢true fits)
+
+-- an enqueue sends no byte
+enqueue-sends : (loopback : Bool) (bytes : List ℕ) → not_empty (sent_by (if loopback then Other else Arrival bytes)) ≡ false
+enqueue-sends true bytes = refl
+enqueue-sends false bytes = refl
+
+nothing-sent : (what : Sent) (sends : Bool) → sends ≡ false → IsTrue (beq (is_sent what) sends) → what ≡ sent.Nothing
+nothing-sent sent.Nothing sends none fits = refl
+nothing-sent sent.Out false none fits = absurd (false≢true fits)
+nothing-sent sent.Out true none fits = absurd (false≢true (sym none))
+nothing-sent sent.Lost false none fits = absurd (false≢true fits)
+nothing-sent sent.Lost true none fits = absurd (false≢true (sym none))
 
 -- the output after a call, where the writer is linked by the byte's fate
 output-after_call :
@@ -204,61 +149,208 @@ output-after_call (Some all) sent.Lost bytes old new link was = tt
 
 -- ---- a call
 
--- the reply of a call that the trigger refused carries the refusal
-refusal-in_error : (error : Error LineRefused) → failure error ≡ TriggerRefused → IsSome (refusal_in error)
-refusal-in_error (Trigger refusal) e = refl
-refusal-in_error (IOError fault) e = absurd cc
-refusal-in_error FullFifo e = absurd cc
-refusal-in_error Memory e = absurd cc
-
-refusal-in_reply : (result : Result ℕ (Error LineRefused)) → enqueue_reply result ≡ TriggerRefused → IsSome (refusal_of result)
-refusal-in_reply (Ok count) e = absurd cc
-refusal-in_reply (Err error) e = refusal-in_error error e
-
-pub enqueue-refusal : (s : State) (bytes : List ℕ) (asked : Asked) (what : Sent) (result : Result ℕ (Error LineRefused)) →
-    IsTrue (fits s (Enqueues bytes) asked what) → enqueue_reply result ≡ enqueue_answer s bytes asked →
-    IsTrue (ends_refused asked) → IsSome (refusal_of result)
-enqueue-refusal s bytes asked what result fits reply refused =
-    refusal-in_reply result (reply ∙ enqueue-refused s bytes asked (and_left (asked_fits (due s (Enqueues bytes)) asked) (beq (is_sent what) (sends s (Enqueues bytes))) fits) refused)
-
 module _ (act : Deed) (asked : Asked) (what : Sent) (outcome : Answer) (refusal : Option LineRefused) (old new : Port LineCalls EventCounts Output) where
-  -- the session at which a port is, as long as its output is known
-  abbrev here : Option (List ℕ) → Session
-  here output = record { state = old.state; line = old.trigger; counts = old.events; output = output }
-
-  abbrev Steps : Session → Type 0
-  Steps before =
-      (choice : Choice) × IsPossible choice × (answer_reply outcome ≡ call_reply before choice act) × IsAt (after_call before choice act) new
+  -- the call is a step of a session, for a byte of this fate
+  abbrev pub IsCallStep : Session → Sent → Type 0
+  IsCallStep before fate = (answer_reply outcome ≡ call_reply before act fate) × IsAt (after_call before act fate) new
 
   steps-here :
-      (output : Option (List ℕ)) → IfSome output (λ all. bytes_of old.out ≡ all) → (IsTrue (ends_refused asked) → IsSome refusal) →
-      IsCase LineLink CountsLink (λ output. Some (bytes_of output)) act asked what outcome refusal old new → Steps (here output)
-  steps-here output was some case =
+      (output : Option (List ℕ)) → IfSome output (λ all. bytes_of old.out ≡ all) →
+      IsCase LineLink CountsLink (λ output. Some (bytes_of output)) act asked what outcome refusal old new →
+      IsCallStep (record { state = old.state; line = old.trigger; counts = old.events; output = output }) what
+  steps-here output was case =
       let calls = due old.state act in
-      let sending = sends old.state act in
-      let answered_so = answered-from_link old.trigger new.trigger calls asked refusal (and_left (asked_fits calls asked) (beq (is_sent what) sending) case.fits) some case.trigger in
-      let sent_so = chosen-sent sending what (and_right (asked_fits calls asked) (beq (is_sent what) sending) case.fits) in
-      let P : Asked → Sent → Type 0 = λ a w. (answer_reply outcome ≡ answer_reply (answer old.state act a w)) × IsAt (after (here output) act a w) new in
-      let made : P asked what = (
+      let fitted = and_left (asked_fits calls asked) (beq (is_sent what) (sends old.state act)) case.fits in
+      let so = answered-from_link old.trigger new.trigger calls asked refusal fitted (λ h. case.refused ∙ h) case.trigger in
+      let P : Asked → Type 0 = λ a. (answer_reply outcome ≡ answer_reply (answer old.state act a what)) × IsAt (record {
+        state = next old.state act a;
+        line = line_after old.trigger a;
+        counts = after_events (events old.state act what) old.events;
+        output = output_after output what (written act what);
+      }) new in
+      subst P so.0 (
         ap answer_reply case.reply,
         record {
           state = case.state;
-          line = answered_so.1;
+          line = so.1;
           counts = sym case.events;
           output = output-after_call output what (written act what) old.out new.out case.out was;
         },
-      ) in
-      let found = subst (λ w. P (answered old.trigger calls) w) sent_so (subst (λ a. P a what) answered_so.0 made) in
-      (chosen what, chosen-possible what, found.0, found.1)
+      )
 
   pub steps-from_case :
-      (before : Session) → IsAt before old → (IsTrue (ends_refused asked) → IsSome refusal) →
-      IsCase LineLink CountsLink (λ output. Some (bytes_of output)) act asked what outcome refusal old new → Steps before
-  steps-from_case before at some case =
-      let same : here before.output ≡ before = λ i. record {
-        state = at.state i;
-        line = at.line i;
-        counts = at.counts i;
-        output = before.output;
-      } in
-      subst Steps same (steps-here before.output at.output some case)
+      (before : Session) → IsAt before old →
+      IsCase LineLink CountsLink (λ output. Some (bytes_of output)) act asked what outcome refusal old new → IsCallStep before what
+  steps-from_case before at case =
+      let P : Session → Type 0 = λ s. IsCallStep s what in
+      subst P (λ i. record { state = at.state i; line = at.line i; counts = at.counts i; output = before.output }) (steps-here before.output at.output case)
+
+-- ---- the lines that make a call
+
+module _ (old new : Port LineCalls EventCounts Output) (outcome : Answer) (refusal : Option LineRefused) where
+  pub write-step :
+      (offset value : ℕ) (asked : Asked) (what : Sent) →
+      IsCase LineLink CountsLink (λ output. Some (bytes_of output)) (Writes offset value) asked what outcome refusal old new →
+      IsSerialStep (line.Write offset value) (answer_reply outcome) old new
+  write-step offset value asked what case before at =
+      let act = Writes offset value in
+      let step = steps-from_case act asked what outcome refusal old new before at case in
+      let sending = sends before.state act in
+      let same : sends old.state act ≡ sending = ap (λ (s : State). sends s act) at.state in
+      let fate = chosen-sent sending what (subst (λ b. IsTrue (beq (is_sent what) b)) same (and_right (asked_fits (due old.state act) asked) (beq (is_sent what) (sends old.state act)) case.fits)) in
+      let found = subst (IsCallStep act asked what outcome refusal old new before) fate step in
+      (chosen what, chosen-possible what, found.0, found.1)
+
+  pub enqueue-step :
+      (bytes : List ℕ) (asked : Asked) (what : Sent) →
+      IsCase LineLink CountsLink (λ output. Some (bytes_of output)) (Enqueues bytes) asked what outcome refusal old new →
+      IsSerialStep (line.Enqueue bytes) (answer_reply outcome) old new
+  enqueue-step bytes asked what case before at =
+      let act = Enqueues bytes in
+      let step = steps-from_case act asked what outcome refusal old new before at case in
+      let sending = sends old.state act in
+      let none = nothing-sent what sending (enqueue-sends (is_loopback old.state.modem_control) bytes) (and_right (asked_fits (due old.state act) asked) (beq (is_sent what) sending) case.fits) in
+      let found = subst (IsCallStep act asked what outcome refusal old new before) none step in
+      (none-chosen, none-chosen-possible, found.0, found.1)
+
+  pub read-step :
+      (offset : ℕ) →
+      IsCase LineLink CountsLink (λ output. Some (bytes_of output)) (Reads offset) Nothing sent.Nothing outcome refusal old new →
+      IsSerialStep (line.Read offset) (answer_reply outcome) old new
+  read-step offset case before at =
+      let found = steps-from_case (Reads offset) Nothing sent.Nothing outcome refusal old new before at case in
+      (none-chosen, none-chosen-possible, found.0, found.1)
+
+-- ---- the lines that make none
+
+short-enough : (count : ℕ) → count ≤ 256 → nat_le count 256 ≡ true
+short-enough count few = grind (arith, nat_tests)
+
+-- what a `so` shows is what went out, or what is chosen
+shown-output : (output : Option (List ℕ)) (bytes : List ℕ) → IfSome output (λ all. bytes ≡ all) →
+    bytes ≡ shown_where output (record { fates = []; shown = bytes ∷ [] })
+shown-output None bytes was = refl
+shown-output (Some all) bytes was = was
+
+module _ (port : Port LineCalls EventCounts Output) where
+  pub capacity-step : IsSerialStep line.Capacity (digits_reply ((64 - length port.state.in_buffer) ∷ [])) port port
+  capacity-step before at =
+      (none-chosen, none-chosen-possible, ap (λ (s : State). digits_reply ((64 - length s.in_buffer) ∷ [])) at.state, at)
+
+  pub calls-step : IsSerialStep line.Calls (ended (count_digits port.trigger.calls)) port port
+  calls-step before at =
+      (none-chosen, none-chosen-possible, ap (λ (l : LineCalls). ended (count_digits l.calls)) at.line, at)
+
+  pub events-step : IsSerialStep line.Events (counts_reply port.events) port port
+  events-step before at = (none-chosen, none-chosen-possible, ap counts_reply at.counts, at)
+
+  pub output-step : IsSerialStep line.Output (digits_reply (bytes_of port.out)) port port
+  output-step before at =
+      let choice : Choice = record { fates = []; shown = bytes_of port.out ∷ [] } in
+      let few : nat_le (length (bytes_of port.out)) 256 ≡ true = short-enough (length (bytes_of port.out)) port.out.few in
+      (choice, record { sent = refl; room = omega arith; short = both-true _ true few refl }, ap digits_reply (shown-output before.output (bytes_of port.out) at.output), at)
+
+-- ---- a restore
+
+one-taken : (line new : LineCalls) → (Ok tt ≡ one_answer (is_refused line.mask line.calls)) × (called line ≡ new) →
+    (ends_refused (answered line 1) ≡ false) × (new ≡ line_after line (answered line 1))
+one-taken line new link =
+    let taken = was_taken (is_refused line.mask line.calls) link.0 in
+    (ap (λ (a : Bool). ends_refused (if a then Refused else Took)) taken,
+    sym link.1 ∙ ap (λ (a : Bool). line_after line (if a then Refused else Took)) (sym taken))
+
+one-refused : (line : LineCalls) (refusal : LineRefused) (answer : Result (Unit {0}) LineRefused) {A B : Type 0} →
+    ((answer ≡ Err refusal) × A) ⊎ (B × ⊥) → answer ≡ one_answer (is_refused line.mask line.calls) →
+    ends_refused (answered line 1) ≡ true
+one-refused line refusal answer (inl h) link =
+    ap (λ (a : Bool). ends_refused (if a then Refused else Took)) (was_refused (is_refused line.mask line.calls) refusal (sym h.0 ∙ link))
+one-refused line refusal answer (inr h) link = absurd h.1
+
+second-refused : (refusal : LineRefused) (answer : Result (Unit {0}) LineRefused) (answers : List (Result (Unit {0}) LineRefused)) {A B : Type 0} →
+    ((answer ≡ Err refusal) × A) ⊎ (B × ⊥) → answer ≡ Err refusal
+second-refused refusal answer answers (inl h) = h.0
+second-refused refusal answer answers (inr h) = absurd h.1
+
+-- where all calls of a restore were taken, no answer is a refusal
+restore-taken :
+    (line new : LineCalls) (transmit receive : Bool) → LineLink line (all_taken (transmit_first transmit receive)) new →
+    (ends_refused (answered line (length (transmit_first transmit receive))) ≡ false)
+    × (new ≡ line_after line (answered line (length (transmit_first transmit receive))))
+restore-taken line new false false link = (refl, sym link)
+restore-taken line new true false link = one-taken line new link
+restore-taken line new false true link = one-taken line new link
+restore-taken line new true true link =
+    let first = was_taken (is_refused line.mask line.calls) link.0 in
+    let second = was_taken (is_refused line.mask (called line).calls) link.1.0 in
+    let asked = λ (a b : Bool). if a then Refused else (if b then TookRefused else TookTook) in
+    let same : asked (is_refused line.mask line.calls) (is_refused line.mask (called line).calls) ≡ TookTook =
+        ap (λ (a : Bool). asked a (is_refused line.mask (called line).calls)) first ∙ ap (λ (b : Bool). asked false b) second in
+    (ap ends_refused same, sym link.1.1 ∙ ap (line_after line) (sym same))
+
+-- where one was refused, the last answer is a refusal
+restore-refused :
+    (line new : LineCalls) (transmit receive : Bool) (refusal : LineRefused) (answers : List (Result (Unit {0}) LineRefused)) →
+    EndsRefused (transmit_first transmit receive) refusal answers → LineLink line answers new →
+    ends_refused (answered line (length (transmit_first transmit receive))) ≡ true
+restore-refused line new false false refusal answers ends link = absurd ends
+restore-refused line new true false refusal [] ends link = absurd ends
+restore-refused line new true false refusal (answer ∷ answers) ends link = one-refused line refusal answer ends link.0
+restore-refused line new false true refusal [] ends link = absurd ends
+restore-refused line new false true refusal (answer ∷ answers) ends link = one-refused line refusal answer ends link.0
+restore-refused line new true true refusal [] ends link = absurd ends
+restore-refused line new true true refusal (answer ∷ answers) (inl h) link =
+    ap (λ (a : Bool). ends_refused (if a then Refused else (if is_refused line.mask (called line).calls then TookRefused else TookTook)))
+    (was_refused (is_refused line.mask line.calls) refusal (sym h.0 ∙ link.0))
+restore-refused line new true true refusal (answer ∷ []) (inr h) link = absurd h.1
+restore-refused line new true true refusal (answer ∷ next ∷ answers) (inr h) link =
+    let first = was_taken (is_refused line.mask line.calls) (sym h.0 ∙ link.0) in
+    let refused = second-refused refusal next answers h.1 in
+    let second = was_refused (is_refused line.mask (called line).calls) refusal (sym refused ∙ link.1.0) in
+    ap (λ (a : Bool). ends_refused (if a then Refused else (if is_refused line.mask (called line).calls then TookRefused else TookTook))) first
+    ∙ ap (λ (b : Bool). ends_refused (if b then TookRefused else TookTook)) second
+
+module _ (old new : Port LineCalls EventCounts Output) where
+  -- the restore is a step of a session, with this reply
+  abbrev RestoresFrom : List ℕ → Session → Type 0
+  RestoresFrom reply before = (reply ≡ serial_reply before none-chosen line.Restore) × IsAt (restored before) new
+
+  restores-here :
+      (output : Option (List ℕ)) → IfSome output (λ all. bytes_of old.out ≡ all) →
+      new.state ≡ old.state → LineLink old.trigger (all_taken (restore_calls old.state)) new.trigger → new.events ≡ old.events → new.out ≡ old.out →
+      RestoresFrom (ended (codes "ok")) (record { state = old.state; line = old.trigger; counts = old.events; output = output })
+  restores-here output was state link events out =
+      let s : Session = record { state = old.state; line = old.trigger; counts = old.events; output = output } in
+      let taken = restore-taken old.trigger new.trigger _ _ link in
+      let P : Bool → Type 0 = λ refused. (ended (codes "ok") ≡ ended (if refused then codes "trigger" else codes "ok"))
+          × IsAt (if refused then s else record s { line = line_after s.line (answered s.line (length (restore_calls s.state))) }) new in
+      subst P (sym taken.0) (refl, record {
+        state = state;
+        line = taken.1;
+        counts = events;
+        output = subst (λ (o : Output). IfSome output (λ all. bytes_of o ≡ all)) (sym out) was;
+      })
+
+  -- a restore whose calls were taken
+  pub restore-step :
+      new.state ≡ old.state → LineLink old.trigger (all_taken (restore_calls old.state)) new.trigger → new.events ≡ old.events → new.out ≡ old.out →
+      IsSerialStep line.Restore (ended (codes "ok")) old new
+  restore-step state link events out before at =
+      let found = subst (RestoresFrom (ended (codes "ok"))) (λ i. record { state = at.state i; line = at.line i; counts = at.counts i; output = before.output })
+          (restores-here before.output at.output state link events out) in
+      (none-chosen, none-chosen-possible, found.0, found.1)
+
+-- a restore one of whose calls was refused
+pub refused-restore-step :
+    (port : Port LineCalls EventCounts Output) (line_after_calls : LineCalls) (error : Error LineRefused) → length port.state.in_buffer ≤ 64 →
+    RefusesRestore LineLink port.state error port.trigger line_after_calls →
+    IsSerialStep line.Restore (answer_reply (failure error)) port port
+refused-restore-step port after FullFifo few refuses = absurd (omega (arith, refuses.0))
+refused-restore-step port after (IOError fault) few refuses = absurd refuses
+refused-restore-step port after Memory few refuses = absurd refuses
+refused-restore-step port after (Trigger refusal) few refuses = λ before at.
+    let refused : is_not_restored (record { state = port.state; line = port.trigger; counts = port.events; output = before.output }) ≡ true =
+        restore-refused port.trigger after _ _ refusal refuses.1.0 refuses.1.1 refuses.1.2 in
+    let same = subst (λ (s : Session). is_not_restored s ≡ true) (λ i. record { state = at.state i; line = at.line i; counts = at.counts i; output = before.output }) refused in
+    (none-chosen, none-chosen-possible,
+    ap (λ (b : Bool). ended (if b then codes "trigger" else codes "ok")) (sym same),
+    subst (λ (b : Bool). IsAt (if b then before else record before { line = line_after before.line (answered before.line (length (restore_calls before.state))) }) port) (sym same) at)

@@ -1,76 +1,124 @@
 -- The form of a line: its fields, as a command.
-use Rattle.std.specs.Prelude.{ℕ, ◌/◌, ◌==◌, ◌&&◌, nat_le, List, [], ◌∷◌, length, if◌then◌else◌, codes, Option, Some, None, Result, Ok}
+use Rattle.std.specs.Prelude.{◌≡◌, ℕ, ◌/◌, ◌&&◌, nat_le, List, [], ◌∷◌, length, if◌then◌else◌, codes, Option, Some, None, Result, Ok}
 use Rattle.std.specs.Option.{option_map, option_and_then}
 use Rattle.std.specs.Result.{result_ok}
 use Rattle.std.specs.Str.{bytes_eq}
+use Rattle.std.specs.Int.{w16, w32, w64, from_be_bytes}
 use Rattle.hex.specs.Hex.{decode_of, decode_sized}
 use Rattle.hex.specs.declared.error.FromHexError.{FromHexError}
 use Rattle.superio_script.specs.Pieces.{fields_of}
 use Rattle.superio_script.specs.declared.command.Command.{Command}
-use Rattle.superio_script.specs.declared.command.Command.TheVariants.{Serial, Controller}
+use Rattle.superio_script.specs.declared.command.Command.TheVariants.{Serial, Clock, Controller}
 use Rattle.superio_script.specs.declared.command.SerialLine.{SerialLine}
 use Rattle.superio_script.specs.declared.command.SerialLine.TheVariants as serial
-use Rattle.superio_script.specs.declared.command.ControllerLine.{ControllerLine}
+use Rattle.superio_script.specs.declared.command.ClockLine.TheVariants as clock
 use Rattle.superio_script.specs.declared.command.ControllerLine.TheVariants as controller
 use Rattle.superio_script.specs.declared.command.TheConstants.{ARRIVAL_LIMIT}
 
--- ---- the fields
+-- ---- a field
+
+-- so many bytes, of two hexadecimal digits each, of either case
+abbrev pub bytes_of : ℕ → List ℕ → Option (List ℕ)
+bytes_of count field = result_ok (decode_sized field count)
 
 -- the one byte of a list that has one
 abbrev pub only_byte : Result (List ℕ) FromHexError → Option ℕ
 only_byte (Ok (byte ∷ [])) = Some byte
 only_byte _ = None
 
--- what a field of two hexadecimal digits, of either case, stands for
+-- a byte of two digits
 abbrev pub byte_of : List ℕ → Option ℕ
 byte_of field = only_byte (decode_sized field 1)
 
--- what a field of two such digits for each byte stands for, where it has 1 to 128 bytes
-abbrev pub bytes_of : List ℕ → Option (List ℕ)
-bytes_of field =
+-- numbers of sixteen, four and eight digits, the highest digit first
+abbrev pub number64_of : List ℕ → Option ℕ
+number64_of field = option_map (from_be_bytes w64) (bytes_of 8 field)
+
+abbrev pub number16_of : List ℕ → Option ℕ
+number16_of field = option_map (from_be_bytes w16) (bytes_of 2 field)
+
+abbrev pub number32_of : List ℕ → Option ℕ
+number32_of field = option_map (from_be_bytes w32) (bytes_of 4 field)
+
+-- 1 to 128 bytes, of two digits each
+abbrev pub arrival_of : List ℕ → Option (List ℕ)
+arrival_of field =
     let count = length field / 2 in
     if nat_le 1 count && nat_le count ARRIVAL_LIMIT then result_ok (decode_of field) else None
 
--- no field, one field that is a byte, and two such fields
+-- ---- the fields behind a line's name
+
 abbrev pub no_field : List (List ℕ) → Option (Unit {0})
 no_field [] = Some tt
 no_field _ = None
 
+-- OO
 abbrev pub one_byte : List (List ℕ) → Option ℕ
 one_byte (field ∷ []) = byte_of field
 one_byte _ = None
 
+-- OO VV
 abbrev pub two_bytes : List (List ℕ) → Option (ℕ × ℕ)
 two_bytes (first ∷ second ∷ []) =
     option_and_then (λ a. option_map (λ b. (a, b)) (byte_of second)) (byte_of first)
 two_bytes _ = None
 
--- no field, or one that is bytes
+-- nothing, or HH..
 abbrev pub bytes_or_none : List (List ℕ) → Option (List ℕ)
 bytes_or_none [] = Some []
-bytes_or_none (field ∷ []) = bytes_of field
+bytes_or_none (field ∷ []) = arrival_of field
 bytes_or_none _ = None
 
--- an offset that is 0
-abbrev pub zero_of : ℕ → Option ℕ
-zero_of offset = if offset == 0 then Some 0 else None
+-- NNNNNNNNNNNNNNNN OOOO
+abbrev pub moment_and_offset : List (List ℕ) → Option (ℕ × ℕ)
+moment_and_offset (first ∷ second ∷ []) =
+    option_and_then (λ moment. option_map (λ offset. (moment, offset)) (number16_of second)) (number64_of first)
+moment_and_offset _ = None
+
+-- NNNNNNNNNNNNNNNN OOOO VVVVVVVV
+abbrev pub moment_offset_and_value : List (List ℕ) → Option (ℕ × ℕ × ℕ)
+moment_offset_and_value (first ∷ second ∷ third ∷ []) =
+    option_and_then (λ moment. option_and_then (λ offset. option_map (λ value. (moment, offset, value))
+    (number32_of third)) (number16_of second)) (number64_of first)
+moment_offset_and_value _ = None
+
+-- MMMMMMMMMMMMMMMM
+abbrev pub one_number64 : List (List ℕ) → Option ℕ
+one_number64 (field ∷ []) = number64_of field
+one_number64 _ = None
 
 -- ---- the forms
 
--- `sr 00`, `sq`, `sq HH..`, `sc`, `kr OO` and `kw OO VV`
+-- `sc`, `ss`, `so`, `st` and `se`
+abbrev pub bare_from : List ℕ → Option SerialLine
+bare_from name =
+    if bytes_eq name (codes "sc") then Some serial.Capacity
+    else (if bytes_eq name (codes "ss") then Some serial.Restore
+    else (if bytes_eq name (codes "so") then Some serial.Output
+    else (if bytes_eq name (codes "st") then Some serial.Calls
+    else (if bytes_eq name (codes "se") then Some serial.Events
+    else None))))
+
+-- `sr OO`, `sw OO VV`, `sq`, `sq HH..`, `cr NNNNNNNNNNNNNNNN OOOO`, `cw NNNNNNNNNNNNNNNN OOOO VVVVVVVV`, `kr OO`,
+-- `kw OO VV`, and a name alone
 abbrev pub command_from : List ℕ → List (List ℕ) → Option Command
 command_from name fields =
     if bytes_eq name (codes "sr") then
-    option_map (λ offset. Serial (serial.Read offset)) (option_and_then zero_of (one_byte fields))
+        option_map (λ offset. Serial (serial.Read offset)) (one_byte fields)
+    else (if bytes_eq name (codes "sw") then
+        option_map (λ written. Serial (serial.Write written.0 written.1)) (two_bytes fields)
     else (if bytes_eq name (codes "sq") then
-    option_map (λ bytes. Serial (serial.Enqueue bytes)) (bytes_or_none fields)
-    else (if bytes_eq name (codes "sc") then
-    option_map (λ _. Serial serial.Capacity) (no_field fields)
+        option_map (λ bytes. Serial (serial.Enqueue bytes)) (bytes_or_none fields)
+    else (if bytes_eq name (codes "cr") then
+        option_map (λ read. Clock (clock.Read read.0 read.1)) (moment_and_offset fields)
+    else (if bytes_eq name (codes "cw") then
+        option_map (λ written. Clock (clock.Write written.0 written.1 written.2)) (moment_offset_and_value fields)
     else (if bytes_eq name (codes "kr") then
-    option_map (λ offset. Controller (controller.Read offset)) (one_byte fields)
+        option_map (λ offset. Controller (controller.Read offset)) (one_byte fields)
     else (if bytes_eq name (codes "kw") then
-    option_map (λ fields. Controller (controller.Write fields.0 fields.1)) (two_bytes fields)
-    else None))))
+        option_map (λ written. Controller (controller.Write written.0 written.1)) (two_bytes fields)
+    else
+        option_and_then (λ _. option_map (λ line. Serial line) (bare_from name)) (no_field fields)))))))
 
 abbrev pub command_of_fields : List (List ℕ) → Option Command
 command_of_fields [] = None
@@ -79,3 +127,15 @@ command_of_fields (name ∷ fields) = command_from name fields
 -- what a line asks for, or `None` where it has no form
 abbrev pub command_of : List ℕ → Option Command
 command_of line = command_of_fields (fields_of line)
+
+-- a line is `ss`
+abbrev pub AsksForRestore : List ℕ → Type 0
+AsksForRestore line = command_of line ≡ Some (Serial serial.Restore)
+
+-- the mask of a line `refuse MMMMMMMMMMMMMMMM`, which may be the first line alone, and asks for nothing elsewhere
+abbrev pub mask_of_fields : List (List ℕ) → Option ℕ
+mask_of_fields [] = None
+mask_of_fields (name ∷ fields) = if bytes_eq name (codes "refuse") then one_number64 fields else None
+
+abbrev pub mask_of : List ℕ → Option ℕ
+mask_of line = mask_of_fields (fields_of line)

@@ -1,42 +1,53 @@
 -- The serial port's part of a script: what its lines are replied, from its own lines alone.
-use Rattle.std.specs.Prelude.{ℕ, zero, suc, ◌+◌, ◌-◌, ◌≤◌, Bool, if◌then◌else◌, List, [], ◌∷◌, ◌++◌, length, drop, Option, Some, None, IsTrue}
+use Rattle.std.specs.Prelude.{ℕ, zero, suc, ◌+◌, ◌-◌, ◌≤◌, Bool, nat_le, if◌then◌else◌, List, [], ◌∷◌, ◌++◌, length, drop, codes, Option, Some, None, IsTrue}
 use Rattle.std.specs.List.{list_all}
 use Rattle.vm_superio.specs.declared.run.Asked.{Asked}
 use Rattle.vm_superio.specs.declared.run.Asked.TheVariants.{Nothing, Took, Refused, TookTook, TookRefused}
 use Rattle.vm_superio.specs.declared.run.Sent.{Sent}
 use Rattle.vm_superio.specs.declared.run.Sent.TheVariants as sent
 use Rattle.vm_superio.specs.State.{State, fresh}
-use Rattle.vm_superio.specs.Acts.{Deed, Reads, Enqueues, Answer, is_sent, is_lost}
+use Rattle.vm_superio.specs.Acts.{Deed, Reads, Writes, Enqueues, is_sent, is_lost, ends_refused}
 use Rattle.vm_superio.specs.Fits.{due, sends}
-use Rattle.vm_superio.specs.Calls.{answer, next, events}
+use Rattle.vm_superio.specs.Calls.{answer, next, events, restore_calls}
 use Rattle.vm_superio.specs.Links.{written}
 use Rattle.superio_script.specs.Line.{LineCalls, fresh_line, is_refused, called}
 use Rattle.superio_script.specs.Counts.{EventCounts, no_counts, after_events}
-use Rattle.superio_script.specs.Reply.{answer_reply, digits_reply}
+use Rattle.superio_script.specs.Reply.{ended, answer_reply, digits_reply, count_digits, counts_reply}
 use Rattle.superio_script.specs.declared.command.SerialLine.{SerialLine}
-use Rattle.superio_script.specs.declared.command.SerialLine.TheVariants.{Read, Enqueue, Capacity}
+use Rattle.superio_script.specs.declared.command.SerialLine.TheVariants.{Read, Write, Enqueue, Capacity, Restore, Output, Calls, Events}
 
 -- ---- what is left free
 
--- what the text of a script leaves free: whether the writer takes a byte
+-- what the text of a script leaves free: whether the writer takes a byte, and what it holds once it did not
 pub record Choice : Type 0 where
   -- what became of each byte that the port sent to the writer, in order. Where the list ends, bytes are lost
   pub fates : List Sent
+  -- the bytes that each `so` after a loss shows, in order. Where the list ends, it shows none
+  pub shown : List (List ℕ)
 
 -- how many bytes went out before the first was lost
 abbrev pub out_before_loss : List Sent → ℕ
 out_before_loss (sent.Out ∷ fates) = 1 + out_before_loss fates
 out_before_loss _ = 0
 
--- the choices that there are: each byte went out or was lost, and of the first 257 one was lost, since the board's
--- output has room for 256
+-- at most 256 bytes
+abbrev pub is_short : List ℕ → Bool
+is_short bytes = nat_le (length bytes) 256
+
+-- the choices that there are: each byte went out or was lost; of the first 257 one was lost, since the board's output
+-- has room for 256; and no `so` shows more than these
 pub record IsPossible (choice : Choice) : Type 0 where
   pub sent : IsTrue (list_all is_sent choice.fates)
   pub room : out_before_loss choice.fates ≤ 256
+  pub short : IsTrue (list_all is_short choice.shown)
 
 abbrev pub first_fate : List Sent → Sent
 first_fate [] = sent.Lost
 first_fate (fate ∷ fates) = fate
+
+abbrev pub first_shown : List (List ℕ) → List ℕ
+first_shown [] = []
+first_shown (bytes ∷ shown) = bytes
 
 -- ---- a session
 
@@ -73,50 +84,83 @@ line_after line TookRefused = called (called line)
 abbrev pub asked_by : Session → Deed → Asked
 asked_by s act = answered s.line (due s.state act)
 
--- what becomes of the byte of a call that sends one, and what is then still free
-abbrev pub sent_where : Bool → Choice → Sent
-sent_where sends choice = if sends then first_fate choice.fates else sent.Nothing
-
-abbrev pub rest_where : Bool → Choice → Choice
-rest_where sends choice = record { fates = if sends then drop 1 choice.fates else choice.fates }
-
--- the output after a call that took these bytes out
+-- the output after a call of this fate that took these bytes out
 abbrev pub output_after : Option (List ℕ) → Sent → List ℕ → Option (List ℕ)
 output_after None what bytes = None
 output_after (Some output) what bytes = if is_lost what then None else Some (output ++ bytes)
 
--- the session after a call
-abbrev pub after : Session → Deed → Asked → Sent → Session
-after s act asked what = record {
-  state = next s.state act asked;
-  line = line_after s.line asked;
+-- the reply to a call whose byte has this fate, and the session after it
+abbrev pub call_reply : Session → Deed → Sent → List ℕ
+call_reply s act what = answer_reply (answer s.state act (asked_by s act) what)
+
+abbrev pub after_call : Session → Deed → Sent → Session
+after_call s act what = record {
+  state = next s.state act (asked_by s act);
+  line = line_after s.line (asked_by s act);
   counts = after_events (events s.state act what) s.counts;
   output = output_after s.output what (written act what);
 }
 
-abbrev pub call_reply : Session → Choice → Deed → List ℕ
-call_reply s choice act = answer_reply (answer s.state act (asked_by s act) (sent_where (sends s.state act) choice))
+-- the fate of the byte that a write sends, where it sends one, and what is then still free. No other call sends a byte
+abbrev pub sent_where : Bool → Choice → Sent
+sent_where sends choice = if sends then first_fate choice.fates else sent.Nothing
 
-abbrev pub after_call : Session → Choice → Deed → Session
-after_call s choice act = after s act (asked_by s act) (sent_where (sends s.state act) choice)
+abbrev pub rest_where : Bool → Choice → Choice
+rest_where sends choice = record choice { fates = if sends then drop 1 choice.fates else choice.fates }
+
+abbrev pub write_sent : Session → Choice → (offset value : ℕ) → Sent
+write_sent s choice offset value = sent_where (sends s.state (Writes offset value)) choice
+
+-- ---- a restore
+
+-- what the line answers to the calls of a restore, and whether the restore is refused
+abbrev pub restore_asked : Session → Asked
+restore_asked s = answered s.line (length (restore_calls s.state))
+
+abbrev pub is_not_restored : Session → Bool
+is_not_restored s = ends_refused (restore_asked s)
+
+-- a restore keeps the state, the counts and the output, and its calls count. One that is refused leaves all as it was
+abbrev pub restored : Session → Session
+restored s = if is_not_restored s then s else record s { line = line_after s.line (restore_asked s) }
+
+-- ---- the output
+
+-- the bytes that went out, or what is chosen where they are not known
+abbrev pub shown_where : Option (List ℕ) → Choice → List ℕ
+shown_where (Some output) choice = output
+shown_where None choice = first_shown choice.shown
+
+abbrev pub rest_shown : Option (List ℕ) → Choice → Choice
+rest_shown (Some output) choice = choice
+rest_shown None choice = record choice { shown = drop 1 choice.shown }
 
 -- ---- the lines
 
 -- the reply to a line, the session after it, and what is then still free
 abbrev pub serial_reply : Session → Choice → SerialLine → List ℕ
-serial_reply s choice (Read offset) = call_reply s choice (Reads offset)
-serial_reply s choice (Enqueue bytes) = call_reply s choice (Enqueues bytes)
+serial_reply s choice (Read offset) = call_reply s (Reads offset) sent.Nothing
+serial_reply s choice (Write offset value) =
+    call_reply s (Writes offset value) (write_sent s choice offset value)
+serial_reply s choice (Enqueue bytes) = call_reply s (Enqueues bytes) sent.Nothing
 serial_reply s choice Capacity = digits_reply ((64 - length s.state.in_buffer) ∷ [])
+serial_reply s choice Restore = ended (if is_not_restored s then codes "trigger" else codes "ok")
+serial_reply s choice Output = digits_reply (shown_where s.output choice)
+serial_reply s choice Calls = ended (count_digits s.line.calls)
+serial_reply s choice Events = counts_reply s.counts
 
 abbrev pub serial_after : Session → Choice → SerialLine → Session
-serial_after s choice (Read offset) = after_call s choice (Reads offset)
-serial_after s choice (Enqueue bytes) = after_call s choice (Enqueues bytes)
-serial_after s choice Capacity = s
+serial_after s choice (Read offset) = after_call s (Reads offset) sent.Nothing
+serial_after s choice (Write offset value) =
+    after_call s (Writes offset value) (write_sent s choice offset value)
+serial_after s choice (Enqueue bytes) = after_call s (Enqueues bytes) sent.Nothing
+serial_after s choice Restore = restored s
+serial_after s choice _ = s
 
 abbrev pub choice_after : Session → Choice → SerialLine → Choice
-choice_after s choice (Read offset) = rest_where (sends s.state (Reads offset)) choice
-choice_after s choice (Enqueue bytes) = rest_where (sends s.state (Enqueues bytes)) choice
-choice_after s choice Capacity = choice
+choice_after s choice (Write offset value) = rest_where (sends s.state (Writes offset value)) choice
+choice_after s choice Output = rest_shown s.output choice
+choice_after s choice _ = choice
 
 -- the replies to lines in order
 abbrev pub serial_replies : Session → Choice → List SerialLine → List (List ℕ)

@@ -1,7 +1,9 @@
 //! The form of a line.
 ghost use Rattle.std.specs.Prelude.{◌≡◌};
+ghost use Rattle.std.specs.Option.{option_map};
+ghost use Rattle.std.specs.Int.{from_be_bytes, w16, w32, w64};
 ghost use Rattle.superio_script.specs.Pieces.{fields_left};
-ghost use Rattle.superio_script.specs.Command.{byte_of, bytes_of, one_byte, two_bytes, no_field, bytes_or_none, zero_of, command_from, command_of};
+ghost use Rattle.superio_script.specs.Command.{bytes_of, byte_of, number64_of, number16_of, number32_of, arrival_of, no_field, one_byte, two_bytes, bytes_or_none, moment_and_offset, moment_offset_and_value, one_number64, bare_from, command_from, command_of, mask_of};
 
 use crate::pieces::Fields;
 use arrayvec::ArrayVec;
@@ -15,6 +17,8 @@ const ARRIVAL_LIMIT: usize = 128;
 pub(crate) enum Command {
     /// A line of the serial port.
     Serial(SerialLine),
+    /// A line of the clock.
+    Clock(ClockLine),
     /// A line of the i8042 controller.
     Controller(ControllerLine),
 }
@@ -24,10 +28,33 @@ pub(crate) enum Command {
 pub(crate) enum SerialLine {
     /// `sr OO`: a read.
     Read { offset: u8 },
+    /// `sw OO VV`: a write.
+    Write { offset: u8, value: u8 },
     /// `sq` and `sq HH..`: bytes for the guest.
     Enqueue { bytes: Arrival },
     /// `sc`: how many bytes still fit.
     Capacity,
+    /// `ss`: the port is saved and restored.
+    Restore,
+    /// `so`: what the port wrote.
+    Output,
+    /// `st`: how often the interrupt line was called.
+    Calls,
+    /// `se`: how often each event was told.
+    Events,
+}
+
+/// A line of the clock.
+#[derive(Clone, Copy)]
+pub(crate) enum ClockLine {
+    /// `cr NNNNNNNNNNNNNNNN OOOO`: a read at a moment.
+    Read { moment: u64, offset: u16 },
+    /// `cw NNNNNNNNNNNNNNNN OOOO VVVVVVVV`: a write at a moment.
+    Write {
+        moment: u64,
+        offset: u16,
+        value: u32,
+    },
 }
 
 /// A line of the i8042 controller.
@@ -83,7 +110,16 @@ impl Arrival {
     }
 }
 
-/// The byte of a field of two hexadecimal digits.
+/// The bytes of a field of two hexadecimal digits for each.
+fn bytes<const N: usize>(field: &[u8]) -> Option<[u8; N]>
+    ensures { result ≡ bytes_of N field.now }
+{
+    let mut bytes = [0; N];
+    hex::decode_to_slice(field, &mut bytes).ok()?;
+    Some(bytes)
+}
+
+/// The byte of a field of two digits.
 fn byte(field: &[u8]) -> Option<u8>
     ensures { result ≡ byte_of field.now }
 {
@@ -92,9 +128,30 @@ fn byte(field: &[u8]) -> Option<u8>
     Some(bytes[0])
 }
 
-/// The bytes of a field of two hexadecimal digits for each, from 1 to 128.
-fn bytes(field: &[u8]) -> Option<Arrival>
-    ensures { result ≡ bytes_of field.now }
+/// The number of a field of sixteen digits.
+fn number64(field: &[u8]) -> Option<u64>
+    ensures { result ≡ number64_of field.now }
+{
+    Some(u64::from_be_bytes(bytes(field)?))
+}
+
+/// The number of a field of four digits.
+fn number16(field: &[u8]) -> Option<u16>
+    ensures { result ≡ number16_of field.now }
+{
+    Some(u16::from_be_bytes(bytes(field)?))
+}
+
+/// The number of a field of eight digits.
+fn number32(field: &[u8]) -> Option<u32>
+    ensures { result ≡ number32_of field.now }
+{
+    Some(u32::from_be_bytes(bytes(field)?))
+}
+
+/// The bytes of a field of two digits for each, from 1 to 128.
+fn arriving(field: &[u8]) -> Option<Arrival>
+    ensures { result ≡ arrival_of field.now }
 {
     let mut bytes = [0; ARRIVAL_LIMIT];
     let count = field.len() / 2;
@@ -141,9 +198,30 @@ fn bytes_or_none(mut fields: Fields) -> Option<Arrival>
     let Some(field) = fields.next_field() else {
         return Some(Arrival::none());
     };
-    let bytes = bytes(field)?;
+    let bytes = arriving(field)?;
     end(fields)?;
     Some(bytes)
+}
+
+/// The moment and the offset of the two fields that are left.
+fn moment_and_offset(mut fields: Fields) -> Option<(u64, u16)>
+    ensures { result ≡ moment_and_offset (fields_left fields.entry.rest) }
+{
+    let moment = number64(fields.next_field()?)?;
+    let offset = number16(fields.next_field()?)?;
+    end(fields)?;
+    Some((moment, offset))
+}
+
+/// The moment, the offset and the value of the three fields that are left.
+fn moment_offset_and_value(mut fields: Fields) -> Option<(u64, u16, u32)>
+    ensures { result ≡ moment_offset_and_value (fields_left fields.entry.rest) }
+{
+    let moment = number64(fields.next_field()?)?;
+    let offset = number16(fields.next_field()?)?;
+    let value = number32(fields.next_field()?)?;
+    end(fields)?;
+    Some((moment, offset, value))
 }
 
 /// What a line with this name and these other fields asks for.
@@ -152,14 +230,26 @@ fn named(name: &[u8], fields: Fields) -> Option<Command>
 {
     Some(match name {
         b"sr" => Command::Serial(SerialLine::Read {
-            offset: zero(one_byte(fields)?)?,
+            offset: one_byte(fields)?,
         }),
+        b"sw" => {
+            let (offset, value) = two_bytes(fields)?;
+            Command::Serial(SerialLine::Write { offset, value })
+        }
         b"sq" => Command::Serial(SerialLine::Enqueue {
             bytes: bytes_or_none(fields)?,
         }),
-        b"sc" => {
-            end(fields)?;
-            Command::Serial(SerialLine::Capacity)
+        b"cr" => {
+            let (moment, offset) = moment_and_offset(fields)?;
+            Command::Clock(ClockLine::Read { moment, offset })
+        }
+        b"cw" => {
+            let (moment, offset, value) = moment_offset_and_value(fields)?;
+            Command::Clock(ClockLine::Write {
+                moment,
+                offset,
+                value,
+            })
         }
         b"kr" => Command::Controller(ControllerLine::Read {
             offset: one_byte(fields)?,
@@ -168,8 +258,25 @@ fn named(name: &[u8], fields: Fields) -> Option<Command>
             let (offset, value) = two_bytes(fields)?;
             Command::Controller(ControllerLine::Write { offset, value })
         }
-        _ => return None,
+        _ => {
+            end(fields)?;
+            Command::Serial(bare(name)?)
+        }
     })
+}
+
+/// What a line of this name alone asks for.
+fn bare(name: &[u8]) -> Option<SerialLine>
+    ensures { result ≡ bare_from name.now }
+{
+    match name {
+        b"sc" => Some(SerialLine::Capacity),
+        b"ss" => Some(SerialLine::Restore),
+        b"so" => Some(SerialLine::Output),
+        b"st" => Some(SerialLine::Calls),
+        b"se" => Some(SerialLine::Events),
+        _ => None,
+    }
 }
 
 /// What the line asks for, or `None` where it has no form.
@@ -181,9 +288,22 @@ pub(crate) fn parse(line: &[u8]) -> Option<Command>
     named(name, fields)
 }
 
-/// The byte, if it is 0.
-fn zero(byte: u8) -> Option<u8>
-    ensures { result ≡ zero_of byte }
+/// The number of the one field that is left.
+fn one_number64(mut fields: Fields) -> Option<u64>
+    ensures { result ≡ one_number64 (fields_left fields.entry.rest) }
 {
-    if byte == 0 { Some(0) } else { None }
+    let number = number64(fields.next_field()?)?;
+    end(fields)?;
+    Some(number)
+}
+
+/// The mask of a line `refuse MMMMMMMMMMMMMMMM`, or `None` where it has another form or none.
+pub(crate) fn refused_mask(line: &[u8]) -> Option<u64>
+    ensures { result ≡ mask_of line.now }
+{
+    let mut fields = Fields::of(line);
+    match fields.next_field()? {
+        b"refuse" => one_number64(fields),
+        _ => None,
+    }
 }

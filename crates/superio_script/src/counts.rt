@@ -3,15 +3,19 @@ ghost use Rattle.std.specs.Prelude.{◌≡◌};
 ghost use Rattle.superio_script.specs.Line.{counted};
 
 use std::marker::Model;
+use vm_superio::rtc_pl031::RtcEvents;
 use vm_superio::serial::SerialEvents;
 
-/// An events object that counts how often each of its functions was called. Each count stays at 2^64 - 1.
+/// An events object, of a serial port or of a clock, that counts how often each of its functions was called. Each count
+/// stays at 2^64 - 1.
 #[derive(Clone, Copy)]
 pub struct Counts {
     buffer_reads: u64,
     out_bytes: u64,
     tx_lost_bytes: u64,
     in_buffer_empties: u64,
+    invalid_reads: u64,
+    invalid_writes: u64,
 }
 
 impl Model for Counts {
@@ -24,6 +28,8 @@ impl Model for Counts {
       out_bytes = counts.out_bytes;
       tx_lost_bytes = counts.tx_lost_bytes;
       in_buffer_empties = counts.in_buffer_empties;
+      invalid_reads = counts.invalid_reads;
+      invalid_writes = counts.invalid_writes;
     } };
 
     ghost inverse = { λ counts. record {
@@ -31,6 +37,8 @@ impl Model for Counts {
       out_bytes = counts.out_bytes;
       tx_lost_bytes = counts.tx_lost_bytes;
       in_buffer_empties = counts.in_buffer_empties;
+      invalid_reads = counts.invalid_reads;
+      invalid_writes = counts.invalid_writes;
     } };
 }
 
@@ -46,6 +54,8 @@ impl Counts {
             out_bytes: 0,
             tx_lost_bytes: 0,
             in_buffer_empties: 0,
+            invalid_reads: 0,
+            invalid_writes: 0,
         }
     }
 
@@ -76,6 +86,20 @@ impl Counts {
     {
         self.in_buffer_empties
     }
+
+    /// How often the guest read where a clock shows nothing.
+    pub fn invalid_read_count(&self) -> u64
+        ensures { result ≡ self.now.invalid_reads }
+    {
+        self.invalid_reads
+    }
+
+    /// How often the guest wrote where a clock takes no write.
+    pub fn invalid_write_count(&self) -> u64
+        ensures { result ≡ self.now.invalid_writes }
+    {
+        self.invalid_writes
+    }
 }
 
 impl SerialEvents for Counts {
@@ -101,6 +125,24 @@ impl SerialEvents for Counts {
 
     fn in_buffer_empty(&mut self) {
         count(&mut self.in_buffer_empties);
+    }
+}
+
+impl RtcEvents for Counts {
+    ghost use Rattle.superio_script.specs.Counts.{ClockCountsLink, ClockCountsLink-append};
+
+    ghost link = { ClockCountsLink };
+
+    ghost no_event = { λ x y. (λ same. same, λ same. same) };
+
+    ghost joined = { ClockCountsLink-append };
+
+    fn invalid_read(&mut self) {
+        count(&mut self.invalid_reads);
+    }
+
+    fn invalid_write(&mut self) {
+        count(&mut self.invalid_writes);
     }
 }
 

@@ -1,21 +1,21 @@
 //! A board of devices, and what a line does on it.
-ghost use Rattle.std.specs.Prelude.{◌≡◌, ◌≢◌, ◌↔◌, IfOk, IsSomeAnd, IsErrOf, IsOk, OnErr};
+ghost use Rattle.std.specs.Prelude.{◌≡◌, ◌↔◌, IfOk, IsSomeAnd, IsErrOf, IsOk, OnErr};
 ghost use Rattle.superio_script.specs.Line.{fresh_line};
-ghost use Rattle.superio_script.specs.Command.{command_of};
+ghost use Rattle.superio_script.specs.Command.{command_of, AsksForRestore};
 ghost use Rattle.superio_script.specs.Reply.{controller_reply};
 ghost use Rattle.superio_script.specs.declared.devices.LineFault.TheVariants.{Bad, Memory};
 
+use crate::clock_lines::clock_line;
 use crate::command::{Command, ControllerLine, parse};
 use crate::counts::Counts;
 use crate::output::Output;
 use crate::replies::{Reply, byte, word};
 use crate::script::ScriptFault;
-use crate::serial_lines::serial_line;
+use crate::serial_lines::{Port, serial_line};
 use crate::trigger::Line;
 use std::alloc::Global;
 use std::marker::Model;
-use vm_superio::I8042Device;
-use vm_superio::serial::Serial;
+use vm_superio::{I8042Device, Rtc, Serial};
 
 /// Why a line was not carried out.
 #[derive(Clone, Copy, Debug, PartialEq, Eq)]
@@ -29,7 +29,8 @@ pub enum LineFault {
 /// The devices that a script drives.
 #[derive(Drop)]
 pub struct Board {
-    serial: Serial<Line, Counts, Output>,
+    serial: Port,
+    clock: Rtc<Counts>,
     controller: I8042Device<Line>,
 }
 
@@ -40,7 +41,7 @@ impl Model for Board {
 
     ghost Value = { Devices };
 
-    ghost view = { λ board. record { serial = board.serial; controller = board.controller } };
+    ghost view = { λ board. record { serial = board.serial; clock = board.clock; controller = board.controller } };
 
     // Between two lines the reset line was not called: a controller that was reset gives way to a fresh one.
     ghost invariant = { λ board. board.controller ≡ fresh_line 0 };
@@ -57,6 +58,7 @@ impl Board {
         let serial = Serial::with_events(alloc, Line::new(mask), Counts::new(), Output::new());
         Ok(Board {
             serial: serial.map_err(|_| ScriptFault::Memory)?,
+            clock: Rtc::with_events(Counts::new()),
             controller: I8042Device::new(Line::new(0)),
         })
     }
@@ -65,15 +67,17 @@ impl Board {
     ///
     /// # Errors
     ///
-    /// [`LineFault::Bad`] where the line has no form. The board is then as it was.
+    /// [`LineFault::Bad`] where the line has no form or is `refuse`. [`LineFault::Memory`] where the memory of an `ss` was
+    /// refused. The board is then as it was.
     pub fn line(&mut self, alloc: Global, line: &[u8]) -> Result<Reply, LineFault>
         ensures bad { IsErrOf result LineFault.Bad ↔ (command_of line.now ≡ None) }
-        ensures memory { result ≢ Err LineFault.Memory }
+        ensures memory { result ≡ Err LineFault.Memory → AsksForRestore line.now }
         ensures step { IfOk result (λ reply. IsSomeAnd (command_of line.now) (λ command. IsStep command reply.items self.old self.new)) }
         ensures unchanged { OnErr result (self.new ≡ self.old) }
     {
         Ok(match parse(line).ok_or(LineFault::Bad)? {
-            Command::Serial(line) => serial_line(&mut self.serial, line),
+            Command::Serial(line) => serial_line(alloc, &mut self.serial, line)?,
+            Command::Clock(line) => clock_line(&mut self.clock, line),
             Command::Controller(line) => self.controller_line(line),
         })
     }

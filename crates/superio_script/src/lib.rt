@@ -1,6 +1,7 @@
 //! A script that drives the devices of `vm_superio` on a board, line by line.
 #![tactic(auto)]
 
+mod clock_lines;
 mod command;
 mod counts;
 mod devices;

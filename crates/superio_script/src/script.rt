@@ -1,9 +1,10 @@
 //! A whole script, from a reader to a writer.
-ghost use Rattle.std.specs.Prelude.{◌≡◌, ◌≢◌, ℕ, ◌<◌, ◌≤◌, length, IfOk, IfErr, IfSome, OnOk, vec_len, take, Some, None};
+ghost use Rattle.std.specs.Prelude.{◌≡◌, ◌≢◌, ◌⊎◌, ℕ, ◌+◌, ◌^◌, ◌<◌, ◌≤◌, length, IfOk, IfErr, IfSome, OnOk, vec_len, take, Some, None};
 ghost use Rattle.std.specs.Io.KnownBytes.{Keeps, Appends, Consumes, IsAtEnd};
-ghost use Rattle.superio_script.specs.Board.{IsFresh};
-ghost use Rattle.superio_script.specs.Script.{Prints, first_bad_of, RunsUpTo};
+ghost use Rattle.superio_script.specs.Pieces.{lines_of};
+ghost use Rattle.superio_script.specs.Script.{body_of, first_bad, PrintsLines, StopsAtRestore, RunsUpTo, EndsAtRestore};
 
+use crate::command::refused_mask;
 use crate::devices::{Board, LineFault};
 use crate::pieces::Lines;
 use crate::replies::Reply;
@@ -113,23 +114,40 @@ fn print<W: Write>(writer: &mut W, reply: &Reply) -> Result<(), ScriptFault>
         .map_err(|_| ScriptFault::Io)
 }
 
-/// Carries out the lines of a script, and writes their replies.
-fn write_replies<W: Write>(
-    alloc: Global,
-    board: &mut Board,
-    script: &[u8],
-    writer: &mut W,
-) -> Result<(), ScriptFault>
-    requires { IsFresh 0 board.old }
-    ensures ok { OnOk result ((first_bad_of script.now ≡ None)
-        × Prints 0 script.now (W.contents writer.old) (W.contents writer.new)) }
-    ensures bad { (number : ℕ) → result ≡ Err (ScriptFault.Bad number) → (first_bad_of script.now ≡ Some number)
-        × Prints 0 script.now (W.contents writer.old) (W.contents writer.new) }
-    ensures never_memory { result ≢ Err ScriptFault.Memory }
-    ensures never_long { result ≢ Err ScriptFault.TooLong }
+/// What a script begins with: the mask of a first line `refuse`, or 0, how many lines that took, and the lines after it.
+fn head(script: &[u8]) -> (u64, usize, Lines<'_>)
+    ensures mask { result.0 ≡ (body_of script.now).mask }
+    ensures skipped { result.1 + 1 ≡ (body_of script.now).first }
+    ensures lines { lines_of result.2.rest.now ≡ (body_of script.now).lines }
+    ensures all { result.1 + length (lines_of result.2.rest.now) ≡ length (lines_of script.now) }
 {
     let mut lines = Lines::of(script);
-    let mut number = 0;
+    if let Some(mask) = lines.next_line().and_then(|line| refused_mask(line)) {
+        return (mask, 1, lines);
+    }
+    (0, 0, Lines::of(script))
+}
+
+/// Carries out lines on a fresh board with this mask, and writes their replies. So many lines stand before them.
+fn write_replies<W: Write>(
+    alloc: Global,
+    mask: u64,
+    skipped: usize,
+    mut lines: Lines,
+    writer: &mut W,
+) -> Result<(), ScriptFault>
+    requires { skipped + length (lines_of lines.rest.now) < 2 ^ 64 }
+    ensures ok { OnOk result ((first_bad (skipped + 1) (lines_of lines.entry.rest.now) ≡ None)
+        × PrintsLines mask (lines_of lines.entry.rest.now) (W.contents writer.old) (W.contents writer.new)) }
+    ensures bad { (number : ℕ) → result ≡ Err (ScriptFault.Bad number)
+        → (first_bad (skipped + 1) (lines_of lines.entry.rest.now) ≡ Some number)
+        × PrintsLines mask (lines_of lines.entry.rest.now) (W.contents writer.old) (W.contents writer.new) }
+    ensures memory { result ≡ Err ScriptFault.Memory → (writer.new ≡ writer.old)
+        ⊎ StopsAtRestore mask (lines_of lines.entry.rest.now) (W.contents writer.old) (W.contents writer.new) }
+    ensures never_long { result ≢ Err ScriptFault.TooLong }
+{
+    let mut board = Board::new(alloc, mask)?;
+    let mut number = skipped;
     while let Some(line) = lines.next_line() {
         number += 1;
         let reply = match board.line(alloc, line) {
@@ -143,14 +161,16 @@ fn write_replies<W: Write>(
 }
 
 /// Runs a script: reads it from `reader` to the end, carries out its lines on a fresh board, and writes the replies to
-/// `writer`, which is flushed after the last one.
+/// `writer`, which is flushed after the last one. A first line `refuse MMMMMMMMMMMMMMMM` has no reply: it gives the mask
+/// of the serial port's interrupt line.
 ///
 /// # Errors
 ///
 /// [`ScriptFault::Bad`] with the number of the first line that has no form, after the replies to the lines before it.
-/// [`ScriptFault::TooLong`] where more than 65,536 bytes came, and [`ScriptFault::Memory`] where the room for them was
-/// refused: nothing is written then. [`ScriptFault::Io`] where a read, a write or the flush failed: after a read that
-/// failed nothing is written, and after the others it is not said what was.
+/// [`ScriptFault::TooLong`] where more than 65,536 bytes came: nothing is written then. [`ScriptFault::Memory`] where the
+/// room for them or the board was refused, with nothing written, or where an `ss` was, after the replies to the lines
+/// before it. [`ScriptFault::Io`] where a read, a write or the flush failed: after a read that failed nothing is written,
+/// and after the others it is not said what was.
 pub fn run_script<R: Read, W: Write>(
     alloc: Global,
     reader: &mut R,
@@ -160,12 +180,13 @@ pub fn run_script<R: Read, W: Write>(
         RunsUpTo None script (R.remaining reader.new) (W.contents writer.old) (W.contents writer.new))) }
     ensures bad { (number : ℕ) → result ≡ Err (ScriptFault.Bad number) → IfSome (R.remaining reader.old) (λ script.
         RunsUpTo (Some number) script (R.remaining reader.new) (W.contents writer.old) (W.contents writer.new)) }
+    ensures memory { result ≡ Err ScriptFault.Memory → (writer.new ≡ writer.old) ⊎ IfSome (R.remaining reader.old) (λ script.
+        EndsAtRestore script (W.contents writer.old) (W.contents writer.new)) }
     ensures too_long { result ≡ Err ScriptFault.TooLong → IfSome (R.remaining reader.old) (λ script. SCRIPT_LIMIT < length script) }
     ensures too_long_unwritten { result ≡ Err ScriptFault.TooLong → writer.new ≡ writer.old }
-    ensures memory_unwritten { result ≡ Err ScriptFault.Memory → writer.new ≡ writer.old }
 {
     let script = read_script(alloc, reader)?;
-    let mut board = Board::new(alloc, 0)?;
-    write_replies(alloc, &mut board, &script, writer)?;
+    let (mask, skipped, lines) = head(&script);
+    write_replies(alloc, mask, skipped, lines, writer)?;
     writer.flush().map_err(|_| ScriptFault::Io)
 }

@@ -2,6 +2,7 @@
 use std::io::Write;
 use std::test::Fail;
 use superio_script::{Counts, Output};
+use vm_superio::rtc_pl031::RtcEvents;
 use vm_superio::serial::SerialEvents;
 
 #[test]
@@ -17,10 +18,18 @@ fn counts_count_each_event(rt: HostRuntime) {
     for _ in 0..4 {
         counts.in_buffer_empty();
     }
+    for _ in 0..5 {
+        counts.invalid_read();
+    }
+    for _ in 0..6 {
+        counts.invalid_write();
+    }
     assert_eq!(rt; counts.buffer_read_count(), 1);
     assert_eq!(rt; counts.out_byte_count(), 2);
     assert_eq!(rt; counts.tx_lost_byte_count(), 3);
     assert_eq!(rt; counts.in_buffer_empty_count(), 4);
+    assert_eq!(rt; counts.invalid_read_count(), 5);
+    assert_eq!(rt; counts.invalid_write_count(), 6);
 }
 
 #[test]

@@ -23,68 +23,191 @@ fn expect_run(
 
 #[test]
 fn scripts_print_their_replies(rt: HostRuntime) {
-    let rows: [(&[u8], &[u8], Result<(), ScriptFault>); 34] = [
+    let rows: [(&[u8], &[u8], Result<(), ScriptFault>); 27] = [
+        // An empty script has no line, and a script of one LF has one, which is bad.
+        (b"", b"", Ok(())),
+        (b"\n", b"", Err(ScriptFault::Bad(1))),
+        // The last line may lack its LF.
+        (b"kw 04 FE", b"reset\n", Ok(())),
+        (b"kw 04 fE\nkw 04 Fe", b"reset\nreset\n", Ok(())),
+        (b"kw 04 fe\nkw 04 ff\nkr 04\n", b"reset\nok\n00\n", Ok(())),
         (
             b"kw 04 fe\nkw 05 fe\nsr 5\n",
             b"reset\nok\n",
             Err(ScriptFault::Bad(3)),
         ),
-        (b"kw 04 fe\nkw 04 ff\nkr 04\n", b"reset\nok\n00\n", Ok(())),
-        (b"", b"", Ok(())),
-        (b"\n", b"", Err(ScriptFault::Bad(1))),
+        // Digits are of either case, and command letters are lower case.
         (b"kr 0A\nkr ff\n", b"00\n00\n", Ok(())),
         (b"kr aF\nkr Fa\n", b"00\n00\n", Ok(())),
-        // The last line may lack its LF.
-        (b"kw 04 FE", b"reset\n", Ok(())),
-        (b"kw 04 fE\nkw 04 Fe", b"reset\nreset\n", Ok(())),
-        // Command letters are lower case.
         (
             b"kw 04 fe\nKW 04 fe\n",
             b"reset\n",
             Err(ScriptFault::Bad(2)),
         ),
-        (b"kr 04\r\n", b"", Err(ScriptFault::Bad(1))),
-        (b"kr 04\n\n", b"00\n", Err(ScriptFault::Bad(2))),
-        (b"kr \xFF4\n", b"", Err(ScriptFault::Bad(1))),
-        (b"\xFF\n", b"", Err(ScriptFault::Bad(1))),
-        (b"kr 4\n", b"", Err(ScriptFault::Bad(1))),
-        (b"kr 004\n", b"", Err(ScriptFault::Bad(1))),
-        (b"kr  04\n", b"", Err(ScriptFault::Bad(1))),
-        (b" kr 04\n", b"", Err(ScriptFault::Bad(1))),
-        (b"kr 04 \n", b"", Err(ScriptFault::Bad(1))),
-        (b"kr 0g\n", b"", Err(ScriptFault::Bad(1))),
-        (b"kr\n", b"", Err(ScriptFault::Bad(1))),
-        (b"kw 04\n", b"", Err(ScriptFault::Bad(1))),
+        // The serial port: bytes for the guest, registers, the writer, events.
         (b"sr 00\n", b"00\n", Ok(())),
         (
             b"sc\nsq\nsq aB\nsc\nsr 00\nsc",
             b"40\n00\n01\n3f\nab\n40\n",
             Ok(()),
         ),
-        // Each device goes by its own lines.
         (
-            b"sq 61\nkw 04 fe\nsq 62\nkr 04\nsr 00\nsr 00\n",
-            b"01\nreset\n01\n00\n61\n62\n",
+            b"sr 00\nsr 01\nsr 02\nsr 03\nsr 04\nsr 05\nsr 06\nsr 07\nsr 08\nsr ff\n",
+            b"00\n00\nc1\n03\n08\n60\nb0\n00\n00\n00\n",
             Ok(()),
         ),
-        (b"sq 61 62\n", b"", Err(ScriptFault::Bad(1))),
-        (b"sq \n", b"", Err(ScriptFault::Bad(1))),
-        (b"sq 6\n", b"", Err(ScriptFault::Bad(1))),
-        (b"sq 616\n", b"", Err(ScriptFault::Bad(1))),
-        (b"sq 6g\n", b"", Err(ScriptFault::Bad(1))),
-        (b"sc 00\n", b"", Err(ScriptFault::Bad(1))),
-        (b"sr\n", b"", Err(ScriptFault::Bad(1))),
-        (b"sr 00 00\n", b"", Err(ScriptFault::Bad(1))),
-        (b"sr 05\n", b"", Err(ScriptFault::Bad(1))),
         (
-            b"refuse 0000000000000000\nkr 04\n",
+            b"so\nsw 00 48\nsw 00 69\nso\nst\n",
+            b"\nok\nok\n4869\n0000000000000000\n",
+            Ok(()),
+        ),
+        (
+            b"sr 00\nsw 00 41\nse\n",
+            b"00\nok\n0000000000000001 0000000000000001 0000000000000000 0000000000000001\n",
+            Ok(()),
+        ),
+        // Saved and restored: the line is called again for each condition that is pending and enabled.
+        (
+            b"sw 01 01\nsq 616263\nss\nst\nsr 02\nsr 00\nsc\n",
+            b"ok\n03\nok\n0000000000000002\nc4\n61\n3e\n",
+            Ok(()),
+        ),
+        (
+            b"sw 00 41\nsr 00\nss\nso\nse\nss\nsw 00 42\nso\n",
+            b"ok\n00\nok\n41\n0000000000000001 0000000000000001 0000000000000000 0000000000000001\nok\nok\n4142\n",
+            Ok(()),
+        ),
+        // Refused calls: of a write, of an enqueue and of a restore, which leaves the count of the line.
+        (
+            b"refuse 0000000000000001\nsw 01 02\nsr 02\nkw 04 fe\nst\n",
+            b"trigger\nc2\nreset\n0000000000000001\n",
+            Ok(()),
+        ),
+        (
+            b"refuse 0000000000000001\nsw 01 01\nsq 61\nsq 62\nst\n",
+            b"ok\ntrigger\n01\n0000000000000001\n",
+            Ok(()),
+        ),
+        (
+            b"refuse 0000000000000002\nsw 01 01\nsq 61\nss\nst\nsr 02\nss\nst\n",
+            b"ok\n01\ntrigger\n0000000000000001\nc4\nok\n0000000000000001\n",
+            Ok(()),
+        ),
+        (b"refuse FFFFFFFFFFFFFFFF", b"", Ok(())),
+        (b"refuse ffffffffffffffff\nkw 04 fe\n", b"reset\n", Ok(())),
+        // `refuse` is for the first line alone, and the first line may be bad.
+        (
+            b"sr 02\nrefuse 0000000000000001\n",
+            b"c1\n",
+            Err(ScriptFault::Bad(2)),
+        ),
+        (
+            b"refuse 0000000000000001\nrefuse 0000000000000001\n",
             b"",
-            Err(ScriptFault::Bad(1)),
+            Err(ScriptFault::Bad(2)),
+        ),
+        // The clock.
+        (
+            b"cw 00000000000003e8 0008 00000064\ncr 00000000000003ef 0000\n",
+            b"ok\n0000006b\n",
+            Ok(()),
+        ),
+        (
+            b"cw 00000000000003e8 000c 00000002\ncw 00000000000003e8 0010 00000003\ncr 00000000000003e8 0010\ncw 00000000000003e8 0014 00000000\ncr 00000000000003e8 0000\n",
+            b"ok\nok\n00000001\ninvalid\n000003e8\n",
+            Ok(()),
+        ),
+        (
+            b"cr 0000000000000000 001C\ncr 0000000000000000 0fe5\ncr 0000000000000000 1003\ncr ffffffffffffffff 0000\n",
+            b"invalid\n00000010\ninvalid\nffffffff\n",
+            Ok(()),
+        ),
+        // Each device goes by its own lines, and the reset line's calls are not the serial port's.
+        (
+            b"sq 61\nkw 04 fe\nsq 62\ncr 0000000000000001 0000\nkr 04\nsr 00\nsr 00\nst\n",
+            b"01\nreset\n01\n00000001\n00\n61\n62\n0000000000000000\n",
+            Ok(()),
         ),
     ];
     for (script, printed, end) in rows {
         expect_run(&rt, rt.alloc(), script, printed, end);
     }
+}
+
+#[test]
+fn lines_without_a_form_are_bad(rt: HostRuntime) -> Result<(), Fail> {
+    let lines: [&[u8]; 58] = [
+        b"sr 5",
+        b"sr 005",
+        b"sr 0g",
+        b"sr",
+        b"sr ",
+        b"sr 00 ",
+        b"sr 00 00",
+        b"SR 00",
+        b"sr  00",
+        b" sr 00",
+        b"sr\t00",
+        b"sr 00\r",
+        b"\xFF",
+        b"sr \xFF5",
+        b"s",
+        b"srr 00",
+        b"sw 00",
+        b"sw 00 0",
+        b"sw 00 000",
+        b"sw 00 00 00",
+        b"sw 00  00",
+        b"sw",
+        b"sq ",
+        b"sq 6",
+        b"sq 616",
+        b"sq 6g",
+        b"sq 61 62",
+        b"sq  61",
+        b"sc 00",
+        b"sc ",
+        b"ss 00",
+        b"ss ",
+        b"so 00",
+        b"st 00",
+        b"se 00",
+        b"se ",
+        b"sd",
+        b"sd 00",
+        b"cr 0000000000000000",
+        b"cr 000000000000000 0000",
+        b"cr 00000000000000000 0000",
+        b"cr 0000000000000000 000",
+        b"cr 0000000000000000 00000",
+        b"cr 0000000000000000 0000 00000000",
+        b"cr 0000000000000000 000g",
+        b"cr",
+        b"cw 0000000000000000 0000",
+        b"cw 0000000000000000 0000 0000000",
+        b"cw 0000000000000000 0000 000000000",
+        b"cw 0000000000000000 0000 00000000 ",
+        b"cw 0000000000000000 0000 0000000g",
+        b"kr 4",
+        b"kr 004",
+        b"kr",
+        b"kw 04",
+        b"kw 04 fe 00",
+        b"refuse",
+        b"refuse 000000000000000",
+    ];
+    let alloc = rt.alloc();
+    for line in lines {
+        let mut script = Vec::new(alloc);
+        script.extend_from_slice(line)?;
+        script.extend_from_slice(b"\nkr 00\n")?;
+        expect_run(&rt, alloc, &script, b"", Err(ScriptFault::Bad(1)));
+        let mut script = Vec::new(alloc);
+        script.extend_from_slice(b"kr 00\n")?;
+        script.extend_from_slice(line)?;
+        expect_run(&rt, alloc, &script, b"00\n", Err(ScriptFault::Bad(2)));
+    }
+    Ok(())
 }
 
 /// A line, written over and over.
@@ -141,6 +264,23 @@ fn enqueues_stop_at_sixty_four(rt: HostRuntime) -> Result<(), Fail> {
     expect_run(&rt, alloc, &script, &replies, Ok(()));
     script.extend_from_slice(b"s")?;
     expect_run(&rt, alloc, &script, b"", Err(ScriptFault::TooLong));
+    Ok(())
+}
+
+#[test]
+fn the_output_takes_256_bytes(rt: HostRuntime) -> Result<(), Fail> {
+    let alloc = rt.alloc();
+    let mut script = repeated(alloc, b"sw 00 41\n", 257)?;
+    script.extend_from_slice(b"so\nsr 02\nse\nss\nso\n")?;
+    let mut replies = repeated(alloc, b"ok\n", 256)?;
+    replies.extend_from_slice(b"io\n")?;
+    replies.extend_from_slice(&repeated(alloc, b"41", 256)?)?;
+    replies.extend_from_slice(
+        b"\nc1\n0000000000000000 0000000000000100 0000000000000001 0000000000000000\nok\n",
+    )?;
+    replies.extend_from_slice(&repeated(alloc, b"41", 256)?)?;
+    replies.extend_from_slice(b"\n")?;
+    expect_run(&rt, alloc, &script, &replies, Ok(()));
     Ok(())
 }
 

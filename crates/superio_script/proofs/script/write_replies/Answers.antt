@@ -1,42 +1,55 @@
--- A reply that was written goes from the text that is left to the text so far.
-use Rattle.std.proofs.Common.{sym, ap, ◌∙◌, ◌≡◌, ◌+◌, arith, length, [], Err}
-use Rattle.superio_script.specs.Script.{good_commands, first_bad}
+-- Each reply that is written goes from what is still to come to what was carried out.
+use Rattle.std.proofs.Common.{◌≡◌, ap, sym, ◌∙◌, Err, Some, inr, arith, length, length-append, [], ◌∷◌, ◌++◌, ◌+◌}
 use Rattle.superio_script.specs.Pieces.{lines_of}
-use Rattle.superio_script.specs.Board.{IsStep}
-use Rattle.superio_script.proofs.PiecesLemmas.{length-lines_of-le}
-use Rattle.superio_script.proofs.ScriptLemmas.{Continues-at_start, Continues-after_line, Prints-at_end, first_bad-after_line, first_bad-at_bad, good_commands-at_bad}
+use Rattle.superio_script.proofs.ScriptLemmas.{Carried-at_start, Carried-after_line, first_bad-here, Prints-before_bad, Stops-here, none-bad, Prints-all}
 use Rattle.superio_script.proofs.script.write_replies.Goals as goal
 
-pub overflow_add-number : goal.overflow_add-number
-overflow_add-number g c = omega (arith, c.loop-line.invariant.lines_left, length-lines_of-le c.args.script.now, ap length c.in-Some.ensures)
+pub loop-line-init : goal.loop-line-init
+loop-line-init g c = record {
+  count = 0;
+  carried = Carried-at_start c.args.mask (g.W.Write.contents c.args.writer.now) (lines_of c.args.lines.rest.now) c.in_ok-board.board c.in_ok-board.ensures.fresh;
+  number = omega arith;
+}
 
-pub loop-line-preserved : goal.loop-line-preserved
-loop-line-preserved g c =
-    let rest = c.loop-line.lines.rest.now in
-    let more = c.next_line.new.self.rest.now in
-    let next = c.in-Some.ensures in
-    let step = c.in-Ok.ensures.step in
-    record {
-      text = Continues-after_line c.args.script.now (g.W.Write.contents c.args.writer.now) _ _ c.in-Ok.reply.items c.in_ok-print.ensures.written c.in-Some.line.now (lines_of rest) (lines_of more) c.loop-line.board c.line.new.self next step c.loop-line.invariant.text;
-      bad = sym (first_bad-after_line _ c.in-Some.line.now (lines_of rest) (lines_of more) (λ command. IsStep command c.in-Ok.reply.items c.loop-line.board c.line.new.self) next step) ∙ c.loop-line.invariant.bad;
-      lines_left = omega (arith, ap length next);
-    }
+pub overflow_add-number : goal.overflow_add-number
+overflow_add-number g c =
+    let carried = c.loop-line.invariant.carried in
+    let all = carried.split ∙ ap (λ lines. carried.earlier ++ lines) c.in-Some.ensures in
+    omega (arith, c.requires, c.loop-line.invariant.number, carried.counted, simp length-append at (ap length all))
 
 pub returns-in-Err-Bad-clause-bad : goal.returns-in-Err-Bad-clause-bad
 returns-in-Err-Bad-clause-bad g c = λ number e.
-    let rest = c.loop-line.lines.rest.now in
-    let more = c.next_line.new.self.rest.now in
-    let next = c.in-Some.ensures in
+    let rest = lines_of c.loop-line.lines.rest.now in
+    let more = lines_of c.next_line.new.self.rest.now in
+    let carried = c.loop-line.invariant.carried in
     let none = c.in-Err-Bad.ensures.bad.0 (ap Err c.in-Err-Bad.field-0-is) in
-    let is = first_bad-at_bad (c.loop-line.number + 1) c.in-Some.line.now (lines_of rest) (lines_of more) next none in (
-      sym c.loop-line.invariant.bad ∙ is ∙ cc,
-      Prints-at_end c.args.script.now (g.W.Write.contents c.args.writer.now) (g.W.Write.contents c.loop-line.writer) c.loop-line.board (good_commands (lines_of rest)) (good_commands-at_bad c.in-Some.line.now (lines_of rest) (lines_of more) next none) c.loop-line.invariant.text,
-    )
+    let is = first_bad-here c.args.mask (g.W.Write.contents c.args.writer.now) (lines_of c.args.lines.rest.now) rest (g.W.Write.contents c.loop-line.writer) c.loop-line.board c.loop-line.invariant.count carried c.in-Some.line.now more c.in-Some.ensures (c.args.skipped + 1) none in
+    let same : c.args.skipped + 1 + c.loop-line.invariant.count ≡ c.loop-line.number + 1 = omega (arith, c.loop-line.invariant.number) in
+    let counted : c.loop-line.number + 1 ≡ number = cc e in
+    (is ∙ ap Some (same ∙ counted),
+    Prints-before_bad c.args.mask (g.W.Write.contents c.args.writer.now) (lines_of c.args.lines.rest.now) rest (g.W.Write.contents c.loop-line.writer) c.loop-line.board c.loop-line.invariant.count carried c.in-Some.line.now more c.in-Some.ensures none)
+
+pub returns-in-Err-Memory-clause-memory : goal.returns-in-Err-Memory-clause-memory
+returns-in-Err-Memory-clause-memory g c = λ _.
+    let rest = lines_of c.loop-line.lines.rest.now in
+    let more = lines_of c.next_line.new.self.rest.now in
+    inr (Stops-here c.args.mask (g.W.Write.contents c.args.writer.now) (lines_of c.args.lines.rest.now) rest (g.W.Write.contents c.loop-line.writer) c.loop-line.board c.loop-line.invariant.count c.loop-line.invariant.carried c.in-Some.line.now more c.in-Some.ensures
+    (c.in-Err-Memory.ensures.memory (ap Err c.in-Err-Memory.field-0-is)))
+
+pub loop-line-preserved : goal.loop-line-preserved
+loop-line-preserved g c =
+    let rest = lines_of c.loop-line.lines.rest.now in
+    let more = lines_of c.next_line.new.self.rest.now in
+    record {
+      count = c.loop-line.invariant.count + 1;
+      carried = Carried-after_line c.args.mask (g.W.Write.contents c.args.writer.now) (lines_of c.args.lines.rest.now) rest (g.W.Write.contents c.loop-line.writer) c.loop-line.board c.loop-line.invariant.count c.loop-line.invariant.carried c.in-Some.line.now more c.in-Some.ensures (g.W.Write.contents c.print.new.writer) c.in-Ok.reply.items c.line.new.self c.in_ok-print.ensures.written c.in-Ok.ensures.step;
+      number = omega (arith, c.loop-line.invariant.number);
+    }
 
 pub returns-clause-ok : goal.returns-clause-ok
 returns-clause-ok g c =
-    let rest = c.loop-line.lines.rest.now in
-    let done : lines_of rest ≡ [] = c.in_default.ensures in (
-      sym c.loop-line.invariant.bad ∙ ap (first_bad (c.loop-line.number + 1)) done,
-      Prints-at_end c.args.script.now (g.W.Write.contents c.args.writer.now) (g.W.Write.contents c.loop-line.writer) c.loop-line.board (good_commands (lines_of rest)) (ap good_commands done) c.loop-line.invariant.text,
-    )
+    let rest = lines_of c.loop-line.lines.rest.now in
+    let carried = c.loop-line.invariant.carried in
+    let done = c.in_default.ensures in
+    (none-bad c.args.mask (g.W.Write.contents c.args.writer.now) (lines_of c.args.lines.rest.now) rest (g.W.Write.contents c.loop-line.writer) c.loop-line.board c.loop-line.invariant.count carried (c.args.skipped + 1) done,
+    Prints-all c.args.mask (g.W.Write.contents c.args.writer.now) (lines_of c.args.lines.rest.now) rest (g.W.Write.contents c.loop-line.writer) c.loop-line.board c.loop-line.invariant.count carried done)

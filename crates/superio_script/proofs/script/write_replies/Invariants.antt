@@ -1,15 +1,14 @@
--- What was written so far, and the text of what is left, make the whole text.
+-- The lines so far were carried out, and their replies were written.
 use Rattle.std.proofs.Common.{◌≡◌, ℕ, ◌+◌, length}
 use Rattle.superio_script.specs.Pieces.{lines_of}
-use Rattle.superio_script.specs.Script.{good_commands, first_bad, first_bad_of}
-use Rattle.superio_script.proofs.ScriptLemmas.{Continues}
+use Rattle.superio_script.proofs.ScriptLemmas.{Carried}
 use Rattle.superio_script.proofs.script.write_replies.Given as goal
 
 abbrev pub invariant-loop-line : goal.invariant-loop-line
 invariant-loop-line g l = record {
-  text : Continues l.script (g.W.Write.contents l.initial.writer) (g.W.Write.contents l.writer) l.board (good_commands (lines_of l.lines.rest.now));
-  bad : first_bad (l.number + 1) (lines_of l.lines.rest.now) ≡ first_bad_of l.script;
-  lines_left : l.number + length (lines_of l.lines.rest.now) ≡ length (lines_of l.script);
+  count : ℕ;
+  carried : Carried l.mask (g.W.Write.contents l.initial.writer) (lines_of l.fn.lines.rest.now) (lines_of l.lines.rest.now) (g.W.Write.contents l.writer) l.board count;
+  number : l.number ≡ l.skipped + count;
 }
 
 abbrev pub decreases-loop-line : goal.decreases-loop-line

@@ -1,32 +1,38 @@
--- Each call that a line makes is a step of the session.
-use Rattle.std.proofs.Common.{refl, sym, ap, ◌∙◌, arith, None, [], ◌-◌, length, ◌∷◌}
-use Rattle.std.proofs.lemmas.Bool.{false≢true}
-use Rattle.vm_superio.specs.Acts.{Reads, Enqueues, Given}
-use Rattle.vm_superio.specs.declared.run.Asked.TheVariants as asked
-use Rattle.vm_superio.specs.declared.run.Sent.TheVariants as sent
-use Rattle.vm_superio.specs.State.{State}
-use Rattle.vm_superio.specs.Port.{enqueue_reply, refusal_of}
-use Rattle.superio_script.specs.Reply.{digits_reply}
-use Rattle.superio_script.proofs.SessionLemmas.{steps-from_case, enqueue-refusal, none-chosen, none-chosen-possible}
+-- Each line is a step of the session.
+use Rattle.std.proofs.Common.{ap, sym, ◌∙◌, subst, None}
+use Rattle.vm_superio.specs.Port.{write_reply, enqueue_reply, refusal_of}
+use Rattle.vm_superio.specs.Acts.{Given}
+use Rattle.superio_script.specs.Reply.{digits_reply, count_digits, counts_reply, ended}
+use Rattle.superio_script.specs.Board.{IsSerialStep}
+use Rattle.superio_script.specs.declared.command.SerialLine.TheVariants as line
+use Rattle.superio_script.proofs.SessionLemmas.{read-step, write-step, enqueue-step, capacity-step, output-step, calls-step, events-step}
 use Rattle.superio_script.proofs.serial_lines.serial_line.Goals as goal
 
-pub returns-in-Read : goal.returns-in-Read
-returns-in-Read c = rw c.in-Read.is (λ before at.
-    let step = steps-from_case (Reads c.in-Read.offset) asked.Nothing sent.Nothing (Given c.read.result) None c.args.serial.now c.read.new.self before at (λ h. absurd (false≢true h)) c.read.ensures.case in
-    (step.0, step.1, c.byte.ensures ∙ step.2, step.3))
+pub returns-in-Read-clause-step : goal.returns-in-Read-clause-step
+returns-in-Read-clause-step c = rw (c.in-Read.is, c.byte.ensures)
+    (read-step c.args.serial.now c.read.new.self (Given c.read.result) None c.in-Read.offset c.read.ensures.case)
 
-pub returns-in-Enqueue : goal.returns-in-Enqueue
-returns-in-Enqueue c = rw c.in-Enqueue.is (λ before at.
+pub returns-in-Write-clause-step : goal.returns-in-Write-clause-step
+returns-in-Write-clause-step c =
+    let case = c.write.ensures.case in
+    rw (c.in-Write.is, c.written.ensures)
+    (write-step c.args.serial.now c.write.new.self (write_reply c.write.result) (refusal_of c.write.result) c.in-Write.offset c.in-Write.value case.0 case.1 case.2)
+
+pub returns-in-Enqueue-clause-step : goal.returns-in-Enqueue-clause-step
+returns-in-Enqueue-clause-step c =
     let case = rw c.as_slice.ensures at c.enqueue_raw_bytes.ensures.case in
     let answer = c.enqueue_raw_bytes.result in
-    let refusal = enqueue-refusal c.args.serial.now.state c.in-Enqueue.bytes case.0 case.1 answer case.2.fits case.2.reply in
-    let step = steps-from_case (Enqueues c.in-Enqueue.bytes) case.0 case.1 (enqueue_reply answer) (refusal_of answer) c.args.serial.now c.enqueue_raw_bytes.new.self before at refusal case.2 in
-    (step.0, step.1, c.enqueued.ensures ∙ step.2, step.3))
+    rw (c.in-Enqueue.is, c.enqueued.ensures)
+    (enqueue-step c.args.serial.now c.enqueue_raw_bytes.new.self (enqueue_reply answer) (refusal_of answer) c.in-Enqueue.bytes case.0 case.1 case.2)
 
-pub returns-in-Capacity : goal.returns-in-Capacity
-returns-in-Capacity c = rw c.in-Capacity.is (λ before at. (
-  none-chosen,
-  none-chosen-possible,
-  c.byte-in-Capacity.ensures ∙ ap (λ count. digits_reply (count ∷ [])) (c.fifo_capacity.ensures.value ∙ ap (λ (s : State). 64 - length s.in_buffer) at.state),
-  at,
-))
+pub returns-in-Capacity-clause-step : goal.returns-in-Capacity-clause-step
+returns-in-Capacity-clause-step c = rw (c.in-Capacity.is, c.byte-in-Capacity.ensures, c.fifo_capacity.ensures.value) (capacity-step c.args.serial.now)
+
+pub returns-in-Output-clause-step : goal.returns-in-Output-clause-step
+returns-in-Output-clause-step c = rw (c.in-Output.is, c.digits.ensures, c.bytes.ensures, c.writer.ensures) (output-step c.args.serial.now)
+
+pub returns-in-Calls-clause-step : goal.returns-in-Calls-clause-step
+returns-in-Calls-clause-step c = rw (c.in-Calls.is, c.number.ensures, c.calls.ensures, c.interrupt_evt.ensures) (calls-step c.args.serial.now)
+
+pub returns-in-Events-clause-step : goal.returns-in-Events-clause-step
+returns-in-Events-clause-step c = rw (c.in-Events.is, c.event_counts.ensures, c.events.ensures) (events-step c.args.serial.now)

@@ -1,0 +1,39 @@
+//! What a line does to the clock of a board, and what it is replied.
+ghost use Rattle.std.specs.Prelude.{◌≡◌};
+ghost use Rattle.superio_script.specs.Reply.{clock_reply, clock_after};
+
+use crate::command::ClockLine;
+use crate::counts::Counts;
+use crate::replies::{Reply, digits, word};
+use vm_superio::Rtc;
+
+/// Carries out a line of the clock.
+pub(crate) fn clock_line(clock: &mut Rtc<Counts>, line: ClockLine) -> Reply
+    ensures reply { result.items ≡ clock_reply clock.old.state line }
+    ensures state { clock.new.state ≡ clock_after clock.old.state line }
+{
+    // With fresh counts, what is counted afterwards is this access's event.
+    *clock = Rtc::from_state(&clock.state(), Counts::new());
+    match line {
+        ClockLine::Read { moment, offset } => {
+            let mut bytes = [0; 4];
+            clock.read(offset, &mut bytes, moment);
+            if clock.events().invalid_read_count() == 1 {
+                return word(b"invalid");
+            }
+            bytes.reverse();
+            digits(&bytes)
+        }
+        ClockLine::Write {
+            moment,
+            offset,
+            value,
+        } => {
+            clock.write(offset, &value.to_le_bytes(), moment);
+            if clock.events().invalid_write_count() == 1 {
+                return word(b"invalid");
+            }
+            word(b"ok")
+        }
+    }
+}
