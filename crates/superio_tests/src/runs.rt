@@ -72,16 +72,17 @@ fn answer_of(reply: &Reply<Line, NoEvents, Target>) -> Answer {
 /// A call, what it must ask and send, and what it must answer.
 type Row = (Step, Asked, Sent, Answer);
 
-/// The bytes that are taken by a writer, and by one with no room, in one call of `write`.
+/// How many bytes a writer takes in one call of `write`.
 const ROOM: usize = 16;
 
 const NO_ROOM: usize = 0;
 
+/// A writer that holds nothing.
 fn writer(alloc: Global, room: usize) -> Target {
     Target::new(Vec::new(alloc), room)
 }
 
-/// A port with the registers of a reset 16550.
+/// A port with the registers of a reset 16550, whose trigger refuses by this mask.
 fn fresh(alloc: Global, mask: u64, room: usize) -> Option<Port> {
     Serial::new(alloc, Line::new(mask), writer(alloc, room)).ok()
 }
@@ -188,7 +189,7 @@ fn a_run_goes_on_over_a_restore(rt: HostRuntime) -> Result<(), Fail> {
     Ok(())
 }
 
-/// A state in which these conditions are pending and enabled, and a byte is held.
+/// A state with this identification and interrupt enable, in which a byte is held.
 fn pending_state(alloc: Global, identification: u8, enable: u8) -> Result<SerialState, AllocError> {
     let mut state = SerialState::default(alloc);
     state.interrupt_identification = identification;
@@ -203,7 +204,7 @@ fn a_restore_ends_at_the_first_refusal_and_the_run_goes_on(rt: HostRuntime) -> R
     let alloc = rt.alloc();
     // Identification, interrupt enable, the new trigger's mask and calls, and whether the restore is refused.
     for (identification, enable, mask, calls, is_refused) in [
-        // The transmitter condition's call comes first, then the receive condition's.
+        // Both conditions are pending and enabled: each of two calls is refused in turn, and a third is not made.
         (0x06, 0x03, 0b000, 2, false),
         (0x06, 0x03, 0b001, 1, true),
         (0x06, 0x03, 0b010, 2, true),
