@@ -13,7 +13,6 @@ use Rattle.superio_script.specs.declared.command.SerialLine.{SerialLine}
 use Rattle.superio_script.specs.declared.command.SerialLine.TheVariants as serial
 use Rattle.superio_script.specs.declared.command.ClockLine.TheVariants as clock
 use Rattle.superio_script.specs.declared.command.ControllerLine.TheVariants as controller
-use Rattle.superio_script.specs.declared.command.TheConstants.{ARRIVAL_LIMIT}
 
 -- ---- a field
 
@@ -44,7 +43,7 @@ number32_of field = option_map (from_be_bytes w32) (bytes_of 4 field)
 abbrev pub arrival_of : List ℕ → Option (List ℕ)
 arrival_of field =
     let count = length field / 2 in
-    if nat_le 1 count && nat_le count ARRIVAL_LIMIT then result_ok (decode_of field) else None
+    if nat_le 1 count && nat_le count 128 then result_ok (decode_of field) else None
 
 -- ---- the fields behind a line's name
 

@@ -13,7 +13,6 @@ use Rattle.superio_script.specs.declared.command.Command.TheVariants.{Serial, Cl
 use Rattle.superio_script.specs.declared.command.SerialLine.{SerialLine}
 use Rattle.superio_script.specs.declared.command.ClockLine.{ClockLine}
 use Rattle.superio_script.specs.declared.command.ControllerLine.{ControllerLine}
-use Rattle.superio_script.specs.declared.script.TheConstants.{SCRIPT_LIMIT}
 
 -- ---- the lines
 
@@ -111,7 +110,7 @@ PrintsLines mask lines before after =
 -- a run read the whole script, which is no longer than a script may be, found this line to be the first bad one, and
 -- wrote the text of the lines before it: what the reader has left, and what the writer held before and holds after
 pub record RunsUpTo (bad : Option ℕ) (script : List ℕ) (left before after : Option (List ℕ)) : Type 0 where
-  pub fits : length script ≤ SCRIPT_LIMIT
+  pub fits : length script ≤ 65536
   pub none_left : IsAtEnd left
   pub first_bad : first_bad_of script ≡ bad
   pub text : PrintsLines (body_of script).mask (body_of script).lines before after

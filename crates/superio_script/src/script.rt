@@ -182,7 +182,7 @@ pub fn run_script<R: Read, W: Write>(
         RunsUpTo (Some number) script (R.remaining reader.new) (W.contents writer.old) (W.contents writer.new)) }
     ensures memory { result ≡ Err ScriptFault.Memory → (writer.new ≡ writer.old) ⊎ IfSome (R.remaining reader.old) (λ script.
         EndsAtRestore script (W.contents writer.old) (W.contents writer.new)) }
-    ensures too_long { result ≡ Err ScriptFault.TooLong → IfSome (R.remaining reader.old) (λ script. SCRIPT_LIMIT < length script) }
+    ensures too_long { result ≡ Err ScriptFault.TooLong → IfSome (R.remaining reader.old) (λ script. 65536 < length script) }
     ensures too_long_unwritten { result ≡ Err ScriptFault.TooLong → writer.new ≡ writer.old }
 {
     let script = read_script(alloc, reader)?;

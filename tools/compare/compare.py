@@ -1,0 +1,162 @@
+#!/usr/bin/env python3
+"""Compares the program `superio` with the original Rust crate, script by script.
+
+    compare.py PROGRAM ORIGINAL [--seed N] [--scripts N] [--sample FILE N]
+
+PROGRAM is the built `superio`. ORIGINAL runs scripts over the original crate: with `--stage b --batch` it reads any
+number of scripts, each after its length in four bytes, low byte first, and answers each with its exit status and with
+its standard output and standard error, each after its length.
+
+Prints each script on which the two differ, up to ten, and how often each case was reached. With `--sample` it also
+writes the first N scripts with the original's answers into FILE, as the test of the sample reads them.
+"""
+import argparse
+import os
+import struct
+import subprocess
+import sys
+from collections import Counter
+from concurrent.futures import ThreadPoolExecutor
+
+import scripts
+
+CHUNK = 2_000
+
+
+def by_original(original, chunk):
+    batch = b"".join(struct.pack("<I", len(script)) + script for script in chunk)
+    out = subprocess.run([original, "--stage", "b", "--batch"], input=batch, stdout=subprocess.PIPE, check=True).stdout
+    answers, at = [], 0
+    for _ in chunk:
+        status, at = out[at], at + 1
+        texts = []
+        for _ in range(2):
+            (length,) = struct.unpack_from("<I", out, at)
+            texts.append(out[at + 4:at + 4 + length])
+            at += 4 + length
+        answers.append((status, *texts))
+    return answers
+
+
+def by_program(program, script):
+    run = subprocess.run([program], input=script, stdout=subprocess.PIPE, stderr=subprocess.PIPE)
+    return run.returncode, run.stdout, run.stderr
+
+
+def count_cases(cases, script, answer):
+    """Counts what a script reached, from its lines and the original's replies."""
+    status, out, err = answer
+    cases[f"status {status}"] += 1
+    lines = script.split(b"\n")
+    if lines[-1] == b"":
+        lines.pop()
+    replies = out.split(b"\n")[:-1]
+    line_control, modem_control, sent, calls, setting = 0x03, 0x08, 0, 0, None
+    refused = None
+    if lines and lines[0].startswith(b"refuse ") and len(lines[0]) == 23 and not err.startswith(b"bad line 1\n"):
+        refused = int(lines[0][7:], 16)
+        cases["line refuse"] += 1
+        lines = lines[1:]
+    for line, reply in zip(lines, replies):
+        name, *fields = line.split(b" ")
+        name = name.decode()
+        cases["line sq HH.." if name == "sq" and fields else f"line {name}"] += 1
+        if reply in (b"full", b"io", b"trigger", b"invalid", b"reset"):
+            cases[f"{name} replies {reply.decode()}"] += 1
+        if name == "sc":
+            cases["FIFO empty" if reply == b"40" else "FIFO full" if reply == b"00" else "FIFO in between"] += 1
+        if name in ("sr", "sw") and int(fields[0], 16) < 2:
+            cases[f"{name} at offset {int(fields[0], 16)}, DLAB {'set' if line_control & 0x80 else 'clear'}"] += 1
+            if fields[0] == b"00" and not line_control & 0x80:
+                cases[f"data {name}, loopback {'set' if modem_control & 0x10 else 'clear'}"] += 1
+        if name == "sq":
+            cases[f"sq, loopback {'set' if modem_control & 0x10 else 'clear'}"] += 1
+        if name == "sw" and fields[0] == b"00" and not line_control & 0x80 and not modem_control & 0x10:
+            sent += 1
+            cases["byte 257 for the output"] += sent == 257
+        if name == "sw" and fields[0] == b"03":
+            line_control = int(fields[1], 16)
+        if name == "sw" and fields[0] == b"04":
+            modem_control = int(fields[1], 16)
+        if name == "cr" and int(fields[1], 16) == 0 and setting is not None:
+            counter = setting[0] + int(fields[0], 16) % 2**32 - setting[1]
+            cases["guest time below 0"] += counter < 0
+            cases["guest time 0"] += counter == 0
+            cases["guest time 2^32 - 1"] += counter == 2**32 - 1
+            cases["guest time past 2^32 - 1"] += counter >= 2**32
+        if name == "cw" and int(fields[1], 16) == 8:
+            setting = int(fields[2], 16), int(fields[0], 16) % 2**32
+        if name == "cw" and int(fields[1], 16) == 12 and int(fields[2], 16) == 1:
+            setting = None
+        if name == "ss" and refused is not None:
+            cases["ss under a mask"] += 1
+    if status == 1:
+        bad = lines[len(replies)]
+        cases["bad line: " + next(kind for kind, wrong in KINDS.items() if wrong(bad))] += 1
+
+
+# Of a bad line, what is wrong with it, the first that fits.
+KINDS = {
+    "empty": lambda line: line == b"",
+    "carriage return": lambda line: line.endswith(b"\r"),
+    "byte past ASCII": lambda line: any(byte > 127 for byte in line),
+    "tab": lambda line: b"\t" in line,
+    "later refuse": lambda line: line.startswith(b"refuse ") and len(line) == 23,
+    "space too many": lambda line: line.startswith(b" ") or line.endswith(b" ") or b"  " in line,
+    "129 bytes": lambda line: line.startswith(b"sq ") and len(line) > 259,
+    "upper-case name": lambda line: line.split(b" ")[0] != line.split(b" ")[0].lower(),
+    "unknown name": lambda line: line.split(b" ")[0] not in
+        (b"sr", b"sw", b"sq", b"sc", b"ss", b"so", b"st", b"se", b"cr", b"cw", b"kr", b"kw", b"refuse"),
+    "field too many": lambda line: line.count(b" ") > WANTED[line.split(b" ")[0]],
+    "field too few": lambda line: line.count(b" ") < WANTED[line.split(b" ")[0]],
+    "no digit": lambda line: any(byte not in b"0123456789abcdefABCDEF " for byte in line.partition(b" ")[2]),
+    "digit too few or too many": lambda line: True,
+}
+
+# How many fields stand behind a name, at the most.
+WANTED = {b"sr": 1, b"sw": 2, b"sq": 1, b"sc": 0, b"ss": 0, b"so": 0, b"st": 0, b"se": 0, b"cr": 2, b"cw": 3, b"kr": 1,
+          b"kw": 2, b"refuse": 1}
+
+
+def write_sample(path, rows):
+    """Each row: status, then script, standard output and standard error, each after its length in two bytes."""
+    with open(path, "wb") as file:
+        for script, (status, out, err) in rows:
+            file.write(bytes([status]))
+            for text in (script, out, err):
+                file.write(struct.pack("<H", len(text)) + text)
+
+
+def main():
+    parser = argparse.ArgumentParser()
+    parser.add_argument("program")
+    parser.add_argument("original")
+    parser.add_argument("--seed", type=int, default=1)
+    parser.add_argument("--scripts", type=int, default=200_000)
+    parser.add_argument("--sample", nargs=2, metavar=("FILE", "N"))
+    parser.add_argument("--jobs", type=int, default=os.cpu_count())
+    options = parser.parse_args()
+    cases, lines, different, sample = Counter(), 0, 0, []
+    with ThreadPoolExecutor(options.jobs) as pool:
+        for start in range(0, options.scripts, CHUNK):
+            chunk = [scripts.script(options.seed, n) for n in range(start, min(start + CHUNK, options.scripts))]
+            answers = by_original(options.original, chunk)
+            for script, answer, ours in zip(chunk, answers, pool.map(lambda s: by_program(options.program, s), chunk)):
+                lines += script.count(b"\n")
+                count_cases(cases, script, answer)
+                if ours != answer:
+                    different += 1
+                    if different <= 10:
+                        print(f"different: {script!r}\n  original: {answer}\n  program:  {ours}")
+                if options.sample and len(sample) < int(options.sample[1]):
+                    sample.append((script, answer))
+    if options.sample:
+        write_sample(options.sample[0], sample)
+    for case in sorted(cases):
+        print(f"{cases[case]:9} {case}")
+    print(f"{options.scripts} scripts of seed {options.seed}, {lines} lines: {different} different")
+    return 1 if different else 0
+
+
+if __name__ == "__main__":
+    sys.exit(main())
