@@ -8,7 +8,7 @@ use std::test::Fail;
 #[test]
 fn states_that_are_not_coherent_show_what_they_hold(rt: HostRuntime) -> Result<(), Fail> {
     let alloc = rt.alloc();
-    // Nothing is pending, not even that nothing is.
+    // An identification of no bits, which says neither that a condition is pending nor that none is.
     let mut serial = restored(alloc, &state_with(alloc, 0x00, 0x00, 0x60, &[])?, 0, sink())?;
     follow(
         &rt,

@@ -2,7 +2,7 @@
 use std::io;
 use std::io::{ErrorKind, Write};
 
-/// Keeps bytes, and takes none once so many are kept.
+/// Keeps its first bytes, as many as it has slots, and takes none after them.
 #[derive(Drop)]
 pub struct Slots {
     pub bytes: Vec<u8>,
