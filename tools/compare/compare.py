@@ -8,7 +8,7 @@ number of scripts, each after its length in four bytes, low byte first, and answ
 its standard output and standard error, each after its length.
 
 Prints each script on which the two differ, up to ten, and how often each case was reached. With `--sample` it also
-writes the first N scripts with the original's answers into FILE, as the test of the sample reads them.
+writes the first N short scripts with the original's answers into FILE, as tests that replay them.
 """
 import argparse
 import os
@@ -21,6 +21,10 @@ from concurrent.futures import ThreadPoolExecutor
 import scripts
 
 CHUNK = 2_000
+
+# The scripts of the sample are no longer than this, and so many stand in one test.
+SHORT = 200
+TEST_ROWS = 30
 
 
 def by_original(original, chunk):
@@ -118,13 +122,39 @@ WANTED = {b"sr": 1, b"sw": 2, b"sq": 1, b"sc": 0, b"ss": 0, b"so": 0, b"st": 0, 
           b"kw": 2, b"refuse": 1}
 
 
-def write_sample(path, rows):
-    """Each row: status, then script, standard output and standard error, each after its length in two bytes."""
-    with open(path, "wb") as file:
-        for script, (status, out, err) in rows:
-            file.write(bytes([status]))
-            for text in (script, out, err):
-                file.write(struct.pack("<H", len(text)) + text)
+def literal(text):
+    """A byte string of Rust."""
+    escaped = (r"\n" if byte == 10 else r"\r" if byte == 13 else r"\t" if byte == 9 else chr(byte) if 32 <= byte < 127
+               else rf"\x{byte:02X}" for byte in text)
+    return 'b"' + "".join(escaped) + '"'
+
+
+def write_sample(path, seed, rows):
+    """Tests that replay these scripts, thirty in each."""
+    with open(path, "w", encoding="ascii") as file:
+        file.write(f"""//! Scripts with what the original Rust crate, vm-superio 0.8.2, replies to them.
+//!
+//! Written by `tools/compare/compare.py --seed {seed} --sample`: the first {len(rows)} scripts of that seed that have at most
+//! {SHORT} bytes, with the replies of the original's own sources.
+use crate::scripts::expect_run;
+use superio_script::ScriptFault;
+""")
+        for number, start in enumerate(range(0, len(rows), TEST_ROWS), 1):
+            part = rows[start:start + TEST_ROWS]
+            file.write(f"""
+#[test]
+fn replies_as_the_original_{number}(rt: HostRuntime) {{
+    let rows: [(&[u8], &[u8], Result<(), ScriptFault>); {len(part)}] = [
+""")
+            for script, (status, out, err) in part:
+                end = "Ok(())" if status == 0 else f"Err(ScriptFault::Bad({int(err.split()[2])}))"
+                file.write(f"        ({literal(script)}, {literal(out)}, {end}),\n")
+            file.write("""    ];
+    for (script, printed, end) in rows {
+        expect_run(&rt, rt.alloc(), script, printed, end);
+    }
+}
+""")
 
 
 def main():
@@ -148,10 +178,10 @@ def main():
                     different += 1
                     if different <= 10:
                         print(f"different: {script!r}\n  original: {answer}\n  program:  {ours}")
-                if options.sample and len(sample) < int(options.sample[1]):
+                if options.sample and len(script) <= SHORT and len(sample) < int(options.sample[1]):
                     sample.append((script, answer))
     if options.sample:
-        write_sample(options.sample[0], sample)
+        write_sample(options.sample[0], options.seed, sample)
     for case in sorted(cases):
         print(f"{cases[case]:9} {case}")
     print(f"{options.scripts} scripts of seed {options.seed}, {lines} lines: {different} different")

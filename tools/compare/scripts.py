@@ -130,9 +130,16 @@ def restored(r):
     return lines + [b"sq 41", b"ss", b"st", b"sr 02", b"ss", b"st"]
 
 
+def longest(r):
+    """A script of about as many bytes as a script may have."""
+    return (b"sq 6162\n" * 8192)[:65_536 + r.randrange(-3, 1)] + b"\n" * r.randrange(3)
+
+
 def script(seed, number):
     """The script of this number."""
     r = random.Random(seed * 1_000_003 + number)
+    if r.random() < 0.0005:
+        return longest(r)
     recipe = r.randrange(100)
     lines = []
     if recipe >= 6 and r.random() < 0.3:

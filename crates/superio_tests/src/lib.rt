@@ -13,6 +13,8 @@ mod reset_controller;
 #[cfg(test)]
 mod runs;
 #[cfg(test)]
+mod sample;
+#[cfg(test)]
 mod scripts;
 #[cfg(test)]
 mod serial;

@@ -7,7 +7,7 @@ use std::test::Fail;
 use superio_script::{Board, Line, LineFault, LineRefused, ScriptFault, run_script};
 
 /// Runs a script over memory, and compares what it prints and how it ends.
-fn expect_run(
+pub fn expect_run(
     rt: &impl Abort,
     alloc: Global,
     script: &[u8],
