@@ -5,6 +5,7 @@ ghost use Rattle.superio_tests.specs.Counting.{StepsBy, StepsBy-none, StepsBy-jo
 
 mod carried;
 mod errors;
+mod history;
 mod hostile;
 mod rows;
 mod saved;
