@@ -106,8 +106,9 @@ pub struct Done<T: Trigger, EV: SerialEvents, W: Write> {
 /// the record of its call, and the next call is made. A restore takes the port's state and makes a port of it with the
 /// objects that it brings, which then takes the old port's place. Where it is refused the old port stays.
 ///
-/// From a coherent start the records are a history: each byte that was read, and each other answer, follows from the
-/// start, the earlier calls and the trigger's answers, and so does the state at the end.
+/// From a coherent start the records are a history: each byte that was read follows from the start, the earlier calls
+/// and the trigger's answers. So do the state at the end, and each other answer with what became of the byte that its
+/// call sent.
 ///
 /// # Errors
 ///
