@@ -107,13 +107,16 @@ module _ (choice later : Choice) (possible : IsPossible choice) where
       (whole : Choice) × Fits output whole × (sent_where sending whole ≡ sent_where sending choice) × (rest_where sending whole ≡ later)
   write-joins true output bytes one few fits =
       let what = first_fate choice.fates in
-      let is = first-sent choice.fates possible.sent in
-      (record { fates = what ∷ later.fates; shown = later.shown },
-      record {
-        sent = both-true (is_sent what) (list_all is_sent later.fates) is fits.sent;
-        room = room-before output what (bytes what) later.fates is (λ out. ap (λ w. length (bytes w)) out ∙ one) few fits.room;
-        short = fits.short;
-      }, refl, refl)
+      let is = first-sent choice.fates possible.sent in (
+        record { fates = what ∷ later.fates; shown = later.shown },
+        record {
+          sent = both-true (is_sent what) (list_all is_sent later.fates) is fits.sent;
+          room = room-before output what (bytes what) later.fates is (λ out. ap (λ w. length (bytes w)) out ∙ one) few fits.room;
+          short = fits.short;
+        },
+        refl,
+        refl,
+      )
   write-joins false output bytes one few fits =
       (later, record { sent = fits.sent; room = room-unsent output sent.Nothing (bytes sent.Nothing) later.fates refl fits.room; short = fits.short }, refl, refl)
 
@@ -123,13 +126,16 @@ module _ (choice later : Choice) (possible : IsPossible choice) where
       (whole : Choice) × Fits output whole × (shown_where output whole ≡ shown_where output choice) × (rest_shown output whole ≡ later)
   output-joins (Some all) fits = (later, fits, refl, refl)
   output-joins None fits =
-      let bytes = first_shown choice.shown in
-      (record { fates = later.fates; shown = bytes ∷ later.shown },
-      record {
-        sent = fits.sent;
-        room = tt;
-        short = both-true (is_short bytes) (list_all is_short later.shown) (first-short choice.shown possible.short) fits.short;
-      }, refl, refl)
+      let bytes = first_shown choice.shown in (
+        record { fates = later.fates; shown = bytes ∷ later.shown },
+        record {
+          sent = fits.sent;
+          room = tt;
+          short = both-true (is_short bytes) (list_all is_short later.shown) (first-short choice.shown possible.short) fits.short;
+        },
+        refl,
+        refl,
+      )
 
   module _ (before : Session) (few : IfSome before.output (λ all. length all ≤ 256)) where
     -- a choice for a line and for what follows it
@@ -195,10 +201,15 @@ module _ (mask : ℕ) (start : Option (List ℕ)) where
 
   -- at the start, no command was carried out
   pub Continues-at_start : (board : Devices) → IsFresh mask board → Continues start board []
-  Continues-at_start board is_fresh =
-      (fresh_session mask, is_fresh.serial, λ commands choice fits end text.
-      (choice, record { sent = fits.sent; room = omega (arith, fits.room); short = fits.short },
-      subst (λ (s : RtcState). Appends start end (text_from (fresh_session mask) s choice commands)) (ap (λ (c : clock.Device EventCounts). c.state) is_fresh.clock) text))
+  Continues-at_start board is_fresh = (
+    fresh_session mask,
+    is_fresh.serial,
+    λ commands choice fits end text. (
+      choice,
+      record { sent = fits.sent; room = omega (arith, fits.room); short = fits.short },
+      subst (λ (s : RtcState). Appends start end (text_from (fresh_session mask) s choice commands)) (ap (λ (c : clock.Device EventCounts). c.state) is_fresh.clock) text,
+    ),
+  )
 
   module _ (before after : Option (List ℕ)) (reply : List ℕ) (wrote : Appends before after reply) (earlier : List Command) where
     -- one more command was carried out
@@ -213,16 +224,19 @@ module _ (mask : ℕ) (start : Option (List ℕ)) where
     Continues-after_serial line old new state session at step completes =
         let taken = step session at in
         let choice = taken.0 in
-        let next = serial_after session choice line in
-        (next, taken.3, λ commands later fits end rest.
-            let few = output-few session.output old.out at.output in
-            let whole = line-joins choice later taken.1 session few line fits in
-            let same : text_from session state whole.0 (Serial line ∷ commands) ≡ reply ++ text_from next state later commands =
-                ap (λ xs. xs ++ text_from (serial_after session whole.0 line) state (choice_after session whole.0 line) commands) (whole.2 ∙ sym taken.2)
-                ∙ ap (λ (s : Session). reply ++ text_from s state (choice_after session whole.0 line) commands) whole.3
-                ∙ ap (λ (c : Choice). reply ++ text_from next state c commands) whole.4 in
-            one-more (Serial line) commands end (completes (Serial line ∷ commands) whole.0 whole.1 end
-            (subst (λ xs. Appends before end xs) (sym same) (Appends-append before after end reply (text_from next state later commands) wrote rest))))
+        let next = serial_after session choice line in (
+          next,
+          taken.3,
+          λ commands later fits end rest.
+              let few = output-few session.output old.out at.output in
+              let whole = line-joins choice later taken.1 session few line fits in
+              let same : text_from session state whole.0 (Serial line ∷ commands) ≡ reply ++ text_from next state later commands =
+              ap (λ xs. xs ++ text_from (serial_after session whole.0 line) state (choice_after session whole.0 line) commands) (whole.2 ∙ sym taken.2)
+              ∙ ap (λ (s : Session). reply ++ text_from s state (choice_after session whole.0 line) commands) whole.3
+              ∙ ap (λ (c : Choice). reply ++ text_from next state c commands) whole.4 in
+              one-more (Serial line) commands end (completes (Serial line ∷ commands) whole.0 whole.1 end
+              (subst (λ xs. Appends before end xs) (sym same) (Appends-append before after end reply (text_from next state later commands) wrote rest))),
+        )
 
     Continues-after_command :
         (command : Command) (old new : Devices) → IsStep command reply old new →
@@ -230,19 +244,25 @@ module _ (mask : ℕ) (start : Option (List ℕ)) where
     Continues-after_command (Serial line) old new step (session, at, completes) =
         subst (λ (c : clock.Device EventCounts). (next : Session) × IsAt next new.serial × Completes after next c.state (earlier ++ Serial line ∷ [])) (sym step.1)
         (Continues-after_serial line old.serial new.serial old.clock.state session at step.0 completes)
-    Continues-after_command (Clock line) old new step (session, at, completes) =
-        (session, subst (λ (port : Port LineCalls EventCounts Output). IsAt session port) (sym step.2) at, λ commands choice fits end rest.
-            let next = clock_after old.clock.state line in
-            one-more (Clock line) commands end (completes (Clock line ∷ commands) choice fits end
-            (subst (λ xs. Appends before end (xs ++ text_from session next choice commands)) step.0
-            (Appends-append before after end reply (text_from session next choice commands) wrote
-            (subst (λ (s : RtcState). Appends after end (text_from session s choice commands)) step.1 rest)))))
+    Continues-after_command (Clock line) old new step (session, at, completes) = (
+      session,
+      subst (λ (port : Port LineCalls EventCounts Output). IsAt session port) (sym step.2) at,
+      λ commands choice fits end rest.
+          let next = clock_after old.clock.state line in
+          one-more (Clock line) commands end (completes (Clock line ∷ commands) choice fits end
+          (subst (λ xs. Appends before end (xs ++ text_from session next choice commands)) step.0
+          (Appends-append before after end reply (text_from session next choice commands) wrote
+          (subst (λ (s : RtcState). Appends after end (text_from session s choice commands)) step.1 rest)))),
+    )
     Continues-after_command (Controller line) old new step (session, at, completes) =
-        subst (λ (board : Devices). Continues after board (earlier ++ Controller line ∷ [])) (sym step.1)
-        (session, at, λ commands choice fits end rest.
-            one-more (Controller line) commands end (completes (Controller line ∷ commands) choice fits end
-            (subst (λ xs. Appends before end (xs ++ text_from session old.clock.state choice commands)) step.0
-            (Appends-append before after end reply (text_from session old.clock.state choice commands) wrote rest))))
+        subst (λ (board : Devices). Continues after board (earlier ++ Controller line ∷ [])) (sym step.1) (
+          session,
+          at,
+          λ commands choice fits end rest.
+              one-more (Controller line) commands end (completes (Controller line ∷ commands) choice fits end
+              (subst (λ xs. Appends before end (xs ++ text_from session old.clock.state choice commands)) step.0
+              (Appends-append before after end reply (text_from session old.clock.state choice commands) wrote rest))),
+        )
 
 -- ---- the lines
 
@@ -343,7 +363,7 @@ module _ (mask : ℕ) (start : Option (List ℕ)) (all rest : List (List ℕ)) (
     Prints-before_bad none =
         let no_more = ap (λ (command : Option Command). onto_good command (good_commands more)) none in
         let same = ap good_commands (carried.split ∙ ap (λ lines. carried.earlier ++ lines) next) ∙ good_commands-append carried.earlier (line ∷ more) carried.all_good
-            ∙ ap (λ commands. good_commands carried.earlier ++ commands) no_more ∙ append-nil (good_commands carried.earlier) in
+        ∙ ap (λ commands. good_commands carried.earlier ++ commands) no_more ∙ append-nil (good_commands carried.earlier) in
         subst (λ commands. Prints mask start commands before) (sym same) (Prints-so_far mask start before board (good_commands carried.earlier) carried.text)
 
     -- the next line asks for a restore, for which memory was refused

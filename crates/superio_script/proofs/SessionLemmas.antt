@@ -255,9 +255,10 @@ module _ (port : Port LineCalls EventCounts Output) where
 one-taken : (line new : LineCalls) → (Ok tt ≡ one_answer (is_refused line.mask line.calls)) × (called line ≡ new) →
     (ends_refused (answered line 1) ≡ false) × (new ≡ line_after line (answered line 1))
 one-taken line new link =
-    let taken = was_taken (is_refused line.mask line.calls) link.0 in
-    (ap (λ (a : Bool). ends_refused (if a then Refused else Took)) taken,
-    sym link.1 ∙ ap (λ (a : Bool). line_after line (if a then Refused else Took)) (sym taken))
+    let taken = was_taken (is_refused line.mask line.calls) link.0 in (
+      ap (λ (a : Bool). ends_refused (if a then Refused else Took)) taken,
+      sym link.1 ∙ ap (λ (a : Bool). line_after line (if a then Refused else Took)) (sym taken),
+    )
 
 one-refused : (line : LineCalls) (refusal : LineRefused) (answer : Result (Unit {0}) LineRefused) {A B : Type 0} →
     ((answer ≡ Err refusal) × A) ⊎ (B × ⊥) → answer ≡ one_answer (is_refused line.mask line.calls) →
@@ -284,7 +285,7 @@ restore-taken line new true true link =
     let second = was_taken (is_refused line.mask (called line).calls) link.1.0 in
     let asked = λ (a b : Bool). if a then Refused else (if b then TookRefused else TookTook) in
     let same : asked (is_refused line.mask line.calls) (is_refused line.mask (called line).calls) ≡ TookTook =
-        ap (λ (a : Bool). asked a (is_refused line.mask (called line).calls)) first ∙ ap (λ (b : Bool). asked false b) second in
+    ap (λ (a : Bool). asked a (is_refused line.mask (called line).calls)) first ∙ ap (λ (b : Bool). asked false b) second in
     (ap ends_refused same, sym link.1.1 ∙ ap (line_after line) (sym same))
 
 -- where one was refused, the last answer is a refusal
@@ -322,13 +323,16 @@ module _ (old new : Port LineCalls EventCounts Output) where
       let s : Session = record { state = old.state; line = old.trigger; counts = old.events; output = output } in
       let taken = restore-taken old.trigger new.trigger _ _ link in
       let P : Bool → Type 0 = λ refused. (ended (codes "ok") ≡ ended (if refused then codes "trigger" else codes "ok"))
-          × IsAt (if refused then s else record s { line = line_after s.line (answered s.line (length (restore_calls s.state))) }) new in
-      subst P (sym taken.0) (refl, record {
-        state = state;
-        line = taken.1;
-        counts = events;
-        output = subst (λ (o : Output). IfSome output (λ all. bytes_of o ≡ all)) (sym out) was;
-      })
+      × IsAt (if refused then s else record s { line = line_after s.line (answered s.line (length (restore_calls s.state))) }) new in
+      subst P (sym taken.0) (
+        refl,
+        record {
+          state = state;
+          line = taken.1;
+          counts = events;
+          output = subst (λ (o : Output). IfSome output (λ all. bytes_of o ≡ all)) (sym out) was;
+        },
+      )
 
   -- a restore whose calls were taken
   pub restore-step :
@@ -336,7 +340,7 @@ module _ (old new : Port LineCalls EventCounts Output) where
       IsSerialStep line.Restore (ended (codes "ok")) old new
   restore-step state link events out before at =
       let found = subst (RestoresFrom (ended (codes "ok"))) (λ i. record { state = at.state i; line = at.line i; counts = at.counts i; output = before.output })
-          (restores-here before.output at.output state link events out) in
+      (restores-here before.output at.output state link events out) in
       (none-chosen, none-chosen-possible, found.0, found.1)
 
 -- a restore one of whose calls was refused
@@ -349,8 +353,10 @@ refused-restore-step port after (IOError fault) few refuses = absurd refuses
 refused-restore-step port after Memory few refuses = absurd refuses
 refused-restore-step port after (Trigger refusal) few refuses = λ before at.
     let refused : is_not_restored (record { state = port.state; line = port.trigger; counts = port.events; output = before.output }) ≡ true =
-        restore-refused port.trigger after _ _ refusal refuses.1.0 refuses.1.1 refuses.1.2 in
-    let same = subst (λ (s : Session). is_not_restored s ≡ true) (λ i. record { state = at.state i; line = at.line i; counts = at.counts i; output = before.output }) refused in
-    (none-chosen, none-chosen-possible,
-    ap (λ (b : Bool). ended (if b then codes "trigger" else codes "ok")) (sym same),
-    subst (λ (b : Bool). IsAt (if b then before else record before { line = line_after before.line (answered before.line (length (restore_calls before.state))) }) port) (sym same) at)
+    restore-refused port.trigger after _ _ refusal refuses.1.0 refuses.1.1 refuses.1.2 in
+    let same = subst (λ (s : Session). is_not_restored s ≡ true) (λ i. record { state = at.state i; line = at.line i; counts = at.counts i; output = before.output }) refused in (
+      none-chosen,
+      none-chosen-possible,
+      ap (λ (b : Bool). ended (if b then codes "trigger" else codes "ok")) (sym same),
+      subst (λ (b : Bool). IsAt (if b then before else record before { line = line_after before.line (answered before.line (length (restore_calls before.state))) }) port) (sym same) at,
+    )

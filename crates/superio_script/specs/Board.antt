@@ -37,7 +37,7 @@ pub record IsFresh (mask : ℕ) (board : Devices) : Type 0 where
 abbrev pub IsSerialStep : SerialLine → List ℕ → Port LineCalls EventCounts Output → Port LineCalls EventCounts Output → Type 0
 IsSerialStep line reply old new =
     (before : Session) → IsAt before old → (choice : Choice)
-        × IsPossible choice × (reply ≡ serial_reply before choice line) × IsAt (serial_after before choice line) new
+    × IsPossible choice × (reply ≡ serial_reply before choice line) × IsAt (serial_after before choice line) new
 
 -- a line is one step of its own device's part of a script, and leaves the other devices as they are
 abbrev pub IsStep : Command → List ℕ → Devices → Devices → Type 0

@@ -103,21 +103,21 @@ bare_from name =
 abbrev pub command_from : List ℕ → List (List ℕ) → Option Command
 command_from name fields =
     if bytes_eq name (codes "sr") then
-        option_map (λ offset. Serial (serial.Read offset)) (one_byte fields)
+    option_map (λ offset. Serial (serial.Read offset)) (one_byte fields)
     else (if bytes_eq name (codes "sw") then
-        option_map (λ written. Serial (serial.Write written.0 written.1)) (two_bytes fields)
+    option_map (λ written. Serial (serial.Write written.0 written.1)) (two_bytes fields)
     else (if bytes_eq name (codes "sq") then
-        option_map (λ bytes. Serial (serial.Enqueue bytes)) (bytes_or_none fields)
+    option_map (λ bytes. Serial (serial.Enqueue bytes)) (bytes_or_none fields)
     else (if bytes_eq name (codes "cr") then
-        option_map (λ read. Clock (clock.Read read.0 read.1)) (moment_and_offset fields)
+    option_map (λ read. Clock (clock.Read read.0 read.1)) (moment_and_offset fields)
     else (if bytes_eq name (codes "cw") then
-        option_map (λ written. Clock (clock.Write written.0 written.1 written.2)) (moment_offset_and_value fields)
+    option_map (λ written. Clock (clock.Write written.0 written.1 written.2)) (moment_offset_and_value fields)
     else (if bytes_eq name (codes "kr") then
-        option_map (λ offset. Controller (controller.Read offset)) (one_byte fields)
+    option_map (λ offset. Controller (controller.Read offset)) (one_byte fields)
     else (if bytes_eq name (codes "kw") then
-        option_map (λ written. Controller (controller.Write written.0 written.1)) (two_bytes fields)
+    option_map (λ written. Controller (controller.Write written.0 written.1)) (two_bytes fields)
     else
-        option_and_then (λ _. option_map (λ line. Serial line) (bare_from name)) (no_field fields)))))))
+    option_and_then (λ _. option_map (λ line. Serial line) (bare_from name)) (no_field fields)))))))
 
 abbrev pub command_of_fields : List (List ℕ) → Option Command
 command_of_fields [] = None

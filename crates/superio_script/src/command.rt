@@ -48,7 +48,10 @@ pub(crate) enum SerialLine {
 #[derive(Clone, Copy)]
 pub(crate) enum ClockLine {
     /// `cr NNNNNNNNNNNNNNNN OOOO`: a read at a moment.
-    Read { moment: u64, offset: u16 },
+    Read {
+        moment: u64,
+        offset: u16,
+    },
     /// `cw NNNNNNNNNNNNNNNN OOOO VVVVVVVV`: a write at a moment.
     Write {
         moment: u64,

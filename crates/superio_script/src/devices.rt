@@ -20,9 +20,9 @@ use vm_superio::{I8042Device, Rtc, Serial};
 /// Why a line was not carried out.
 #[derive(Clone, Copy, Debug, PartialEq, Eq)]
 pub enum LineFault {
-    /// The line has no form.
+    /// The line has no form, or is `refuse`, which is for the first line of a script alone.
     Bad,
-    /// Memory was refused.
+    /// Memory for an `ss` was refused.
     Memory,
 }
 

@@ -58,13 +58,21 @@ pub(crate) fn event_counts(counts: &Counts) -> Reply
     ensures { result.items ≡ counts_reply counts.now }
 {
     let mut reply = Reply::new();
-    reply.try_extend_from_slice(&sixteen(counts.buffer_read_count())).unwrap();
+    reply
+        .try_extend_from_slice(&sixteen(counts.buffer_read_count()))
+        .unwrap();
     reply.push(b' ');
-    reply.try_extend_from_slice(&sixteen(counts.out_byte_count())).unwrap();
+    reply
+        .try_extend_from_slice(&sixteen(counts.out_byte_count()))
+        .unwrap();
     reply.push(b' ');
-    reply.try_extend_from_slice(&sixteen(counts.tx_lost_byte_count())).unwrap();
+    reply
+        .try_extend_from_slice(&sixteen(counts.tx_lost_byte_count()))
+        .unwrap();
     reply.push(b' ');
-    reply.try_extend_from_slice(&sixteen(counts.in_buffer_empty_count())).unwrap();
+    reply
+        .try_extend_from_slice(&sixteen(counts.in_buffer_empty_count()))
+        .unwrap();
     reply.push(b'\n');
     reply
 }

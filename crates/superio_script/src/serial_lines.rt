@@ -20,7 +20,11 @@ use vm_superio::serial::Error;
 pub(crate) type Port = Serial<Line, Counts, Output>;
 
 /// Carries out a line of the serial port.
-pub(crate) fn serial_line(alloc: Global, serial: &mut Port, line: SerialLine) -> Result<Reply, LineFault>
+pub(crate) fn serial_line(
+    alloc: Global,
+    serial: &mut Port,
+    line: SerialLine,
+) -> Result<Reply, LineFault>
     ensures step { IfOk result (λ reply. IsSerialStep line reply.items serial.old serial.new) }
     ensures unchanged { OnErr result (serial.new ≡ serial.old) }
     ensures only_memory { IfErr result (λ fault. fault ≡ LineFault.Memory) }

@@ -25,9 +25,10 @@ returns-in-Err-Bad-clause-bad g c = λ number e.
     let none = c.in-Err-Bad.ensures.bad.0 (ap Err c.in-Err-Bad.field-0-is) in
     let is = first_bad-here c.args.mask (g.W.Write.contents c.args.writer.now) (lines_of c.args.lines.rest.now) rest (g.W.Write.contents c.loop-line.writer) c.loop-line.board c.loop-line.invariant.count carried c.in-Some.line.now more c.in-Some.ensures (c.args.skipped + 1) none in
     let same : c.args.skipped + 1 + c.loop-line.invariant.count ≡ c.loop-line.number + 1 = omega (arith, c.loop-line.invariant.number) in
-    let counted : c.loop-line.number + 1 ≡ number = cc e in
-    (is ∙ ap Some (same ∙ counted),
-    Prints-before_bad c.args.mask (g.W.Write.contents c.args.writer.now) (lines_of c.args.lines.rest.now) rest (g.W.Write.contents c.loop-line.writer) c.loop-line.board c.loop-line.invariant.count carried c.in-Some.line.now more c.in-Some.ensures none)
+    let counted : c.loop-line.number + 1 ≡ number = cc e in (
+      is ∙ ap Some (same ∙ counted),
+      Prints-before_bad c.args.mask (g.W.Write.contents c.args.writer.now) (lines_of c.args.lines.rest.now) rest (g.W.Write.contents c.loop-line.writer) c.loop-line.board c.loop-line.invariant.count carried c.in-Some.line.now more c.in-Some.ensures none,
+    )
 
 pub returns-in-Err-Memory-clause-memory : goal.returns-in-Err-Memory-clause-memory
 returns-in-Err-Memory-clause-memory g c = λ _.
@@ -50,6 +51,7 @@ pub returns-clause-ok : goal.returns-clause-ok
 returns-clause-ok g c =
     let rest = lines_of c.loop-line.lines.rest.now in
     let carried = c.loop-line.invariant.carried in
-    let done = c.in_default.ensures in
-    (none-bad c.args.mask (g.W.Write.contents c.args.writer.now) (lines_of c.args.lines.rest.now) rest (g.W.Write.contents c.loop-line.writer) c.loop-line.board c.loop-line.invariant.count carried (c.args.skipped + 1) done,
-    Prints-all c.args.mask (g.W.Write.contents c.args.writer.now) (lines_of c.args.lines.rest.now) rest (g.W.Write.contents c.loop-line.writer) c.loop-line.board c.loop-line.invariant.count carried done)
+    let done = c.in_default.ensures in (
+      none-bad c.args.mask (g.W.Write.contents c.args.writer.now) (lines_of c.args.lines.rest.now) rest (g.W.Write.contents c.loop-line.writer) c.loop-line.board c.loop-line.invariant.count carried (c.args.skipped + 1) done,
+      Prints-all c.args.mask (g.W.Write.contents c.args.writer.now) (lines_of c.args.lines.rest.now) rest (g.W.Write.contents c.loop-line.writer) c.loop-line.board c.loop-line.invariant.count carried done,
+    )

@@ -19,7 +19,7 @@ returns-in-Ok-from_state-clause-step c =
     let line = c.interrupt_evt-line.ensures in
     let called = subst (λ (s : State). LineLink c.interrupt_evt-line.result.now (all_taken (restore_calls s)) c.in-Ok-from_state.anew.trigger) c.in-Ok.ensures.saved made.called in
     let link = subst (λ (new : LineCalls). LineLink old.trigger (all_taken (restore_calls old.state)) new) (ap (λ (port : Port LineCalls EventCounts Output). port.trigger) (sym after))
-        (subst (λ (l : LineCalls). LineLink l (all_taken (restore_calls old.state)) c.in-Ok-from_state.anew.trigger) line called) in
+    (subst (λ (l : LineCalls). LineLink l (all_taken (restore_calls old.state)) c.in-Ok-from_state.anew.trigger) line called) in
     rw c.word.ensures (restore-step old _
     (ap (λ (port : Port LineCalls EventCounts Output). port.state) after ∙ state)
     link
