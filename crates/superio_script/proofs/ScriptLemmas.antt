@@ -7,7 +7,6 @@ use Rattle.std.specs.List.{list_all}
 use Rattle.vm_superio.specs.declared.run.Sent.{Sent}
 use Rattle.vm_superio.specs.declared.run.Sent.TheVariants as sent
 use Rattle.vm_superio.specs.declared.rtc_pl031.RtcState.{RtcState}
-use Rattle.vm_superio.specs.State.{State}
 use Rattle.vm_superio.specs.Acts.{Writes, is_sent}
 use Rattle.vm_superio.specs.Fits.{sends}
 use Rattle.vm_superio.specs.Links.{written}
@@ -17,7 +16,7 @@ use Rattle.superio_script.specs.Line.{LineCalls}
 use Rattle.superio_script.specs.Counts.{EventCounts}
 use Rattle.superio_script.specs.Output.{bytes_of}
 use Rattle.superio_script.specs.Command.{command_of, AsksForRestore}
-use Rattle.superio_script.specs.Reply.{digits_reply, clock_reply, clock_after}
+use Rattle.superio_script.specs.Reply.{digits_reply, clock_after}
 use Rattle.superio_script.specs.Session.{Session, fresh_session, Choice, IsPossible, first_fate, first_shown, out_before_loss, is_short, sent_where, rest_where, shown_where, rest_shown, output_after, call_reply, after_call, serial_reply, serial_after, choice_after}
 use Rattle.superio_script.specs.Board.{Devices, IsAt, IsFresh, IsSerialStep, IsStep}
 use Rattle.superio_script.specs.Script.{has_form, onto_good, good_commands, first_bad, text_from, PrintsLines, StopsAtRestore}

@@ -1,6 +1,5 @@
 -- What a contract sees of a board, and of one line on it.
 use Rattle.std.specs.Prelude.{◌≡◌, ℕ, List, IfSome}
-use Rattle.vm_superio.specs.declared.rtc_pl031.RtcState.{RtcState}
 use Rattle.vm_superio.specs.Clock as clock
 use Rattle.vm_superio.specs.Port.{Port}
 use Rattle.superio_script.specs.Line.{LineCalls, fresh_line}

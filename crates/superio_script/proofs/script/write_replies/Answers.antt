@@ -1,5 +1,5 @@
 -- Each reply that is written goes from what is still to come to what was carried out.
-use Rattle.std.proofs.Common.{◌≡◌, ap, sym, ◌∙◌, Err, Some, inr, arith, length, length-append, [], ◌∷◌, ◌++◌, ◌+◌}
+use Rattle.std.proofs.Common.{◌≡◌, ap, ◌∙◌, Err, Some, inr, arith, length, length-append, ◌++◌, ◌+◌}
 use Rattle.superio_script.specs.Pieces.{lines_of}
 use Rattle.superio_script.proofs.ScriptLemmas.{Carried-at_start, Carried-after_line, first_bad-here, Prints-before_bad, Stops-here, none-bad, Prints-all}
 use Rattle.superio_script.proofs.script.write_replies.Goals as goal

@@ -1,5 +1,5 @@
 -- A restore is a step of the session, whether its calls were taken or one was refused.
-use Rattle.std.proofs.Common.{◌≡◌, ap, sym, ◌∙◌, subst}
+use Rattle.std.proofs.Common.{ap, sym, ◌∙◌, subst}
 use Rattle.vm_superio.specs.State.{State}
 use Rattle.vm_superio.specs.Calls.{restore_calls}
 use Rattle.vm_superio.specs.Port.{Port}

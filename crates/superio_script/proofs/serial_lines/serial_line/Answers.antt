@@ -1,10 +1,7 @@
 -- Each line is a step of the session.
-use Rattle.std.proofs.Common.{ap, sym, ◌∙◌, subst, None}
+use Rattle.std.proofs.Common.{None}
 use Rattle.vm_superio.specs.Port.{write_reply, enqueue_reply, refusal_of}
 use Rattle.vm_superio.specs.Acts.{Given}
-use Rattle.superio_script.specs.Reply.{digits_reply, count_digits, counts_reply, ended}
-use Rattle.superio_script.specs.Board.{IsSerialStep}
-use Rattle.superio_script.specs.declared.command.SerialLine.TheVariants as line
 use Rattle.superio_script.proofs.SessionLemmas.{read-step, write-step, enqueue-step, capacity-step, output-step, calls-step, events-step}
 use Rattle.superio_script.proofs.serial_lines.serial_line.Goals as goal
 
