@@ -1,6 +1,7 @@
 -- What one good line adds to what was written, whatever is still to come.
 use Rattle.std.proofs.Common.{◌≡◌, ℕ, ◌+◌, ◌≤◌, Bool, true, false, List, [], ◌∷◌, ◌++◌, length, Option, Some, None, refl, ap, sym, ◌∙◌, subst, arith, append_assoc, append-nil, length-append}
-use Rattle.std.proofs.lemmas.Bool.{false≢true}
+use Rattle.std.specs.Cmp.Derive.{both_true}
+use Rattle.std.proofs.lemmas.Bool.{and_parts, false≢true}
 use Rattle.std.specs.Io.KnownBytes.{Appends}
 use Rattle.std.specs.Prelude.{IsTrue, IsSomeAnd, IfSome, is_some, if◌then◌else◌, ◌&&◌}
 use Rattle.std.specs.List.{list_all}
@@ -60,10 +61,6 @@ Fits-nothing : (output : Option (List ℕ)) → IfSome output (λ all. length al
 Fits-nothing None few = record { sent = refl; room = tt; short = refl }
 Fits-nothing (Some all) few = record { sent = refl; room = omega arith; short = refl }
 
-both-true : (a b : Bool) → IsTrue a → IsTrue b → IsTrue (a && b)
-both-true true b h k = k
-both-true false b h k = absurd (false≢true h)
-
 first-sent : (fates : List Sent) → IsTrue (list_all is_sent fates) → IsTrue (is_sent (first_fate fates))
 first-sent [] all = refl
 first-sent (sent.Nothing ∷ fates) all = absurd (false≢true all)
@@ -72,11 +69,7 @@ first-sent (sent.Lost ∷ fates) all = refl
 
 first-short : (shown : List (List ℕ)) → IsTrue (list_all is_short shown) → IsTrue (is_short (first_shown shown))
 first-short [] all = refl
-first-short (bytes ∷ shown) all = and-left (is_short bytes) (list_all is_short shown) all
-  where
-    and-left : (a b : Bool) → IsTrue (a && b) → IsTrue a
-    and-left true b h = refl
-    and-left false b h = h
+first-short (bytes ∷ shown) all = (and_parts (is_short bytes) (list_all is_short shown) all).0
 
 -- the room for a write of this fate and for what follows it
 room-before :
@@ -109,7 +102,7 @@ module _ (choice later : Choice) (possible : IsPossible choice) where
       let is = first-sent choice.fates possible.sent in (
         record { fates = what ∷ later.fates; shown = later.shown },
         record {
-          sent = both-true (is_sent what) (list_all is_sent later.fates) is fits.sent;
+          sent = both_true is fits.sent;
           room = room-before output what (bytes what) later.fates is (λ out. ap (λ w. length (bytes w)) out ∙ one) few fits.room;
           short = fits.short;
         },
@@ -130,7 +123,7 @@ module _ (choice later : Choice) (possible : IsPossible choice) where
         record {
           sent = fits.sent;
           room = tt;
-          short = both-true (is_short bytes) (list_all is_short later.shown) (first-short choice.shown possible.short) fits.short;
+          short = both_true (first-short choice.shown possible.short) fits.short;
         },
         refl,
         refl,
@@ -276,37 +269,28 @@ first_bad-step : (command : Option Command) (number : ℕ) (others : Option ℕ)
 first_bad-step None number others good = absurd (false≢true good)
 first_bad-step (Some command) number others good = refl
 
-and-left : (a b : Bool) → IsTrue (a && b) → IsTrue a
-and-left true b h = refl
-and-left false b h = h
-
-and-right : (a b : Bool) → IsTrue (a && b) → IsTrue b
-and-right true b h = h
-and-right false b h = absurd (false≢true h)
-
 good_commands-append : (earlier lines : List (List ℕ)) → IsTrue (list_all has_form earlier) →
     good_commands (earlier ++ lines) ≡ good_commands earlier ++ good_commands lines
 good_commands-append [] lines good = refl
 good_commands-append (line ∷ earlier) lines good =
-    let rest = and-right (has_form line) (list_all has_form earlier) good in
+    let rest = (and_parts (has_form line) (list_all has_form earlier) good).1 in
     ap (onto_good (command_of line)) (good_commands-append earlier lines rest)
-    ∙ onto_good-append (command_of line) (good_commands earlier) (good_commands lines) (and-left (has_form line) (list_all has_form earlier) good)
+    ∙ onto_good-append (command_of line) (good_commands earlier) (good_commands lines) (and_parts (has_form line) (list_all has_form earlier) good).0
 
 first_bad-append : (number : ℕ) (earlier lines : List (List ℕ)) → IsTrue (list_all has_form earlier) →
     first_bad number (earlier ++ lines) ≡ first_bad (number + length earlier) lines
 first_bad-append number [] lines good = ap (λ n. first_bad n lines) (omega arith)
 first_bad-append number (line ∷ earlier) lines good =
-    let rest = and-right (has_form line) (list_all has_form earlier) good in
+    let rest = (and_parts (has_form line) (list_all has_form earlier) good).1 in
     let same : number + 1 + length earlier ≡ number + length (line ∷ earlier) = omega arith in
-    first_bad-step (command_of line) number (first_bad (number + 1) (earlier ++ lines)) (and-left (has_form line) (list_all has_form earlier) good)
+    first_bad-step (command_of line) number (first_bad (number + 1) (earlier ++ lines)) (and_parts (has_form line) (list_all has_form earlier) good).0
     ∙ first_bad-append (number + 1) earlier lines rest ∙ ap (λ n. first_bad n lines) same
 
 all_good-append : (earlier : List (List ℕ)) (line : List ℕ) → IsTrue (list_all has_form earlier) → IsTrue (has_form line) →
     IsTrue (list_all has_form (earlier ++ line ∷ []))
-all_good-append [] line good one = both-true (has_form line) true one refl
+all_good-append [] line good one = both_true one refl
 all_good-append (first ∷ earlier) line good one =
-    both-true (has_form first) (list_all has_form (earlier ++ line ∷ [])) (and-left (has_form first) (list_all has_form earlier) good)
-    (all_good-append earlier line (and-right (has_form first) (list_all has_form earlier) good) one)
+    both_true (and_parts (has_form first) (list_all has_form earlier) good).0 (all_good-append earlier line (and_parts (has_form first) (list_all has_form earlier) good).1 one)
 
 -- ---- the lines that were carried out
 

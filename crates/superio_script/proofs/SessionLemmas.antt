@@ -1,8 +1,9 @@
 -- A line of the serial port is a step of its session.
 use Rattle.std.proofs.Common.{◌≡◌, ℕ, zero, suc, ◌-◌, ◌≤◌, Bool, true, false, List, [], ◌∷◌, ◌++◌, length, Option, Some, None, Result, Ok, Err, refl, ap, sym, ◌∙◌, subst, arith, inl, inr}
+use Rattle.std.specs.Cmp.Derive.{both_true}
 use Rattle.std.specs.Prelude.{◌⊎◌, IsTrue, IsSome, IfSome, if◌then◌else◌, nat_le, ◌&&◌, codes}
 use Rattle.std.specs.Bool.{beq}
-use Rattle.std.proofs.lemmas.Bool.{false≢true}
+use Rattle.std.proofs.lemmas.Bool.{and_parts, false≢true}
 use Rattle.std.proofs.lemmas.Bool.Decides.{nat_tests}
 use Rattle.vm_superio.specs.declared.run.Asked.{Asked}
 use Rattle.vm_superio.specs.declared.run.Asked.TheVariants.{Nothing, Took, Refused, TookTook, TookRefused}
@@ -28,20 +29,6 @@ use Rattle.superio_script.specs.Board.{IsAt, IsSerialStep}
 use Rattle.superio_script.specs.declared.output.Output.{Output}
 use Rattle.superio_script.specs.declared.trigger.LineRefused.{LineRefused}
 use Rattle.superio_script.specs.declared.command.SerialLine.TheVariants as line
-
--- ---- both of two tests
-
-and_left : (a b : Bool) → IsTrue (a && b) → IsTrue a
-and_left true b h = refl
-and_left false b h = h
-
-and_right : (a b : Bool) → IsTrue (a && b) → IsTrue b
-and_right true b h = h
-and_right false b h = absurd (false≢true h)
-
-both-true : (a b : Bool) → IsTrue a → IsTrue b → IsTrue (a && b)
-both-true true b h k = k
-both-true false b h k = absurd (false≢true h)
 
 -- ---- the interrupt line
 
@@ -160,7 +147,7 @@ module _ (act : Deed) (asked : Asked) (what : Sent) (outcome : Answer) (refusal 
       IsCallStep (record { state = old.state; line = old.trigger; counts = old.events; output = output }) what
   steps-here output was case =
       let calls = due old.state act in
-      let fitted = and_left (asked_fits calls asked) (beq (is_sent what) (sends old.state act)) case.fits in
+      let fitted = (and_parts (asked_fits calls asked) (beq (is_sent what) (sends old.state act)) case.fits).0 in
       let so = answered-from_link old.trigger new.trigger calls asked refusal fitted (λ h. case.refused ∙ h) case.trigger in
       let P : Asked → Type 0 = λ a. (answer_reply outcome ≡ answer_reply (answer old.state act a what)) × IsAt (record {
         state = next old.state act a;
@@ -197,7 +184,7 @@ module _ (old new : Port LineCalls EventCounts Output) (outcome : Answer) (refus
       let step = steps-from_case act asked what outcome refusal old new before at case in
       let sending = sends before.state act in
       let same : sends old.state act ≡ sending = ap (λ (s : State). sends s act) at.state in
-      let fate = chosen-sent sending what (subst (λ b. IsTrue (beq (is_sent what) b)) same (and_right (asked_fits (due old.state act) asked) (beq (is_sent what) (sends old.state act)) case.fits)) in
+      let fate = chosen-sent sending what (subst (λ b. IsTrue (beq (is_sent what) b)) same (and_parts (asked_fits (due old.state act) asked) (beq (is_sent what) (sends old.state act)) case.fits).1) in
       let found = subst (IsCallStep act asked what outcome refusal old new before) fate step in
       (chosen what, chosen-possible what, found.0, found.1)
 
@@ -209,7 +196,7 @@ module _ (old new : Port LineCalls EventCounts Output) (outcome : Answer) (refus
       let act = Enqueues bytes in
       let step = steps-from_case act asked what outcome refusal old new before at case in
       let sending = sends old.state act in
-      let none = nothing-sent what sending (enqueue-sends (is_loopback old.state.modem_control) bytes) (and_right (asked_fits (due old.state act) asked) (beq (is_sent what) sending) case.fits) in
+      let none = nothing-sent what sending (enqueue-sends (is_loopback old.state.modem_control) bytes) (and_parts (asked_fits (due old.state act) asked) (beq (is_sent what) sending) case.fits).1 in
       let found = subst (IsCallStep act asked what outcome refusal old new before) none step in
       (none-chosen, none-chosen-possible, found.0, found.1)
 
@@ -248,7 +235,7 @@ module _ (port : Port LineCalls EventCounts Output) where
   output-step before at =
       let choice : Choice = record { fates = []; shown = bytes_of port.out ∷ [] } in
       let few : nat_le (length (bytes_of port.out)) 256 ≡ true = short-enough (length (bytes_of port.out)) port.out.few in
-      (choice, record { sent = refl; room = omega arith; short = both-true _ true few refl }, ap digits_reply (shown-output before.output (bytes_of port.out) at.output), at)
+      (choice, record { sent = refl; room = omega arith; short = both_true few refl }, ap digits_reply (shown-output before.output (bytes_of port.out) at.output), at)
 
 -- ---- a restore
 

@@ -1,6 +1,6 @@
 -- The trigger bound.
 use Rattle.std.proofs.Common.{◌≡◌, ◌+◌, ◌*◌, ◌≤◌, Bool, true, false, not, ◌==◌, ◌&&◌, ◌||◌, List, [], ◌∷◌, arith}
-use Rattle.std.proofs.lemmas.Bool.{eqb-true}
+use Rattle.std.proofs.lemmas.Bool.{and_parts, eqb-true}
 use Rattle.std.proofs.lemmas.List.Sums.{sum_by-cons}
 use Rattle.std.specs.Prelude.{if◌then◌else◌, IsTrue, sum_by, count_by}
 use Rattle.vm_superio.specs.State.{State}
@@ -10,7 +10,6 @@ use Rattle.vm_superio.specs.History.{kind}
 use Rattle.vm_superio.specs.Interrupts.{answer_count, trigger_calls, receive_raised, acknowledges_receive, receive_pending, transmit_raised, transmit_pending, record_fits, is_fitting}
 use Rattle.vm_superio.specs.Laws.{TriggerBoundLaw}
 use Rattle.vm_superio.specs.LawWords.{kinds}
-use Rattle.vm_superio.proofs.Bytes.{and_left, and_right}
 
 -- each call makes a condition pending that was not, and only an acknowledgement makes it one that is not
 one_condition : (raised acknowledged before : Bool)
@@ -45,10 +44,10 @@ calls_so_far : (start : State) (past : List Entry) → IsTrue (is_fitting start 
 calls_so_far start [] fitting = omega arith
 calls_so_far start (entry ∷ past) fitting =
     let k = kind start past entry.act in
-    let here = and_left (record_fits start past entry) (is_fitting start past) fitting in
-    let before = calls_so_far start past (and_right (record_fits start past entry) (is_fitting start past) fitting) in
+    let here = (and_parts (record_fits start past entry) (is_fitting start past) fitting).0 in
+    let before = calls_so_far start past (and_parts (record_fits start past entry) (is_fitting start past) fitting).1 in
     let answers : answer_count entry.asked ≡ trigger_calls start past entry =
-    eqb-true _ _ (and_left (answer_count entry.asked == trigger_calls start past entry) _ here) in
+    eqb-true _ _ (and_parts (answer_count entry.asked == trigger_calls start past entry) _ here).0 in
     rw (
       sum_by-cons (λ (entry : Entry). answer_count entry.asked) entry past,
       answers,

@@ -1,5 +1,5 @@
 -- What the words on bytes do: data ready is set and cleared, and the low four bits keep both enable bits.
-use Rattle.std.proofs.lemmas.Bool.{eqb-true, false≢true}
+use Rattle.std.proofs.lemmas.Bool.{and_parts, eqb-true, false≢true}
 use Rattle.std.proofs.lemmas.Bool.Decides.{eqb_tells}
 use Rattle.std.proofs.Common.{◌≡◌, ◌≢◌, ◌%◌, ⊎_elim, lit<, ℕ, zero, suc, ◌<◌, Bool, true, false, ◌==◌, ◌&&◌, refl, ap, ◌∙◌, arith}
 use Rattle.std.specs.Prelude.{IsTrue, bit_or}
@@ -7,20 +7,6 @@ use Rattle.std.specs.Int.Bits.{and_zero_r, and_mask, or_mod}
 use Rattle.std.proofs.Math.Nat.{mod-lt}
 use Rattle.std.proofs.lemmas.Nat.{and_assoc}
 use Rattle.vm_superio.specs.State.{has_bits, masked, joined, without, with_data_ready}
-
--- ---- two tests
-
-pub and_left : (a b : Bool) → IsTrue (a && b) → IsTrue a
-and_left true b e = refl
-and_left false b e = e
-
-pub and_right : (a b : Bool) → IsTrue (a && b) → IsTrue b
-and_right true b e = e
-and_right false b e = absurd (false≢true e)
-
-pub and_both : (a b : Bool) → IsTrue a → IsTrue b → IsTrue (a && b)
-and_both true b here there = there
-and_both false b here there = absurd (false≢true here)
 
 -- ---- what holds of each byte, by computing it for all
 
@@ -32,10 +18,10 @@ pub holds_below : (n : ℕ) (test : ℕ → Bool) → all_below n test ≡ true 
 unfolding all_below
 holds_below zero test all k below = absurd (omega arith)
 holds_below (suc n) test all k below =
-    ⊎_elim (λ here. ap test here.1 ∙ and_left (test n) (all_below n test) all)
+    ⊎_elim (λ here. ap test here.1 ∙ (and_parts (test n) (all_below n test) all).0)
     (λ apart.
     let other : k ≢ n = apart.1 in
-    holds_below n test (and_right (test n) (all_below n test) all) k (omega arith))
+    holds_below n test (and_parts (test n) (all_below n test) all).1 k (omega arith))
     (eqb_tells k n)
 
 -- ---- data ready, the lowest bit

@@ -1,6 +1,6 @@
 -- One call, in any state: the events that it tells, and the pairs that the test passes.
 use Rattle.std.proofs.Common.{◌≡◌, ℕ, zero, suc, ◌≤◌, Bool, true, false, ◌==◌, List, [], ◌∷◌, ◌++◌, length, refl, sym, subst, arith}
-use Rattle.std.proofs.lemmas.Bool.{false≢true, eqb-true}
+use Rattle.std.proofs.lemmas.Bool.{and_parts, false≢true, eqb-true}
 use Rattle.std.specs.Prelude.{if◌then◌else◌, nat_le, IsTrue, count_by}
 use Rattle.std.specs.Bool.{beq}
 use Rattle.vm_superio.specs.declared.run.Asked.{Asked}
@@ -19,7 +19,6 @@ use Rattle.vm_superio.specs.Meaning.{kind_in, Kind, EnableWrite, DataWrite, Arri
 use Rattle.vm_superio.specs.Laws.{EventsLaw, ExactTestLaw}
 use Rattle.vm_superio.specs.LawWords.{tells_fate, asked_when, sent_when}
 use Rattle.vm_superio.proofs.Bounds.{one_at_most}
-use Rattle.vm_superio.proofs.Bytes.{and_left, and_right}
 
 -- what is told of a byte, where one is sent or not
 abbrev sent_fits : Bool → Sent → Bool
@@ -65,7 +64,7 @@ told s Restores what fit = refl
 
 pub events_law : EventsLaw
 events_law s act asked what fit =
-    told s act what (and_right (asked_fits (due s act) asked) (sent_fits (sends s act) what) fit)
+    told s act what (and_parts (asked_fits (due s act) asked) (sent_fits (sends s act) what) fit).1
 
 -- ---- the test is neither too narrow nor too wide
 
@@ -138,9 +137,9 @@ unfolding Exact
 exact_test_law s act asked what = (
   λ fit.
       let answers =
-      asked_exact (due s act) asked (and_left (asked_fits (due s act) asked) (sent_fits (sends s act) what) fit) in
+      asked_exact (due s act) asked (and_parts (asked_fits (due s act) asked) (sent_fits (sends s act) what) fit).0 in
       let fate = sent_exact (sends s act) what
-      (and_right (asked_fits (due s act) asked) (sent_fits (sends s act) what) fit) in
+      (and_parts (asked_fits (due s act) asked) (sent_fits (sends s act) what) fit).1 in
       (answers.0, answers.1, fate.0, answers.2, fate.1),
   λ some. rw (some.3, some.4, asked_passes (due s act) some.0 some.1 (due_at_most s act))
       (sent_passes (sends s act) some.2),

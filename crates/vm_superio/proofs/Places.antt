@@ -1,6 +1,7 @@
 -- Pending by places, and waiting bytes.
 use Rattle.std.proofs.Common.{◌≡◌, inl, inr, ℕ, Bool, true, false, not, ◌&&◌, ◌||◌, List, [], ◌∷◌, ◌++◌, refl, ap, sym, ◌∙◌, subst, append-nil}
-use Rattle.std.proofs.lemmas.Bool.{false≢true}
+use Rattle.std.specs.Cmp.Derive.{both_true}
+use Rattle.std.proofs.lemmas.Bool.{and_parts, false≢true}
 use Rattle.std.specs.Prelude.{IsTrue}
 use Rattle.std.specs.Bool.{IsFalse}
 use Rattle.vm_superio.specs.declared.run.Asked.{Asked}
@@ -12,7 +13,7 @@ use Rattle.vm_superio.specs.History.{kind, held, interrupt_enable}
 use Rattle.vm_superio.specs.Interrupts.{still_raised, receive_raised, acknowledges_receive, receive_pending, transmit_raised}
 use Rattle.vm_superio.specs.Laws.{PendingByPlacesLaw, WaitingBytesLaw, state_after}
 use Rattle.vm_superio.specs.LawWords.{NoneAcknowledges, PendingByPlaces, tells_of_bytes}
-use Rattle.vm_superio.proofs.Bytes.{and_both, and_left, and_right, enables_receive}
+use Rattle.vm_superio.proofs.Bytes.{enables_receive}
 use Rattle.vm_superio.proofs.ByKind.{by_kind, next_at_place}
 use Rattle.vm_superio.proofs.RegisterSteps.{register_law}
 use Rattle.vm_superio.proofs.Held.{held_bytes_law}
@@ -99,8 +100,8 @@ module _ (start : State) (raises : List Entry → Entry → Bool) (acknowledges 
   found entry past false raised earlier e =
       let acknowledged = acknowledges (kind start past entry.act) in
       let rest = still_raised start raises acknowledges first past in
-      grown entry past (not_false acknowledged (and_left (not acknowledged) rest e))
-      (earlier (and_right (not acknowledged) rest e))
+      grown entry past (not_false acknowledged (and_parts (not acknowledged) rest e).0)
+      (earlier (and_parts (not acknowledged) rest e).1)
 
   to_places : (past : List Entry) → IsTrue (still_raised start raises acknowledges first past)
       → PendingByPlaces start raises acknowledges first past
@@ -157,7 +158,7 @@ told_by_kind DataRead asked s pending not_here before some enabled = absurd (fal
 told_by_kind IdentificationRead asked s pending not_here before some enabled = absurd (false≢true (sym not_here))
 told_by_kind (EnableWrite value) asked s pending not_here before some enabled =
     or_left (has_bits value 0x01 && not_empty s.in_buffer) pending
-    (and_both (has_bits value 0x01) (not_empty s.in_buffer) (sym (enables_receive value) ∙ enabled) some)
+    (both_true (sym (enables_receive value) ∙ enabled) some)
 told_by_kind (DataWrite value) asked s pending not_here before some enabled = before some enabled
 told_by_kind (Arrival bytes) asked s pending not_here before some enabled =
     received_told (that_fit s.in_buffer bytes) s pending before some enabled
@@ -174,7 +175,7 @@ first_told : (k : Kind) (asked : Asked) (s : State) (pending : Bool) → IsTrue 
     → IsTold (by_kind k asked s) (receive_next k s.in_buffer s.interrupt_enable pending)
 first_told (EnableWrite value) asked s pending tells some enabled =
     or_left (has_bits value 0x01 && not_empty s.in_buffer) pending
-    (and_both (has_bits value 0x01) (not_empty s.in_buffer) (sym (enables_receive value) ∙ enabled) some)
+    (both_true (sym (enables_receive value) ∙ enabled) some)
 first_told (Arrival bytes) asked s pending tells some enabled =
     received_first (that_fit s.in_buffer bytes) s pending tells some enabled
 first_told DataRead asked s pending tells some enabled = absurd (false≢true tells)

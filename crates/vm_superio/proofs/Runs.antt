@@ -1,6 +1,7 @@
 -- A coherent state stays coherent, is the one that the past describes, and answers what the history replies; so whole
 -- runs by the call cases are fitting histories.
 use Rattle.std.proofs.Common.{◌≡◌, ℕ, ◌+◌, ◌<◌, ◌≤◌, Bool, true, false, ◌==◌, ◌&&◌, ◌||◌, List, [], ◌∷◌, length, drop, refl, ap, sym, ◌∙◌, subst, length-append, length-take, length-drop, arith}
+use Rattle.std.specs.Cmp.Derive.{both_true}
 use Rattle.std.proofs.lemmas.Bool.{false≢true}
 use Rattle.std.specs.Prelude.{if◌then◌else◌, nat_le, IsTrue}
 use Rattle.vm_superio.specs.declared.run.Asked.{Asked}
@@ -15,7 +16,7 @@ use Rattle.vm_superio.specs.History.{loopback, held}
 use Rattle.vm_superio.specs.Replies.{reply, described}
 use Rattle.vm_superio.specs.Interrupts.{record_fits, is_fitting}
 use Rattle.vm_superio.specs.Laws.{state_after, CoherenceLaw, StateLaw, AnswerLaw, FollowCases, RunAgrees, WholeRunLaw}
-use Rattle.vm_superio.proofs.Bytes.{and_both, data_ready_set, data_ready_cleared}
+use Rattle.vm_superio.proofs.Bytes.{data_ready_set, data_ready_cleared}
 use Rattle.vm_superio.proofs.ByKind.{by_kind, next_by_kind}
 use Rattle.vm_superio.proofs.RegisterSteps.{register_law}
 use Rattle.vm_superio.proofs.Held.{held_bytes_law, line_status_law, not_empty-append}
@@ -170,7 +171,7 @@ run_from start past [] end coherent below fitting follow = record {
 run_from start past (call ∷ later) end coherent below fitting follow =
     let interrupts = interrupt_law start past coherent.transmit coherent.receive coherent.identification in
     let here = sym (interrupts.calls call.0) ∙ follow.0 in
-    let all = and_both (record_fits start past call.0) (is_fitting start past) here fitting in
+    let all = both_true here fitting in
     let rest = run_from start (call.0 ∷ past) later end coherent below all follow.2 in
     record {
       fitting = rest.fitting;

@@ -1,6 +1,6 @@
 -- The trigger is called once for each pending bit that a call turns from clear to set, in any state.
 use Rattle.std.proofs.Common.{add-zero, zero-add, ◌≡◌, ℕ, ◌+◌, ◌<◌, Bool, true, false, not, ◌==◌, ◌&&◌, ◌||◌, List, [], ◌∷◌, refl, ap, sym, ◌∙◌}
-use Rattle.std.proofs.lemmas.Bool.{false≢true, eqb-true, ltb-true}
+use Rattle.std.proofs.lemmas.Bool.{and_parts, false≢true, eqb-true, ltb-true}
 use Rattle.std.proofs.Math.Bool.{and-true, and-false}
 use Rattle.std.specs.Prelude.{if◌then◌else◌, IsTrue, nat_lt}
 use Rattle.std.specs.Bool.{beq}
@@ -15,7 +15,7 @@ use Rattle.vm_superio.specs.Fits.{receive_due, due_by, due, asked_fits}
 use Rattle.vm_superio.specs.Interrupts.{answer_count}
 use Rattle.vm_superio.specs.Laws.{TurnedBitsLaw}
 use Rattle.vm_superio.proofs.Asks.{answers_counted}
-use Rattle.vm_superio.proofs.Bytes.{all_below, holds_below, and_left}
+use Rattle.vm_superio.proofs.Bytes.{all_below, holds_below}
 use Rattle.vm_superio.proofs.ByKind.{by_kind, next_by_kind}
 
 -- ---- the bits of each identification, computed for all
@@ -242,5 +242,5 @@ turned_by_kind Other asked s below fit = no_answers asked fit ∙ none_turned s.
 
 pub turned_bits_law : TurnedBitsLaw
 turned_bits_law s act asked what below fit =
-    turned_by_kind (kind_in s act) asked s below (and_left (asked_fits (due s act) asked) _ fit)
+    turned_by_kind (kind_in s act) asked s below (and_parts (asked_fits (due s act) asked) _ fit).0
     ∙ ap (count s.interrupt_identification) (sym (next_by_kind s act asked).interrupt_identification)

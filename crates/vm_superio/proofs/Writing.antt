@@ -1,6 +1,6 @@
 -- Where nothing is lost, what the writer took is the output.
 use Rattle.std.proofs.Common.{◌≡◌, ℕ, Bool, true, false, not, List, [], ◌∷◌, ◌++◌, refl, ap, ◌∙◌}
-use Rattle.std.proofs.lemmas.Bool.{false≢true}
+use Rattle.std.proofs.lemmas.Bool.{and_parts, false≢true}
 use Rattle.std.specs.Prelude.{IsTrue, ◌==◌}
 use Rattle.std.specs.Bool.{beq}
 use Rattle.std.specs.List.{list_all}
@@ -15,7 +15,6 @@ use Rattle.vm_superio.specs.History.{dlab, loopback}
 use Rattle.vm_superio.specs.Interrupts.{answer_count, trigger_calls, record_fits, is_fitting}
 use Rattle.vm_superio.specs.Laws.{OutputLaw}
 use Rattle.vm_superio.specs.Replies.{output}
-use Rattle.vm_superio.proofs.Bytes.{and_left, and_right}
 
 -- ---- one call
 
@@ -66,10 +65,10 @@ pub output_law : OutputLaw
 output_law start past [] fitting kept = refl
 output_law start past (entry ∷ newest) fitting kept =
     let place = newest ++ past in
-    let here = and_left (record_fits start place entry) (is_fitting start place) fitting in
-    let rest = output_law start past newest (and_right (record_fits start place entry) (is_fitting start place) fitting)
-    (and_right (not (is_lost entry.sent)) (list_all (λ (entry : Entry). not (is_lost entry.sent)) newest) kept) in
+    let here = (and_parts (record_fits start place entry) (is_fitting start place) fitting).0 in
+    let rest = output_law start past newest (and_parts (record_fits start place entry) (is_fitting start place) fitting).1
+    (and_parts (not (is_lost entry.sent)) (list_all (λ (entry : Entry). not (is_lost entry.sent)) newest) kept).1 in
     let call = call_written (dlab start place) (loopback start place) entry.act entry.sent
-    (and_left (not (is_lost entry.sent)) (list_all (λ (entry : Entry). not (is_lost entry.sent)) newest) kept)
-    (and_right (answer_count entry.asked == trigger_calls start place entry) _ here) in
+    (and_parts (not (is_lost entry.sent)) (list_all (λ (entry : Entry). not (is_lost entry.sent)) newest) kept).0
+    (and_parts (answer_count entry.asked == trigger_calls start place entry) _ here).1 in
     ap (λ bytes. bytes ++ written entry.act entry.sent) rest ∙ ap (λ bytes. output start past newest ++ bytes) call
