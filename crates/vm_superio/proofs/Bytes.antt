@@ -1,8 +1,8 @@
 -- What the words on bytes do: data ready is set and cleared, and the low four bits keep both enable bits.
-use Rattle.std.proofs.lemmas.Bool.{and_parts, eqb-true, false≢true}
+use Rattle.std.proofs.lemmas.Bool.{and_parts, eqb-true}
 use Rattle.std.proofs.lemmas.Bool.Decides.{eqb_tells}
 use Rattle.std.proofs.Common.{◌≡◌, ◌≢◌, ◌%◌, ⊎_elim, lit<, ℕ, zero, suc, ◌<◌, Bool, true, false, ◌==◌, ◌&&◌, refl, ap, ◌∙◌, arith}
-use Rattle.std.specs.Prelude.{IsTrue, bit_or}
+use Rattle.std.specs.Prelude.{bit_or}
 use Rattle.std.specs.Int.Bits.{and_zero_r, and_mask, or_mod}
 use Rattle.std.proofs.Math.Nat.{mod-lt}
 use Rattle.std.proofs.lemmas.Nat.{and_assoc}

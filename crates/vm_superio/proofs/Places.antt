@@ -217,10 +217,11 @@ stays_told start (entry ∷ newest) past none before =
     (ap (λ enable. has_bits enable 0x01) (sym (register_law start place).interrupt_enable) ∙ enabled)))
 
 pub waiting_bytes_law : WaitingBytesLaw
-waiting_bytes_law start after before entry tells none =
+waiting_bytes_law start past after before entry same tells none =
     let k = kind start before entry.act in
     let s = state_after start before in
-    stays_told start after (entry ∷ before) none
+    subst (IsToldAt start) (sym same)
+    (stays_told start after (entry ∷ before) none
     (at_place start before entry
     (first_told k entry.asked s (receive_pending start before)
-    (ap (tells_of_bytes k) (held_bytes_law start before) ∙ tells)))
+    (ap (tells_of_bytes k) (held_bytes_law start before) ∙ tells))))

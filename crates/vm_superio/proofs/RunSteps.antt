@@ -14,6 +14,7 @@ use Rattle.vm_superio.specs.declared.run.Done.{Done}
 use Rattle.vm_superio.specs.State.{State}
 use Rattle.vm_superio.specs.Events.{Event}
 use Rattle.vm_superio.specs.Acts.{Deed, Answer}
+use Rattle.vm_superio.specs.Calls.{restore_calls}
 use Rattle.vm_superio.specs.Links.{answers, written, WriterLink}
 use Rattle.vm_superio.specs.Port.{Port, IsCase}
 use Rattle.vm_superio.specs.Stretches.{Stretch, first_stretch, stretch_from, extended, IsAfter}
@@ -104,7 +105,7 @@ module _ {T E EV W : Type 0} (trigger_link : T â†’ List (Result (Unit {0}) E) â†
   GoesOn-made stretch (Enqueue bytes) asked sent (Enqueued outcome) old new calls before h =
       GoesOn-case stretch _ asked sent _ _ old new calls before h
   GoesOn-made stretch (Restore trigger events out) asked sent (Restored was) old new calls before h =
-      let begun : Stretch T E EV W = stretch_from old.state trigger events out in (
+      let begun : Stretch T E EV W = stretch_from (restore_calls old.state) trigger events out in (
         begun,
         record {
           state = refl;

@@ -14,7 +14,7 @@ use Rattle.vm_superio.specs.Coherent.{Coherent}
 use Rattle.vm_superio.specs.Meaning.{kind_in, Kind, DataRead, IdentificationRead, EnableWrite, DataWrite, Arrival, Other, accepted_by}
 use Rattle.vm_superio.specs.History.{loopback, held}
 use Rattle.vm_superio.specs.Replies.{reply, described}
-use Rattle.vm_superio.specs.Interrupts.{record_fits, is_fitting}
+use Rattle.vm_superio.specs.Interrupts.{is_fitting}
 use Rattle.vm_superio.specs.Laws.{state_after, CoherenceLaw, StateLaw, AnswerLaw, FollowCases, RunAgrees, WholeRunLaw}
 use Rattle.vm_superio.proofs.Bytes.{data_ready_set, data_ready_cleared}
 use Rattle.vm_superio.proofs.ByKind.{by_kind, next_by_kind}

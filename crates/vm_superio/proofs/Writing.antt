@@ -3,16 +3,16 @@ use Rattle.std.proofs.Common.{◌≡◌, ℕ, Bool, true, false, not, List, [], 
 use Rattle.std.proofs.lemmas.Bool.{and_parts, false≢true}
 use Rattle.std.specs.Prelude.{IsTrue, ◌==◌}
 use Rattle.std.specs.Bool.{beq}
-use Rattle.std.specs.List.{list_all}
 use Rattle.vm_superio.specs.declared.run.Sent.{Sent}
 use Rattle.vm_superio.specs.declared.run.Sent.TheVariants as sent
 use Rattle.vm_superio.specs.State.{not_empty}
 use Rattle.vm_superio.specs.Registers.{Register, Data, InterruptEnable, InterruptIdentification, register}
-use Rattle.vm_superio.specs.Acts.{Deed, Reads, Writes, Enqueues, Restores, Entry, is_sent, is_lost}
+use Rattle.vm_superio.specs.Acts.{Deed, Reads, Writes, Enqueues, Restores, is_sent, is_lost}
 use Rattle.vm_superio.specs.Links.{written}
 use Rattle.vm_superio.specs.Meaning.{read_kind, write_kind, kind_of, sent_by}
 use Rattle.vm_superio.specs.History.{dlab, loopback}
 use Rattle.vm_superio.specs.Interrupts.{answer_count, trigger_calls, record_fits, is_fitting}
+use Rattle.vm_superio.specs.LawWords.{none_lost}
 use Rattle.vm_superio.specs.Laws.{OutputLaw}
 use Rattle.vm_superio.specs.Replies.{output}
 
@@ -67,8 +67,8 @@ output_law start past (entry ∷ newest) fitting kept =
     let place = newest ++ past in
     let here = (and_parts (record_fits start place entry) (is_fitting start place) fitting).0 in
     let rest = output_law start past newest (and_parts (record_fits start place entry) (is_fitting start place) fitting).1
-    (and_parts (not (is_lost entry.sent)) (list_all (λ (entry : Entry). not (is_lost entry.sent)) newest) kept).1 in
+    (and_parts (not (is_lost entry.sent)) (none_lost newest) kept).1 in
     let call = call_written (dlab start place) (loopback start place) entry.act entry.sent
-    (and_parts (not (is_lost entry.sent)) (list_all (λ (entry : Entry). not (is_lost entry.sent)) newest) kept).0
+    (and_parts (not (is_lost entry.sent)) (none_lost newest) kept).0
     (and_parts (answer_count entry.asked == trigger_calls start place entry) _ here).1 in
     ap (λ bytes. bytes ++ written entry.act entry.sent) rest ∙ ap (λ bytes. output start past newest ++ bytes) call

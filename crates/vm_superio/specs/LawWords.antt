@@ -1,13 +1,14 @@
 -- The words of the laws.
-use Rattle.std.specs.Prelude.{◌≡◌, ◌⊎◌, ℕ, zero, suc, Bool, true, false, if◌then◌else◌, List, [], ◌∷◌, ◌++◌, IsTrue}
+use Rattle.std.specs.Prelude.{◌≡◌, ◌⊎◌, ℕ, zero, suc, Bool, true, false, not, if◌then◌else◌, List, [], ◌∷◌, ◌++◌, IsTrue}
 use Rattle.std.specs.Bool.{IsFalse}
+use Rattle.std.specs.List.{list_all}
 use Rattle.vm_superio.specs.declared.run.Asked.{Asked}
 use Rattle.vm_superio.specs.declared.run.Asked.TheVariants.{Nothing, Took, Refused, TookTook, TookRefused}
 use Rattle.vm_superio.specs.declared.run.Sent.{Sent}
 use Rattle.vm_superio.specs.declared.run.Sent.TheVariants as sent
 use Rattle.vm_superio.specs.State.{State, not_empty}
 use Rattle.vm_superio.specs.Events.{Event, out_byte, tx_lost_byte}
-use Rattle.vm_superio.specs.Acts.{Deed, Restores, Entry, Answer}
+use Rattle.vm_superio.specs.Acts.{Deed, Restores, Entry, Answer, is_lost}
 use Rattle.vm_superio.specs.Links.{written}
 use Rattle.vm_superio.specs.Meaning.{Kind, EnableWrite, accepted_by}
 use Rattle.vm_superio.specs.History.{kind}
@@ -59,6 +60,10 @@ acts_and_asked (entry ∷ past) = act_and_asked entry.act entry.asked ++ acts_an
 abbrev pub all_written : List Entry → List ℕ
 all_written [] = []
 all_written (entry ∷ newest) = all_written newest ++ written entry.act entry.sent
+
+-- nothing is lost in these records
+abbrev pub none_lost : List Entry → Bool
+none_lost newest = list_all (λ (entry : Entry). not (is_lost entry.sent)) newest
 
 -- ---- one call
 

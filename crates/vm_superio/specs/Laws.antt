@@ -1,15 +1,14 @@
 -- The laws: what the call cases and the history have to do with each other, and what follows from the history alone.
-use Rattle.std.specs.Prelude.{◌≡◌, ◌↔◌, ℕ, ◌+◌, ◌*◌, ◌<◌, ◌≤◌, Bool, not, List, [], ◌∷◌, ◌++◌, length, sum_by, count_by, IsTrue, ⊤}
-use Rattle.std.specs.List.{list_all}
+use Rattle.std.specs.Prelude.{◌≡◌, ◌↔◌, ℕ, ◌+◌, ◌*◌, ◌<◌, ◌≤◌, Bool, List, [], ◌∷◌, ◌++◌, length, sum_by, count_by, IsTrue, ⊤}
 use Rattle.vm_superio.specs.declared.run.Asked.{Asked}
 use Rattle.vm_superio.specs.declared.run.Sent.{Sent}
 use Rattle.vm_superio.specs.State.{State, has_bits, not_empty}
 use Rattle.vm_superio.specs.Registers.{identification_of, turns}
-use Rattle.vm_superio.specs.Acts.{one_if, Deed, Entry, Answer, is_lost}
+use Rattle.vm_superio.specs.Acts.{one_if, Deed, Entry, Answer}
 use Rattle.vm_superio.specs.Fits.{due, sends, fits}
 use Rattle.vm_superio.specs.Calls.{answer, next, events, restore_calls}
 use Rattle.vm_superio.specs.Coherent.{Coherent}
-use Rattle.vm_superio.specs.LawWords.{past_of, NoneAcknowledges, PendingByPlaces, kinds, tells_of_bytes, acts_and_asked, all_written, tells_fate, asked_when, sent_when}
+use Rattle.vm_superio.specs.LawWords.{past_of, NoneAcknowledges, PendingByPlaces, kinds, tells_of_bytes, acts_and_asked, all_written, none_lost, tells_fate, asked_when, sent_when}
 use Rattle.vm_superio.specs.Meaning.{kind_in, sent_by, accepted_by, taken_by, is_identification_read, is_data_read}
 use Rattle.vm_superio.specs.History.{line_control, modem_control, scratch, divisor_low, divisor_high, interrupt_enable, kind, accepted, taken, held}
 use Rattle.vm_superio.specs.Interrupts.{receive_raised, acknowledges_receive, receive_pending, transmit_raised, transmit_pending, answer_count, record_fits, is_fitting, restore_calls_due}
@@ -129,15 +128,19 @@ TriggerBoundLaw = (start : State) (past : List Entry) → IsTrue (is_fitting sta
     → sum_by (λ (entry : Entry). answer_count entry.asked) past
     ≤ 2 + 2 * count_by is_identification_read (kinds start past) + count_by is_data_read (kinds start past)
 
--- waiting bytes: after such a place, and with no read of the identification and no data read since, the receive
--- condition is pending where bytes are held and interrupt enable has bit 0x01
-abbrev pub WaitingBytesLaw : Type 0
-WaitingBytesLaw = (start : State) (after before : List Entry) (entry : Entry)
+-- waiting bytes: after a place that tells of bytes, and with no read of the identification and no data read since, the
+-- receive condition is pending where bytes are held and interrupt enable has bit 0x01
+abbrev pub WaitingBytesShow : State → List Entry → Type 0
+WaitingBytesShow start past =
+    (after before : List Entry) (entry : Entry) → past ≡ after ++ entry ∷ before
     → IsTrue (tells_of_bytes (kind start before entry.act) (held start before))
     → NoneAcknowledges start acknowledges_receive after (entry ∷ before)
-    → let past = after ++ entry ∷ before in
-    IsTrue (not_empty (held start past)) → IsTrue (has_bits (interrupt_enable start past) 0x01)
+    → IsTrue (not_empty (held start past)) → IsTrue (has_bits (interrupt_enable start past) 0x01)
     → IsTrue (receive_pending start past)
+
+-- for every past
+abbrev pub WaitingBytesLaw : Type 0
+WaitingBytesLaw = (start : State) (past : List Entry) → WaitingBytesShow start past
 
 -- neither the writer nor a restore changes a read: it depends on the acts and on what they asked alone
 abbrev pub SameReadsLaw : Type 0
@@ -152,7 +155,7 @@ TakenThenHeldLaw = (start : State) (past : List Entry)
 -- the newest records of a fitting history among which nothing is lost: the writer took exactly the output
 abbrev pub OutputLaw : Type 0
 OutputLaw = (start : State) (past newest : List Entry) → IsTrue (is_fitting start (newest ++ past))
-    → IsTrue (list_all (λ (entry : Entry). not (is_lost entry.sent)) newest)
+    → IsTrue (none_lost newest)
     → all_written newest ≡ output start past newest
 
 -- ---- one call, in any state

@@ -18,12 +18,14 @@ pub mod Laws
 pub mod Links
 pub mod Meaning
 pub mod Port
+pub mod Records
 pub mod Registers
 pub mod Replies
 pub mod Reset
 pub mod Restoring
 pub mod RtcEvents
 pub mod RunCalls
+pub mod RunPlaces
 pub mod SavedState
 pub mod State
 pub mod Stretches

@@ -20,6 +20,15 @@ module _ {E : Type 0} where
       ((answer ≡ Err refusal) × (answers ≡ []))
       ⊎ ((answer ≡ Ok tt) × EndsRefused conditions refusal answers)
 
+-- a port's restore of its own state, with these calls due: why it was refused, and the trigger that it brought then. By
+-- that trigger, after the calls up to the refusal, or for want of memory, with no call. It is never for too many bytes,
+-- since a port holds at most 64
+abbrev pub RefusesOwn : {T E : Type 0} → (T → List (Result (Unit {0}) E) → T → Type 0) → List Condition → Error E → T → T → Type 0
+RefusesOwn {T} {E} link due (Trigger refusal) old new =
+    (answers : List (Result (Unit {0}) E)) × EndsRefused due refusal answers × link old answers new
+RefusesOwn link due Memory old new = new ≡ old
+RefusesOwn link due _ old new = ⊥
+
 -- why a restore of the state was refused, and what became of the trigger: of more than 64 bytes, with no call of it; by
 -- a call of it, after those before were taken. Nothing else refuses
 abbrev pub RefusesRestore : {T E : Type 0} → (T → List (Result (Unit {0}) E) → T → Type 0) → State → Error E → T → T → Type 0

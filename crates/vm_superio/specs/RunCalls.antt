@@ -11,15 +11,13 @@ use Rattle.vm_superio.specs.declared.run.Call.TheVariants.{Read, Write, Enqueue,
 use Rattle.vm_superio.specs.declared.run.Reply.{Reply}
 use Rattle.vm_superio.specs.declared.run.Reply.TheVariants.{Byte, Wrote, Enqueued, Restored, NotRestored}
 use Rattle.vm_superio.specs.declared.run.Done.{Done}
-use Rattle.vm_superio.specs.declared.serial.errors.Error.{Error}
-use Rattle.vm_superio.specs.declared.serial.errors.Error.TheVariants.{Trigger, Memory}
 use Rattle.vm_superio.specs.State.{State}
 use Rattle.vm_superio.specs.Events.{Event}
 use Rattle.vm_superio.specs.Acts.{Deed, Reads, Writes, Enqueues, Answer, Given}
 use Rattle.vm_superio.specs.Fits.{fits}
 use Rattle.vm_superio.specs.Calls.{answer, next, restore_calls}
 use Rattle.vm_superio.specs.Port.{Port, write_reply, enqueue_reply, refusal_of, IsCase}
-use Rattle.vm_superio.specs.Restoring.{all_taken, EndsRefused}
+use Rattle.vm_superio.specs.Restoring.{all_taken, RefusesOwn}
 use Rattle.vm_superio.specs.Stretches.{Stretch, stretch_from, extended, IsAfter}
 
 -- the call without its objects
@@ -30,14 +28,6 @@ act_of (Enqueue bytes) = act.Enqueue bytes
 act_of (Restore trigger events out) = act.Restore
 
 module _ {T E EV W : Type 0} (trigger_link : T → List (Result (Unit {0}) E) → T → Type 0) (events_link : EV → List Event → EV → Type 0) (contents : W → Option (List ℕ)) where
-  -- why a restore was refused, and the trigger that it brought then: by that trigger, after the calls up to the refusal,
-  -- or for want of memory, with no call. It is never for too many bytes, since a port holds at most 64
-  abbrev pub RefusesOwn : State → Error E → T → T → Type 0
-  RefusesOwn s (Trigger refusal) old new =
-      (answers : List (Result (Unit {0}) E)) × EndsRefused (restore_calls s) refusal answers × trigger_link old answers new
-  RefusesOwn s Memory old new = new ≡ old
-  RefusesOwn s _ old new = ⊥
-
   -- a call that is no restore follows its call case, and the rest goes on from the next state
   abbrev pub Follows : State → Stretch T E EV W → Deed → Asked → Sent → Answer → Option E → (State → Stretch T E EV W → Type 0) → Type 0
   Follows s stretch act asked sent reply refusal Rest =
@@ -54,9 +44,9 @@ module _ {T E EV W : Type 0} (trigger_link : T → List (Result (Unit {0}) E) �
       Follows s stretch (Enqueues bytes.items) asked sent (enqueue_reply outcome) (refusal_of outcome) Rest
   Step s stretch (Restore trigger events out) asked sent (Restored old) Rest =
       (asked ≡ Nothing) × (sent ≡ fate.Nothing)
-      × IsAfter trigger_link events_link contents stretch s old × Rest s (stretch_from s trigger events out)
+      × IsAfter trigger_link events_link contents stretch s old × Rest s (stretch_from (restore_calls s) trigger events out)
   Step s stretch (Restore trigger events out) asked sent (NotRestored refused) Rest =
-      (asked ≡ Nothing) × (sent ≡ fate.Nothing) × RefusesOwn s refused.error trigger refused.trigger
+      (asked ≡ Nothing) × (sent ≡ fate.Nothing) × RefusesOwn trigger_link (restore_calls s) refused.error trigger refused.trigger
       × (refused.events ≡ events) × (refused.out ≡ out) × Rest s stretch
   Step s stretch _ asked sent _ Rest = ⊥
 
@@ -82,6 +72,6 @@ module _ {T E EV W : Type 0} (trigger_link : T → List (Result (Unit {0}) E) �
       (asked ≡ Nothing) × (sent ≡ fate.Nothing) × (before ≡ old) × (new.state ≡ old.state)
       × trigger_link trigger (all_taken (restore_calls old.state)) new.trigger × (new.events ≡ events) × (new.out ≡ out)
   Makes (Restore trigger events out) asked sent (NotRestored refused) old new =
-      (asked ≡ Nothing) × (sent ≡ fate.Nothing) × RefusesOwn old.state refused.error trigger refused.trigger
+      (asked ≡ Nothing) × (sent ≡ fate.Nothing) × RefusesOwn trigger_link (restore_calls old.state) refused.error trigger refused.trigger
       × (refused.events ≡ events) × (refused.out ≡ out) × (new ≡ old)
   Makes _ asked sent _ old new = ⊥

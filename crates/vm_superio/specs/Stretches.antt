@@ -4,9 +4,10 @@ use Rattle.std.specs.Prelude.{◌≡◌, ℕ, List, [], ◌∷◌, ◌++◌, Opt
 use Rattle.vm_superio.specs.declared.run.Asked.{Asked}
 use Rattle.vm_superio.specs.declared.run.Sent.{Sent}
 use Rattle.vm_superio.specs.State.{State}
+use Rattle.vm_superio.specs.Registers.{Condition}
 use Rattle.vm_superio.specs.Events.{Event}
 use Rattle.vm_superio.specs.Acts.{Deed}
-use Rattle.vm_superio.specs.Calls.{events, restore_calls}
+use Rattle.vm_superio.specs.Calls.{events}
 use Rattle.vm_superio.specs.Links.{answers, written, WriterLink}
 use Rattle.vm_superio.specs.Port.{Port}
 use Rattle.vm_superio.specs.Restoring.{all_taken}
@@ -35,13 +36,13 @@ module _ {T E EV W : Type 0} where
     taken = [];
   }
 
-  -- each other one begins with the objects that a restore brings, and with the restore's own calls of its trigger
-  abbrev pub stretch_from : State → T → EV → W → Stretch T E EV W
-  stretch_from s trigger events out = record {
+  -- each other one begins with the objects that a restore brings, and with the calls of its trigger that are due then
+  abbrev pub stretch_from : List Condition → T → EV → W → Stretch T E EV W
+  stretch_from due trigger events out = record {
     trigger = trigger;
     events = events;
     out = out;
-    answered = all_taken (restore_calls s);
+    answered = all_taken due;
     told = [];
     fates = [];
     taken = [];

@@ -122,7 +122,8 @@ pub fn run<T: Trigger + Drop, EV: SerialEvents + Drop, W: Write + Drop>(
         RunsCalls T.link EV.link W.contents serial.old.state (first_stretch serial.old) calls.items done.items
         serial.new) }
     ensures history { IfOk result (λ done.
-        Coherent serial.old.state → Headline serial.old.state done.items serial.new.state) }
+        Coherent serial.old.state →
+        Headline T.link W.contents serial.old calls.items done.items serial.new) }
     ensures refused { OnErr result (serial.new ≡ serial.old) }
 {
     let _line_status = serial.line_status();

@@ -47,4 +47,4 @@ pub returns-clause-history : goal.returns-clause-history
 returns-clause-history g c =
     let status = c.line_status-line_status.ensures in
     let below : c.args.serial.now.state.line_status < 256 = rw (← status.value) status.byte in
-    Headline-run g.T.Trigger.link g.EV.SerialEvents.link g.W.Write.contents c.args.serial.now.state (first_stretch c.args.serial.now) c.args.calls.items c.loop-call.done.items c.loop-call.serial below (returns-clause-run g c)
+    Headline-run g.T.Trigger.link g.EV.SerialEvents.link g.W.Write.contents c.args.serial.now c.args.calls.items c.loop-call.done.items c.loop-call.serial below (returns-clause-run g c)
