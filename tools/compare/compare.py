@@ -3,15 +3,16 @@
 
     compare.py PROGRAM ORIGINAL [--seed N] [--scripts N] [--sample FILE N]
 
-PROGRAM is the built `superio`. ORIGINAL runs scripts over the original crate: with `--stage b --batch` it reads any
-number of scripts, each after its length in four bytes, low byte first, and answers each with its exit status and with
-its standard output and standard error, each after its length.
+PROGRAM is the built `superio`. ORIGINAL is a command, with its arguments, that runs scripts over the original crate: it
+reads any number of scripts, each after its length in four bytes, low byte first, and answers each with its exit status
+and with its standard output and standard error, each after its length.
 
 Prints each script on which the two differ, up to ten, and how often each case was reached. With `--sample` it also
 writes the first N short scripts with the original's answers into FILE, as tests that replay them.
 """
 import argparse
 import os
+import shlex
 import struct
 import subprocess
 import sys
@@ -29,7 +30,7 @@ TEST_ROWS = 30
 
 def by_original(original, chunk):
     batch = b"".join(struct.pack("<I", len(script)) + script for script in chunk)
-    out = subprocess.run([original, "--stage", "b", "--batch"], input=batch, stdout=subprocess.PIPE, check=True).stdout
+    out = subprocess.run(shlex.split(original), input=batch, stdout=subprocess.PIPE, check=True).stdout
     answers, at = [], 0
     for _ in chunk:
         status, at = out[at], at + 1
