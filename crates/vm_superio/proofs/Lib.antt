@@ -18,6 +18,7 @@ mod Runs
 mod RunSteps
 mod SerialExamples
 mod StateExamples
+mod Steps
 mod TriggerCalls
 mod Turned
 mod Views

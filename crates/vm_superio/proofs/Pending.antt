@@ -84,7 +84,7 @@ received_due (byte ∷ bytes) s transmit receive e =
     ∙ ap one_if (receive_new s.interrupt_enable transmit receive) ∙ sym (add-zero _)
 
 -- the calls that are due are those of the conditions that become pending, the second if the first is not refused
-due_is : (k : Kind) (s : State) (transmit receive : Bool)
+pub due_is : (k : Kind) (s : State) (transmit receive : Bool)
     → s.interrupt_identification ≡ identification_of transmit receive
     → due_by k s
     ≡ one_if (receive_called k s.in_buffer s.interrupt_enable receive)

@@ -51,7 +51,7 @@ enqueue_sends dlab true bytes = refl
 enqueue_sends dlab false bytes = refl
 
 -- what the writer took is what the act sends
-call_written : (dlab loopback : Bool) (act : Deed) (what : Sent) → IsTrue (not (is_lost what))
+pub call_written : (dlab loopback : Bool) (act : Deed) (what : Sent) → IsTrue (not (is_lost what))
     → Fate (sent_by (kind_of dlab loopback act)) what → written act what ≡ sent_by (kind_of dlab loopback act)
 call_written dlab loopback (Reads offset) what kept fate = read_sends (register dlab offset)
 call_written dlab loopback (Writes offset value) what kept fate =

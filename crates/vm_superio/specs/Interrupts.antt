@@ -4,9 +4,10 @@ use Rattle.std.specs.Prelude.{ℕ, ◌+◌, Bool, true, false, not, ◌==◌, �
 use Rattle.std.specs.Bool.{beq}
 use Rattle.vm_superio.specs.declared.run.Asked.{Asked}
 use Rattle.vm_superio.specs.declared.run.Asked.TheVariants.{Nothing, Took, Refused, TookTook, TookRefused}
+use Rattle.vm_superio.specs.declared.run.Sent.TheVariants as sent
 use Rattle.vm_superio.specs.State.{State, has_bits, not_empty}
 use Rattle.vm_superio.specs.Registers.{Condition, transmit_first}
-use Rattle.vm_superio.specs.Acts.{Entry, is_refused, is_sent, one_if}
+use Rattle.vm_superio.specs.Acts.{Deed, Entry, is_refused, is_sent, one_if}
 use Rattle.vm_superio.specs.Meaning.{Kind, EnableWrite, DataWrite, sent_by, accepted_by, is_identification_read, is_data_read}
 use Rattle.vm_superio.specs.History.{kind, interrupt_enable, held}
 
@@ -82,6 +83,11 @@ answer_count TookRefused = 2
 abbrev pub trigger_calls : State → List Entry → Entry → ℕ
 trigger_calls start past entry =
     one_if (receive_call start past entry) + one_if (transmit_call start past entry)
+
+-- the trigger calls that come at a place as long as none is refused
+abbrev pub calls_due : State → List Entry → Deed → ℕ
+calls_due start past act =
+    trigger_calls start past (record { act = act; asked = Nothing; sent = sent.Nothing })
 
 -- a record fits if it has as many answers as there are trigger calls, and a byte's fate exactly where one is sent
 abbrev pub record_fits : State → List Entry → Entry → Bool

@@ -8,11 +8,12 @@ use Rattle.vm_superio.specs.Acts.{one_if, Deed, Entry, Answer}
 use Rattle.vm_superio.specs.Fits.{due, sends, fits}
 use Rattle.vm_superio.specs.Calls.{answer, next, events, restore_calls}
 use Rattle.vm_superio.specs.Coherent.{Coherent}
+use Rattle.vm_superio.specs.Links.{written}
 use Rattle.vm_superio.specs.LawWords.{past_of, NoneAcknowledges, PendingByPlaces, kinds, tells_of_bytes, acts_and_asked, all_written, none_lost, tells_fate, asked_when, sent_when}
 use Rattle.vm_superio.specs.Meaning.{kind_in, sent_by, accepted_by, taken_by, is_identification_read, is_data_read}
 use Rattle.vm_superio.specs.History.{line_control, modem_control, scratch, divisor_low, divisor_high, interrupt_enable, kind, accepted, taken, held}
-use Rattle.vm_superio.specs.Interrupts.{receive_raised, acknowledges_receive, receive_pending, transmit_raised, transmit_pending, answer_count, record_fits, is_fitting, restore_calls_due}
-use Rattle.vm_superio.specs.Replies.{identification, line_status, guest_read, reply, output, described}
+use Rattle.vm_superio.specs.Interrupts.{receive_raised, acknowledges_receive, receive_pending, transmit_raised, transmit_pending, answer_count, record_fits, is_fitting, calls_due, restore_calls_due}
+use Rattle.vm_superio.specs.Replies.{identification, line_status, guest_read, reply, output, events_told, described}
 
 -- the state that the call cases give after a past
 abbrev pub state_after : State → List Entry → State
@@ -74,6 +75,32 @@ abbrev pub AnswerLaw : Type 0
 AnswerLaw = (start : State) (past : List Entry) (entry : Entry) → Coherent start → start.line_status < 256
     → answer (state_after start past) entry.act entry.asked entry.sent
     ≡ reply start past entry.act entry.asked entry.sent
+
+-- ---- one step of a history
+
+-- a call whose record passes the test in the state that a past describes: it answers what the history replies, leaves
+-- the state that the past describes with the record added, and tells the events of its place; and the writer took the
+-- byte that is sent there, if it was not lost
+pub record StepAgrees (start : State) (past : List Entry) (entry : Entry) : Type 0 where
+  pub answered :
+      answer (described start past) entry.act entry.asked entry.sent
+      ≡ reply start past entry.act entry.asked entry.sent
+  pub goes_on : next (described start past) entry.act entry.asked ≡ described start (entry ∷ past)
+  pub told : events (described start past) entry.act entry.sent ≡ events_told start past entry
+  pub went_out :
+      IsTrue (not (is_lost entry.sent)) → written entry.act entry.sent ≡ sent_by (kind start past entry.act)
+
+-- at a place the trigger calls that come as long as none is refused are those of the history, and each call is its step
+pub record PlaceAgrees (start : State) (past : List Entry) : Type 0 where
+  pub calls : (act : Deed) → due (described start past) act ≡ calls_due start past act
+  pub restoring : restore_calls (described start past) ≡ restore_calls_due start past
+  pub steps :
+      (entry : Entry) → IsTrue (fits (described start past) entry.act entry.asked entry.sent)
+      → StepAgrees start past entry
+
+-- so it is from a coherent start
+abbrev pub StepLaw : Type 0
+StepLaw = (start : State) (past : List Entry) → Coherent start → start.line_status < 256 → PlaceAgrees start past
 
 -- ---- a whole run
 

@@ -1,11 +1,14 @@
--- What a past tells of a serial port, III: what a guest reads, what the other calls answer, what went to the writer.
+-- What a past tells of a serial port, III: what a guest reads, what the other calls answer, what went to the writer,
+-- and which events are told.
 use Rattle.std.specs.Prelude.{ℕ, ◌==◌, ◌||◌, nat_le, if◌then◌else◌, List, [], ◌∷◌, ◌++◌, length}
 use Rattle.vm_superio.specs.declared.run.Asked.{Asked}
 use Rattle.vm_superio.specs.declared.run.Sent.{Sent}
+use Rattle.vm_superio.specs.declared.run.Sent.TheVariants as sent
 use Rattle.vm_superio.specs.State.{State, not_empty, with_data_ready}
 use Rattle.vm_superio.specs.Registers.{register, identification_of, shown}
+use Rattle.vm_superio.specs.Events.{Event, buffer_read, out_byte, tx_lost_byte, in_buffer_empty}
 use Rattle.vm_superio.specs.Acts.{Deed, Reads, Writes, Enqueues, Restores, Entry, Answer, Given, Added, TriggerRefused, FifoFull, NoAnswer, is_refused, write_answer}
-use Rattle.vm_superio.specs.Meaning.{sent_by, accepted_by}
+use Rattle.vm_superio.specs.Meaning.{Kind, DataRead, sent_by, accepted_by}
 use Rattle.vm_superio.specs.History.{kind, line_control, modem_control, scratch, dlab, loopback, divisor_low, divisor_high, interrupt_enable, held}
 use Rattle.vm_superio.specs.Interrupts.{receive_pending, transmit_pending}
 
@@ -58,3 +61,15 @@ abbrev pub output : State → List Entry → List Entry → List ℕ
 output start past [] = []
 output start past (entry ∷ newest) =
     output start past newest ++ sent_by (kind start (newest ++ past) entry.act)
+
+-- the events that an act tells, with the bytes that are held afterwards: a data read tells when there is none, and then
+-- that it read; a byte that was sent is told as out or as lost
+abbrev pub events_by : Kind → List ℕ → Sent → List Event
+events_by DataRead held what = (if not_empty held then [] else in_buffer_empty ∷ []) ++ buffer_read ∷ []
+events_by act held sent.Nothing = []
+events_by act held sent.Out = out_byte ∷ []
+events_by act held sent.Lost = tx_lost_byte ∷ []
+
+-- the same at the place of a record
+abbrev pub events_told : State → List Entry → Entry → List Event
+events_told start past entry = events_by (kind start past entry.act) (held start (entry ∷ past)) entry.sent

@@ -3,7 +3,7 @@
 //! The call cases say what one call does to a state, as a device would. A history keeps no state: from a start and the
 //! records of the calls so far it searches for the last write, for the bytes not yet taken and for a raise that nothing
 //! has acknowledged. The first laws say that both tell the same; the others follow from one of them alone.
-ghost use Rattle.vm_superio.specs.Laws.{RegisterLaw, HeldBytesLaw, LineStatusLaw, InterruptLaw, CoherenceLaw, StateLaw, AnswerLaw, WholeRunLaw, PendingByPlacesLaw, TriggerBoundLaw, WaitingBytesLaw, SameReadsLaw, TakenThenHeldLaw, OutputLaw, OneCallLaw, EventsLaw, TurnedBitsLaw, ExactTestLaw};
+ghost use Rattle.vm_superio.specs.Laws.{RegisterLaw, HeldBytesLaw, LineStatusLaw, InterruptLaw, CoherenceLaw, StateLaw, AnswerLaw, StepLaw, WholeRunLaw, PendingByPlacesLaw, TriggerBoundLaw, WaitingBytesLaw, SameReadsLaw, TakenThenHeldLaw, OutputLaw, OneCallLaw, EventsLaw, TurnedBitsLaw, ExactTestLaw};
 
 mod clock;
 
@@ -39,6 +39,13 @@ pub fn coherence()
 pub fn described_states()
     ensures state { StateLaw }
     ensures answers { AnswerLaw }
+{}
+
+/// From a coherent start, in the state that a past describes: a call makes the trigger calls of its place, answers what
+/// the history replies, tells the events of its place, and leaves the state that the past describes with the call's
+/// record added. A restore makes the trigger calls that are due.
+pub fn steps_of_history()
+    ensures { StepLaw }
 {}
 
 /// From a coherent start, records that follow each other by the call cases are a fitting history with these answers,

@@ -1,0 +1,5 @@
+use Rattle.vm_superio.proofs.Steps.{step_law}
+use Rattle.vm_superio.proofs.laws.steps_of_history.Goals as goal
+
+pub returns : goal.returns
+returns c = step_law
