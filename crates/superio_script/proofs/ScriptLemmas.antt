@@ -3,24 +3,27 @@ use Rattle.std.proofs.Common.{◌≡◌, ℕ, ◌+◌, ◌≤◌, Bool, true, fa
 use Rattle.std.specs.Cmp.Derive.{both_true}
 use Rattle.std.proofs.lemmas.Bool.{and_parts, false≢true}
 use Rattle.std.specs.Io.KnownBytes.{Appends}
-use Rattle.std.specs.Prelude.{IsTrue, IsSomeAnd, IfSome, is_some, if◌then◌else◌, ◌&&◌}
+use Rattle.std.specs.Prelude.{IsTrue, IsSomeAnd, IfSome, is_some, if◌then◌else◌}
 use Rattle.std.specs.List.{list_all}
 use Rattle.vm_superio.specs.declared.run.Sent.{Sent}
 use Rattle.vm_superio.specs.declared.run.Sent.TheVariants as sent
-use Rattle.vm_superio.specs.declared.rtc_pl031.RtcState.{RtcState}
-use Rattle.vm_superio.specs.Acts.{Writes, is_sent}
-use Rattle.vm_superio.specs.Fits.{sends}
-use Rattle.vm_superio.specs.Links.{written}
+use Rattle.vm_superio.specs.State.{fresh, not_empty}
+use Rattle.vm_superio.specs.Acts.{Deed, Reads, Writes, Enqueues, Entry, is_sent}
+use Rattle.vm_superio.specs.Meaning.{Kind, DataWrite, sent_by}
+use Rattle.vm_superio.specs.History.{kind}
+use Rattle.vm_superio.specs.ClockRegisters.{Access}
+use Rattle.vm_superio.specs.ClockHistory.{state_by_history}
 use Rattle.vm_superio.specs.Clock as clock
 use Rattle.vm_superio.specs.Port.{Port}
 use Rattle.superio_script.specs.Line.{LineCalls}
 use Rattle.superio_script.specs.Counts.{EventCounts}
 use Rattle.superio_script.specs.Output.{bytes_of}
 use Rattle.superio_script.specs.Command.{command_of, AsksForRestore}
-use Rattle.superio_script.specs.Reply.{digits_reply, clock_after}
-use Rattle.superio_script.specs.Session.{Session, fresh_session, Choice, IsPossible, first_fate, first_shown, out_before_loss, is_short, sent_where, rest_where, shown_where, rest_shown, output_after, call_reply, after_call, serial_reply, serial_after, choice_after}
+use Rattle.superio_script.specs.Reply.{digits_reply, access_of}
+use Rattle.superio_script.specs.Session.{Session, fresh_session, output_of, Choice, IsPossible, first_fate, first_shown, out_before_loss, is_short, entry_of, sends, sent_where, rest_where, shown_where, rest_shown, call_reply, after_call, serial_reply, serial_after, choice_after}
 use Rattle.superio_script.specs.Board.{Devices, IsAt, IsFresh, IsSerialStep, IsStep}
 use Rattle.superio_script.specs.Script.{has_form, onto_good, good_commands, first_bad, text_from, PrintsLines, StopsAtRestore}
+use Rattle.superio_script.proofs.SessionLemmas.{output_after, output_of-after}
 use Rattle.superio_script.specs.declared.output.Output.{Output}
 use Rattle.superio_script.specs.declared.command.Command.{Command}
 use Rattle.superio_script.specs.declared.command.Command.TheVariants.{Serial, Clock, Controller}
@@ -91,11 +94,16 @@ room-unsent (Some all) sent.Lost bytes later none room = absurd cc
 
 -- ---- a line of the serial port
 
+-- a call that sends a byte sends one
+one-sent : (k : Kind) → not_empty (sent_by k) ≡ true → length (sent_by k) ≡ 1
+one-sent (DataWrite value) sends = refl
+one-sent _ sends = absurd (false≢true sends)
+
 module _ (choice later : Choice) (possible : IsPossible choice) where
   -- a choice for a write that sends a byte or none, and for what follows it
   write-joins :
-      (sending : Bool) (output : Option (List ℕ)) (bytes : Sent → List ℕ) → length (bytes sent.Out) ≡ 1 → IfSome output (λ all. length all ≤ 256) →
-      Fits (output_after output (sent_where sending choice) (bytes (sent_where sending choice))) later →
+      (sending : Bool) (output : Option (List ℕ)) (bytes : List ℕ) → (sending ≡ true → length bytes ≡ 1) → IfSome output (λ all. length all ≤ 256) →
+      Fits (output_after output (sent_where sending choice) bytes) later →
       (whole : Choice) × Fits output whole × (sent_where sending whole ≡ sent_where sending choice) × (rest_where sending whole ≡ later)
   write-joins true output bytes one few fits =
       let what = first_fate choice.fates in
@@ -103,14 +111,14 @@ module _ (choice later : Choice) (possible : IsPossible choice) where
         record { fates = what ∷ later.fates; shown = later.shown },
         record {
           sent = both_true is fits.sent;
-          room = room-before output what (bytes what) later.fates is (λ out. ap (λ w. length (bytes w)) out ∙ one) few fits.room;
+          room = room-before output what bytes later.fates is (λ _. one refl) few fits.room;
           short = fits.short;
         },
         refl,
         refl,
       )
   write-joins false output bytes one few fits =
-      (later, record { sent = fits.sent; room = room-unsent output sent.Nothing (bytes sent.Nothing) later.fates refl fits.room; short = fits.short }, refl, refl)
+      (later, record { sent = fits.sent; room = room-unsent output sent.Nothing bytes later.fates refl fits.room; short = fits.short }, refl, refl)
 
   -- a choice for a line that shows the output, and for what follows it
   output-joins :
@@ -129,32 +137,42 @@ module _ (choice later : Choice) (possible : IsPossible choice) where
         refl,
       )
 
-  module _ (before : Session) (few : IfSome before.output (λ all. length all ≤ 256)) where
+  module _ (before : Session) (few : IfSome (output_of before.past) (λ all. length all ≤ 256)) where
     -- a choice for a line and for what follows it
     abbrev LineJoins : SerialLine → Type 0
     LineJoins line =
-        (whole : Choice) × Fits before.output whole × (serial_reply before whole line ≡ serial_reply before choice line)
+        (whole : Choice) × Fits (output_of before.past) whole × (serial_reply before whole line ≡ serial_reply before choice line)
         × (serial_after before whole line ≡ serial_after before choice line) × (choice_after before whole line ≡ later)
 
-    unsent-joins : (bytes : List ℕ) → Fits (output_after before.output sent.Nothing bytes) later → Fits before.output later
-    unsent-joins bytes fits =
-        record { sent = fits.sent; room = room-unsent before.output sent.Nothing bytes later.fates refl fits.room; short = fits.short }
+    after-joins : (act : Deed) (what : Sent) → Fits (output_of (after_call before act what).past) later →
+        Fits (output_after (output_of before.past) what (sent_by (kind fresh before.past act))) later
+    after-joins act what fits = subst (λ output. Fits output later) (output_of-after before.past (entry_of before act what)) fits
 
-    restored-output : (refused : Bool) (line : LineCalls) → (if refused then before else record before { line = line }).output ≡ before.output
-    restored-output true line = refl
-    restored-output false line = refl
+    unsent-joins : (act : Deed) → Fits (output_of (after_call before act sent.Nothing).past) later → Fits (output_of before.past) later
+    unsent-joins act fits =
+        let rest = after-joins act sent.Nothing fits in record {
+          sent = rest.sent;
+          room = room-unsent (output_of before.past) sent.Nothing (sent_by (kind fresh before.past act)) later.fates refl rest.room;
+          short = rest.short;
+        }
 
-    line-joins : (line : SerialLine) → Fits (serial_after before choice line).output later → LineJoins line
-    line-joins (line.Read offset) fits = (later, unsent-joins _ fits, refl, refl, refl)
+    restored-past : (refused : Bool) (line : LineCalls) → (if refused then before else record before { line = line }).past ≡ before.past
+    restored-past true line = refl
+    restored-past false line = refl
+
+    line-joins : (line : SerialLine) → Fits (output_of (serial_after before choice line).past) later → LineJoins line
+    line-joins (line.Read offset) fits = (later, unsent-joins (Reads offset) fits, refl, refl, refl)
     line-joins (line.Write offset value) fits =
         let act = Writes offset value in
-        let found = write-joins (sends before.state act) before.output (written act) refl few fits in
+        let k = kind fresh before.past act in
+        let found = write-joins (sends before act) (output_of before.past) (sent_by k) (one-sent k) few (after-joins act _ fits) in
         (found.0, found.1, ap (call_reply before act) found.2, ap (after_call before act) found.2, found.3)
-    line-joins (line.Enqueue bytes) fits = (later, unsent-joins _ fits, refl, refl, refl)
+    line-joins (line.Enqueue bytes) fits = (later, unsent-joins (Enqueues bytes) fits, refl, refl, refl)
     line-joins line.Capacity fits = (later, fits, refl, refl, refl)
-    line-joins line.Restore fits = (later, subst (λ output. Fits output later) (restored-output _ _) fits, refl, refl, refl)
+    line-joins line.Restore fits =
+        (later, subst (λ (past : List Entry). Fits (output_of past) later) (restored-past _ _) fits, refl, refl, refl)
     line-joins line.Output fits =
-        let found = output-joins before.output fits in
+        let found = output-joins (output_of before.past) fits in
         (found.0, found.1, ap digits_reply found.2, refl, found.3)
     line-joins line.Calls fits = (later, fits, refl, refl, refl)
     line-joins line.Events fits = (later, fits, refl, refl, refl)
@@ -170,37 +188,36 @@ module _ (mask : ℕ) (start : Option (List ℕ)) where
   -- for some choice, the text of these commands was written from the start on
   abbrev Prints : List Command → Option (List ℕ) → Type 0
   Prints commands end =
-      (choice : Choice) × IsPossible choice × Appends start end (text_from (fresh_session mask) clock.fresh choice commands)
+      (choice : Choice) × IsPossible choice × Appends start end (text_from (fresh_session mask) [] choice commands)
 
   -- whatever commands follow those before, and whatever is chosen for them, their text completes that of all of them,
   -- for some choice
-  abbrev Completes : Option (List ℕ) → Session → RtcState → List Command → Type 0
-  Completes before session state earlier =
-      (commands : List Command) (choice : Choice) → Fits session.output choice → (end : Option (List ℕ)) →
-      Appends before end (text_from session state choice commands) → Prints (earlier ++ commands) end
+  abbrev Completes : Option (List ℕ) → Session → List Access → List Command → Type 0
+  Completes before session accesses earlier =
+      (commands : List Command) (choice : Choice) → Fits (output_of session.past) choice → (end : Option (List ℕ)) →
+      Appends before end (text_from session accesses choice commands) → Prints (earlier ++ commands) end
 
-  -- a board to which these commands led, which were replied
+  -- a board to which these commands led, which were replied: where the serial port is, and what was done to the clock
   abbrev pub Continues : Option (List ℕ) → Devices → List Command → Type 0
   Continues before board earlier =
-      (session : Session) × IsAt session board.serial × Completes before session board.clock.state earlier
+      (session : Session) × (accesses : List Access) × IsAt session board.serial
+      × (board.clock.state ≡ state_by_history clock.fresh accesses) × Completes before session accesses earlier
 
   -- nothing need follow
   Prints-so_far : (before : Option (List ℕ)) (board : Devices) (earlier : List Command) → Continues before board earlier → Prints earlier before
-  Prints-so_far before board earlier (session, at, completes) =
-      let few = output-few session.output board.serial.out at.output in
+  Prints-so_far before board earlier (session, accesses, at, is, completes) =
+      let few = output-few (output_of session.past) board.serial.out at.output in
       subst (λ commands. Prints commands before) (append-nil earlier)
-      (completes [] nothing-more (Fits-nothing session.output few) before (Appends-nothing before))
+      (completes [] nothing-more (Fits-nothing (output_of session.past) few) before (Appends-nothing before))
 
   -- at the start, no command was carried out
   pub Continues-at_start : (board : Devices) → IsFresh mask board → Continues start board []
   Continues-at_start board is_fresh = (
     fresh_session mask,
+    [],
     is_fresh.serial,
-    λ commands choice fits end text. (
-      choice,
-      record { sent = fits.sent; room = omega (arith, fits.room); short = fits.short },
-      subst (λ (s : RtcState). Appends start end (text_from (fresh_session mask) s choice commands)) (ap (λ (c : clock.Device EventCounts). c.state) is_fresh.clock) text,
-    ),
+    ap (λ (c : clock.Device EventCounts). c.state) is_fresh.clock,
+    λ commands choice fits end text. (choice, record { sent = fits.sent; room = omega (arith, fits.room); short = fits.short }, text),
   )
 
   module _ (before after : Option (List ℕ)) (reply : List ℕ) (wrote : Appends before after reply) (earlier : List Command) where
@@ -210,50 +227,53 @@ module _ (mask : ℕ) (start : Option (List ℕ)) where
     one-more command commands end = subst (λ all. Prints all end) (sym (append_assoc earlier (command ∷ []) commands))
 
     Continues-after_serial :
-        (line : SerialLine) (old new : Port LineCalls EventCounts Output) (state : RtcState) (session : Session) →
-        IsAt session old → IsSerialStep line reply old new → Completes before session state earlier →
-        (next : Session) × IsAt next new × Completes after next state (earlier ++ Serial line ∷ [])
-    Continues-after_serial line old new state session at step completes =
+        (line : SerialLine) (old new : Port LineCalls EventCounts Output) (accesses : List Access) (session : Session) →
+        IsAt session old → IsSerialStep line reply old new → Completes before session accesses earlier →
+        (next : Session) × IsAt next new × Completes after next accesses (earlier ++ Serial line ∷ [])
+    Continues-after_serial line old new accesses session at step completes =
         let taken = step session at in
         let choice = taken.0 in
         let next = serial_after session choice line in (
           next,
           taken.3,
           λ commands later fits end rest.
-              let few = output-few session.output old.out at.output in
+              let few = output-few (output_of session.past) old.out at.output in
               let whole = line-joins choice later taken.1 session few line fits in
-              let same : text_from session state whole.0 (Serial line ∷ commands) ≡ reply ++ text_from next state later commands =
-              ap (λ xs. xs ++ text_from (serial_after session whole.0 line) state (choice_after session whole.0 line) commands) (whole.2 ∙ sym taken.2)
-              ∙ ap (λ (s : Session). reply ++ text_from s state (choice_after session whole.0 line) commands) whole.3
-              ∙ ap (λ (c : Choice). reply ++ text_from next state c commands) whole.4 in
+              let same : text_from session accesses whole.0 (Serial line ∷ commands) ≡ reply ++ text_from next accesses later commands =
+              ap (λ xs. xs ++ text_from (serial_after session whole.0 line) accesses (choice_after session whole.0 line) commands) (whole.2 ∙ sym taken.2)
+              ∙ ap (λ (s : Session). reply ++ text_from s accesses (choice_after session whole.0 line) commands) whole.3
+              ∙ ap (λ (c : Choice). reply ++ text_from next accesses c commands) whole.4 in
               one-more (Serial line) commands end (completes (Serial line ∷ commands) whole.0 whole.1 end
-              (subst (λ xs. Appends before end xs) (sym same) (Appends-append before after end reply (text_from next state later commands) wrote rest))),
+              (subst (λ xs. Appends before end xs) (sym same) (Appends-append before after end reply (text_from next accesses later commands) wrote rest))),
         )
 
     Continues-after_command :
         (command : Command) (old new : Devices) → IsStep command reply old new →
         Continues before old earlier → Continues after new (earlier ++ command ∷ [])
-    Continues-after_command (Serial line) old new step (session, at, completes) =
-        subst (λ (c : clock.Device EventCounts). (next : Session) × IsAt next new.serial × Completes after next c.state (earlier ++ Serial line ∷ [])) (sym step.1)
-        (Continues-after_serial line old.serial new.serial old.clock.state session at step.0 completes)
-    Continues-after_command (Clock line) old new step (session, at, completes) = (
-      session,
-      subst (λ (port : Port LineCalls EventCounts Output). IsAt session port) (sym step.2) at,
-      λ commands choice fits end rest.
-          let next = clock_after old.clock.state line in
-          one-more (Clock line) commands end (completes (Clock line ∷ commands) choice fits end
-          (subst (λ xs. Appends before end (xs ++ text_from session next choice commands)) step.0
-          (Appends-append before after end reply (text_from session next choice commands) wrote
-          (subst (λ (s : RtcState). Appends after end (text_from session s choice commands)) step.1 rest)))),
-    )
-    Continues-after_command (Controller line) old new step (session, at, completes) =
+    Continues-after_command (Serial line) old new step (session, accesses, at, is, completes) =
+        let next = Continues-after_serial line old.serial new.serial accesses session at step.0 completes in
+        (next.0, accesses, next.1, ap (λ (c : clock.Device EventCounts). c.state) step.1 ∙ is, next.2)
+    Continues-after_command (Clock line) old new step (session, accesses, at, is, completes) =
+        let taken = step.0 accesses is in (
+          session,
+          access_of line ∷ accesses,
+          subst (λ (port : Port LineCalls EventCounts Output). IsAt session port) (sym step.1) at,
+          taken.1,
+          λ commands choice fits end rest.
+              let text = text_from session (access_of line ∷ accesses) choice commands in
+              one-more (Clock line) commands end (completes (Clock line ∷ commands) choice fits end
+              (subst (λ xs. Appends before end (xs ++ text)) taken.0 (Appends-append before after end reply text wrote rest))),
+        )
+    Continues-after_command (Controller line) old new step (session, accesses, at, is, completes) =
         subst (λ (board : Devices). Continues after board (earlier ++ Controller line ∷ [])) (sym step.1) (
           session,
+          accesses,
           at,
+          is,
           λ commands choice fits end rest.
+              let text = text_from session accesses choice commands in
               one-more (Controller line) commands end (completes (Controller line ∷ commands) choice fits end
-              (subst (λ xs. Appends before end (xs ++ text_from session old.clock.state choice commands)) step.0
-              (Appends-append before after end reply (text_from session old.clock.state choice commands) wrote rest))),
+              (subst (λ xs. Appends before end (xs ++ text)) step.0 (Appends-append before after end reply text wrote rest))),
         )
 
 -- ---- the lines

@@ -1,20 +1,26 @@
 -- A line of the serial port is a step of its session.
-use Rattle.std.proofs.Common.{◌≡◌, ℕ, zero, suc, ◌-◌, ◌≤◌, Bool, true, false, List, [], ◌∷◌, ◌++◌, length, Option, Some, None, Result, Ok, Err, refl, ap, sym, ◌∙◌, subst, arith, inl, inr}
+use Rattle.std.proofs.Common.{◌≡◌, ℕ, zero, suc, ◌-◌, ◌≤◌, Bool, true, false, List, [], ◌∷◌, ◌++◌, length, Option, Some, None, Result, Ok, Err, refl, ap, sym, ◌∙◌, subst, arith, append-nil, inl, inr}
 use Rattle.std.specs.Cmp.Derive.{both_true}
-use Rattle.std.specs.Prelude.{◌⊎◌, IsTrue, IsSome, IfSome, if◌then◌else◌, nat_le, ◌&&◌, codes}
+use Rattle.std.specs.Prelude.{◌⊎◌, IsTrue, IsSome, IfSome, if◌then◌else◌, nat_le, not, ◌||◌, codes}
 use Rattle.std.specs.Bool.{beq}
+use Rattle.std.specs.List.{list_any}
 use Rattle.std.proofs.lemmas.Bool.{and_parts, false≢true}
 use Rattle.std.proofs.lemmas.Bool.Decides.{nat_tests}
 use Rattle.vm_superio.specs.declared.run.Asked.{Asked}
 use Rattle.vm_superio.specs.declared.run.Asked.TheVariants.{Nothing, Took, Refused, TookTook, TookRefused}
 use Rattle.vm_superio.specs.declared.run.Sent.{Sent}
 use Rattle.vm_superio.specs.declared.run.Sent.TheVariants as sent
-use Rattle.vm_superio.specs.State.{State, not_empty}
-use Rattle.vm_superio.specs.Registers.{is_loopback, transmit_first}
-use Rattle.vm_superio.specs.Acts.{Deed, Reads, Writes, Enqueues, Answer, is_sent, ends_refused}
+use Rattle.vm_superio.specs.State.{State, fresh, has_bits, masked, not_empty}
+use Rattle.vm_superio.specs.Registers.{transmit_first}
+use Rattle.vm_superio.specs.Acts.{Deed, Reads, Writes, Enqueues, Entry, Answer, is_sent, is_lost, ends_refused}
+use Rattle.vm_superio.specs.Coherent.{Coherent}
 use Rattle.vm_superio.specs.Meaning.{Arrival, Other, sent_by}
-use Rattle.vm_superio.specs.Fits.{asked_fits, due, sends}
-use Rattle.vm_superio.specs.Calls.{answer, next, events, restore_calls}
+use Rattle.vm_superio.specs.Fits.{asked_fits, due}
+use Rattle.vm_superio.specs.Calls.{restore_calls}
+use Rattle.vm_superio.specs.History.{kind, loopback}
+use Rattle.vm_superio.specs.Interrupts.{restore_calls_due}
+use Rattle.vm_superio.specs.Replies.{reply, output, events_told, described}
+use Rattle.vm_superio.specs.Laws.{PlaceAgrees, StepLaw}
 use Rattle.vm_superio.specs.Links.{answers, written, WriterLink}
 use Rattle.vm_superio.specs.Port.{Port, IsCase, failure}
 use Rattle.vm_superio.specs.Restoring.{all_taken, EndsRefused, RefusesRestore}
@@ -24,7 +30,7 @@ use Rattle.superio_script.specs.Line.{LineCalls, LineLink, is_refused, called}
 use Rattle.superio_script.specs.Counts.{EventCounts, CountsLink, after_events}
 use Rattle.superio_script.specs.Output.{bytes_of}
 use Rattle.superio_script.specs.Reply.{ended, answer_reply, digits_reply, count_digits, counts_reply}
-use Rattle.superio_script.specs.Session.{Session, Choice, IsPossible, answered, line_after, sent_where, output_after, call_reply, after_call, shown_where, is_not_restored, restored, serial_reply}
+use Rattle.superio_script.specs.Session.{Session, output_of, Choice, IsPossible, answered, line_after, asked_by, sends, sent_where, call_reply, after_call, shown_where, is_not_restored}
 use Rattle.superio_script.specs.Board.{IsAt, IsSerialStep}
 use Rattle.superio_script.specs.declared.output.Output.{Output}
 use Rattle.superio_script.specs.declared.trigger.LineRefused.{LineRefused}
@@ -124,89 +130,146 @@ nothing-sent sent.Out true none fits = absurd (false≢true (sym none))
 nothing-sent sent.Lost false none fits = absurd (false≢true fits)
 nothing-sent sent.Lost true none fits = absurd (false≢true (sym none))
 
--- the output after a call, where the writer is linked by the byte's fate
+-- the output after a call of this fate that sent these bytes
+abbrev pub output_after : Option (List ℕ) → Sent → List ℕ → Option (List ℕ)
+output_after None what bytes = None
+output_after (Some output) what bytes = if is_lost what then None else Some (output ++ bytes)
+
+output_of-known : (lost : Bool) (what : Sent) (out bytes all : List ℕ) → all ≡ bytes →
+    (if is_lost what || lost then None else Some (out ++ all)) ≡ output_after (if lost then None else Some out) what bytes
+output_of-known true sent.Nothing out bytes all same = refl
+output_of-known true sent.Out out bytes all same = refl
+output_of-known true sent.Lost out bytes all same = refl
+output_of-known false sent.Nothing out bytes all same = ap (λ xs. Some (out ++ xs)) same
+output_of-known false sent.Out out bytes all same = ap (λ xs. Some (out ++ xs)) same
+output_of-known false sent.Lost out bytes all same = refl
+
+pub output_of-after : (past : List Entry) (entry : Entry) →
+    output_of (entry ∷ past) ≡ output_after (output_of past) entry.sent (sent_by (kind fresh past entry.act))
+output_of-after past entry =
+    output_of-known (list_any (λ (entry : Entry). is_lost entry.sent) past) entry.sent (output fresh [] past) _ _
+    (ap (λ (before : List Entry). sent_by (kind fresh before entry.act)) (append-nil past))
+
+-- it is what the writer holds, where the writer is linked by the byte's fate, and took what was sent
 output-after_call :
-    (known : Option (List ℕ)) (what : Sent) (bytes : List ℕ) (old new : Output) →
-    WriterLink (λ output. Some (bytes_of output)) (what ∷ []) bytes old new →
+    (known : Option (List ℕ)) (what : Sent) (taken bytes : List ℕ) (old new : Output) →
+    WriterLink (λ output. Some (bytes_of output)) (what ∷ []) taken old new → (IsTrue (not (is_lost what)) → taken ≡ bytes) →
     IfSome known (λ all. bytes_of old ≡ all) → IfSome (output_after known what bytes) (λ all. bytes_of new ≡ all)
-output-after_call None what bytes old new link was = tt
-output-after_call (Some all) sent.Nothing bytes old new link was = link.grown refl ∙ ap (λ xs. xs ++ bytes) was
-output-after_call (Some all) sent.Out bytes old new link was = link.grown refl ∙ ap (λ xs. xs ++ bytes) was
-output-after_call (Some all) sent.Lost bytes old new link was = tt
+output-after_call None what taken bytes old new link same was = tt
+output-after_call (Some all) sent.Nothing taken bytes old new link same was =
+    link.grown refl ∙ ap (λ xs. xs ++ taken) was ∙ ap (λ xs. all ++ xs) (same refl)
+output-after_call (Some all) sent.Out taken bytes old new link same was =
+    link.grown refl ∙ ap (λ xs. xs ++ taken) was ∙ ap (λ xs. all ++ xs) (same refl)
+output-after_call (Some all) sent.Lost taken bytes old new link same was = tt
 
--- ---- a call
+-- ---- the state that a past describes
 
-module _ (act : Deed) (asked : Asked) (what : Sent) (outcome : Answer) (refusal : Option LineRefused) (old new : Port LineCalls EventCounts Output) where
-  -- the call is a step of a session, for a byte of this fate
-  abbrev pub IsCallStep : Session → Sent → Type 0
-  IsCallStep before fate = (answer_reply outcome ≡ call_reply before act fate) × IsAt (after_call before act fate) new
+fresh-coherent : Coherent fresh
+unfolding has_bits
+fresh-coherent = record {
+  transmit = false;
+  receive = false;
+  identification = refl;
+  received = λ impossible. impossible;
+  data_ready = refl;
+  few = omega arith;
+}
 
-  steps-here :
-      (output : Option (List ℕ)) → IfSome output (λ all. bytes_of old.out ≡ all) →
-      IsCase LineLink CountsLink (λ output. Some (bytes_of output)) act asked what outcome refusal old new →
-      IsCallStep (record { state = old.state; line = old.trigger; counts = old.events; output = output }) what
-  steps-here output was case =
-      let calls = due old.state act in
-      let fitted = (and_parts (asked_fits calls asked) (beq (is_sent what) (sends old.state act)) case.fits).0 in
-      let so = answered-from_link old.trigger new.trigger calls asked refusal fitted (λ h. case.refused ∙ h) case.trigger in
-      let P : Asked → Type 0 = λ a. (answer_reply outcome ≡ answer_reply (answer old.state act a what)) × IsAt (record {
-        state = next old.state act a;
-        line = line_after old.trigger a;
-        counts = after_events (events old.state act what) old.events;
-        output = output_after output what (written act what);
-      }) new in
-      subst P so.0 (
-        ap answer_reply case.reply,
-        record {
-          state = case.state;
-          line = so.1;
-          counts = sym case.events;
-          output = output-after_call output what (written act what) old.out new.out case.out was;
-        },
-      )
+-- with no past it is the state of a fresh port
+pub described_at_start : (state : State) → state ≡ fresh → state ≡ described fresh []
+unfolding has_bits masked
+described_at_start state same = same
 
-  pub steps-from_case :
-      (before : Session) → IsAt before old →
-      IsCase LineLink CountsLink (λ output. Some (bytes_of output)) act asked what outcome refusal old new → IsCallStep before what
-  steps-from_case before at case =
-      let P : Session → Type 0 = λ s. IsCallStep s what in
-      subst P (λ i. record { state = at.state i; line = at.line i; counts = at.counts i; output = before.output }) (steps-here before.output at.output case)
+-- each call of a port that was fresh at first is a step of its history
+agrees : StepLaw → (past : List Entry) → PlaceAgrees fresh past
+agrees law past = law fresh past fresh-coherent (omega arith)
 
--- ---- the lines that make a call
+-- a port where a session is
+placed : (before : Session) (port : Port LineCalls EventCounts Output) → IsAt before port →
+    port ≡ record { state = described fresh before.past; trigger = before.line; events = before.counts; out = port.out }
+placed before port at = λ i. record { state = at.state i; trigger = at.line i; events = at.counts i; out = port.out }
 
-module _ (old new : Port LineCalls EventCounts Output) (outcome : Answer) (refusal : Option LineRefused) where
-  pub write-step :
-      (offset value : ℕ) (asked : Asked) (what : Sent) →
-      IsCase LineLink CountsLink (λ output. Some (bytes_of output)) (Writes offset value) asked what outcome refusal old new →
-      IsSerialStep (line.Write offset value) (answer_reply outcome) old new
-  write-step offset value asked what case before at =
-      let act = Writes offset value in
-      let step = steps-from_case act asked what outcome refusal old new before at case in
-      let sending = sends before.state act in
-      let same : sends old.state act ≡ sending = ap (λ (s : State). sends s act) at.state in
-      let fate = chosen-sent sending what (subst (λ b. IsTrue (beq (is_sent what) b)) same (and_parts (asked_fits (due old.state act) asked) (beq (is_sent what) (sends old.state act)) case.fits).1) in
-      let found = subst (IsCallStep act asked what outcome refusal old new before) fate step in
-      (chosen what, chosen-possible what, found.0, found.1)
+module _ (law : StepLaw) where
+  -- ---- a call
 
-  pub enqueue-step :
-      (bytes : List ℕ) (asked : Asked) (what : Sent) →
-      IsCase LineLink CountsLink (λ output. Some (bytes_of output)) (Enqueues bytes) asked what outcome refusal old new →
-      IsSerialStep (line.Enqueue bytes) (answer_reply outcome) old new
-  enqueue-step bytes asked what case before at =
-      let act = Enqueues bytes in
-      let step = steps-from_case act asked what outcome refusal old new before at case in
-      let sending = sends old.state act in
-      let none = nothing-sent what sending (enqueue-sends (is_loopback old.state.modem_control) bytes) (and_parts (asked_fits (due old.state act) asked) (beq (is_sent what) sending) case.fits).1 in
-      let found = subst (IsCallStep act asked what outcome refusal old new before) none step in
-      (none-chosen, none-chosen-possible, found.0, found.1)
+  module _ (act : Deed) (asked : Asked) (what : Sent) (outcome : Answer) (refusal : Option LineRefused) (old new : Port LineCalls EventCounts Output) where
+    -- the call is a step of a session, for a byte of this fate
+    abbrev pub IsCallStep : Session → Sent → Type 0
+    IsCallStep before fate = (answer_reply outcome ≡ call_reply before act fate) × IsAt (after_call before act fate) new
 
-  pub read-step :
-      (offset : ℕ) →
-      IsCase LineLink CountsLink (λ output. Some (bytes_of output)) (Reads offset) Nothing sent.Nothing outcome refusal old new →
-      IsSerialStep (line.Read offset) (answer_reply outcome) old new
-  read-step offset case before at =
-      let found = steps-from_case (Reads offset) Nothing sent.Nothing outcome refusal old new before at case in
-      (none-chosen, none-chosen-possible, found.0, found.1)
+    -- the same call, of the port in the state that the session's past describes
+    abbrev pub CaseAt : Session → Type 0
+    CaseAt before =
+        IsCase LineLink CountsLink (λ output. Some (bytes_of output)) act asked what outcome refusal
+        (record { state = described fresh before.past; trigger = before.line; events = before.counts; out = old.out }) new
+
+    pub case-at : (before : Session) → IsAt before old →
+        IsCase LineLink CountsLink (λ output. Some (bytes_of output)) act asked what outcome refusal old new → CaseAt before
+    case-at before at case = subst
+        (λ (port : Port LineCalls EventCounts Output). IsCase LineLink CountsLink (λ output. Some (bytes_of output)) act asked what outcome refusal port new)
+        (placed before old at) case
+
+    pub steps-from_case : (before : Session) → IsAt before old → CaseAt before → IsCallStep before what
+    steps-from_case before at case =
+        let place = agrees law before.past in
+        let entry : Entry = record { act = act; asked = asked; sent = what } in
+        let step = place.steps entry case.fits in
+        let fitted = (and_parts (asked_fits (due (described fresh before.past) act) asked) (beq (is_sent what) (sends before act)) case.fits).0 in
+        let so = answered-from_link before.line new.trigger (due (described fresh before.past) act) asked refusal fitted (λ h. case.refused ∙ h) case.trigger in
+        let same : asked ≡ asked_by before act = so.0 ∙ ap (answered before.line) (place.calls act) in
+        let P : Asked → Type 0 = λ a. (answer_reply outcome ≡ answer_reply (reply fresh before.past act a what)) × IsAt (record {
+          past = record { act = act; asked = a; sent = what } ∷ before.past;
+          line = line_after before.line a;
+          counts = after_events (events_told fresh before.past (record { act = act; asked = a; sent = what })) before.counts;
+        }) new in
+        subst P same (
+          ap answer_reply (case.reply ∙ step.answered),
+          record {
+            state = case.state ∙ step.goes_on;
+            line = so.1;
+            counts = sym case.events ∙ ap (λ told. after_events told before.counts) step.told;
+            output = subst (λ (known : Option (List ℕ)). IfSome known (λ all. bytes_of new.out ≡ all)) (sym (output_of-after before.past entry))
+                (output-after_call (output_of before.past) what (written act what) (sent_by (kind fresh before.past act)) old.out new.out case.out step.went_out at.output);
+          },
+        )
+
+  -- ---- the lines that make a call
+
+  module _ (old new : Port LineCalls EventCounts Output) (outcome : Answer) (refusal : Option LineRefused) where
+    pub write-step :
+        (offset value : ℕ) (asked : Asked) (what : Sent) →
+        IsCase LineLink CountsLink (λ output. Some (bytes_of output)) (Writes offset value) asked what outcome refusal old new →
+        IsSerialStep (line.Write offset value) (answer_reply outcome) old new
+    write-step offset value asked what case before at =
+        let act = Writes offset value in
+        let here = case-at act asked what outcome refusal old new before at case in
+        let step = steps-from_case act asked what outcome refusal old new before at here in
+        let sending = sends before act in
+        let fate = chosen-sent sending what (and_parts (asked_fits (due (described fresh before.past) act) asked) (beq (is_sent what) sending) here.fits).1 in
+        let found = subst (IsCallStep act asked what outcome refusal old new before) fate step in
+        (chosen what, chosen-possible what, found.0, found.1)
+
+    pub enqueue-step :
+        (bytes : List ℕ) (asked : Asked) (what : Sent) →
+        IsCase LineLink CountsLink (λ output. Some (bytes_of output)) (Enqueues bytes) asked what outcome refusal old new →
+        IsSerialStep (line.Enqueue bytes) (answer_reply outcome) old new
+    enqueue-step bytes asked what case before at =
+        let act = Enqueues bytes in
+        let here = case-at act asked what outcome refusal old new before at case in
+        let step = steps-from_case act asked what outcome refusal old new before at here in
+        let sending = sends before act in
+        let none = nothing-sent what sending (enqueue-sends (loopback fresh before.past) bytes) (and_parts (asked_fits (due (described fresh before.past) act) asked) (beq (is_sent what) sending) here.fits).1 in
+        let found = subst (IsCallStep act asked what outcome refusal old new before) none step in
+        (none-chosen, none-chosen-possible, found.0, found.1)
+
+    pub read-step :
+        (offset : ℕ) →
+        IsCase LineLink CountsLink (λ output. Some (bytes_of output)) (Reads offset) Nothing sent.Nothing outcome refusal old new →
+        IsSerialStep (line.Read offset) (answer_reply outcome) old new
+    read-step offset case before at =
+        let here = case-at (Reads offset) Nothing sent.Nothing outcome refusal old new before at case in
+        let found = steps-from_case (Reads offset) Nothing sent.Nothing outcome refusal old new before at here in
+        (none-chosen, none-chosen-possible, found.0, found.1)
 
 -- ---- the lines that make none
 
@@ -235,7 +298,7 @@ module _ (port : Port LineCalls EventCounts Output) where
   output-step before at =
       let choice : Choice = record { fates = []; shown = bytes_of port.out ∷ [] } in
       let few : nat_le (length (bytes_of port.out)) 256 ≡ true = short-enough (length (bytes_of port.out)) port.out.few in
-      (choice, record { sent = refl; room = omega arith; short = both_true few refl }, ap digits_reply (shown-output before.output (bytes_of port.out) at.output), at)
+      (choice, record { sent = refl; room = omega arith; short = both_true few refl }, ap digits_reply (shown-output (output_of before.past) (bytes_of port.out) at.output), at)
 
 -- ---- a restore
 
@@ -297,53 +360,46 @@ restore-refused line new true true refusal (answer ∷ next ∷ answers) (inr h)
     ap (λ (a : Bool). ends_refused (if a then Refused else (if is_refused line.mask (called line).calls then TookRefused else TookTook))) first
     ∙ ap (λ (b : Bool). ends_refused (if b then TookRefused else TookTook)) second
 
-module _ (old new : Port LineCalls EventCounts Output) where
-  -- the restore is a step of a session, with this reply
-  abbrev RestoresFrom : List ℕ → Session → Type 0
-  RestoresFrom reply before = (reply ≡ serial_reply before none-chosen line.Restore) × IsAt (restored before) new
-
-  restores-here :
-      (output : Option (List ℕ)) → IfSome output (λ all. bytes_of old.out ≡ all) →
-      new.state ≡ old.state → LineLink old.trigger (all_taken (restore_calls old.state)) new.trigger → new.events ≡ old.events → new.out ≡ old.out →
-      RestoresFrom (ended (codes "ok")) (record { state = old.state; line = old.trigger; counts = old.events; output = output })
-  restores-here output was state link events out =
-      let s : Session = record { state = old.state; line = old.trigger; counts = old.events; output = output } in
-      let taken = restore-taken old.trigger new.trigger _ _ link in
-      let P : Bool → Type 0 = λ refused. (ended (codes "ok") ≡ ended (if refused then codes "trigger" else codes "ok"))
-      × IsAt (if refused then s else record s { line = line_after s.line (answered s.line (length (restore_calls s.state))) }) new in
-      subst P (sym taken.0) (
-        refl,
-        record {
-          state = state;
-          line = taken.1;
-          counts = events;
-          output = subst (λ (o : Output). IfSome output (λ all. bytes_of o ≡ all)) (sym out) was;
-        },
-      )
-
+module _ (law : StepLaw) (old new : Port LineCalls EventCounts Output) where
   -- a restore whose calls were taken
   pub restore-step :
       new.state ≡ old.state → LineLink old.trigger (all_taken (restore_calls old.state)) new.trigger → new.events ≡ old.events → new.out ≡ old.out →
       IsSerialStep line.Restore (ended (codes "ok")) old new
   restore-step state link events out before at =
-      let found = subst (RestoresFrom (ended (codes "ok"))) (λ i. record { state = at.state i; line = at.line i; counts = at.counts i; output = before.output })
-      (restores-here before.output at.output state link events out) in
+      let calls = ap restore_calls at.state ∙ (agrees law before.past).restoring in
+      let linked = subst (λ calls. LineLink before.line (all_taken calls) new.trigger) calls
+      (subst (λ (l : LineCalls). LineLink l (all_taken (restore_calls old.state)) new.trigger) at.line link) in
+      let taken = restore-taken before.line new.trigger _ _ linked in
+      let after = line_after before.line (answered before.line (length (restore_calls_due fresh before.past))) in
+      let P : Bool → Type 0 = λ refused. (ended (codes "ok") ≡ ended (if refused then codes "trigger" else codes "ok"))
+      × IsAt (if refused then before else record before { line = after }) new in
+      let found : P (is_not_restored before) = subst P (sym taken.0) (
+        refl,
+        record {
+          state = state ∙ at.state;
+          line = taken.1;
+          counts = events ∙ at.counts;
+          output = subst (λ (o : Output). IfSome (output_of before.past) (λ all. bytes_of o ≡ all)) (sym out) at.output;
+        },
+      ) in
       (none-chosen, none-chosen-possible, found.0, found.1)
 
 -- a restore one of whose calls was refused
 pub refused-restore-step :
-    (port : Port LineCalls EventCounts Output) (line_after_calls : LineCalls) (error : Error LineRefused) → length port.state.in_buffer ≤ 64 →
+    (law : StepLaw) (port : Port LineCalls EventCounts Output) (line_after_calls : LineCalls) (error : Error LineRefused) → length port.state.in_buffer ≤ 64 →
     RefusesRestore LineLink port.state error port.trigger line_after_calls →
     IsSerialStep line.Restore (answer_reply (failure error)) port port
-refused-restore-step port after FullFifo few refuses = absurd (omega (arith, refuses.0))
-refused-restore-step port after (IOError fault) few refuses = absurd refuses
-refused-restore-step port after Memory few refuses = absurd refuses
-refused-restore-step port after (Trigger refusal) few refuses = λ before at.
-    let refused : is_not_restored (record { state = port.state; line = port.trigger; counts = port.events; output = before.output }) ≡ true =
-    restore-refused port.trigger after _ _ refusal refuses.1.0 refuses.1.1 refuses.1.2 in
-    let same = subst (λ (s : Session). is_not_restored s ≡ true) (λ i. record { state = at.state i; line = at.line i; counts = at.counts i; output = before.output }) refused in (
+refused-restore-step law port after FullFifo few refuses = absurd (omega (arith, refuses.0))
+refused-restore-step law port after (IOError fault) few refuses = absurd refuses
+refused-restore-step law port after Memory few refuses = absurd refuses
+refused-restore-step law port after (Trigger refusal) few refuses = λ before at.
+    let calls = ap restore_calls at.state ∙ (agrees law before.past).restoring in
+    let answers = refuses.1.0 in
+    let ends = subst (λ calls. EndsRefused calls refusal answers) calls refuses.1.1 in
+    let linked = subst (λ (l : LineCalls). LineLink l answers after) at.line refuses.1.2 in
+    let refused : is_not_restored before ≡ true = restore-refused before.line after _ _ refusal answers ends linked in (
       none-chosen,
       none-chosen-possible,
-      ap (λ (b : Bool). ended (if b then codes "trigger" else codes "ok")) (sym same),
-      subst (λ (b : Bool). IsAt (if b then before else record before { line = line_after before.line (answered before.line (length (restore_calls before.state))) }) port) (sym same) at,
+      ap (λ (b : Bool). ended (if b then codes "trigger" else codes "ok")) (sym refused),
+      subst (λ (b : Bool). IsAt (if b then before else record before { line = line_after before.line (answered before.line (length (restore_calls_due fresh before.past))) }) port) (sym refused) at,
     )

@@ -2,10 +2,10 @@
 use Rattle.std.specs.Prelude.{ℕ, List, [], ◌∷◌, ◌++◌, if◌then◌else◌, codes, Option, Some, None}
 use Rattle.std.specs.Int.{w32, w64, to_be_bytes}
 use Rattle.hex.specs.Hex.{encode_lower}
-use Rattle.vm_superio.specs.declared.rtc_pl031.RtcState.{RtcState}
 use Rattle.vm_superio.specs.Acts.{Answer, Given, Written, Added, TriggerRefused, WriterFailed, FifoFull, NoAnswer}
 use Rattle.vm_superio.specs.ClockRegisters.{Access, read, write, register_at, is_writable}
-use Rattle.vm_superio.specs.Clock as device
+use Rattle.vm_superio.specs.Clock.{fresh}
+use Rattle.vm_superio.specs.ClockHistory.{answer_by_history}
 use Rattle.vm_superio.specs.Reset.{is_reset_command}
 use Rattle.superio_script.specs.Counts.{EventCounts}
 use Rattle.superio_script.specs.declared.command.ClockLine.{ClockLine}
@@ -58,19 +58,16 @@ abbrev pub shown_reply : Option ℕ → List ℕ
 shown_reply (Some number) = digits_reply (to_be_bytes w32 number)
 shown_reply None = ended (codes "invalid")
 
--- the reply to a line of a clock of this state, and the state after it
-abbrev pub clock_reply : RtcState → ClockLine → List ℕ
-clock_reply state (clock.Read moment offset) = shown_reply (device.answer state (read offset moment))
-clock_reply state (clock.Write moment offset value) =
+-- the reply to a line of a clock that was fresh at first, after these accesses, newest first
+abbrev pub clock_reply : List Access → ClockLine → List ℕ
+clock_reply past (clock.Read moment offset) = shown_reply (answer_by_history fresh past (read offset moment))
+clock_reply past (clock.Write moment offset value) =
     ended (if is_writable (register_at offset) then codes "ok" else codes "invalid")
 
-abbrev pub clock_after : RtcState → ClockLine → RtcState
-clock_after state line = device.next state (access_of line)
-
 -- the replies to the lines of a clock, in order
-abbrev pub clock_replies : RtcState → List ClockLine → List (List ℕ)
-clock_replies state [] = []
-clock_replies state (line ∷ lines) = clock_reply state line ∷ clock_replies (clock_after state line) lines
+abbrev pub clock_replies : List Access → List ClockLine → List (List ℕ)
+clock_replies past [] = []
+clock_replies past (line ∷ lines) = clock_reply past line ∷ clock_replies (access_of line ∷ past) lines
 
 -- ---- the i8042
 

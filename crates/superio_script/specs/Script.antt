@@ -2,8 +2,7 @@
 use Rattle.std.specs.Prelude.{◌≡◌, ℕ, ◌+◌, ◌≤◌, List, [], ◌∷◌, ◌++◌, length, map, if◌then◌else◌, Bool, Option, Some, None, is_some, IsTrue}
 use Rattle.std.specs.List.{list_all}
 use Rattle.std.specs.Io.KnownBytes.{Appends, IsAtEnd}
-use Rattle.vm_superio.specs.declared.rtc_pl031.RtcState.{RtcState}
-use Rattle.vm_superio.specs.Clock as clock
+use Rattle.vm_superio.specs.ClockRegisters.{Access}
 use Rattle.superio_script.specs.Pieces.{lines_of}
 use Rattle.superio_script.specs.Command.{command_of, mask_of, AsksForRestore}
 use Rattle.superio_script.specs.Reply.{clock_replies, controller_reply}
@@ -82,19 +81,19 @@ in_order (Controller line ∷ commands) serial clock (reply ∷ controller) =
     reply ++ in_order commands serial clock controller
 in_order _ serial clock controller = []
 
--- the replies to these commands, from a session of the serial port and a state of the clock on. Each device's replies
--- come from its own lines alone
-abbrev pub text_from : Session → RtcState → Choice → List Command → List ℕ
-text_from session state choice commands =
+-- the replies to these commands, from a session of the serial port and the past accesses of the clock on. Each device's
+-- replies come from its own lines alone
+abbrev pub text_from : Session → List Access → Choice → List Command → List ℕ
+text_from session accesses choice commands =
     in_order commands
     (serial_replies session choice (serial_lines commands))
-    (clock_replies state (clock_lines commands))
+    (clock_replies accesses (clock_lines commands))
     (controller_replies (controller_lines commands))
 
 -- what the good ones of these lines are replied, from fresh devices, by the mask of the serial port's interrupt line and
 -- what is left free
 abbrev pub text_of_lines : ℕ → Choice → List (List ℕ) → List ℕ
-text_of_lines mask choice lines = text_from (fresh_session mask) clock.fresh choice (good_commands lines)
+text_of_lines mask choice lines = text_from (fresh_session mask) [] choice (good_commands lines)
 
 -- the number of the first bad line of a script, counted from 1, or `None` where every line is good
 abbrev pub first_bad_of : List ℕ → Option ℕ

@@ -1,15 +1,16 @@
--- The serial port's part of a script: what its lines are replied, from its own lines alone.
-use Rattle.std.specs.Prelude.{ℕ, zero, suc, ◌+◌, ◌-◌, ◌≤◌, Bool, nat_le, if◌then◌else◌, List, [], ◌∷◌, ◌++◌, length, drop, codes, Option, Some, None, IsTrue}
-use Rattle.std.specs.List.{list_all}
+-- The serial port's part of a script: what its lines are replied, from its own lines alone, by the history of its calls.
+use Rattle.std.specs.Prelude.{ℕ, zero, suc, ◌+◌, ◌-◌, ◌≤◌, Bool, nat_le, if◌then◌else◌, List, [], ◌∷◌, length, drop, codes, Option, Some, None, IsTrue}
+use Rattle.std.specs.List.{list_all, list_any}
 use Rattle.vm_superio.specs.declared.run.Asked.{Asked}
 use Rattle.vm_superio.specs.declared.run.Asked.TheVariants.{Nothing, Took, Refused, TookTook, TookRefused}
 use Rattle.vm_superio.specs.declared.run.Sent.{Sent}
 use Rattle.vm_superio.specs.declared.run.Sent.TheVariants as sent
-use Rattle.vm_superio.specs.State.{State, fresh}
-use Rattle.vm_superio.specs.Acts.{Deed, Reads, Writes, Enqueues, is_sent, is_lost, ends_refused}
-use Rattle.vm_superio.specs.Fits.{due, sends}
-use Rattle.vm_superio.specs.Calls.{answer, next, events, restore_calls}
-use Rattle.vm_superio.specs.Links.{written}
+use Rattle.vm_superio.specs.State.{fresh, not_empty}
+use Rattle.vm_superio.specs.Acts.{Deed, Reads, Writes, Enqueues, Entry, is_sent, is_lost, ends_refused}
+use Rattle.vm_superio.specs.Meaning.{sent_by}
+use Rattle.vm_superio.specs.History.{kind, held}
+use Rattle.vm_superio.specs.Interrupts.{calls_due, restore_calls_due}
+use Rattle.vm_superio.specs.Replies.{reply, output, events_told}
 use Rattle.superio_script.specs.Line.{LineCalls, fresh_line, is_refused, called}
 use Rattle.superio_script.specs.Counts.{EventCounts, no_counts, after_events}
 use Rattle.superio_script.specs.Reply.{ended, answer_reply, digits_reply, count_digits, counts_reply}
@@ -51,17 +52,20 @@ first_shown (bytes ∷ shown) = bytes
 
 -- ---- a session
 
--- the port and its objects, between two lines
+-- a port that was fresh at first, and its objects, between two lines
 pub record Session : Type 0 where
-  pub state : State
+  -- the records of its calls, newest first. A restore leaves none, since no reply depends on it
+  pub past : List Entry
   pub line : LineCalls
   pub counts : EventCounts
-  -- the bytes that went out, which are not known once a byte was lost
-  pub output : Option (List ℕ)
 
--- a fresh port, whose interrupt line refuses the calls that the mask names
+-- a port that was not called, whose interrupt line refuses the calls that the mask names
 abbrev pub fresh_session : ℕ → Session
-fresh_session mask = record { state = fresh; line = fresh_line mask; counts = no_counts; output = Some [] }
+fresh_session mask = record { past = []; line = fresh_line mask; counts = no_counts }
+
+-- the bytes that went out, which are not known once a byte was lost
+abbrev pub output_of : List Entry → Option (List ℕ)
+output_of past = if list_any (λ (entry : Entry). is_lost entry.sent) past then None else Some (output fresh [] past)
 
 -- ---- a call of the port
 
@@ -82,24 +86,25 @@ line_after line TookTook = called (called line)
 line_after line TookRefused = called (called line)
 
 abbrev pub asked_by : Session → Deed → Asked
-asked_by s act = answered s.line (due s.state act)
+asked_by s act = answered s.line (calls_due fresh s.past act)
 
--- the output after a call of this fate that took these bytes out
-abbrev pub output_after : Option (List ℕ) → Sent → List ℕ → Option (List ℕ)
-output_after None what bytes = None
-output_after (Some output) what bytes = if is_lost what then None else Some (output ++ bytes)
+-- the record of a call whose byte has this fate, the reply to it, and the session after it
+abbrev pub entry_of : Session → Deed → Sent → Entry
+entry_of s act what = record { act = act; asked = asked_by s act; sent = what }
 
--- the reply to a call whose byte has this fate, and the session after it
 abbrev pub call_reply : Session → Deed → Sent → List ℕ
-call_reply s act what = answer_reply (answer s.state act (asked_by s act) what)
+call_reply s act what = answer_reply (reply fresh s.past act (asked_by s act) what)
 
 abbrev pub after_call : Session → Deed → Sent → Session
 after_call s act what = record {
-  state = next s.state act (asked_by s act);
+  past = entry_of s act what ∷ s.past;
   line = line_after s.line (asked_by s act);
-  counts = after_events (events s.state act what) s.counts;
-  output = output_after s.output what (written act what);
+  counts = after_events (events_told fresh s.past (entry_of s act what)) s.counts;
 }
+
+-- a call sends a byte
+abbrev pub sends : Session → Deed → Bool
+sends s act = not_empty (sent_by (kind fresh s.past act))
 
 -- the fate of the byte that a write sends, where it sends one, and what is then still free. No other call sends a byte
 abbrev pub sent_where : Bool → Choice → Sent
@@ -109,18 +114,18 @@ abbrev pub rest_where : Bool → Choice → Choice
 rest_where sends choice = record choice { fates = if sends then drop 1 choice.fates else choice.fates }
 
 abbrev pub write_sent : Session → Choice → (offset value : ℕ) → Sent
-write_sent s choice offset value = sent_where (sends s.state (Writes offset value)) choice
+write_sent s choice offset value = sent_where (sends s (Writes offset value)) choice
 
 -- ---- a restore
 
 -- what the line answers to the calls of a restore, and whether the restore is refused
 abbrev pub restore_asked : Session → Asked
-restore_asked s = answered s.line (length (restore_calls s.state))
+restore_asked s = answered s.line (length (restore_calls_due fresh s.past))
 
 abbrev pub is_not_restored : Session → Bool
 is_not_restored s = ends_refused (restore_asked s)
 
--- a restore keeps the state, the counts and the output, and its calls count. One that is refused leaves all as it was
+-- a restore keeps the past and the counts, and its calls count. One that is refused leaves all as it was
 abbrev pub restored : Session → Session
 restored s = if is_not_restored s then s else record s { line = line_after s.line (restore_asked s) }
 
@@ -143,9 +148,9 @@ serial_reply s choice (Read offset) = call_reply s (Reads offset) sent.Nothing
 serial_reply s choice (Write offset value) =
     call_reply s (Writes offset value) (write_sent s choice offset value)
 serial_reply s choice (Enqueue bytes) = call_reply s (Enqueues bytes) sent.Nothing
-serial_reply s choice Capacity = digits_reply ((64 - length s.state.in_buffer) ∷ [])
+serial_reply s choice Capacity = digits_reply ((64 - length (held fresh s.past)) ∷ [])
 serial_reply s choice Restore = ended (if is_not_restored s then codes "trigger" else codes "ok")
-serial_reply s choice Output = digits_reply (shown_where s.output choice)
+serial_reply s choice Output = digits_reply (shown_where (output_of s.past) choice)
 serial_reply s choice Calls = ended (count_digits s.line.calls)
 serial_reply s choice Events = counts_reply s.counts
 
@@ -158,8 +163,8 @@ serial_after s choice Restore = restored s
 serial_after s choice _ = s
 
 abbrev pub choice_after : Session → Choice → SerialLine → Choice
-choice_after s choice (Write offset value) = rest_where (sends s.state (Writes offset value)) choice
-choice_after s choice Output = rest_shown s.output choice
+choice_after s choice (Write offset value) = rest_where (sends s (Writes offset value)) choice
+choice_after s choice Output = rest_shown (output_of s.past) choice
 choice_after s choice _ = choice
 
 -- the replies to lines in order

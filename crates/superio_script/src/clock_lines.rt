@@ -1,6 +1,5 @@
 //! What a line does to the clock of a board, and what it is replied.
-ghost use Rattle.std.specs.Prelude.{◌≡◌};
-ghost use Rattle.superio_script.specs.Reply.{clock_reply, clock_after};
+ghost use Rattle.superio_script.specs.Board.{IsClockStep};
 
 use crate::command::ClockLine;
 use crate::counts::Counts;
@@ -9,8 +8,7 @@ use vm_superio::Rtc;
 
 /// Carries out a line of the clock.
 pub(crate) fn clock_line(clock: &mut Rtc<Counts>, line: ClockLine) -> Reply
-    ensures reply { result.items ≡ clock_reply clock.old.state line }
-    ensures state { clock.new.state ≡ clock_after clock.old.state line }
+    ensures step { IsClockStep line result.items clock.old.state clock.new.state }
 {
     // With fresh counts, what is counted afterwards is this access's event.
     *clock = Rtc::from_state(&clock.state(), Counts::new());

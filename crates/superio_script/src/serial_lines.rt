@@ -13,8 +13,8 @@ use crate::replies::{Reply, byte, digits, event_counts, number, word};
 use crate::trigger::{Line, LineRefused};
 use std::alloc::Global;
 use std::mem;
-use vm_superio::Serial;
 use vm_superio::serial::Error;
+use vm_superio::{Serial, laws};
 
 /// The serial port of a board.
 pub(crate) type Port = Serial<Line, Counts, Output>;
@@ -30,6 +30,7 @@ pub(crate) fn serial_line(
     ensures only_memory { IfErr result (λ fault. fault ≡ LineFault.Memory) }
     ensures only_restore { OnErr result (line ≡ Restore) }
 {
+    laws::steps_of_history();
     match line {
         SerialLine::Read { offset } => Ok(byte(serial.read(offset))),
         SerialLine::Write { offset, value } => Ok(written(serial.write(offset, value))),
@@ -50,6 +51,7 @@ fn restore(alloc: Global, serial: &mut Port) -> Result<Reply, LineFault>
     ensures unchanged { OnErr result (serial.new ≡ serial.old) }
     ensures only_memory { IfErr result (λ fault. fault ≡ LineFault.Memory) }
 {
+    laws::steps_of_history();
     let Ok(state) = serial.state(alloc) else {
         return Err(LineFault::Memory);
     };

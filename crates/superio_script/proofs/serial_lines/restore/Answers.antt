@@ -20,7 +20,7 @@ returns-in-Ok-from_state-clause-step c =
     let called = subst (λ (s : State). LineLink c.interrupt_evt-line.result.now (all_taken (restore_calls s)) c.in-Ok-from_state.anew.trigger) c.in-Ok.ensures.saved made.called in
     let link = subst (λ (new : LineCalls). LineLink old.trigger (all_taken (restore_calls old.state)) new) (ap (λ (port : Port LineCalls EventCounts Output). port.trigger) (sym after))
     (subst (λ (l : LineCalls). LineLink l (all_taken (restore_calls old.state)) c.in-Ok-from_state.anew.trigger) line called) in
-    rw c.word.ensures (restore-step old _
+    rw c.word.ensures (restore-step c.steps_of_history.ensures old _
     (ap (λ (port : Port LineCalls EventCounts Output). port.state) after ∙ state)
     link
     (ap (λ (port : Port LineCalls EventCounts Output). port.events) after ∙ made.events ∙ c.events-counts.ensures)
@@ -32,5 +32,5 @@ returns c =
     let refused = c.in-Err.ensures.refused in
     let by_state = subst (λ (s : State). RefusesRestore LineLink s c.in-Err.refused.error c.interrupt_evt-line.result.now c.in-Err.refused.trigger) c.in-Ok.ensures.saved refused in
     let by_line = subst (λ (l : LineCalls). RefusesRestore LineLink old.state c.in-Err.refused.error l c.in-Err.refused.trigger) c.interrupt_evt-line.ensures by_state in
-    let step = refused-restore-step old c.in-Err.refused.trigger c.in-Err.refused.error c.state.ensures.few by_line in
+    let step = refused-restore-step c.steps_of_history.ensures old c.in-Err.refused.trigger c.in-Err.refused.error c.state.ensures.few by_line in
     record { step = rw (c.failed.ensures, c.into_error.ensures) step; unchanged = tt; only_memory = tt }
