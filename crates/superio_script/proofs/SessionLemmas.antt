@@ -26,11 +26,11 @@ use Rattle.vm_superio.specs.Port.{Port, IsCase, failure}
 use Rattle.vm_superio.specs.Restoring.{all_taken, EndsRefused, RefusesRestore}
 use Rattle.vm_superio.specs.declared.serial.errors.Error.{Error}
 use Rattle.vm_superio.specs.declared.serial.errors.Error.TheVariants.{Trigger, IOError, FullFifo, Memory}
-use Rattle.superio_script.specs.Line.{LineCalls, LineLink, is_refused, called}
-use Rattle.superio_script.specs.Counts.{EventCounts, CountsLink, after_events}
+use Rattle.superio_script.specs.Line.{LineCalls, fresh_line, LineLink, is_refused, called}
+use Rattle.superio_script.specs.Counts.{EventCounts, no_counts, CountsLink, after_events}
 use Rattle.superio_script.specs.Output.{bytes_of}
 use Rattle.superio_script.specs.Reply.{ended, answer_reply, digits_reply, count_digits, counts_reply}
-use Rattle.superio_script.specs.Session.{Session, output_of, Choice, IsPossible, answered, line_after, asked_by, sends, sent_where, call_reply, after_call, shown_where, is_not_restored}
+use Rattle.superio_script.specs.Session.{Session, fresh_session, output_of, Choice, IsPossible, answered, line_after, asked_by, sends, sent_where, call_reply, after_call, shown_where, is_not_restored}
 use Rattle.superio_script.specs.Board.{IsAt, IsSerialStep}
 use Rattle.superio_script.specs.declared.output.Output.{Output}
 use Rattle.superio_script.specs.declared.trigger.LineRefused.{LineRefused}
@@ -175,10 +175,12 @@ fresh-coherent = record {
   few = omega arith;
 }
 
--- with no past it is the state of a fresh port
-pub described_at_start : (state : State) → state ≡ fresh → state ≡ described fresh []
+-- a fresh port is where no call led
+pub at-start :
+    (mask : ℕ) (port : Port LineCalls EventCounts Output) →
+    port.state ≡ fresh → port.trigger ≡ fresh_line mask → port.events ≡ no_counts → bytes_of port.out ≡ [] → IsAt (fresh_session mask) port
 unfolding has_bits masked
-described_at_start state same = same
+at-start mask port state line counts output = record { state = state; line = line; counts = counts; output = output }
 
 -- each call of a port that was fresh at first is a step of its history
 agrees : StepLaw → (past : List Entry) → PlaceAgrees fresh past

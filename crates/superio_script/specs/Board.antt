@@ -31,6 +31,16 @@ pub record IsAt (session : Session) (port : Port LineCalls EventCounts Output) :
   pub counts : port.events ≡ session.counts
   pub output : IfSome (output_of session.past) (λ bytes. bytes_of port.out ≡ bytes)
 
+-- a board between two lines: the serial port is at some session, the clock in the state that some accesses give, and
+-- the reset line was not called, since a controller that was reset gives way to a fresh one
+pub record IsBetweenLines
+    (port : Port LineCalls EventCounts Output) (rtc : clock.Device EventCounts) (reset_line : LineCalls) : Type 0 where
+  pub session : Session
+  pub serial : IsAt session port
+  pub accesses : List Access
+  pub clock : rtc.state ≡ state_by_history clock.fresh accesses
+  pub controller : reset_line ≡ fresh_line 0
+
 -- a board whose devices are fresh. The mask is that of the serial port's line; the reset line refuses nothing
 pub record IsFresh (mask : ℕ) (board : Devices) : Type 0 where
   pub serial : IsAt (fresh_session mask) board.serial
@@ -56,5 +66,6 @@ abbrev pub IsStep : Command → List ℕ → Devices → Devices → Type 0
 IsStep (Serial line) reply old new =
     IsSerialStep line reply old.serial new.serial × (new.clock ≡ old.clock) × (new.controller ≡ old.controller)
 IsStep (Clock line) reply old new =
-    IsClockStep line reply old.clock.state new.clock.state × (new.serial ≡ old.serial) × (new.controller ≡ old.controller)
+    IsClockStep line reply old.clock.state new.clock.state
+    × (new.serial ≡ old.serial) × (new.controller ≡ old.controller)
 IsStep (Controller line) reply old new = (reply ≡ controller_reply line) × (new ≡ old)

@@ -1,4 +1,5 @@
--- The serial port's part of a script: what its lines are replied, from its own lines alone, by the history of its calls.
+-- The serial port's part of a script: what its lines are replied, from its own lines alone, by the history of the
+-- port's calls.
 use Rattle.std.specs.Prelude.{ℕ, zero, suc, ◌+◌, ◌-◌, ◌≤◌, Bool, nat_le, if◌then◌else◌, List, [], ◌∷◌, length, drop, codes, Option, Some, None, IsTrue}
 use Rattle.std.specs.List.{list_all, list_any}
 use Rattle.vm_superio.specs.declared.run.Asked.{Asked}
@@ -54,7 +55,7 @@ first_shown (bytes ∷ shown) = bytes
 
 -- a port that was fresh at first, and its objects, between two lines
 pub record Session : Type 0 where
-  -- the records of its calls, newest first. A restore leaves none, since no reply depends on it
+  -- the records of its calls, newest first. A restore leaves none, since the history looks at none
   pub past : List Entry
   pub line : LineCalls
   pub counts : EventCounts

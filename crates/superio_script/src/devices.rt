@@ -26,7 +26,8 @@ pub enum LineFault {
     Memory,
 }
 
-/// The devices that a script drives.
+/// The devices that a script drives. Between two lines the serial port and the clock are in states that the history of
+/// some calls describes: [`Board::line`] says which calls these are after a line.
 #[derive(Drop)]
 pub struct Board {
     serial: Port,
@@ -35,16 +36,13 @@ pub struct Board {
 }
 
 impl Model for Board {
-    ghost use Rattle.std.specs.Prelude.{◌≡◌};
-    ghost use Rattle.superio_script.specs.Board.{Devices};
-    ghost use Rattle.superio_script.specs.Line.{fresh_line};
+    ghost use Rattle.superio_script.specs.Board.{Devices, IsBetweenLines};
 
     ghost Value = { Devices };
 
     ghost view = { λ board. record { serial = board.serial; clock = board.clock; controller = board.controller } };
 
-    // Between two lines the reset line was not called: a controller that was reset gives way to a fresh one.
-    ghost invariant = { λ board. board.controller ≡ fresh_line 0 };
+    ghost invariant = { λ board. IsBetweenLines board.serial board.clock board.controller };
 }
 
 impl Board {

@@ -30,6 +30,7 @@ pub(crate) fn serial_line(
     ensures only_memory { IfErr result (λ fault. fault ≡ LineFault.Memory) }
     ensures only_restore { OnErr result (line ≡ Restore) }
 {
+    // The port's contracts go by its state, and a session by the history of its calls.
     laws::steps_of_history();
     match line {
         SerialLine::Read { offset } => Ok(byte(serial.read(offset))),

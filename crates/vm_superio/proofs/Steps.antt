@@ -68,7 +68,8 @@ write_told _ loopback value = other_told
 enqueue_told : (loopback dlab : Bool) (bytes after : List ℕ) (what : Sent)
     → IsTrue (beq (is_sent what) (not_empty (sent_by (kind_of dlab loopback (Enqueues bytes)))))
     → [] ≡ events_by (kind_of dlab loopback (Enqueues bytes)) after what
-enqueue_told true dlab bytes after what fate = ap (λ (what : Sent). events_by Other after what) (sym (not_sent what fate))
+enqueue_told true dlab bytes after what fate =
+    ap (λ (what : Sent). events_by Other after what) (sym (not_sent what fate))
 enqueue_told false dlab bytes after what fate =
     ap (λ (what : Sent). events_by (Arrival bytes) after what) (sym (not_sent what fate))
 
@@ -110,7 +111,8 @@ calls_at_place : (start : State) (past : List Entry) (act : Deed)
     → due (described start past) act ≡ calls_due start past act
 calls_at_place start past act =
     let k = kind start past act in
-    let called = receive_raised_by k (held start past) (interrupt_enable start past) && not (receive_pending start past) in
+    let raised = receive_raised_by k (held start past) (interrupt_enable start past) in
+    let called = raised && not (receive_pending start past) in
     due_is k (described start past) (transmit_pending start past) (receive_pending start past) refl
     ∙ ap (λ second. one_if called + one_if second)
     (none_refused k (interrupt_enable start past) called (transmit_pending start past))

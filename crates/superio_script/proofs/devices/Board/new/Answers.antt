@@ -1,16 +1,21 @@
--- The port is in the state that no past describes.
-use Rattle.std.proofs.Common.{rules}
-use Rattle.superio_script.proofs.SessionLemmas.{described_at_start}
+-- No call and no access led to fresh devices.
+use Rattle.std.proofs.Common.{rules, []}
+use Rattle.superio_script.specs.Session.{fresh_session}
+use Rattle.superio_script.proofs.SessionLemmas.{at-start}
 use Rattle.superio_script.proofs.devices.Board.new.Goals as goal
+
+pub invariant_of-result : goal.invariant_of-result
+invariant_of-result c = record {
+  session = fresh_session c.args.mask;
+  serial = at-start c.args.mask _ (search rules) (search rules) (search rules) (search rules);
+  accesses = [];
+  clock = search rules;
+  controller = search rules;
+}
 
 pub returns-clause-fresh : goal.returns-clause-fresh
 returns-clause-fresh c = record {
-  serial = record {
-    state = described_at_start _ (search rules);
-    line = search rules;
-    counts = search rules;
-    output = search rules;
-  };
+  serial = at-start c.args.mask _ (search rules) (search rules) (search rules) (search rules);
   clock = search rules;
   controller = search rules;
 }
