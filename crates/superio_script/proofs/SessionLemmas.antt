@@ -22,7 +22,8 @@ use Rattle.vm_superio.specs.Interrupts.{restore_calls_due}
 use Rattle.vm_superio.specs.Replies.{reply, output, events_told, described}
 use Rattle.vm_superio.specs.Laws.{PlaceAgrees, StepLaw}
 use Rattle.vm_superio.specs.Links.{answers, written, WriterLink}
-use Rattle.vm_superio.specs.Port.{Port, IsCase, failure}
+use Rattle.vm_superio.specs.Port.{Port, failure}
+use Rattle.vm_superio.specs.CallCase.{IsCase}
 use Rattle.vm_superio.specs.Restoring.{all_taken, EndsRefused, RefusesRestore}
 use Rattle.vm_superio.specs.declared.serial.errors.Error.{Error}
 use Rattle.vm_superio.specs.declared.serial.errors.Error.TheVariants.{Trigger, IOError, FullFifo, Memory}

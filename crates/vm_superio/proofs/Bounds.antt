@@ -9,7 +9,7 @@ use Rattle.vm_superio.specs.Meaning.{Kind, DataRead, IdentificationRead, is_iden
 use Rattle.vm_superio.specs.History.{kind}
 use Rattle.vm_superio.specs.Interrupts.{answer_count, trigger_calls, receive_raised, acknowledges_receive, receive_pending, transmit_raised, transmit_pending, record_fits, is_fitting}
 use Rattle.vm_superio.specs.Laws.{TriggerBoundLaw}
-use Rattle.vm_superio.specs.LawWords.{kinds}
+use Rattle.vm_superio.specs.Pasts.{kinds}
 
 -- each call makes a condition pending that was not, and only an acknowledgement makes it one that is not
 one_condition : (raised acknowledged before : Bool)

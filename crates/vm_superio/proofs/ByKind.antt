@@ -4,9 +4,9 @@ use Rattle.vm_superio.specs.declared.run.Asked.{Asked}
 use Rattle.vm_superio.specs.State.{State, masked}
 use Rattle.vm_superio.specs.Registers.{Register, Data, InterruptEnable, InterruptIdentification, register, is_dlab, is_loopback, Transmit}
 use Rattle.vm_superio.specs.Acts.{Deed, Reads, Writes, Enqueues, Restores, Entry}
-use Rattle.vm_superio.specs.Asking.{ask, that_fit, accepted_of, receive}
+use Rattle.vm_superio.specs.Asking.{ask, accepted_of, receive}
+use Rattle.vm_superio.specs.Meaning.{that_fit, kind_in, Kind, DataRead, IdentificationRead, EnableWrite, DataWrite, Arrival, Other, read_kind, write_kind, kind_of}
 use Rattle.vm_superio.specs.Calls.{next, data_read, enable_write, read_next, write_next}
-use Rattle.vm_superio.specs.Meaning.{kind_in, Kind, DataRead, IdentificationRead, EnableWrite, DataWrite, Arrival, Other, read_kind, write_kind, kind_of}
 use Rattle.vm_superio.specs.History.{kind, dlab}
 use Rattle.vm_superio.specs.Laws.{state_after}
 use Rattle.vm_superio.proofs.RegisterSteps.{register_law}

@@ -11,7 +11,7 @@ use Rattle.vm_superio.specs.Acts.{Reads, Writes, Enqueues, Restores, Entry, Answ
 use Rattle.vm_superio.specs.Fits.{fits}
 use Rattle.vm_superio.specs.Calls.{answer, next, events, restore_calls}
 use Rattle.vm_superio.specs.Interrupts.{record_fits, restore_calls_due}
-use Rattle.vm_superio.specs.LawWords.{past_of}
+use Rattle.vm_superio.specs.Pasts.{past_of}
 use Rattle.vm_superio.specs.Replies.{reply}
 
 -- ---- calls with their answers

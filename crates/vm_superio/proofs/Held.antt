@@ -5,9 +5,9 @@ use Rattle.std.specs.Prelude.{if◌then◌else◌}
 use Rattle.vm_superio.specs.declared.run.Asked.{Asked}
 use Rattle.vm_superio.specs.State.{State, has_bits, without, not_empty, with_data_ready}
 use Rattle.vm_superio.specs.Acts.{Deed, Entry}
-use Rattle.vm_superio.specs.Asking.{that_fit, receive}
+use Rattle.vm_superio.specs.Asking.{receive}
+use Rattle.vm_superio.specs.Meaning.{that_fit, kind_in, Kind, DataRead, IdentificationRead, Arrival, accepted_by, taken_by}
 use Rattle.vm_superio.specs.Calls.{next}
-use Rattle.vm_superio.specs.Meaning.{kind_in, Kind, DataRead, IdentificationRead, Arrival, accepted_by, taken_by}
 use Rattle.vm_superio.specs.History.{kind, left, accepted, taken, held}
 use Rattle.vm_superio.specs.Replies.{line_status}
 use Rattle.vm_superio.specs.Laws.{state_after, HeldBytesLaw, LineStatusLaw, TakenThenHeldLaw, OneCallLaw}

@@ -12,10 +12,10 @@ use Rattle.vm_superio.specs.State.{State, masked, not_empty}
 use Rattle.vm_superio.specs.Registers.{Register, Data, InterruptIdentification, register, is_dlab, is_loopback, Receive, Transmit}
 use Rattle.vm_superio.specs.Events.{buffer_read, in_buffer_empty}
 use Rattle.vm_superio.specs.Acts.{Deed, Reads, Writes, Enqueues, Restores, is_sent}
-use Rattle.vm_superio.specs.Asking.{becomes_pending, receive_becomes_pending, ask_while_held, that_fit}
+use Rattle.vm_superio.specs.Asking.{becomes_pending, receive_becomes_pending, ask_while_held}
+use Rattle.vm_superio.specs.Meaning.{that_fit, kind_in, Kind, EnableWrite, DataWrite, Arrival, DataRead, read_kind, kind_of, sent_by}
 use Rattle.vm_superio.specs.Fits.{receive_due, due_by, asked_fits, due, sends}
 use Rattle.vm_superio.specs.Calls.{read_events, sent_events, events}
-use Rattle.vm_superio.specs.Meaning.{kind_in, Kind, EnableWrite, DataWrite, Arrival, DataRead, read_kind, kind_of, sent_by}
 use Rattle.vm_superio.specs.Laws.{EventsLaw, ExactTestLaw}
 use Rattle.vm_superio.specs.LawWords.{tells_fate, asked_when, sent_when}
 use Rattle.vm_superio.proofs.Bounds.{one_at_most}

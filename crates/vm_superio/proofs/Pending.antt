@@ -7,9 +7,9 @@ use Rattle.vm_superio.specs.declared.run.Asked.{Asked}
 use Rattle.vm_superio.specs.State.{State, has_bits, masked, without, not_empty}
 use Rattle.vm_superio.specs.Registers.{Transmit, Receive, identification_of, transmit_first}
 use Rattle.vm_superio.specs.Acts.{Entry, is_refused, is_sent, one_if}
-use Rattle.vm_superio.specs.Asking.{ask, ask_while_held, becomes_pending, receive_becomes_pending, that_fit, receive}
+use Rattle.vm_superio.specs.Asking.{ask, ask_while_held, becomes_pending, receive_becomes_pending, receive}
+use Rattle.vm_superio.specs.Meaning.{that_fit, Kind, DataRead, IdentificationRead, EnableWrite, DataWrite, Arrival, Other, sent_by, is_identification_read}
 use Rattle.vm_superio.specs.Fits.{receive_due, due_by, asked_fits, due, fits}
-use Rattle.vm_superio.specs.Meaning.{Kind, DataRead, IdentificationRead, EnableWrite, DataWrite, Arrival, Other, sent_by, is_identification_read}
 use Rattle.vm_superio.specs.History.{kind, held}
 use Rattle.vm_superio.specs.Interrupts.{receive_raised_by, acknowledges_receive, receive_pending, transmit_raised_by, transmit_pending, answer_count, record_fits, restore_calls_due}
 use Rattle.vm_superio.specs.Replies.{identification}

@@ -7,12 +7,12 @@ use Rattle.std.specs.Bool.{IsFalse}
 use Rattle.vm_superio.specs.declared.run.Asked.{Asked}
 use Rattle.vm_superio.specs.State.{State, has_bits, not_empty}
 use Rattle.vm_superio.specs.Acts.{Entry}
-use Rattle.vm_superio.specs.Asking.{that_fit, receive}
-use Rattle.vm_superio.specs.Meaning.{Kind, DataRead, IdentificationRead, EnableWrite, DataWrite, Arrival, Other, is_identification_read}
+use Rattle.vm_superio.specs.Asking.{receive}
+use Rattle.vm_superio.specs.Meaning.{that_fit, Kind, DataRead, IdentificationRead, EnableWrite, DataWrite, Arrival, Other, is_identification_read}
 use Rattle.vm_superio.specs.History.{kind, held, interrupt_enable}
 use Rattle.vm_superio.specs.Interrupts.{still_raised, receive_raised, acknowledges_receive, receive_pending, transmit_raised}
 use Rattle.vm_superio.specs.Laws.{PendingByPlacesLaw, WaitingBytesLaw, state_after}
-use Rattle.vm_superio.specs.LawWords.{NoneAcknowledges, PendingByPlaces, tells_of_bytes}
+use Rattle.vm_superio.specs.Pasts.{NoneAcknowledges, PendingByPlaces, tells_of_bytes}
 use Rattle.vm_superio.proofs.Bytes.{enables_receive}
 use Rattle.vm_superio.proofs.ByKind.{by_kind, next_at_place}
 use Rattle.vm_superio.proofs.RegisterSteps.{register_law}

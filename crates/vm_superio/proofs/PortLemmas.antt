@@ -9,7 +9,8 @@ use Rattle.vm_superio.specs.Acts.{Deed, Answer, ends_refused, one_if}
 use Rattle.vm_superio.specs.Registers.{turns}
 use Rattle.vm_superio.specs.Interrupts.{answer_count}
 use Rattle.vm_superio.specs.Links.{answers}
-use Rattle.vm_superio.specs.Port.{Port, IsCase, CallsPerBit}
+use Rattle.vm_superio.specs.Port.{Port}
+use Rattle.vm_superio.specs.CallCase.{IsCase, CallsPerBit}
 use Rattle.vm_superio.proofs.Turned.{turned_bits_law}
 
 -- as many answers as were asked for, where a refusal is there

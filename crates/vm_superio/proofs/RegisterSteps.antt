@@ -7,7 +7,8 @@ use Rattle.vm_superio.specs.declared.run.Asked.{Asked}
 use Rattle.vm_superio.specs.State.{State, masked}
 use Rattle.vm_superio.specs.Registers.{Register, Data, InterruptIdentification, Unknown, register, is_dlab, is_loopback}
 use Rattle.vm_superio.specs.Acts.{Deed, Reads, Writes, Enqueues, Restores, Entry}
-use Rattle.vm_superio.specs.Asking.{receive, that_fit, accepted_of}
+use Rattle.vm_superio.specs.Asking.{receive, accepted_of}
+use Rattle.vm_superio.specs.Meaning.{that_fit}
 use Rattle.vm_superio.specs.Calls.{next, read_next, write_next, data_write}
 use Rattle.vm_superio.specs.History.{written_at, last, dlab}
 use Rattle.vm_superio.specs.Laws.{RegisterLaw, state_after}

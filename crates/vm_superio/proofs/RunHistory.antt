@@ -24,15 +24,16 @@ use Rattle.vm_superio.specs.Fits.{fits}
 use Rattle.vm_superio.specs.Coherent.{Coherent}
 use Rattle.vm_superio.specs.Port.{Port}
 use Rattle.vm_superio.specs.Stretches.{Stretch, first_stretch, stretch_from, extended, IsAfter}
-use Rattle.vm_superio.specs.RunCalls.{act_of, Step, RunsCalls}
+use Rattle.vm_superio.specs.RunCalls.{Step, RunsCalls}
+use Rattle.vm_superio.specs.Records.{IsReplyTo, RecordsOf, act_of, deed_of, is_restore, entry_of, answer_of, records_of, history_of, without_restores}
 use Rattle.vm_superio.specs.Calls.{next, restore_calls}
 use Rattle.vm_superio.specs.Links.{written}
 use Rattle.vm_superio.specs.Restoring.{all_taken, RefusesOwn}
 use Rattle.vm_superio.specs.Interrupts.{is_fitting, restore_calls_due}
-use Rattle.vm_superio.specs.Laws.{state_after, FollowCases, RepliesAre}
-use Rattle.vm_superio.specs.Replies.{reply}
+use Rattle.vm_superio.specs.Laws.{state_after, FollowCases}
+use Rattle.vm_superio.specs.Replies.{RepliesAre, reply}
 use Rattle.vm_superio.specs.History.{taken}
-use Rattle.vm_superio.specs.LawWords.{act_and_asked, acts_and_asked, all_written, none_lost}
+use Rattle.vm_superio.specs.Pasts.{act_and_asked, acts_and_asked, all_written, none_lost}
 use Rattle.vm_superio.proofs.Runs.{whole_run_law}
 use Rattle.vm_superio.proofs.Bounds.{trigger_bound_law}
 use Rattle.vm_superio.proofs.Held.{taken_then_held}
@@ -40,7 +41,6 @@ use Rattle.vm_superio.proofs.Pending.{interrupt_law}
 use Rattle.vm_superio.proofs.Places.{waiting_bytes_law}
 use Rattle.vm_superio.proofs.Views.{same_reads_law}
 use Rattle.vm_superio.proofs.Writing.{output_law}
-use Rattle.vm_superio.specs.Records.{deed_of, is_restore, entry_of, answer_of, calls_of, history_of, without_restores}
 use Rattle.vm_superio.specs.RunPlaces.{ReadIs, ReadsAre, OutputIs, OutputStep, OutputsAre, TriggerStep, TriggersAre}
 use Rattle.vm_superio.specs.Headline.{Headline}
 
@@ -80,18 +80,18 @@ module _ {T E EV W : Type 0} (trigger_link : T → List (Result (Unit {0}) E) �
   FollowCases-step s stretch (Write offset value) asked sent (Wrote outcome) later end Rest on step = (step.0, step.1, on _ _ step.2)
   FollowCases-step s stretch (Enqueue bytes) asked sent (Enqueued outcome) later end Rest on step = (step.0, step.1, on _ _ step.2)
   FollowCases-step s stretch (Restore trigger events out) asked sent (Restored old) later end Rest on step =
-      (fits-restore s asked sent step.0 step.1, refl, on _ _ step.3)
+      (fits-restore s asked sent step.0 step.1, refl, on _ _ step.4)
   FollowCases-step s stretch (Restore trigger events out) asked sent (NotRestored refused) later end Rest on step =
       (fits-restore s asked sent step.0 step.1, refl, on _ _ step.5)
   FollowCases-step s stretch _ asked sent _ later end Rest on step = absurd step
 
   pub FollowCases-run :
       (s : State) (stretch : Stretch T E EV W) (calls : List (Call T EV W)) (done : List (Done T EV W E)) (end : Port T EV W) →
-      RunsCalls trigger_link events_link contents s stretch calls done end → FollowCases s (calls_of done) end.state
+      RunsCalls trigger_link events_link contents s stretch calls done end → FollowCases s (records_of done) end.state
   FollowCases-run s stretch [] [] end run = run.state
   FollowCases-run s stretch (call ∷ calls) (done ∷ later) end run =
-      subst (λ act. FollowCases s ((record { act = deed_of act; asked = done.asked; sent = done.sent }, answer_of done.reply) ∷ calls_of later) end.state) (sym run.0)
-      (FollowCases-step s stretch call done.asked done.sent done.reply (calls_of later) end.state _ (λ next_state next_stretch rest. FollowCases-run next_state next_stretch calls later end rest) run.1)
+      subst (λ act. FollowCases s ((record { act = deed_of act; asked = done.asked; sent = done.sent }, answer_of done.reply) ∷ records_of later) end.state) (sym run.0)
+      (FollowCases-step s stretch call done.asked done.sent done.reply (records_of later) end.state _ (λ next_state next_stretch rest. FollowCases-run next_state next_stretch calls later end rest) run.1)
   FollowCases-run s stretch [] (done ∷ later) end run = absurd run
   FollowCases-run s stretch (call ∷ calls) [] end run = absurd run
 
@@ -102,9 +102,30 @@ module _ {T E EV W : Type 0} (trigger_link : T → List (Result (Unit {0}) E) �
   Step-rest s stretch (Read offset) asked sent (Byte byte) Rest step = (_, _, step.2)
   Step-rest s stretch (Write offset value) asked sent (Wrote outcome) Rest step = (_, _, step.2)
   Step-rest s stretch (Enqueue bytes) asked sent (Enqueued outcome) Rest step = (_, _, step.2)
-  Step-rest s stretch (Restore trigger events out) asked sent (Restored old) Rest step = (_, _, step.3)
+  Step-rest s stretch (Restore trigger events out) asked sent (Restored old) Rest step = (_, _, step.4)
   Step-rest s stretch (Restore trigger events out) asked sent (NotRestored refused) Rest step = (_, _, step.5)
   Step-rest s stretch _ asked sent _ Rest step = absurd step
+
+  -- a run has a record of each call
+  IsReplyTo-step :
+      (s : State) (stretch : Stretch T E EV W) (call : Call T EV W) (asked : Asked) (sent : Sent) (reply : Reply T EV W E) (Rest : State → Stretch T E EV W → Type 0) →
+      Step trigger_link events_link contents s stretch call asked sent reply Rest → IsReplyTo (act_of call) reply
+  IsReplyTo-step s stretch (Read offset) asked sent (Byte byte) Rest step = tt
+  IsReplyTo-step s stretch (Write offset value) asked sent (Wrote outcome) Rest step = tt
+  IsReplyTo-step s stretch (Enqueue bytes) asked sent (Enqueued outcome) Rest step = tt
+  IsReplyTo-step s stretch (Restore trigger events out) asked sent (Restored old) Rest step = tt
+  IsReplyTo-step s stretch (Restore trigger events out) asked sent (NotRestored refused) Rest step = tt
+  IsReplyTo-step s stretch _ asked sent _ Rest step = absurd step
+
+  RecordsOf-run :
+      (s : State) (stretch : Stretch T E EV W) (calls : List (Call T EV W)) (done : List (Done T EV W E)) (end : Port T EV W) →
+      RunsCalls trigger_link events_link contents s stretch calls done end → RecordsOf calls done
+  RecordsOf-run s stretch [] [] end run = tt
+  RecordsOf-run s stretch (call ∷ calls) (done ∷ later) end run =
+      let rest = Step-rest s stretch call done.asked done.sent done.reply _ run.1 in
+      (run.0, IsReplyTo-step s stretch call done.asked done.sent done.reply _ run.1, RecordsOf-run rest.0 rest.1 calls later end rest.2)
+  RecordsOf-run s stretch [] (done ∷ later) end run = absurd run
+  RecordsOf-run s stretch (call ∷ calls) [] end run = absurd run
 
   -- a read replies the byte that the history says
   ReadIs-step :
@@ -120,7 +141,7 @@ module _ {T E EV W : Type 0} (trigger_link : T → List (Result (Unit {0}) E) �
 
   ReadsAre-run :
       (s : State) (stretch : Stretch T E EV W) (calls : List (Call T EV W)) (done : List (Done T EV W E)) (end : Port T EV W) (start : State) (past : List Entry) →
-      RunsCalls trigger_link events_link contents s stretch calls done end → RepliesAre start past (calls_of done) → ReadsAre start past done
+      RunsCalls trigger_link events_link contents s stretch calls done end → RepliesAre start past (records_of done) → ReadsAre start past done
   ReadsAre-run s stretch calls [] end start past run replies = tt
   ReadsAre-run s stretch (call ∷ calls) (done ∷ later) end start past run replies =
       let rest = Step-rest s stretch call done.asked done.sent done.reply _ run.1 in (
@@ -159,7 +180,7 @@ module _ {T E EV W : Type 0} (trigger_link : T → List (Result (Unit {0}) E) �
   record IsStretchOf (start : State) (past newest : List Entry) (s : State) (stretch : Stretch T E EV W) : Type 0 where
     state : s ≡ state_after start (newest ++ past)
     fitting : IsTrue (is_fitting start (newest ++ past))
-    taken : stretch.taken ≡ all_written newest
+    taken : stretch.written_out ≡ all_written newest
     fates : list_all (λ what. not (is_lost what)) stretch.fates ≡ none_lost newest
 
   OutputIs-stretch :
@@ -213,7 +234,7 @@ module _ {T E EV W : Type 0} (trigger_link : T → List (Result (Unit {0}) E) �
                 fitting = fits-history (newest ++ past) s entry is.state (fits-restore s asked sent step.0 step.1) is.fitting;
                 taken = refl;
                 fates = refl;
-              }) step.3,
+              }) step.4,
         )
     OutputStep-run past newest s stretch (Restore trigger events out) asked sent (NotRestored refused) Rest Outputs on is step =
         let entry : Entry = record { act = Restores; asked = asked; sent = sent } in
@@ -258,7 +279,8 @@ module _ {T E EV W : Type 0} (trigger_link : T → List (Result (Unit {0}) E) �
         on _ _ (ap (λ before. next before (Enqueues bytes.items) asked) state) step.2
     TriggerStep-run past s stretch (Restore trigger events out) asked sent (Restored old) Rest Triggers on state step = (
       step.2.trigger,
-      subst (λ due. Triggers trigger (all_taken due)) (restoring past s state) (on s (stretch_from (restore_calls s) trigger events out) state step.3),
+      subst (λ due. (now : T) × trigger_link trigger (all_taken due) now) (restoring past s state) step.3,
+      subst (λ due. Triggers trigger (all_taken due)) (restoring past s state) (on s (stretch_from (restore_calls s) trigger events out) state step.4),
     )
     TriggerStep-run past s stretch (Restore trigger events out) asked sent (NotRestored refused) Rest Triggers on state step = (
       subst (λ due. RefusesOwn trigger_link due refused.error trigger refused.trigger) (restoring past s state) step.2,
@@ -288,9 +310,10 @@ module _ {T E EV W : Type 0} (trigger_link : T → List (Result (Unit {0}) E) �
   Headline-run start calls done end below run coherent =
       let s = start.state in
       let past = history_of done in
-      let agrees = whole_run_law s end.state (calls_of done) coherent below (FollowCases-run s (first_stretch start) calls done end run) in
+      let agrees = whole_run_law s end.state (records_of done) coherent below (FollowCases-run s (first_stretch start) calls done end run) in
       let reads = ReadsAre-run s (first_stretch start) calls done end s [] run agrees.answers in
       record {
+        records = RecordsOf-run s (first_stretch start) calls done end run;
         reads = reads;
         answers = agrees.answers;
         kept = ap (λ (port : State). taken s past ++ port.in_buffer) agrees.state ∙ taken_then_held s past;

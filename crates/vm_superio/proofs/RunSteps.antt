@@ -16,9 +16,11 @@ use Rattle.vm_superio.specs.Events.{Event}
 use Rattle.vm_superio.specs.Acts.{Deed, Answer}
 use Rattle.vm_superio.specs.Calls.{restore_calls}
 use Rattle.vm_superio.specs.Links.{answers, written, WriterLink}
-use Rattle.vm_superio.specs.Port.{Port, IsCase}
+use Rattle.vm_superio.specs.Port.{Port}
+use Rattle.vm_superio.specs.CallCase.{IsCase}
 use Rattle.vm_superio.specs.Stretches.{Stretch, first_stretch, stretch_from, extended, IsAfter}
-use Rattle.vm_superio.specs.RunCalls.{act_of, Makes, Follows, Step, RunsCalls}
+use Rattle.vm_superio.specs.RunCalls.{Makes, Follows, Step, RunsCalls}
+use Rattle.vm_superio.specs.Records.{act_of}
 
 -- nothing was sent, so nothing was taken
 Appends-nothing : (known : Option (List ℕ)) → Appends known known []
@@ -72,7 +74,7 @@ module _ {T E EV W : Type 0} (trigger_link : T → List (Result (Unit {0}) E) �
     state = refl;
     trigger = trigger_joined stretch.trigger old.trigger new.trigger stretch.answered (answers asked refusal) before.trigger h.trigger;
     events = events_joined stretch.events old.events new.events stretch.told _ before.events h.events;
-    out = WriterLink-append contents stretch.out old.out new.out stretch.fates (sent ∷ []) stretch.taken (written act sent) before.out h.out;
+    out = WriterLink-append contents stretch.out old.out new.out stretch.fates (sent ∷ []) stretch.written_out (written act sent) before.out h.out;
   }
 
   -- whatever the rest of the run is, it goes on from the call
@@ -113,7 +115,7 @@ module _ {T E EV W : Type 0} (trigger_link : T → List (Result (Unit {0}) E) �
           events = (no_event events new.events).1 (sym h.5);
           out = WriterLink-nothing contents out new.out h.6;
         },
-        λ later end rest. (h.0, h.1, subst (λ port. After stretch old.state port) (sym h.2) before, subst (λ s. Runs s begun calls later end) h.3 rest),
+        λ later end rest. (h.0, h.1, subst (λ port. After stretch old.state port) (sym h.2) before, (new.trigger, h.4), subst (λ s. Runs s begun calls later end) h.3 rest),
       )
   GoesOn-made stretch (Restore trigger events out) asked sent (NotRestored refused) old new calls before h = (
     stretch,

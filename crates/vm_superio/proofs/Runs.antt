@@ -8,10 +8,10 @@ use Rattle.vm_superio.specs.declared.run.Asked.{Asked}
 use Rattle.vm_superio.specs.declared.run.Sent.{Sent}
 use Rattle.vm_superio.specs.State.{State, fresh, has_bits, without, not_empty}
 use Rattle.vm_superio.specs.Acts.{Deed, Reads, Writes, Enqueues, Restores, Entry, Answer, Added, FifoFull, TriggerRefused, is_refused}
-use Rattle.vm_superio.specs.Asking.{that_fit, receive}
+use Rattle.vm_superio.specs.Asking.{receive}
+use Rattle.vm_superio.specs.Meaning.{that_fit, kind_in, Kind, DataRead, IdentificationRead, EnableWrite, DataWrite, Arrival, Other, accepted_by}
 use Rattle.vm_superio.specs.Calls.{answer}
 use Rattle.vm_superio.specs.Coherent.{Coherent}
-use Rattle.vm_superio.specs.Meaning.{kind_in, Kind, DataRead, IdentificationRead, EnableWrite, DataWrite, Arrival, Other, accepted_by}
 use Rattle.vm_superio.specs.History.{loopback, held}
 use Rattle.vm_superio.specs.Replies.{reply, described}
 use Rattle.vm_superio.specs.Interrupts.{is_fitting}

@@ -9,8 +9,8 @@ use Rattle.vm_superio.specs.declared.run.Asked.TheVariants.{Nothing, Took, Refus
 use Rattle.vm_superio.specs.State.{State, has_bits, masked, joined, without, not_empty}
 use Rattle.vm_superio.specs.Registers.{Receive, Transmit, turns}
 use Rattle.vm_superio.specs.Acts.{is_refused, one_if}
-use Rattle.vm_superio.specs.Meaning.{Kind, DataRead, IdentificationRead, EnableWrite, DataWrite, Arrival, Other, kind_in}
-use Rattle.vm_superio.specs.Asking.{becomes_pending, ask, that_fit, receive}
+use Rattle.vm_superio.specs.Meaning.{Kind, DataRead, IdentificationRead, EnableWrite, DataWrite, Arrival, Other, kind_in, that_fit}
+use Rattle.vm_superio.specs.Asking.{becomes_pending, ask, receive}
 use Rattle.vm_superio.specs.Fits.{receive_due, due_by, due, asked_fits}
 use Rattle.vm_superio.specs.Interrupts.{answer_count}
 use Rattle.vm_superio.specs.Laws.{TurnedBitsLaw}

@@ -13,7 +13,7 @@ use Rattle.vm_superio.specs.Interrupts.{receive_pending, transmit_pending}
 use Rattle.vm_superio.specs.Registers.{identification_of}
 use Rattle.vm_superio.specs.Replies.{described}
 use Rattle.vm_superio.specs.Laws.{state_after, SameReadsLaw}
-use Rattle.vm_superio.specs.LawWords.{act_and_asked, acts_and_asked}
+use Rattle.vm_superio.specs.Pasts.{act_and_asked, acts_and_asked}
 use Rattle.vm_superio.proofs.ByKind.{same_kind}
 use Rattle.vm_superio.proofs.RegisterSteps.{register_law}
 use Rattle.vm_superio.proofs.Held.{held_bytes_law}

@@ -12,7 +12,7 @@ use Rattle.vm_superio.specs.Links.{written}
 use Rattle.vm_superio.specs.Meaning.{read_kind, write_kind, kind_of, sent_by}
 use Rattle.vm_superio.specs.History.{dlab, loopback}
 use Rattle.vm_superio.specs.Interrupts.{answer_count, trigger_calls, record_fits, is_fitting}
-use Rattle.vm_superio.specs.LawWords.{none_lost}
+use Rattle.vm_superio.specs.Pasts.{none_lost}
 use Rattle.vm_superio.specs.Laws.{OutputLaw}
 use Rattle.vm_superio.specs.Replies.{output}
 

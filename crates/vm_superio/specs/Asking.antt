@@ -1,6 +1,7 @@
 -- Asking for a condition, and bytes that come in: the small parts of the call cases.
-use Rattle.std.specs.Prelude.{ℕ, ◌-◌, Bool, not, ◌&&◌, if◌then◌else◌, List, [], ◌∷◌, ◌++◌, length, take}
+use Rattle.std.specs.Prelude.{ℕ, Bool, not, ◌&&◌, if◌then◌else◌, List, [], ◌∷◌, ◌++◌}
 use Rattle.vm_superio.specs.State.{State, has_bits, joined, without, not_empty}
+use Rattle.vm_superio.specs.Meaning.{that_fit}
 use Rattle.vm_superio.specs.Registers.{is_loopback, Condition, Receive, enable_bit, pending_bit}
 
 -- ---- asking for a condition
@@ -28,10 +29,6 @@ abbrev pub ask_while_held : List ℕ → ℕ → ℕ → ℕ
 ask_while_held held enable identification = if not_empty held then ask Receive enable identification else identification
 
 -- ---- the bytes that come in
-
--- as many of the first bytes as there is room for: the FIFO holds at most 64
-abbrev pub that_fit : List ℕ → List ℕ → List ℕ
-that_fit held bytes = take (64 - length held) bytes
 
 -- an enqueue outside loopback accepts the bytes that fit, and in loopback none; DLAB plays no part
 abbrev pub accepted_of : State → List ℕ → List ℕ

@@ -8,7 +8,8 @@ use Rattle.vm_superio.specs.State.{State, has_bits, masked, without, not_empty}
 use Rattle.vm_superio.specs.Registers.{Register, DivisorLow, DivisorHigh, Data, InterruptEnable, InterruptIdentification, LineControl, ModemControl, Scratch, register, is_dlab, is_loopback, Condition, Receive, Transmit, enable_bit, pending_bit, transmit_first, shown}
 use Rattle.vm_superio.specs.Events.{Event, buffer_read, out_byte, tx_lost_byte, in_buffer_empty}
 use Rattle.vm_superio.specs.Acts.{Deed, Reads, Writes, Enqueues, Restores, Answer, Given, Added, TriggerRefused, FifoFull, NoAnswer, is_refused, write_answer}
-use Rattle.vm_superio.specs.Asking.{ask, receive_becomes_pending, ask_while_held, that_fit, accepted_of, receive}
+use Rattle.vm_superio.specs.Asking.{ask, receive_becomes_pending, ask_while_held, accepted_of, receive}
+use Rattle.vm_superio.specs.Meaning.{that_fit}
 
 -- ---- what a call answers
 

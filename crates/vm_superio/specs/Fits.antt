@@ -7,8 +7,8 @@ use Rattle.vm_superio.specs.declared.run.Sent.{Sent}
 use Rattle.vm_superio.specs.State.{State, masked, not_empty}
 use Rattle.vm_superio.specs.Registers.{Receive, Transmit}
 use Rattle.vm_superio.specs.Acts.{Deed, is_sent, one_if}
-use Rattle.vm_superio.specs.Meaning.{Kind, EnableWrite, DataWrite, Arrival, kind_in, sent_by}
-use Rattle.vm_superio.specs.Asking.{becomes_pending, receive_becomes_pending, ask_while_held, that_fit}
+use Rattle.vm_superio.specs.Meaning.{Kind, EnableWrite, DataWrite, Arrival, kind_in, sent_by, that_fit}
+use Rattle.vm_superio.specs.Asking.{becomes_pending, receive_becomes_pending, ask_while_held}
 
 -- ---- how many trigger calls are due
 

@@ -1,19 +1,20 @@
 -- The laws: what the call cases and the history have to do with each other, and what follows from the history alone.
-use Rattle.std.specs.Prelude.{◌≡◌, ◌↔◌, ℕ, ◌+◌, ◌*◌, ◌<◌, ◌≤◌, Bool, List, [], ◌∷◌, ◌++◌, length, sum_by, count_by, IsTrue, ⊤}
+use Rattle.std.specs.Prelude.{◌≡◌, ◌↔◌, ℕ, ◌<◌, Bool, not, List, [], ◌∷◌, ◌++◌, length, count_by, IsTrue}
 use Rattle.vm_superio.specs.declared.run.Asked.{Asked}
 use Rattle.vm_superio.specs.declared.run.Sent.{Sent}
 use Rattle.vm_superio.specs.State.{State, has_bits, not_empty}
-use Rattle.vm_superio.specs.Registers.{identification_of, turns}
-use Rattle.vm_superio.specs.Acts.{one_if, Deed, Entry, Answer}
+use Rattle.vm_superio.specs.Registers.{identification_of, turned_on}
+use Rattle.vm_superio.specs.Acts.{Deed, Entry, Answer, is_lost}
 use Rattle.vm_superio.specs.Fits.{due, sends, fits}
 use Rattle.vm_superio.specs.Calls.{answer, next, events, restore_calls}
 use Rattle.vm_superio.specs.Coherent.{Coherent}
 use Rattle.vm_superio.specs.Links.{written}
-use Rattle.vm_superio.specs.LawWords.{past_of, NoneAcknowledges, PendingByPlaces, kinds, tells_of_bytes, acts_and_asked, all_written, none_lost, tells_fate, asked_when, sent_when}
-use Rattle.vm_superio.specs.Meaning.{kind_in, sent_by, accepted_by, taken_by, is_identification_read, is_data_read}
+use Rattle.vm_superio.specs.LawWords.{tells_fate, asked_when, sent_when}
+use Rattle.vm_superio.specs.Pasts.{IsWithinBound, WaitingBytesShow, past_of, PendingByPlaces, acts_and_asked, all_written, none_lost}
+use Rattle.vm_superio.specs.Meaning.{kind_in, sent_by, accepted_by, taken_by, is_identification_read}
 use Rattle.vm_superio.specs.History.{line_control, modem_control, scratch, divisor_low, divisor_high, interrupt_enable, kind, accepted, taken, held}
 use Rattle.vm_superio.specs.Interrupts.{receive_raised, acknowledges_receive, receive_pending, transmit_raised, transmit_pending, answer_count, record_fits, is_fitting, calls_due, restore_calls_due}
-use Rattle.vm_superio.specs.Replies.{identification, line_status, guest_read, reply, output, events_told, described}
+use Rattle.vm_superio.specs.Replies.{RepliesAre, identification, line_status, guest_read, reply, output, events_told, described}
 
 -- the state that the call cases give after a past
 abbrev pub state_after : State → List Entry → State
@@ -112,12 +113,6 @@ FollowCases s (call ∷ later) end =
     × (call.1 ≡ answer s call.0.act call.0.asked call.0.sent)
     × FollowCases (next s call.0.act call.0.asked) later end
 
--- each call's answer is what the history replies at its place
-abbrev pub RepliesAre : State → List Entry → List (Entry × Answer) → Type 0
-RepliesAre start past [] = ⊤
-RepliesAre start past (call ∷ later) =
-    (call.1 ≡ reply start past call.0.act call.0.asked call.0.sent) × RepliesAre start (call.0 ∷ past) later
-
 -- with the past before them the calls are a fitting history, with these answers, and end in the state that it
 -- describes, which is coherent
 pub record RunAgrees (start : State) (past : List Entry) (calls : List (Entry × Answer)) (end : State) : Type 0 where
@@ -148,24 +143,11 @@ pub record PendingAgrees (start : State) (past : List Entry) : Type 0 where
 abbrev pub PendingByPlacesLaw : Type 0
 PendingByPlacesLaw = (start : State) (past : List Entry) → PendingAgrees start past
 
--- the trigger bound: in a fitting history the calls of the trigger, those of restores aside, are at most two, two more
--- for each read of the identification, and one more for each data read
+-- the trigger bound, in a fitting history
 abbrev pub TriggerBoundLaw : Type 0
-TriggerBoundLaw = (start : State) (past : List Entry) → IsTrue (is_fitting start past)
-    → sum_by (λ (entry : Entry). answer_count entry.asked) past
-    ≤ 2 + 2 * count_by is_identification_read (kinds start past) + count_by is_data_read (kinds start past)
+TriggerBoundLaw = (start : State) (past : List Entry) → IsTrue (is_fitting start past) → IsWithinBound start past
 
--- waiting bytes: after a place that tells of bytes, and with no read of the identification and no data read since, the
--- receive condition is pending where bytes are held and interrupt enable has bit 0x01
-abbrev pub WaitingBytesShow : State → List Entry → Type 0
-WaitingBytesShow start past =
-    (after before : List Entry) (entry : Entry) → past ≡ after ++ entry ∷ before
-    → IsTrue (tells_of_bytes (kind start before entry.act) (held start before))
-    → NoneAcknowledges start acknowledges_receive after (entry ∷ before)
-    → IsTrue (not_empty (held start past)) → IsTrue (has_bits (interrupt_enable start past) 0x01)
-    → IsTrue (receive_pending start past)
-
--- for every past
+-- waiting bytes are shown
 abbrev pub WaitingBytesLaw : Type 0
 WaitingBytesLaw = (start : State) (past : List Entry) → WaitingBytesShow start past
 
@@ -204,8 +186,7 @@ TurnedBitsLaw = (s : State) (act : Deed) (asked : Asked) (what : Sent) → s.int
     → IsTrue (fits s act asked what)
     → let new = next s act asked in
     answer_count asked
-    ≡ one_if (turns 0x04 s.interrupt_identification new.interrupt_identification)
-    + one_if (turns 0x02 s.interrupt_identification new.interrupt_identification)
+    ≡ turned_on s.interrupt_identification new.interrupt_identification
 
 -- the test passes what some answers to the calls that are due and the writer's success or failure give, and no more
 abbrev pub ExactTestLaw : Type 0

@@ -1,6 +1,7 @@
 pub mod Acts
 pub mod Answers
 pub mod Asking
+pub mod CallCase
 pub mod Calls
 pub mod Clock
 pub mod ClockHistory
@@ -17,6 +18,7 @@ pub mod LawWords
 pub mod Laws
 pub mod Links
 pub mod Meaning
+pub mod Pasts
 pub mod Port
 pub mod Records
 pub mod Registers

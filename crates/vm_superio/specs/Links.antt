@@ -9,7 +9,8 @@ use Rattle.vm_superio.specs.declared.run.Sent.{Sent}
 use Rattle.vm_superio.specs.declared.run.Sent.TheVariants as sent
 use Rattle.vm_superio.specs.Acts.{Deed, Writes, is_sent, is_lost}
 
--- the answers of the trigger that `asked` stands for; the refusal among them is the one that the reply carries
+-- the answers of the trigger that `asked` stands for. The refusal among them is the one that the reply carries: with an
+-- `asked` that ends in a refusal there is one
 abbrev pub answers : {E : Type 0} → Asked → Option E → List (Result (Unit {0}) E)
 answers Nothing refusal = []
 answers Took refusal = Ok tt ∷ []

@@ -58,9 +58,13 @@ abbrev pub sent_by : Kind → List ℕ
 sent_by (DataWrite value) = value ∷ []
 sent_by _ = []
 
--- of the bytes that come in, as many of the first are accepted as there is room for, beside those held
+-- as many of the first bytes as there is room for, beside those held: the FIFO holds at most 64
+abbrev pub that_fit : List ℕ → List ℕ → List ℕ
+that_fit held bytes = take (64 - length held) bytes
+
+-- of the bytes that come in those are accepted that fit
 abbrev pub accepted_by : Kind → List ℕ → List ℕ
-accepted_by (Arrival bytes) held = take (64 - length held) bytes
+accepted_by (Arrival bytes) held = that_fit held bytes
 accepted_by _ held = []
 
 -- a data read takes the first held byte, where there is one

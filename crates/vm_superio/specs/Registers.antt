@@ -1,6 +1,7 @@
 -- The serial port's registers: which one an offset reaches, and the bits that have a meaning.
-use Rattle.std.specs.Prelude.{ℕ, Bool, true, false, not, ◌&&◌, ◌==◌, if◌then◌else◌, List, [], ◌∷◌, ◌++◌, slice_index}
+use Rattle.std.specs.Prelude.{ℕ, ◌+◌, Bool, true, false, not, ◌&&◌, ◌==◌, if◌then◌else◌, List, [], ◌∷◌, ◌++◌, slice_index}
 use Rattle.vm_superio.specs.State.{State, has_bits, masked, joined}
+use Rattle.vm_superio.specs.Acts.{one_if}
 pub use Rattle.vm_superio.specs.declared.serial.registers.Register.{Register}
 pub use Rattle.vm_superio.specs.declared.serial.registers.Register.TheVariants.{DivisorLow, DivisorHigh, Data, InterruptEnable, InterruptIdentification, LineControl, ModemControl, LineStatus, ModemStatus, Scratch, Unknown}
 pub use Rattle.vm_superio.specs.declared.serial.registers.Condition.{Condition}
@@ -40,6 +41,10 @@ pending_bit Transmit = 0x02
 -- the bit goes from clear to set
 abbrev pub turns : ℕ → ℕ → ℕ → Bool
 turns bit old new = not (has_bits old bit) && has_bits new bit
+
+-- how many of the two pending bits of an identification do
+abbrev pub turned_on : ℕ → ℕ → ℕ
+turned_on old new = one_if (turns 0x04 old new) + one_if (turns 0x02 old new)
 
 -- the identification while exactly these conditions are pending, the transmitter's and the receive condition
 abbrev pub identification_of : Bool → Bool → ℕ

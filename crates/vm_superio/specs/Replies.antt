@@ -1,6 +1,6 @@
 -- What a past tells of a serial port, III: what a guest reads, what the other calls answer, what went to the writer,
 -- and which events are told.
-use Rattle.std.specs.Prelude.{ℕ, ◌==◌, ◌||◌, nat_le, if◌then◌else◌, List, [], ◌∷◌, ◌++◌, length}
+use Rattle.std.specs.Prelude.{◌≡◌, ⊤, ℕ, ◌==◌, ◌||◌, nat_le, if◌then◌else◌, List, [], ◌∷◌, ◌++◌, length}
 use Rattle.vm_superio.specs.declared.run.Asked.{Asked}
 use Rattle.vm_superio.specs.declared.run.Sent.{Sent}
 use Rattle.vm_superio.specs.declared.run.Sent.TheVariants as sent
@@ -41,8 +41,8 @@ guest_read start past offset = shown (register (dlab start past) offset) (descri
 
 -- an enqueue answers 0 in loopback or for no bytes; else that the FIFO is full where 64 bytes are held; else the
 -- trigger's refusal; else how many bytes it accepted
-abbrev pub enqueue_reply : State → List Entry → List ℕ → Asked → Answer
-enqueue_reply start past bytes asked =
+abbrev pub reply_to_enqueue : State → List Entry → List ℕ → Asked → Answer
+reply_to_enqueue start past bytes asked =
     if loopback start past || (length bytes == 0) then Added 0
     else (if nat_le 64 (length (held start past)) then FifoFull
     else (if is_refused asked then TriggerRefused
@@ -52,7 +52,7 @@ enqueue_reply start past bytes asked =
 abbrev pub reply : State → List Entry → Deed → Asked → Sent → Answer
 reply start past (Reads offset) asked what = Given (guest_read start past offset)
 reply start past (Writes offset value) asked what = write_answer asked what
-reply start past (Enqueues bytes) asked what = enqueue_reply start past bytes asked
+reply start past (Enqueues bytes) asked what = reply_to_enqueue start past bytes asked
 reply start past Restores asked what = NoAnswer
 
 -- the output of the newest records, those that stand in front of a past: the values of their data writes outside
@@ -73,3 +73,9 @@ events_by act held sent.Lost = tx_lost_byte ∷ []
 -- the same at the place of a record
 abbrev pub events_told : State → List Entry → Entry → List Event
 events_told start past entry = events_by (kind start past entry.act) (held start (entry ∷ past)) entry.sent
+
+-- each call of some records, oldest first, answered what is replied at its place
+abbrev pub RepliesAre : State → List Entry → List (Entry × Answer) → Type 0
+RepliesAre start past [] = ⊤
+RepliesAre start past (call ∷ later) =
+    (call.1 ≡ reply start past call.0.act call.0.asked call.0.sent) × RepliesAre start (call.0 ∷ past) later

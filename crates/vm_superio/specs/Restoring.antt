@@ -1,7 +1,7 @@
 -- The trigger calls of a restore, and their answers.
 use Rattle.std.specs.Prelude.{◌≡◌, ◌⊎◌, ◌<◌, ◌≤◌, List, [], ◌∷◌, length, Result, Ok, Err}
 use Rattle.vm_superio.specs.declared.serial.errors.Error.{Error}
-use Rattle.vm_superio.specs.declared.serial.errors.Error.TheVariants.{Trigger, IOError, FullFifo, Memory}
+use Rattle.vm_superio.specs.declared.serial.errors.Error.TheVariants.{Trigger, FullFifo, Memory}
 use Rattle.vm_superio.specs.State.{State}
 use Rattle.vm_superio.specs.Registers.{Condition}
 use Rattle.vm_superio.specs.Calls.{restore_calls}
@@ -33,8 +33,6 @@ RefusesOwn link due _ old new = ⊥
 -- a call of it, after those before were taken. Nothing else refuses
 abbrev pub RefusesRestore : {T E : Type 0} → (T → List (Result (Unit {0}) E) → T → Type 0) → State → Error E → T → T → Type 0
 RefusesRestore link s FullFifo old new = (64 < length s.in_buffer) × (new ≡ old)
-RefusesRestore {T} {E} link s (Trigger refusal) old new =
-    (length s.in_buffer ≤ 64)
-    × ((answers : List (Result (Unit {0}) E)) × EndsRefused (restore_calls s) refusal answers × link old answers new)
-RefusesRestore link s (IOError fault) old new = ⊥
-RefusesRestore link s Memory old new = ⊥
+RefusesRestore link s (Trigger refusal) old new =
+    (length s.in_buffer ≤ 64) × RefusesOwn link (restore_calls s) (Trigger refusal) old new
+RefusesRestore link s _ old new = ⊥

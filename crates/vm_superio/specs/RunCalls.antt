@@ -4,8 +4,6 @@ use Rattle.vm_superio.specs.declared.run.Asked.{Asked}
 use Rattle.vm_superio.specs.declared.run.Asked.TheVariants.{Nothing}
 use Rattle.vm_superio.specs.declared.run.Sent.{Sent}
 use Rattle.vm_superio.specs.declared.run.Sent.TheVariants as fate
-use Rattle.vm_superio.specs.declared.run.Act.{Act}
-use Rattle.vm_superio.specs.declared.run.Act.TheVariants as act
 use Rattle.vm_superio.specs.declared.run.Call.{Call}
 use Rattle.vm_superio.specs.declared.run.Call.TheVariants.{Read, Write, Enqueue, Restore}
 use Rattle.vm_superio.specs.declared.run.Reply.{Reply}
@@ -16,16 +14,11 @@ use Rattle.vm_superio.specs.Events.{Event}
 use Rattle.vm_superio.specs.Acts.{Deed, Reads, Writes, Enqueues, Answer, Given}
 use Rattle.vm_superio.specs.Fits.{fits}
 use Rattle.vm_superio.specs.Calls.{answer, next, restore_calls}
-use Rattle.vm_superio.specs.Port.{Port, write_reply, enqueue_reply, refusal_of, IsCase}
+use Rattle.vm_superio.specs.Port.{Port, write_reply, enqueue_reply, refusal_of}
+use Rattle.vm_superio.specs.CallCase.{IsCase}
+use Rattle.vm_superio.specs.Records.{act_of}
 use Rattle.vm_superio.specs.Restoring.{all_taken, RefusesOwn}
 use Rattle.vm_superio.specs.Stretches.{Stretch, stretch_from, extended, IsAfter}
-
--- the call without its objects
-abbrev pub act_of : {T EV W : Type 0} → Call T EV W → Act
-act_of (Read offset) = act.Read offset
-act_of (Write offset value) = act.Write offset value
-act_of (Enqueue bytes) = act.Enqueue bytes
-act_of (Restore trigger events out) = act.Restore
 
 module _ {T E EV W : Type 0} (trigger_link : T → List (Result (Unit {0}) E) → T → Type 0) (events_link : EV → List Event → EV → Type 0) (contents : W → Option (List ℕ)) where
   -- a call that is no restore follows its call case, and the rest goes on from the next state
@@ -44,7 +37,9 @@ module _ {T E EV W : Type 0} (trigger_link : T → List (Result (Unit {0}) E) �
       Follows s stretch (Enqueues bytes.items) asked sent (enqueue_reply outcome) (refusal_of outcome) Rest
   Step s stretch (Restore trigger events out) asked sent (Restored old) Rest =
       (asked ≡ Nothing) × (sent ≡ fate.Nothing)
-      × IsAfter trigger_link events_link contents stretch s old × Rest s (stretch_from (restore_calls s) trigger events out)
+      × IsAfter trigger_link events_link contents stretch s old
+      × ((now : T) × trigger_link trigger (all_taken (restore_calls s)) now)
+      × Rest s (stretch_from (restore_calls s) trigger events out)
   Step s stretch (Restore trigger events out) asked sent (NotRestored refused) Rest =
       (asked ≡ Nothing) × (sent ≡ fate.Nothing) × RefusesOwn trigger_link (restore_calls s) refused.error trigger refused.trigger
       × (refused.events ≡ events) × (refused.out ≡ out) × Rest s stretch

@@ -13,7 +13,7 @@ use Rattle.vm_superio.specs.State.{State}
 use Rattle.vm_superio.specs.Acts.{Entry}
 use Rattle.vm_superio.specs.Interrupts.{restore_calls_due}
 use Rattle.vm_superio.specs.Replies.{guest_read, output}
-use Rattle.vm_superio.specs.LawWords.{none_lost}
+use Rattle.vm_superio.specs.Pasts.{none_lost}
 use Rattle.vm_superio.specs.Links.{answers}
 use Rattle.vm_superio.specs.Restoring.{all_taken, RefusesOwn}
 use Rattle.vm_superio.specs.Records.{entry_of, refusal_carried}
@@ -55,11 +55,13 @@ module _ {T E EV W : Type 0} (contents : W → Option (List ℕ)) (start : State
 -- ---- trigger calls
 
 module _ {T E EV W : Type 0} (link : T → List (Result (Unit {0}) E) → T → Type 0) (start : State) where
-  -- the trigger that a restore brings gets the calls that are due there, and none is refused; the port's calls follow,
-  -- as the records have them, up to the next restore that succeeds. One that fails ends at the refusal that it replies
+  -- each trigger that the port has is linked by the answers that the records have, from the run's start or from the
+  -- restore that brought it, whose own calls come first: those that are due there, none of them refused. The trigger of
+  -- a restore that fails is linked up to the refusal in the reply
   abbrev pub TriggerStep : List Entry → T → List (Result (Unit {0}) E) → Call T EV W → Asked → Reply T EV W E → (T → List (Result (Unit {0}) E) → Type 0) → Type 0
   TriggerStep past begun answered (Restore trigger events out) asked (Restored old) Rest =
-      link begun answered old.trigger × Rest trigger (all_taken (restore_calls_due start past))
+      let due = restore_calls_due start past in
+      link begun answered old.trigger × ((now : T) × link trigger (all_taken due) now) × Rest trigger (all_taken due)
   TriggerStep past begun answered (Restore trigger events out) asked (NotRestored refused) Rest =
       RefusesOwn link (restore_calls_due start past) refused.error trigger refused.trigger × Rest begun answered
   TriggerStep past begun answered call asked reply Rest = Rest begun (answered ++ answers asked (refusal_carried reply))

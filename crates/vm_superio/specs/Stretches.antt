@@ -21,7 +21,7 @@ pub record Stretch (T E EV W : Type 0) : Type 0 where
   pub answered : List (Result (Unit {0}) E)
   pub told : List Event
   pub fates : List Sent
-  pub taken : List ℕ
+  pub written_out : List ℕ
 
 module _ {T E EV W : Type 0} where
   -- the first stretch begins with the port as it is
@@ -33,7 +33,7 @@ module _ {T E EV W : Type 0} where
     answered = [];
     told = [];
     fates = [];
-    taken = [];
+    written_out = [];
   }
 
   -- each other one begins with the objects that a restore brings, and with the calls of its trigger that are due then
@@ -45,7 +45,7 @@ module _ {T E EV W : Type 0} where
     answered = all_taken due;
     told = [];
     fates = [];
-    taken = [];
+    written_out = [];
   }
 
   -- it goes on by a call in a state
@@ -54,7 +54,7 @@ module _ {T E EV W : Type 0} where
     answered = stretch.answered ++ answers asked refusal;
     told = stretch.told ++ events s act sent;
     fates = stretch.fates ++ sent ∷ [];
-    taken = stretch.taken ++ written act sent;
+    written_out = stretch.written_out ++ written act sent;
   }
 
   -- a port of this state, whose objects are those of the start after all that was done with them
@@ -62,4 +62,4 @@ module _ {T E EV W : Type 0} where
     pub state : port.state ≡ s
     pub trigger : trigger_link stretch.trigger stretch.answered port.trigger
     pub events : events_link stretch.events stretch.told port.events
-    pub out : WriterLink contents stretch.fates stretch.taken stretch.out port.out
+    pub out : WriterLink contents stretch.fates stretch.written_out stretch.out port.out

@@ -1,7 +1,8 @@
 //! Runs: a list of calls of a serial port as one call, with a record of each.
 ghost use Rattle.std.specs.Prelude.{◌≡◌, IfOk, OnErr};
 ghost use Rattle.vm_superio.specs.Stretches.{first_stretch};
-ghost use Rattle.vm_superio.specs.RunCalls.{act_of, Makes, RunsCalls};
+ghost use Rattle.vm_superio.specs.RunCalls.{Makes, RunsCalls};
+ghost use Rattle.vm_superio.specs.Records.{act_of};
 ghost use Rattle.vm_superio.specs.Coherent.{Coherent};
 ghost use Rattle.vm_superio.specs.Headline.{Headline};
 
@@ -126,6 +127,7 @@ pub fn run<T: Trigger + Drop, EV: SerialEvents + Drop, W: Write + Drop>(
         Headline T.link W.contents serial.old calls.items done.items serial.new) }
     ensures refused { OnErr result (serial.new ≡ serial.old) }
 {
+    // For the proof alone: the laws start from a line status that is a byte.
     let _line_status = serial.line_status();
     let mut done = Vec::with_capacity(alloc, calls.len())?;
     let mut calls = VecDeque::from_vec(calls);

@@ -98,7 +98,8 @@ impl<T: Trigger, W: Write> Serial<T, NoEvents, W> {
 impl<T: Trigger, EV: SerialEvents, W: Write> Serial<T, EV, W> {
     ghost use Rattle.std.specs.Borrow.{Lends, sem};
     ghost use Rattle.vm_superio.specs.contracts.serial.Serial.{the_row};
-    ghost use Rattle.vm_superio.specs.Port.{IsCase, CallsPerBit, with_writer};
+    ghost use Rattle.vm_superio.specs.Port.{with_writer};
+    ghost use Rattle.vm_superio.specs.CallCase.{IsCase, CallsPerBit};
 
     /// Makes a serial port as `new` does, which tells its events to `serial_evts`. Neither the trigger nor the events
     /// object is called.

@@ -5,10 +5,10 @@ ghost use Rattle.std.specs.Bool.{beq};
 ghost use Rattle.std.specs.Option.{option_to_list};
 ghost use Rattle.vm_superio.specs.State.{masked, not_empty};
 ghost use Rattle.vm_superio.specs.Registers.{is_loopback, shown};
-ghost use Rattle.vm_superio.specs.Meaning.{write_kind, sent_by};
+ghost use Rattle.vm_superio.specs.Meaning.{write_kind, sent_by, that_fit};
 ghost use Rattle.vm_superio.specs.Events.{out_byte, tx_lost_byte, in_buffer_empty, buffer_read};
 ghost use Rattle.vm_superio.specs.Acts.{Reads, Writes, Enqueues, Given, Written, TriggerRefused, WriterFailed, is_lost, is_sent, one_if};
-ghost use Rattle.vm_superio.specs.Asking.{becomes_pending, ask, receive_becomes_pending, ask_while_held, that_fit, receive};
+ghost use Rattle.vm_superio.specs.Asking.{becomes_pending, ask, receive_becomes_pending, ask_while_held, receive};
 ghost use Rattle.vm_superio.specs.Fits.{asked_fits, enable_due, receive_due, due_by};
 ghost use Rattle.vm_superio.specs.Calls.{read_next, enable_write, data_read, data_write, write_next, read_events, sent_events};
 ghost use Rattle.vm_superio.specs.Links.{answers, written, WriterLink};
@@ -27,7 +27,7 @@ use std::io;
 use std::io::Write;
 
 impl<T: Trigger, EV: SerialEvents, W: Write> Serial<T, EV, W> {
-    ghost use Rattle.vm_superio.specs.Port.{IsCase};
+    ghost use Rattle.vm_superio.specs.CallCase.{IsCase};
 
     /// Asks for a condition: where it is enabled and not pending, it becomes pending, and the trigger is called once.
     fn ask(&mut self, condition: Condition) -> Option<Result<(), T::E>>
