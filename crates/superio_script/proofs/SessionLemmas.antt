@@ -1,9 +1,8 @@
 -- A line of the serial port is a step of its session.
 use Rattle.std.proofs.Common.{◌≡◌, ℕ, zero, suc, ◌-◌, ◌≤◌, Bool, true, false, List, [], ◌∷◌, ◌++◌, length, Option, Some, None, Result, Ok, Err, refl, ap, sym, ◌∙◌, subst, arith, append-nil, inl, inr}
 use Rattle.std.specs.Cmp.Derive.{both_true}
-use Rattle.std.specs.Prelude.{◌⊎◌, IsTrue, IsSome, IfSome, if◌then◌else◌, nat_le, not, ◌||◌, codes}
+use Rattle.std.specs.Prelude.{◌⊎◌, IsTrue, IsSome, IfSome, if◌then◌else◌, nat_le, not, codes, ◌&&◌}
 use Rattle.std.specs.Bool.{beq}
-use Rattle.std.specs.List.{list_any}
 use Rattle.std.proofs.lemmas.Bool.{and_parts, false≢true}
 use Rattle.std.proofs.lemmas.Bool.Decides.{nat_tests}
 use Rattle.vm_superio.specs.declared.run.Asked.{Asked}
@@ -19,6 +18,7 @@ use Rattle.vm_superio.specs.Fits.{asked_fits, due}
 use Rattle.vm_superio.specs.Calls.{restore_calls}
 use Rattle.vm_superio.specs.History.{kind, loopback}
 use Rattle.vm_superio.specs.Interrupts.{restore_calls_due}
+use Rattle.vm_superio.specs.Pasts.{none_lost}
 use Rattle.vm_superio.specs.Replies.{reply, output, events_told, described}
 use Rattle.vm_superio.specs.Laws.{PlaceAgrees, StepLaw}
 use Rattle.vm_superio.specs.Links.{answers, written, WriterLink}
@@ -136,19 +136,19 @@ abbrev pub output_after : Option (List ℕ) → Sent → List ℕ → Option (Li
 output_after None what bytes = None
 output_after (Some output) what bytes = if is_lost what then None else Some (output ++ bytes)
 
-output_of-known : (lost : Bool) (what : Sent) (out bytes all : List ℕ) → all ≡ bytes →
-    (if is_lost what || lost then None else Some (out ++ all)) ≡ output_after (if lost then None else Some out) what bytes
-output_of-known true sent.Nothing out bytes all same = refl
-output_of-known true sent.Out out bytes all same = refl
-output_of-known true sent.Lost out bytes all same = refl
-output_of-known false sent.Nothing out bytes all same = ap (λ xs. Some (out ++ xs)) same
-output_of-known false sent.Out out bytes all same = ap (λ xs. Some (out ++ xs)) same
+output_of-known : (kept : Bool) (what : Sent) (out bytes all : List ℕ) → all ≡ bytes →
+    (if not (is_lost what) && kept then Some (out ++ all) else None) ≡ output_after (if kept then Some out else None) what bytes
+output_of-known false sent.Nothing out bytes all same = refl
+output_of-known false sent.Out out bytes all same = refl
 output_of-known false sent.Lost out bytes all same = refl
+output_of-known true sent.Nothing out bytes all same = ap (λ xs. Some (out ++ xs)) same
+output_of-known true sent.Out out bytes all same = ap (λ xs. Some (out ++ xs)) same
+output_of-known true sent.Lost out bytes all same = refl
 
 pub output_of-after : (past : List Entry) (entry : Entry) →
     output_of (entry ∷ past) ≡ output_after (output_of past) entry.sent (sent_by (kind fresh past entry.act))
 output_of-after past entry =
-    output_of-known (list_any (λ (entry : Entry). is_lost entry.sent) past) entry.sent (output fresh [] past) _ _
+    output_of-known (none_lost past) entry.sent (output fresh [] past) _ _
     (ap (λ (before : List Entry). sent_by (kind fresh before entry.act)) (append-nil past))
 
 -- it is what the writer holds, where the writer is linked by the byte's fate, and took what was sent

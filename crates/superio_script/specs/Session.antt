@@ -1,16 +1,17 @@
 -- The serial port's part of a script: what its lines are replied, from its own lines alone, by the history of the
 -- port's calls.
 use Rattle.std.specs.Prelude.{ℕ, zero, suc, ◌+◌, ◌-◌, ◌≤◌, Bool, nat_le, if◌then◌else◌, List, [], ◌∷◌, length, drop, codes, Option, Some, None, IsTrue}
-use Rattle.std.specs.List.{list_all, list_any}
+use Rattle.std.specs.List.{list_all}
 use Rattle.vm_superio.specs.declared.run.Asked.{Asked}
 use Rattle.vm_superio.specs.declared.run.Asked.TheVariants.{Nothing, Took, Refused, TookTook, TookRefused}
 use Rattle.vm_superio.specs.declared.run.Sent.{Sent}
 use Rattle.vm_superio.specs.declared.run.Sent.TheVariants as sent
 use Rattle.vm_superio.specs.State.{fresh, not_empty}
-use Rattle.vm_superio.specs.Acts.{Deed, Reads, Writes, Enqueues, Entry, is_sent, is_lost, ends_refused}
+use Rattle.vm_superio.specs.Acts.{Deed, Reads, Writes, Enqueues, Entry, is_sent, ends_refused}
 use Rattle.vm_superio.specs.Meaning.{sent_by}
 use Rattle.vm_superio.specs.History.{kind, held}
 use Rattle.vm_superio.specs.Interrupts.{calls_due, restore_calls_due}
+use Rattle.vm_superio.specs.Pasts.{none_lost}
 use Rattle.vm_superio.specs.Replies.{reply, output, events_told}
 use Rattle.superio_script.specs.Line.{LineCalls, fresh_line, is_refused, called}
 use Rattle.superio_script.specs.Counts.{EventCounts, no_counts, after_events}
@@ -66,7 +67,7 @@ fresh_session mask = record { past = []; line = fresh_line mask; counts = no_cou
 
 -- the bytes that went out, which are not known once a byte was lost
 abbrev pub output_of : List Entry → Option (List ℕ)
-output_of past = if list_any (λ (entry : Entry). is_lost entry.sent) past then None else Some (output fresh [] past)
+output_of past = if none_lost past then Some (output fresh [] past) else None
 
 -- ---- a call of the port
 
