@@ -1,17 +1,106 @@
 //! Runs a script of device accesses: from standard input, with the replies on standard output.
 #![tactic(auto)]
 
+ghost use Rattle.std.specs.Prelude.{◌≡◌, ◌⊎◌, ◌<◌, ℕ, length, IfSome, OnOk, Some, None};
+ghost use Rattle.std.specs.Io.KnownBytes.{Keeps};
+ghost use Rattle.std.specs.Io.Buffered.{writer_inner, writer_contents};
+ghost use Rattle.superio_script.specs.Script.{RunsUpTo, EndsAtRestore};
+
+use std::alloc::Global;
 use std::io;
+use std::io::{BufWriter, Read, Write};
 use std::process::ExitCode;
-use superio_script::run_script;
+use superio_script::{ScriptFault, run_script};
+
+/// Runs a script as [`run_script`] does, and then writes out what the buffer still holds, however the run ended: after
+/// a bad line too, the replies to the lines before it have gone out.
+///
+/// # Errors
+///
+/// Those of [`run_script`]. Where the buffer's bytes could not be written, that is [`ScriptFault::Io`].
+fn run_buffered<R: Read, W: Write + Drop>(
+    alloc: Global,
+    reader: &mut R,
+    output: &mut BufWriter<W>,
+) -> Result<(), ScriptFault>
+    ensures ok { OnOk result (IfSome (R.remaining reader.old) (λ script.
+        RunsUpTo None script (R.remaining reader.new) (writer_contents W.contents output.old) (W.contents (writer_inner output.new)))) }
+    ensures bad { (number : ℕ) → result ≡ Err (ScriptFault.Bad number) → IfSome (R.remaining reader.old) (λ script.
+        RunsUpTo (Some number) script (R.remaining reader.new) (writer_contents W.contents output.old) (W.contents (writer_inner output.new))) }
+    ensures memory { result ≡ Err ScriptFault.Memory
+        → Keeps (writer_contents W.contents output.old) (W.contents (writer_inner output.new))
+        ⊎ IfSome (R.remaining reader.old) (λ script.
+        EndsAtRestore script (writer_contents W.contents output.old) (W.contents (writer_inner output.new))) }
+    ensures too_long { result ≡ Err ScriptFault.TooLong → IfSome (R.remaining reader.old) (λ script. 65536 < length script) }
+    ensures too_long_unwritten { result ≡ Err ScriptFault.TooLong
+        → Keeps (writer_contents W.contents output.old) (W.contents (writer_inner output.new)) }
+{
+    let end = run_script(alloc, reader, output);
+    match output.flush() {
+        Ok(()) => end,
+        Err(_) => Err(ScriptFault::Io),
+    }
+}
+
+/// Runs the script on standard input.
+fn run(rt: &HostRuntime) -> Result<(), ScriptFault> {
+    let writer = io::writer(rt);
+    let mut output = BufWriter::new(rt.alloc(), writer).map_err(|_| ScriptFault::Memory)?;
+    run_buffered(rt.alloc(), &mut rt.reader(), &mut output)
+}
 
 fn main(rt: HostRuntime) -> ExitCode {
-    match run_script(rt.alloc(), &mut rt.reader(), &mut io::writer(&rt)) {
+    match run(&rt) {
         Ok(()) => ExitCode::SUCCESS,
         Err(fault) => {
             // The status says what went wrong even where standard error takes no message.
             let _ = eprintln!(rt; "{fault}");
             ExitCode::from(fault.status())
         }
+    }
+}
+
+#[cfg(test)]
+mod tests {
+    use super::*;
+    use std::test::Fail;
+
+    #[test]
+    fn replies_go_out_however_the_run_ends(rt: HostRuntime) -> Result<(), Fail> {
+        let alloc = rt.alloc();
+        let rows: [(&[u8], &[u8], Result<(), ScriptFault>); 4] = [
+            (b"", b"", Ok(())),
+            (b"kr 04\nkr 04\n", b"00\n00\n", Ok(())),
+            (b"kr 04\nkr 4\nkr 04\n", b"00\n", Err(ScriptFault::Bad(2))),
+            (b"kr 4\n", b"", Err(ScriptFault::Bad(1))),
+        ];
+        for (script, printed, end) in rows {
+            let mut reader = script;
+            let mut output = BufWriter::new(alloc, Vec::new(alloc))?;
+            assert_eq!(rt; run_buffered(alloc, &mut reader, &mut output), end);
+            assert_eq!(rt; output.get_ref().as_slice(), printed);
+        }
+        Ok(())
+    }
+
+    #[test]
+    fn an_output_without_room_is_a_fault_of_its_own(rt: HostRuntime) -> Result<(), Fail> {
+        let alloc = rt.alloc();
+        // Room for one reply. A fault comes before a bad line.
+        let rows: [(&[u8], Result<(), ScriptFault>); 4] = [
+            (b"kr 04\n", Ok(())),
+            (b"kr 04\nkr 04\n", Err(ScriptFault::Io)),
+            (b"kr 04\nkr 04\nkr 4\n", Err(ScriptFault::Io)),
+            (b"kr 04\nkr 4\n", Err(ScriptFault::Bad(2))),
+        ];
+        for (script, end) in rows {
+            let mut reader = script;
+            let mut room = [0; 3];
+            let mut output = BufWriter::new(alloc, room.as_mut_slice())?;
+            assert_eq!(rt; run_buffered(alloc, &mut reader, &mut output), end);
+            drop(output);
+            assert_eq!(rt; room, *b"00\n");
+        }
+        Ok(())
     }
 }
