@@ -1,0 +1,53 @@
+-- Which ports of a PC's bus are whose, and what an access is there.
+use Rattle.std.specs.Prelude.{ℕ, Bool, ◌&&◌, ◌||◌, ◌==◌, not, nat_le, List, [], ◌∷◌, Option, None, Result, Ok, Err}
+use Rattle.vm_superio.specs.declared.run.Asked.{Asked}
+use Rattle.vm_superio.specs.declared.run.Asked.TheVariants as asked
+use Rattle.vm_superio.specs.declared.run.Sent.{Sent}
+use Rattle.vm_superio.specs.declared.run.Sent.TheVariants as sent
+use Rattle.vm_superio.specs.declared.serial.errors.Error.{Error}
+use Rattle.vm_superio.specs.Acts.{Reads, Writes, Given}
+use Rattle.vm_superio.specs.Events.{Event}
+use Rattle.vm_superio.specs.Port.{Port, IsCase, write_reply, refusal_of}
+use Rattle.superio_examples.specs.declared.bus.BusError.{BusError}
+use Rattle.superio_examples.specs.declared.bus.BusError.TheVariants.{Serial, Reset}
+
+-- the serial port's eight ports, COM1
+abbrev pub is_com1 : ℕ → Bool
+is_com1 port = nat_le 0x3F8 port && nat_le port 0x3FF
+
+-- the controller's five ports
+abbrev pub is_i8042 : ℕ → Bool
+is_i8042 port = nat_le 0x60 port && nat_le port 0x64
+
+-- nobody's port
+abbrev pub is_vacant : ℕ → Bool
+is_vacant port = not (is_com1 port || is_i8042 port)
+
+-- a write resets the machine: the command 0xFE at port 0x64
+abbrev pub is_reset : ℕ → ℕ → Bool
+is_reset port value = (port == 0x64) && (value == 0xFE)
+
+-- a call case of a read at the serial port, which gives the byte
+abbrev pub IsReadCase : {T E EV W : Type 0} → (T → List (Result (Unit {0}) E) → T → Type 0) → (EV → List Event → EV → Type 0) → (W → Option (List ℕ)) → (offset byte : ℕ) → Port T EV W → Port T EV W → Type 0
+IsReadCase trigger_link events_link contents offset byte old new =
+    IsCase trigger_link events_link contents (Reads offset) asked.Nothing sent.Nothing (Given byte) None old new
+
+-- a call case of a write at the serial port, with what the serial port answers
+abbrev pub IsWriteCase : {T E EV W : Type 0} → (T → List (Result (Unit {0}) E) → T → Type 0) → (EV → List Event → EV → Type 0) → (W → Option (List ℕ)) → (offset value : ℕ) → Result (Unit {0}) (Error E) → Port T EV W → Port T EV W → Type 0
+IsWriteCase trigger_link events_link contents offset value answer old new =
+    (asked : Asked) × (sent : Sent)
+    × IsCase trigger_link events_link contents (Writes offset value) asked sent (write_reply answer) (refusal_of answer) old new
+
+-- the same, where the bus hands on that answer: its error is then the serial port's
+abbrev pub HandsOnWrite : {T E EV W F : Type 0} → (T → List (Result (Unit {0}) E) → T → Type 0) → (EV → List Event → EV → Type 0) → (W → Option (List ℕ)) → (offset value : ℕ) → Result (Unit {0}) (BusError E F) → Port T EV W → Port T EV W → Type 0
+HandsOnWrite trigger_link events_link contents offset value (Ok done) old new =
+    IsWriteCase trigger_link events_link contents offset value (Ok tt) old new
+HandsOnWrite trigger_link events_link contents offset value (Err (Serial error)) old new =
+    IsWriteCase trigger_link events_link contents offset value (Err error) old new
+HandsOnWrite trigger_link events_link contents offset value (Err (Reset refusal)) old new = ⊥
+
+-- the reset trigger is called once, and the bus hands on its answer: its error is then the trigger's
+abbrev pub HandsOnReset : {R E F : Type 0} → (R → List (Result (Unit {0}) F) → R → Type 0) → Result (Unit {0}) (BusError E F) → R → R → Type 0
+HandsOnReset link (Ok done) old new = link old (Ok tt ∷ []) new
+HandsOnReset link (Err (Reset refusal)) old new = link old (Err refusal ∷ []) new
+HandsOnReset link (Err (Serial error)) old new = ⊥

@@ -1,0 +1,78 @@
+//! Input on its way to a guest: it waits until the serial port's FIFO has room, and no byte of it is lost.
+ghost use Rattle.std.specs.Prelude.{◌≡◌, ◌+◌, ℕ, List, [], ◌∷◌, ◌++◌, length, drop, OnOk, OnErr, IfOk, IfErr};
+ghost use Rattle.vm_superio.specs.Coherent.{Coherent};
+ghost use Rattle.superio_examples.specs.Input.{room_in, IsEnqueueCase};
+
+use std::alloc::{AllocError, Global};
+use std::io::Write;
+use std::marker::Model;
+use vm_superio::serial::{Error, SerialEvents};
+use vm_superio::{Serial, Trigger};
+
+/// The bytes that a guest has still to be handed, oldest first. In a contract it is the list of them.
+#[derive(Drop)]
+pub struct Input {
+    waiting: Vec<u8>,
+}
+
+impl Model for Input {
+    ghost Value = { List ℕ };
+
+    ghost view = { λ input. input.waiting.items };
+}
+
+impl Input {
+    /// No input yet. It takes no memory.
+    pub fn new(alloc: Global) -> Input
+        ensures { result ≡ [] }
+    {
+        let waiting = Vec::new(alloc);
+        Input { waiting }
+    }
+
+    /// The bytes that wait. While there are any, a monitor need not ask the host for more.
+    pub fn waiting(&self) -> &[u8]
+        ensures { result.now ≡ self.now }
+    {
+        &self.waiting
+    }
+
+    /// Has these bytes wait behind the others. Where memory is refused nothing changes.
+    pub fn push(&mut self, bytes: &[u8]) -> Result<(), AllocError>
+        ensures ok { OnOk result (self.new ≡ self.old ++ bytes.now) }
+        ensures err { OnErr result (self.new ≡ self.old) }
+    {
+        self.waiting.extend_from_slice(bytes)
+    }
+
+    /// Hands the port the first bytes that wait, as many as its FIFO has room for, and answers how many. The others
+    /// stay. In loopback the port takes none.
+    ///
+    /// # Errors
+    ///
+    /// The trigger's refusal. The bytes went in all the same, and wait no more; but nobody told the guest.
+    pub fn feed<T: Trigger, EV: SerialEvents, W: Write>(
+        &mut self,
+        serial: &mut Serial<T, EV, W>,
+    ) -> Result<usize, T::E>
+        ensures kept { serial.new.state.in_buffer ++ self.new ≡ serial.old.state.in_buffer ++ self.old }
+        ensures room { self.new ≡ drop (room_in serial.old.state) self.old }
+        ensures count { IfOk result (λ count. length self.old ≡ count + length self.new) }
+        ensures refused { IfErr result (λ refusal. T.link serial.old.trigger (Err refusal ∷ []) serial.new.trigger) }
+        ensures case { IsEnqueueCase T.link EV.link W.contents self.old result serial.old serial.new }
+        ensures coherent { Coherent serial.old.state → Coherent serial.new.state }
+    {
+        let room = serial.fifo_capacity();
+        let answer = serial.enqueue_raw_bytes(&self.waiting);
+        // What went in shows in the room that is left, after a refusal too.
+        let count = room - serial.fifo_capacity();
+        self.waiting.drain(..count);
+        match answer {
+            Ok(_) => Ok(count),
+            Err(error) => match error {
+                Error::Trigger(refusal) => Err(refusal),
+                _ => Ok(count),
+            },
+        }
+    }
+}

@@ -1,0 +1,78 @@
+//! Moves a serial port and a clock to another machine: saved there, and made anew here.
+ghost use Rattle.std.specs.Prelude.{◌≡◌, IfOk, IfErr};
+ghost use Rattle.vm_superio.specs.SavedState.{state_of};
+ghost use Rattle.superio_examples.specs.Migration.{IsMadeOf, HandsBack};
+
+use std::alloc::{AllocError, Global};
+use std::io::Write;
+use vm_superio::rtc_pl031::RtcEvents;
+use vm_superio::serial::{Refused, SerialEvents};
+use vm_superio::{Rtc, RtcState, Serial, SerialState, Trigger};
+
+/// What is sent to the other machine.
+#[derive(Debug, Drop, Eq, PartialEq)]
+pub struct Saved {
+    pub serial: SerialState,
+    pub clock: RtcState,
+}
+
+/// The devices, made anew over objects of the other machine.
+#[derive(Drop)]
+pub struct Restored<T: Trigger, EV: SerialEvents, W: Write, CE: RtcEvents> {
+    pub serial: Serial<T, EV, W>,
+    pub clock: Rtc<CE>,
+}
+
+/// A restore that was refused: why, with the serial port's objects, and the clock's events object.
+#[derive(Drop)]
+pub struct NotRestored<T: Trigger, EV, W, CE> {
+    pub serial: Refused<T, EV, W>,
+    pub clock_events: CE,
+}
+
+/// Saves both devices, which go on as they are.
+///
+/// # Errors
+///
+/// `AllocError` where memory for the received bytes was refused.
+pub fn save<T: Trigger, EV: SerialEvents, W: Write, CE: RtcEvents>(
+    alloc: Global,
+    serial: &Serial<T, EV, W>,
+    clock: &Rtc<CE>,
+) -> Result<Saved, AllocError>
+    ensures serial { IfOk result (λ saved. state_of saved.serial ≡ serial.now.state) }
+    ensures clock { IfOk result (λ saved. saved.clock ≡ clock.now.state) }
+{
+    Ok(Saved {
+        serial: serial.state(alloc)?,
+        clock: clock.state(),
+    })
+}
+
+/// Makes both devices of what was saved, and calls the trigger for each interrupt that the guest has not taken.
+///
+/// # Errors
+///
+/// [`NotRestored`], with all objects, where the state has more than 64 received bytes or the trigger refuses a call.
+pub fn restore<T: Trigger, EV: SerialEvents, W: Write, CE: RtcEvents>(
+    alloc: Global,
+    saved: &Saved,
+    trigger: T,
+    events: EV,
+    out: W,
+    clock_events: CE,
+) -> Result<Restored<T, EV, W, CE>, NotRestored<T, EV, W, CE>>
+    ensures made { IfOk result (IsMadeOf T.link saved.now trigger events out clock_events) }
+    ensures refused { IfErr result (HandsBack T.link saved.now trigger events out clock_events) }
+{
+    match Serial::from_state(alloc, &saved.serial, trigger, events, out) {
+        Ok(serial) => {
+            let clock = Rtc::from_state(&saved.clock, clock_events);
+            Ok(Restored { serial, clock })
+        }
+        Err(serial) => Err(NotRestored {
+            serial,
+            clock_events,
+        }),
+    }
+}

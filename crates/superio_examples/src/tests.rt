@@ -1,0 +1,144 @@
+//! The three programs at work, over the objects of a script's board.
+use crate::bus::{Bus, BusError};
+use crate::input::Input;
+use crate::migration::{restore, save};
+use std::io::sink;
+use std::test::Fail;
+use superio_script::{Counts, Line, LineRefused, Output};
+use vm_superio::serial::{Error, NoEvents, Refused};
+use vm_superio::{I8042Device, Rtc, Serial};
+
+#[test]
+fn a_bus_reaches_its_devices_by_port(rt: HostRuntime) -> Result<(), Fail> {
+    let serial = Serial::new(rt.alloc(), Line::new(0b10), Output::new());
+    let mut bus = Bus {
+        serial: serial.map_err(Refused::into_error)?,
+        controller: I8042Device::new(Line::new(0b1)),
+    };
+    for byte in b"hi" {
+        bus.write(0x3F8, *byte)?;
+    }
+    assert_eq!(rt; bus.serial.writer().bytes(), b"hi".as_slice());
+
+    // The scratch register and the line status; the controller's first and last port.
+    bus.write(0x3FF, 0x5A)?;
+    for (port, want) in [(0x3FF, 0x5A), (0x3FD, 0x60), (0x60, 0x00), (0x64, 0x00)] {
+        assert_eq!(rt; bus.read(port), want, "at {port}");
+    }
+
+    // Ports that are nobody's, beside those of the devices and far from them.
+    for port in [0x5F, 0x65, 0x3F7, 0x400, 0, 0xFFFF] {
+        bus.write(port, 0xFE)?;
+        assert_eq!(rt; bus.read(port), 0xFF, "at {port}");
+    }
+    assert_eq!(rt; bus.controller.reset_evt().calls(), 0);
+
+    // The first reset is refused, and the next is not. So is the second interrupt.
+    assert!(rt; matches!(bus.write(0x64, 0xFE), Err(BusError::Reset(LineRefused))));
+    bus.write(0x64, 0xFE)?;
+    assert_eq!(rt; bus.controller.reset_evt().calls(), 2);
+    bus.write(0x3F9, 0x02)?;
+    assert_eq!(rt; bus.read(0x3FA), 0xC2);
+    let refused = bus.write(0x3F9, 0x02);
+    assert!(rt; matches!(refused, Err(BusError::Serial(Error::Trigger(LineRefused)))));
+    Ok(())
+}
+
+#[test]
+fn devices_go_on_on_another_machine(rt: HostRuntime) -> Result<(), Fail> {
+    let alloc = rt.alloc();
+    let mut serial = Serial::new(alloc, Line::new(0), sink()).map_err(Refused::into_error)?;
+    serial.write(1, 0x01)?;
+    assert_eq!(rt; serial.enqueue_raw_bytes(b"abc")?, 3);
+    assert_eq!(rt; serial.read(0), b'a');
+    assert_eq!(rt; serial.enqueue_raw_bytes(b"d")?, 1);
+    let mut clock = Rtc::new();
+    clock.write(0x008, &1_000u32.to_le_bytes(), 5_000_000);
+    let mut saved = save(alloc, &serial, &clock)?;
+    drop(serial);
+
+    // The trigger is called for the interrupt that the guest has not taken.
+    let restored = restore(
+        alloc,
+        &saved,
+        Line::new(0),
+        Counts::new(),
+        Output::new(),
+        Counts::new(),
+    );
+    let Ok(mut moved) = restored else {
+        return Err("refused")?;
+    };
+    assert_eq!(rt; moved.serial.interrupt_evt().calls(), 1);
+    for (offset, want) in [(2, 0xC4), (0, b'b'), (0, b'c'), (0, b'd'), (5, 0x60)] {
+        assert_eq!(rt; moved.serial.read(offset), want, "at {offset}");
+    }
+    let mut bytes = [0; 4];
+    moved.clock.read(0x000, &mut bytes, 5_000_007);
+    assert_eq!(rt; u32::from_le_bytes(bytes), 1_007);
+
+    // Where its trigger refuses, or there are too many bytes, the objects come back.
+    let refused = restore(
+        alloc,
+        &saved,
+        Line::new(1),
+        Counts::new(),
+        Output::new(),
+        Counts::new(),
+    );
+    let Err(refused) = refused else {
+        return Err("restored")?;
+    };
+    assert!(rt; matches!(refused.serial.error, Error::Trigger(LineRefused)));
+    assert_eq!(rt; refused.serial.trigger.calls(), 1);
+    assert_eq!(rt; refused.clock_events.invalid_read_count(), 0);
+    saved.serial.in_buffer.extend_from_slice(&[0; 62])?;
+    let full = restore(
+        alloc,
+        &saved,
+        Line::new(0),
+        Counts::new(),
+        Output::new(),
+        Counts::new(),
+    );
+    assert!(rt; matches!(full, Err(refused) if matches!(refused.serial.error, Error::FullFifo)));
+    Ok(())
+}
+
+#[test]
+fn every_byte_of_the_input_is_read_once(rt: HostRuntime) -> Result<(), Fail> {
+    let alloc = rt.alloc();
+    let line = Line::new(0b1);
+    let serial = Serial::with_events(alloc, line, NoEvents, sink());
+    let mut serial = serial.map_err(Refused::into_error)?;
+    let mut input = Input::new(alloc);
+    for byte in 0..100u8 {
+        input.push(&[byte])?;
+    }
+
+    // In loopback nothing goes in.
+    serial.write(4, 0x10)?;
+    assert_eq!(rt; input.feed(&mut serial), Ok(0));
+    serial.write(4, 0x00)?;
+    assert_eq!(rt; input.waiting().len(), 100);
+
+    // The interrupt is refused, and 64 bytes went in; then there is no room.
+    serial.write(1, 0x01)?;
+    assert_eq!(rt; input.feed(&mut serial), Err(LineRefused));
+    assert_eq!(rt; input.waiting().len(), 36);
+    assert_eq!(rt; input.feed(&mut serial), Ok(0));
+    for byte in 0..10 {
+        assert_eq!(rt; serial.read(0), byte);
+    }
+    assert_eq!(rt; input.feed(&mut serial), Ok(10));
+    for byte in 10..74 {
+        assert_eq!(rt; serial.read(0), byte);
+    }
+    assert_eq!(rt; input.feed(&mut serial), Ok(26));
+    for byte in 74..100 {
+        assert_eq!(rt; serial.read(0), byte);
+    }
+    assert_eq!(rt; serial.read(5), 0x60);
+    assert_eq!(rt; input.waiting(), [].as_slice());
+    Ok(())
+}
