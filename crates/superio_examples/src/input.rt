@@ -34,7 +34,7 @@ impl Input {
     pub fn waiting(&self) -> &[u8]
         ensures { result.now ≡ self.now }
     {
-        &self.waiting
+        self.waiting.as_slice()
     }
 
     /// Has these bytes wait behind the others. Where memory is refused nothing changes.
