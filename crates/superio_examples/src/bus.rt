@@ -53,7 +53,8 @@ impl<T: Trigger, EV: SerialEvents, W: Write, R: Trigger> Bus<T, EV, W, R> {
     ///
     /// # Errors
     ///
-    /// Those of the device. The guest's write is done all the same, and must not be made again.
+    /// [`BusError::Serial`]: the write has had its effect on the registers, and is not to be made again.
+    /// [`BusError::Reset`]: nobody was told of the reset.
     pub fn write(&mut self, port: u16, value: u8) -> Result<(), BusError<T::E, R::E>>
         ensures serial { OnTrue (is_com1 port)
             (HandsOnWrite T.link EV.link W.contents (port - COM1) value result self.old.serial self.new.serial) }
