@@ -7,7 +7,8 @@ use Rattle.vm_superio.specs.declared.run.Sent.TheVariants as sent
 use Rattle.vm_superio.specs.declared.serial.errors.Error.{Error}
 use Rattle.vm_superio.specs.Acts.{Reads, Writes, Given}
 use Rattle.vm_superio.specs.Events.{Event}
-use Rattle.vm_superio.specs.Port.{Port, IsCase, write_reply, refusal_of}
+use Rattle.vm_superio.specs.CallCase.{IsCase}
+use Rattle.vm_superio.specs.Port.{Port, write_reply, refusal_of}
 use Rattle.superio_examples.specs.declared.bus.BusError.{BusError}
 use Rattle.superio_examples.specs.declared.bus.BusError.TheVariants.{Serial, Reset}
 

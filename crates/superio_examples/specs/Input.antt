@@ -7,7 +7,8 @@ use Rattle.vm_superio.specs.State.{State}
 use Rattle.vm_superio.specs.Registers.{is_loopback}
 use Rattle.vm_superio.specs.Acts.{Enqueues, Answer}
 use Rattle.vm_superio.specs.Events.{Event}
-use Rattle.vm_superio.specs.Port.{Port, IsCase}
+use Rattle.vm_superio.specs.CallCase.{IsCase}
+use Rattle.vm_superio.specs.Port.{Port}
 
 -- how many bytes a serial port takes at the most: what is left of its 64, and in loopback none
 abbrev pub room_in : State → ℕ

@@ -3,7 +3,8 @@ use Rattle.std.proofs.Common.{◌≡◌, ◌-◌, length, drop, Option, None, ru
 use Rattle.vm_superio.specs.declared.run.Asked.{Asked}
 use Rattle.vm_superio.specs.declared.run.Sent.{Sent}
 use Rattle.vm_superio.specs.Acts.{Enqueues, Answer}
-use Rattle.vm_superio.specs.Port.{IsCase, refusal_of, refusal_in}
+use Rattle.vm_superio.specs.CallCase.{IsCase}
+use Rattle.vm_superio.specs.Port.{refusal_of, refusal_in}
 use Rattle.vm_superio.specs.Asking.{accepted_of, receive}
 use Rattle.superio_examples.proofs.InputLemmas.{room-taken, held-waiting, length-accepted, drop-accepted, refusal_in-other}
 use Rattle.superio_examples.proofs.input.Input.feed.Given.{Over}
