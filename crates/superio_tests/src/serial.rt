@@ -7,6 +7,7 @@ mod carried;
 mod errors;
 mod history;
 mod hostile;
+mod order;
 mod rows;
 mod saved;
 mod writers;

@@ -1,6 +1,6 @@
 //! What each rule shows, worked out by hand.
 
-use super::writers::{Fate, Fated, Slots};
+use super::writers::{Fate, Fated, InterruptedOnce, Slots};
 use super::*;
 use std::io::sink;
 use std::test::Fail;
@@ -331,6 +331,24 @@ fn each_byte_goes_out_or_is_lost(rt: HostRuntime) -> Result<(), Fail> {
         ..Counts::default()
     };
     assert_eq!(rt; *serial.events(), one_each);
+    assert_eq!(rt; serial.writer().bytes.as_slice(), b"A".as_slice());
+    Ok(())
+}
+
+#[test]
+fn an_interrupted_write_is_made_again(rt: HostRuntime) -> Result<(), Fail> {
+    let writer = InterruptedOnce {
+        bytes: Vec::new(rt.alloc()),
+        writes: 0,
+    };
+    let mut serial = fresh(rt.alloc(), 0, writer)?;
+    follow(&rt, &mut serial, &[Put(DATA, b'A')]);
+    let one_out = Counts {
+        out_bytes: 1,
+        ..Counts::default()
+    };
+    assert_eq!(rt; *serial.events(), one_out);
+    assert_eq!(rt; serial.writer().writes, 2);
     assert_eq!(rt; serial.writer().bytes.as_slice(), b"A".as_slice());
     Ok(())
 }

@@ -73,3 +73,25 @@ impl Write for Fated {
         Ok(())
     }
 }
+
+/// Answers its first call of `write` that it was interrupted, and takes every byte after that.
+#[derive(Drop)]
+pub struct InterruptedOnce {
+    pub bytes: Vec<u8>,
+    pub writes: usize,
+}
+
+impl Write for InterruptedOnce {
+    fn write(&mut self, buf: &[u8]) -> io::Result<usize> {
+        self.writes = self.writes.saturating_add(1);
+        if self.writes == 1 {
+            return Err(io::Error::from(ErrorKind::Interrupted));
+        }
+        self.bytes.extend_from_slice(buf)?;
+        Ok(buf.len())
+    }
+
+    fn flush(&mut self) -> io::Result<()> {
+        Ok(())
+    }
+}
