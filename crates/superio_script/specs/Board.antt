@@ -48,8 +48,8 @@ pub record IsFresh (mask : ℕ) (board : Devices) : Type 0 where
   pub controller : board.controller ≡ fresh_line 0
 
 -- a line of the serial port is one step of its part of a script: from each session that the port is at, for some
--- choice, it replies what the session replies, and the port is then at the session after the line. That no more than 256
--- bytes go out before a loss follows, over lines, from where the port is: its output holds no more
+-- choice, it replies what the session replies, and the port is then at the session after the line. That no more than
+-- 256 bytes go out before a loss, over lines, follows from where the port is: its output holds no more
 abbrev pub IsSerialStep : SerialLine → List ℕ → Port LineCalls EventCounts Output → Port LineCalls EventCounts Output → Type 0
 IsSerialStep line reply old new =
     (before : Session) → IsAt before old → (choice : Choice)
