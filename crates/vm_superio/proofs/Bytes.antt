@@ -6,7 +6,8 @@ use Rattle.std.specs.Prelude.{bit_or}
 use Rattle.std.specs.Int.Bits.{and_zero_r, and_mask, or_mod}
 use Rattle.std.proofs.Math.Nat.{mod-lt}
 use Rattle.std.proofs.lemmas.Nat.{and_assoc}
-use Rattle.vm_superio.specs.State.{has_bits, masked, joined, without, with_data_ready}
+use Rattle.vm_superio.specs.Port.Bits.{has_bits, masked, joined, without}
+use Rattle.vm_superio.specs.History.Reads.{with_data_ready}
 
 -- ---- what holds of each byte, by computing it for all
 

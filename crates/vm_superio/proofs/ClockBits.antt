@@ -5,7 +5,7 @@ use Rattle.std.specs.Int.{bit_at}
 use Rattle.std.specs.Int.Bits.{xor_add_and, and_self}
 use Rattle.std.proofs.lemmas.Nat.{and-not, and_comm, and_assoc}
 use Rattle.std.proofs.lemmas.Nat.Bits.{bit_at_and, bit_at_or, bit_at_xor, bit_at-lt, same_from_bits}
-use Rattle.vm_superio.specs.ClockRegisters.{without_bits}
+use Rattle.vm_superio.specs.Clock.Registers.{without_bits}
 
 -- what the program computes, a number `&` the complement of the cleared bits
 pub and_not_is_without_bits : (number cleared : ℕ) → number < 2 ^ 32 → cleared < 2 ^ 32 → bit_and number (2 ^ 32 - 1 - cleared) ≡ without_bits number cleared

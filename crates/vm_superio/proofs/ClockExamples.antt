@@ -1,26 +1,26 @@
 -- Worked examples of the clock, each computed by the cases of the accesses and by the history.
 use Rattle.std.specs.Prelude.{◌≡◌, ℕ, pos, List, [], ◌∷◌, ◌++◌, Option, Some, None, refl}
 use Rattle.vm_superio.specs.declared.rtc_pl031.RtcState.{RtcState}
-use Rattle.vm_superio.specs.RtcEvents.{RtcEvent, invalid_read, invalid_write}
-use Rattle.vm_superio.specs.ClockRegisters.{Access, read, write, bytes_left}
-use Rattle.vm_superio.specs.Clock.{fresh, answer, next, events_of, state_after}
-use Rattle.vm_superio.specs.ClockHistory.{state_by_history, answer_by_history}
+use Rattle.vm_superio.specs.Clock.Events.{RtcEvent, invalid_read, invalid_write}
+use Rattle.vm_superio.specs.Clock.Registers.{Access, read, write, bytes_left, fresh_clock}
+use Rattle.vm_superio.specs.Clock.Step.{clock_response, clock_step, clock_events, state_after_accesses}
+use Rattle.vm_superio.specs.Clock.History.{clock_of_history, clock_history_response}
 
 -- the answers of some accesses, oldest first, by the cases
 abbrev by_cases : RtcState → List Access → List (Option ℕ)
 by_cases state [] = []
-by_cases state (access ∷ rest) = answer state access ∷ by_cases (next state access) rest
+by_cases state (access ∷ rest) = clock_response state access ∷ by_cases (clock_step state access) rest
 
 -- the answers of some accesses, oldest first, by the history
-abbrev by_history : (start : RtcState) (past : List Access) → List Access → List (Option ℕ)
-by_history start past [] = []
-by_history start past (access ∷ rest) =
-    answer_by_history start past access ∷ by_history start (access ∷ past) rest
+abbrev by_history : (start : RtcState) (trace : List Access) → List Access → List (Option ℕ)
+by_history start trace [] = []
+by_history start trace (access ∷ rest) =
+    clock_history_response start trace access ∷ by_history start (access ∷ trace) rest
 
 -- what some accesses tell the events object
 abbrev told : List Access → List RtcEvent
 told [] = []
-told (access ∷ rest) = events_of access ++ told rest
+told (access ∷ rest) = clock_events access ++ told rest
 
 -- the accesses have these answers, by the cases and by the history, and tell these events
 record Gives (start : RtcState) (accesses : List Access) (answers : List (Option ℕ)) (events : List RtcEvent) : Type 0 where
@@ -28,19 +28,19 @@ record Gives (start : RtcState) (accesses : List Access) (answers : List (Option
   history : by_history start [] accesses ≡ answers
   tells : told accesses ≡ events
 
-load_sets_guest_time : Gives fresh
+load_sets_guest_time : Gives fresh_clock
     (write 0x008 100 1000 ∷ read 0x000 1007 ∷ [])
     (None ∷ Some 107 ∷ [])
     []
 load_sets_guest_time = record { cases = refl; history = refl; tells = refl }
 
-guest_time_does_not_wrap : Gives fresh
+guest_time_does_not_wrap : Gives fresh_clock
     (write 0x008 4294967295 1000 ∷ read 0x000 1000 ∷ read 0x000 1001 ∷ read 0x008 1001 ∷ [])
     (None ∷ Some 4294967295 ∷ Some 1001 ∷ Some 4294967295 ∷ [])
     []
 guest_time_does_not_wrap = record { cases = refl; history = refl; tells = refl }
 
-guest_time_before_the_first_second_is_the_host_time : Gives fresh
+guest_time_before_the_first_second_is_the_host_time : Gives fresh_clock
     (write 0x008 5 1000 ∷ read 0x000 996 ∷ read 0x000 995 ∷ read 0x000 994 ∷ [])
     (None ∷ Some 1 ∷ Some 0 ∷ Some 994 ∷ [])
     []
@@ -56,7 +56,7 @@ a_sum_past_64_bits_is_the_host_time : Gives far_ahead
     []
 a_sum_past_64_bits_is_the_host_time = record { cases = refl; history = refl; tells = refl }
 
-only_a_control_write_of_1_resets : Gives fresh
+only_a_control_write_of_1_resets : Gives fresh_clock
     (write 0x008 100 1000 ∷ write 0x00C 2 1001 ∷ read 0x000 1007 ∷ write 0x00C 1 1008 ∷ read 0x000 1009 ∷ read 0x008 1009 ∷ read 0x00C 1009 ∷ [])
     (None ∷ None ∷ Some 107 ∷ None ∷ Some 1009 ∷ Some 0 ∷ Some 1 ∷ [])
     []
@@ -66,13 +66,13 @@ only_a_control_write_of_1_resets = record { cases = refl; history = refl; tells 
 abbrev loaded_late : List Access
 loaded_late = write 0x008 5 4294967297 ∷ []
 
-the_low_32_bits_of_a_moment_count : Gives fresh
+the_low_32_bits_of_a_moment_count : Gives fresh_clock
     (write 0x008 5 4294967297 ∷ read 0x000 3 ∷ [])
     (None ∷ Some 7 ∷ [])
     []
 the_low_32_bits_of_a_moment_count = record { cases = refl; history = refl; tells = refl }
 
-the_offset_is_the_load_less_the_host_time : ((state_after fresh loaded_late).offset ≡ pos 4) × ((state_by_history fresh loaded_late).offset ≡ pos 4)
+the_offset_is_the_load_less_the_host_time : ((state_after_accesses fresh_clock loaded_late).offset ≡ pos 4) × ((clock_of_history fresh_clock loaded_late).offset ≡ pos 4)
 the_offset_is_the_load_less_the_host_time = (refl, refl)
 
 -- a restored clock whose interrupt is raised and not masked
@@ -85,13 +85,13 @@ the_mask_is_one_bit_and_a_clear_takes_bits_away : Gives raised
     []
 the_mask_is_one_bit_and_a_clear_takes_bits_away = record { cases = refl; history = refl; tells = refl }
 
-the_match_register_shows_what_was_written : Gives fresh
+the_match_register_shows_what_was_written : Gives fresh_clock
     (write 0x004 123 1000 ∷ read 0x004 1000 ∷ read 0x014 1000 ∷ [])
     (None ∷ Some 123 ∷ Some 0 ∷ [])
     []
 the_match_register_shows_what_was_written = record { cases = refl; history = refl; tells = refl }
 
-an_invalid_read_answers_nothing_and_is_told : Gives fresh
+an_invalid_read_answers_nothing_and_is_told : Gives fresh_clock
     (read 0x01C 1000 ∷ read 0xFE5 1000 ∷ read 0xFFF 1000 ∷ read 0x1003 1000 ∷ [])
     (None ∷ Some 0x10 ∷ Some 0xB1 ∷ None ∷ [])
     (invalid_read ∷ invalid_read ∷ [])
@@ -107,8 +107,8 @@ an_invalid_write_changes_nothing_and_is_told = record { cases = refl; history = 
 abbrev bytes_of_123 : List ℕ
 bytes_of_123 = 0x7B ∷ 0x00 ∷ 0x00 ∷ 0x00 ∷ []
 
-an_invalid_read_leaves_the_bytes : bytes_left (answer fresh (read 0x01C 1000)) bytes_of_123 ≡ bytes_of_123
+an_invalid_read_leaves_the_bytes : bytes_left (clock_response fresh_clock (read 0x01C 1000)) bytes_of_123 ≡ bytes_of_123
 an_invalid_read_leaves_the_bytes = refl
 
-the_identification_shows_a_byte_and_three_zeros : bytes_left (answer fresh (read 0xFE5 1000)) bytes_of_123 ≡ 0x10 ∷ 0x00 ∷ 0x00 ∷ 0x00 ∷ []
+the_identification_shows_a_byte_and_three_zeros : bytes_left (clock_response fresh_clock (read 0xFE5 1000)) bytes_of_123 ≡ 0x10 ∷ 0x00 ∷ 0x00 ∷ 0x00 ∷ []
 the_identification_shows_a_byte_and_three_zeros = refl

@@ -8,81 +8,80 @@ use Rattle.vm_superio.specs.declared.run.Asked.TheVariants.{Nothing, Took, Refus
 use Rattle.vm_superio.specs.declared.run.Sent.{Sent}
 use Rattle.vm_superio.specs.declared.run.Sent.TheVariants as sent
 use Rattle.std.proofs.Math.Nat.{add-le-add}
-use Rattle.vm_superio.specs.State.{State, masked, not_empty}
-use Rattle.vm_superio.specs.Registers.{Register, Data, InterruptIdentification, register, is_dlab, is_loopback, Receive, Transmit}
-use Rattle.vm_superio.specs.Events.{buffer_read, in_buffer_empty}
-use Rattle.vm_superio.specs.Acts.{Deed, Reads, Writes, Enqueues, Restores, is_sent}
-use Rattle.vm_superio.specs.Asking.{becomes_pending, receive_becomes_pending, ask_while_held}
-use Rattle.vm_superio.specs.Meaning.{that_fit, kind_in, Kind, EnableWrite, DataWrite, Arrival, DataRead, read_kind, kind_of, sent_by}
-use Rattle.vm_superio.specs.Fits.{receive_due, due_by, asked_fits, due, sends}
-use Rattle.vm_superio.specs.Calls.{read_events, sent_events, events}
-use Rattle.vm_superio.specs.Laws.{EventsLaw, ExactTestLaw}
-use Rattle.vm_superio.specs.LawWords.{tells_fate, asked_when, sent_when}
+use Rattle.vm_superio.specs.Port.State.{State, not_empty}
+use Rattle.vm_superio.specs.Port.Bits.{masked}
+use Rattle.vm_superio.specs.Port.Registers.{Register, RbrThr, Iir, register_at, is_dlab, is_loopback, Rda, Thre}
+use Rattle.vm_superio.specs.Port.Operations.{buffer_read, in_buffer_empty, Op, Read, Write, Enqueue, Restore, is_sent}
+use Rattle.vm_superio.specs.Step.Raising.{becomes_pending, rda_becomes_pending, raise_rda_while_held, bytes_that_fit}
+use Rattle.vm_superio.specs.Step.Admissible.{kind_in_state, arrival_calls, kind_calls, answers_all, step_calls, sends_byte}
+use Rattle.vm_superio.specs.Port.OpKinds.{OpKind, IerWrite, ThrWrite, Arrival, RbrRead, read_kind, kind_of, sent_by}
+use Rattle.vm_superio.specs.Step.Transition.{read_events, sent_events, step_events}
+use Rattle.vm_superio.specs.Laws.OneCall.{EventsLaw, ExactTestLaw, reports_outcome, asked_when, sent_when}
 use Rattle.vm_superio.proofs.Bounds.{one_at_most}
 
 -- what is told of a byte, where one is sent or not
 abbrev sent_fits : Bool → Sent → Bool
-sent_fits sends what = beq (is_sent what) sends
+sent_fits sends_byte outcome = beq (is_sent outcome) sends_byte
 
 -- ---- events
 
-read_tells : (last : Bool) → count_by tells_fate ((if last then [] else in_buffer_empty ∷ []) ++ buffer_read ∷ []) ≡ 0
+read_tells : (last : Bool) → count_by reports_outcome ((if last then [] else in_buffer_empty ∷ []) ++ buffer_read ∷ []) ≡ 0
 read_tells true = refl
 read_tells false = refl
 
-read_told : (r : Register) (held : List ℕ) → count_by tells_fate (read_events r held) ≡ length (sent_by (read_kind r))
-read_told Data held = read_tells _
-read_told InterruptIdentification held = refl
+read_told : (r : Register) (held : List ℕ) → count_by reports_outcome (read_events r held) ≡ length (sent_by (read_kind r))
+read_told RbrThr held = read_tells _
+read_told Iir held = refl
 read_told _ held = refl
 
-sent_once : (what : Sent) → IsTrue (sent_fits true what) → count_by tells_fate (sent_events what) ≡ 1
+sent_once : (outcome : Sent) → IsTrue (sent_fits true outcome) → count_by reports_outcome (sent_events outcome) ≡ 1
 sent_once sent.Nothing fit = absurd (false≢true fit)
 sent_once sent.Out fit = refl
 sent_once sent.Lost fit = refl
 
-not_sent : (what : Sent) → IsTrue (sent_fits false what) → count_by tells_fate (sent_events what) ≡ 0
+not_sent : (outcome : Sent) → IsTrue (sent_fits false outcome) → count_by reports_outcome (sent_events outcome) ≡ 0
 not_sent sent.Nothing fit = refl
 not_sent sent.Out fit = absurd (false≢true fit)
 not_sent sent.Lost fit = absurd (false≢true fit)
 
-sent_told : (k : Kind) (what : Sent) → IsTrue (sent_fits (not_empty (sent_by k)) what)
-    → count_by tells_fate (sent_events what) ≡ length (sent_by k)
-sent_told (DataWrite value) what fit = sent_once what fit
-sent_told _ what fit = not_sent what fit
+sent_told : (k : OpKind) (outcome : Sent) → IsTrue (sent_fits (not_empty (sent_by k)) outcome)
+    → count_by reports_outcome (sent_events outcome) ≡ length (sent_by k)
+sent_told (ThrWrite value) outcome fit = sent_once outcome fit
+sent_told _ outcome fit = not_sent outcome fit
 
-enqueue_told : (loopback dlab : Bool) (bytes : List ℕ) → 0 ≡ length (sent_by (kind_of dlab loopback (Enqueues bytes)))
+enqueue_told : (loopback dlab : Bool) (bytes : List ℕ) → 0 ≡ length (sent_by (kind_of dlab loopback (Enqueue bytes)))
 enqueue_told true dlab bytes = refl
 enqueue_told false dlab bytes = refl
 
-told : (s : State) (act : Deed) (what : Sent) → IsTrue (sent_fits (sends s act) what)
-    → count_by tells_fate (events s act what) ≡ length (sent_by (kind_in s act))
-told s (Reads offset) what fit = read_told (register (is_dlab s.line_control) offset) s.in_buffer
-told s (Writes offset value) what fit =
-    sent_told (kind_in s (Writes offset value)) what fit
-told s (Enqueues bytes) what fit = enqueue_told (is_loopback s.modem_control) (is_dlab s.line_control) bytes
-told s Restores what fit = refl
+told : (s : State) (op : Op) (outcome : Sent) → IsTrue (sent_fits (sends_byte s op) outcome)
+    → count_by reports_outcome (step_events s op outcome) ≡ length (sent_by (kind_in_state s op))
+told s (Read offset) outcome fit = read_told (register_at (is_dlab s.line_control) offset) s.in_buffer
+told s (Write offset value) outcome fit =
+    sent_told (kind_in_state s (Write offset value)) outcome fit
+told s (Enqueue bytes) outcome fit = enqueue_told (is_loopback s.modem_control) (is_dlab s.line_control) bytes
+told s Restore outcome fit = refl
 
 pub events_law : EventsLaw
-events_law s act asked what fit =
-    told s act what (and_parts (asked_fits (due s act) asked) (sent_fits (sends s act) what) fit).1
+events_law s op asked outcome fit =
+    told s op outcome (and_parts (answers_all (step_calls s op) asked) (sent_fits (sends_byte s op) outcome) fit).1
 
 -- ---- the test is neither too narrow nor too wide
 
-received_at_most : (new : List ℕ) (s : State) → receive_due new s ≤ 2
+received_at_most : (new : List ℕ) (s : State) → arrival_calls new s ≤ 2
 received_at_most [] s = omega arith
 received_at_most (byte ∷ bytes) s =
-    omega (arith, one_at_most (becomes_pending Receive s.interrupt_enable s.interrupt_identification))
+    omega (arith, one_at_most (becomes_pending Rda s.interrupt_enable s.interrupt_identification))
 
-two_at_most : (k : Kind) (s : State) → due_by k s ≤ 2
-two_at_most (EnableWrite value) s =
+two_at_most : (k : OpKind) (s : State) → kind_calls k s ≤ 2
+two_at_most (IerWrite value) s =
     let enable = masked value 0x0F in
     let old = s.interrupt_identification in
-    add-le-add (one_at_most (receive_becomes_pending s.in_buffer enable old))
-    (one_at_most (becomes_pending Transmit enable (ask_while_held s.in_buffer enable old)))
-two_at_most (DataWrite value) s =
-    omega (arith, one_at_most (becomes_pending Transmit s.interrupt_enable s.interrupt_identification))
-two_at_most (Arrival bytes) s = received_at_most (that_fit s.in_buffer bytes) s
-two_at_most DataRead s = omega arith
+    add-le-add (one_at_most (rda_becomes_pending s.in_buffer enable old))
+    (one_at_most (becomes_pending Thre enable (raise_rda_while_held s.in_buffer enable old)))
+two_at_most (ThrWrite value) s =
+    omega (arith, one_at_most (becomes_pending Thre s.interrupt_enable s.interrupt_identification))
+two_at_most (Arrival bytes) s = received_at_most (bytes_that_fit s.in_buffer bytes) s
+two_at_most RbrRead s = omega arith
 two_at_most _ s = omega arith
 
 -- the answers that pass are those that some answers to the calls give
@@ -98,7 +97,7 @@ refused_exact zero fit = absurd (false≢true fit)
 refused_exact (suc zero) fit = (false, true, refl)
 refused_exact (suc (suc more)) fit = (false, true, refl)
 
-asked_exact : (calls : ℕ) (asked : Asked) → IsTrue (asked_fits calls asked) → Exact calls asked
+asked_exact : (calls : ℕ) (asked : Asked) → IsTrue (answers_all calls asked) → Exact calls asked
 unfolding Exact
 asked_exact calls Nothing fit = exact_at calls 0 Nothing (true, true, refl) fit
 asked_exact calls Took fit = exact_at calls 1 Took (true, true, refl) fit
@@ -106,7 +105,7 @@ asked_exact calls Refused fit = refused_exact calls fit
 asked_exact calls TookTook fit = exact_at calls 2 TookTook (true, true, refl) fit
 asked_exact calls TookRefused fit = exact_at calls 2 TookRefused (true, false, refl) fit
 
-asked_passes : (calls : ℕ) (first second : Bool) → calls ≤ 2 → IsTrue (asked_fits calls (asked_when calls first second))
+asked_passes : (calls : ℕ) (first second : Bool) → calls ≤ 2 → IsTrue (answers_all calls (asked_when calls first second))
 asked_passes zero first second small = refl
 asked_passes (suc zero) true second small = refl
 asked_passes (suc zero) false second small = refl
@@ -115,8 +114,8 @@ asked_passes (suc (suc zero)) true false small = refl
 asked_passes (suc (suc zero)) false second small = refl
 asked_passes (suc (suc (suc more))) first second small = absurd (omega arith)
 
-sent_exact : (sends : Bool) (what : Sent) → IsTrue (sent_fits sends what)
-    → (success : Bool) × (what ≡ sent_when sends success)
+sent_exact : (sends_byte : Bool) (outcome : Sent) → IsTrue (sent_fits sends_byte outcome)
+    → (success : Bool) × (outcome ≡ sent_when sends_byte success)
 sent_exact true sent.Nothing fit = absurd (false≢true fit)
 sent_exact true sent.Out fit = (true, refl)
 sent_exact true sent.Lost fit = (false, refl)
@@ -124,23 +123,23 @@ sent_exact false sent.Nothing fit = (true, refl)
 sent_exact false sent.Out fit = absurd (false≢true fit)
 sent_exact false sent.Lost fit = absurd (false≢true fit)
 
-sent_passes : (sends success : Bool) → IsTrue (sent_fits sends (sent_when sends success))
+sent_passes : (sends_byte success : Bool) → IsTrue (sent_fits sends_byte (sent_when sends_byte success))
 sent_passes true true = refl
 sent_passes true false = refl
 sent_passes false success = refl
 
-due_at_most : (s : State) (act : Deed) → due s act ≤ 2
-due_at_most s act = two_at_most (kind_in s act) s
+due_at_most : (s : State) (op : Op) → step_calls s op ≤ 2
+due_at_most s op = two_at_most (kind_in_state s op) s
 
 pub exact_test_law : ExactTestLaw
 unfolding Exact
-exact_test_law s act asked what = (
+exact_test_law s op asked outcome = (
   λ fit.
       let answers =
-      asked_exact (due s act) asked (and_parts (asked_fits (due s act) asked) (sent_fits (sends s act) what) fit).0 in
-      let fate = sent_exact (sends s act) what
-      (and_parts (asked_fits (due s act) asked) (sent_fits (sends s act) what) fit).1 in
-      (answers.0, answers.1, fate.0, answers.2, fate.1),
-  λ some. rw (some.3, some.4, asked_passes (due s act) some.0 some.1 (due_at_most s act))
-      (sent_passes (sends s act) some.2),
+      asked_exact (step_calls s op) asked (and_parts (answers_all (step_calls s op) asked) (sent_fits (sends_byte s op) outcome) fit).0 in
+      let outcome_fits = sent_exact (sends_byte s op) outcome
+      (and_parts (answers_all (step_calls s op) asked) (sent_fits (sends_byte s op) outcome) fit).1 in
+      (answers.0, answers.1, outcome_fits.0, answers.2, outcome_fits.1),
+  λ some. rw (some.3, some.4, asked_passes (step_calls s op) some.0 some.1 (due_at_most s op))
+      (sent_passes (sends_byte s op) some.2),
 )

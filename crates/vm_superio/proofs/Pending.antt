@@ -4,17 +4,18 @@ use Rattle.std.specs.Prelude.{if◌then◌else◌}
 use Rattle.std.specs.Bool.{beq}
 use Rattle.std.proofs.Math.Bool.{and-true}
 use Rattle.vm_superio.specs.declared.run.Asked.{Asked}
-use Rattle.vm_superio.specs.State.{State, has_bits, masked, without, not_empty}
-use Rattle.vm_superio.specs.Registers.{Transmit, Receive, identification_of, transmit_first}
-use Rattle.vm_superio.specs.Acts.{Entry, is_refused, is_sent, one_if}
-use Rattle.vm_superio.specs.Asking.{ask, ask_while_held, becomes_pending, receive_becomes_pending, receive}
-use Rattle.vm_superio.specs.Meaning.{that_fit, Kind, DataRead, IdentificationRead, EnableWrite, DataWrite, Arrival, Other, sent_by, is_identification_read}
-use Rattle.vm_superio.specs.Fits.{receive_due, due_by, asked_fits, due, fits}
-use Rattle.vm_superio.specs.History.{kind, held}
-use Rattle.vm_superio.specs.Interrupts.{receive_raised_by, acknowledges_receive, receive_pending, transmit_raised_by, transmit_pending, answer_count, record_fits, restore_calls_due}
-use Rattle.vm_superio.specs.Replies.{identification}
-use Rattle.vm_superio.specs.Calls.{restore_calls}
-use Rattle.vm_superio.specs.Laws.{state_after, InterruptLaw}
+use Rattle.vm_superio.specs.Port.State.{State, not_empty}
+use Rattle.vm_superio.specs.Port.Bits.{has_bits, masked, without}
+use Rattle.vm_superio.specs.Port.Registers.{Thre, Rda, identification_of, thre_then_rda}
+use Rattle.vm_superio.specs.Port.Operations.{TraceEntry, is_refused_once, is_sent, one_if, answer_count}
+use Rattle.vm_superio.specs.Step.Raising.{raise, raise_rda_while_held, becomes_pending, rda_becomes_pending, receive_bytes, bytes_that_fit}
+use Rattle.vm_superio.specs.Port.OpKinds.{OpKind, RbrRead, IirRead, IerWrite, ThrWrite, Arrival, Other, sent_by, is_iir_read}
+use Rattle.vm_superio.specs.Step.Admissible.{arrival_calls, kind_calls, answers_all, step_calls, is_admissible}
+use Rattle.vm_superio.specs.History.Registers.{kind_at, held_bytes}
+use Rattle.vm_superio.specs.History.Interrupts.{raises_rda, acknowledges_rda, rda_pending, raises_thre, thre_pending, is_well_formed_entry, restore_calls_due}
+use Rattle.vm_superio.specs.History.Reads.{interrupt_identification}
+use Rattle.vm_superio.specs.Step.Restore.{restore_calls}
+use Rattle.vm_superio.specs.Laws.Agreement.{state_after, InterruptLaw}
 use Rattle.vm_superio.proofs.Asks.{receive_bit, transmit_bit, read_clears, ask_receive, ask_transmit, receive_new, transmit_new, enable_receives, enable_leaves, enable_transmits, answers_counted}
 use Rattle.vm_superio.proofs.ByKind.{by_kind, next_at_place, same_kind}
 use Rattle.vm_superio.proofs.RegisterSteps.{register_law}
@@ -23,99 +24,99 @@ use Rattle.vm_superio.proofs.Held.{held_bytes_law}
 -- ---- one act
 
 -- a trigger call is due for the receive condition
-abbrev receive_called : Kind → List ℕ → ℕ → Bool → Bool
-receive_called k held enable receive = receive_raised_by k held enable && not receive
+abbrev receive_called : OpKind → List ℕ → ℕ → Bool → Bool
+receive_called k held_bytes enable receive_bytes = raises_rda k held_bytes enable && not receive_bytes
 
 -- the conditions that are pending afterwards
-abbrev pub transmit_next : Kind → List ℕ → ℕ → Asked → Bool → Bool → Bool
-transmit_next k held enable asked transmit receive =
-    transmit_raised_by k enable (receive_called k held enable receive && is_refused asked) ||
-    (not (is_identification_read k) && transmit)
+abbrev pub transmit_next : OpKind → List ℕ → ℕ → Asked → Bool → Bool → Bool
+transmit_next k held_bytes enable asked thre receive_bytes =
+    raises_thre k enable (receive_called k held_bytes enable receive_bytes && is_refused_once asked) ||
+    (not (is_iir_read k) && thre)
 
-abbrev pub receive_next : Kind → List ℕ → ℕ → Bool → Bool
-receive_next k held enable receive = receive_raised_by k held enable || (not (acknowledges_receive k) && receive)
+abbrev pub receive_next : OpKind → List ℕ → ℕ → Bool → Bool
+receive_next k held_bytes enable receive_bytes = raises_rda k held_bytes enable || (not (acknowledges_rda k) && receive_bytes)
 
-received_pending : (new : List ℕ) (s : State) (transmit receive_before : Bool)
-    → s.interrupt_identification ≡ identification_of transmit receive_before
-    → (receive new s).interrupt_identification
-    ≡ identification_of transmit ((not_empty new && has_bits s.interrupt_enable 0x01) || receive_before)
-received_pending [] s transmit before e = e
-received_pending (byte ∷ bytes) s transmit before e =
-    ap (ask Receive s.interrupt_enable) e ∙ ask_receive s.interrupt_enable transmit before
+received_pending : (new : List ℕ) (s : State) (thre receive_before : Bool)
+    → s.interrupt_identification ≡ identification_of thre receive_before
+    → (receive_bytes new s).interrupt_identification
+    ≡ identification_of thre ((not_empty new && has_bits s.interrupt_enable 0x01) || receive_before)
+received_pending [] s thre before e = e
+received_pending (byte ∷ bytes) s thre before e =
+    ap (raise Rda s.interrupt_enable) e ∙ ask_receive s.interrupt_enable thre before
 
 -- what an interrupt-enable write leaves of an identification, if the trigger refuses for the receive condition or not
 abbrev enabled_if : Bool → List ℕ → ℕ → ℕ → ℕ
-enabled_if refused held value old =
-    let new = ask_while_held held (masked value 0x0F) old in
-    if refused then new else ask Transmit (masked value 0x0F) new
+enabled_if refused held_bytes value old =
+    let new = raise_rda_while_held held_bytes (masked value 0x0F) old in
+    if refused then new else raise Thre (masked value 0x0F) new
 
 abbrev enabled : List ℕ → ℕ → Asked → ℕ → ℕ
-enabled held value asked old =
-    enabled_if (receive_becomes_pending held (masked value 0x0F) old && is_refused asked) held value old
+enabled held_bytes value asked old =
+    enabled_if (rda_becomes_pending held_bytes (masked value 0x0F) old && is_refused_once asked) held_bytes value old
 
 -- from the identification of two conditions to that of the next two
-pub pending_by_kind : (k : Kind) (asked : Asked) (s : State) (transmit receive : Bool)
-    → s.interrupt_identification ≡ identification_of transmit receive
+pub pending_by_kind : (k : OpKind) (asked : Asked) (s : State) (thre receive_bytes : Bool)
+    → s.interrupt_identification ≡ identification_of thre receive_bytes
     → (by_kind k asked s).interrupt_identification
-    ≡ identification_of (transmit_next k s.in_buffer s.interrupt_enable asked transmit receive)
-    (receive_next k s.in_buffer s.interrupt_enable receive)
-pending_by_kind DataRead asked s transmit receive e =
-    ap (λ old. let new = without old 0x04 in if new == 0 then 1 else new) e ∙ read_clears transmit receive
-pending_by_kind IdentificationRead asked s transmit receive e = refl
-pending_by_kind (EnableWrite value) asked s transmit receive e =
+    ≡ identification_of (transmit_next k s.in_buffer s.interrupt_enable asked thre receive_bytes)
+    (receive_next k s.in_buffer s.interrupt_enable receive_bytes)
+pending_by_kind RbrRead asked s thre receive_bytes e =
+    ap (λ old. let new = without old 0x04 in if new == 0 then 1 else new) e ∙ read_clears thre receive_bytes
+pending_by_kind IirRead asked s thre receive_bytes e = refl
+pending_by_kind (IerWrite value) asked s thre receive_bytes e =
     ap (λ old. enabled s.in_buffer value asked old) e
-    ∙ ap (λ new. enabled_if (new && is_refused asked) s.in_buffer value (identification_of transmit receive))
-    (enable_receives s.in_buffer value transmit receive)
+    ∙ ap (λ new. enabled_if (new && is_refused_once asked) s.in_buffer value (identification_of thre receive_bytes))
+    (enable_receives s.in_buffer value thre receive_bytes)
     ∙ enable_leaves
-    (receive_called (EnableWrite value) s.in_buffer s.interrupt_enable receive
-    && is_refused asked) s.in_buffer value transmit receive
-pending_by_kind (DataWrite value) asked s transmit receive e =
-    ap (ask Transmit s.interrupt_enable) e ∙ ask_transmit s.interrupt_enable transmit receive
-pending_by_kind (Arrival bytes) asked s transmit receive e =
-    received_pending (that_fit s.in_buffer bytes) s transmit receive e
-pending_by_kind Other asked s transmit receive e = e
+    (receive_called (IerWrite value) s.in_buffer s.interrupt_enable receive_bytes
+    && is_refused_once asked) s.in_buffer value thre receive_bytes
+pending_by_kind (ThrWrite value) asked s thre receive_bytes e =
+    ap (raise Thre s.interrupt_enable) e ∙ ask_transmit s.interrupt_enable thre receive_bytes
+pending_by_kind (Arrival bytes) asked s thre receive_bytes e =
+    received_pending (bytes_that_fit s.in_buffer bytes) s thre receive_bytes e
+pending_by_kind Other asked s thre receive_bytes e = e
 
-received_due : (new : List ℕ) (s : State) (transmit receive : Bool)
-    → s.interrupt_identification ≡ identification_of transmit receive
-    → receive_due new s ≡ one_if ((not_empty new && has_bits s.interrupt_enable 0x01) && not receive) + 0
-received_due [] s transmit receive e = refl
-received_due (byte ∷ bytes) s transmit receive e =
-    ap (λ old. one_if (becomes_pending Receive s.interrupt_enable old)) e
-    ∙ ap one_if (receive_new s.interrupt_enable transmit receive) ∙ sym (add-zero _)
+received_due : (new : List ℕ) (s : State) (thre receive_bytes : Bool)
+    → s.interrupt_identification ≡ identification_of thre receive_bytes
+    → arrival_calls new s ≡ one_if ((not_empty new && has_bits s.interrupt_enable 0x01) && not receive_bytes) + 0
+received_due [] s thre receive_bytes e = refl
+received_due (byte ∷ bytes) s thre receive_bytes e =
+    ap (λ old. one_if (becomes_pending Rda s.interrupt_enable old)) e
+    ∙ ap one_if (receive_new s.interrupt_enable thre receive_bytes) ∙ sym (add-zero _)
 
 -- the calls that are due are those of the conditions that become pending, the second if the first is not refused
-pub due_is : (k : Kind) (s : State) (transmit receive : Bool)
-    → s.interrupt_identification ≡ identification_of transmit receive
-    → due_by k s
-    ≡ one_if (receive_called k s.in_buffer s.interrupt_enable receive)
-    + one_if (transmit_raised_by k s.interrupt_enable false && not transmit)
-due_is (EnableWrite value) s transmit receive e =
+pub due_is : (k : OpKind) (s : State) (thre receive_bytes : Bool)
+    → s.interrupt_identification ≡ identification_of thre receive_bytes
+    → kind_calls k s
+    ≡ one_if (receive_called k s.in_buffer s.interrupt_enable receive_bytes)
+    + one_if (raises_thre k s.interrupt_enable false && not thre)
+due_is (IerWrite value) s thre receive_bytes e =
     let enable = masked value 0x0F in
-    ap (λ old. one_if (receive_becomes_pending s.in_buffer enable old)
-    + one_if (becomes_pending Transmit enable (ask_while_held s.in_buffer enable old))) e
+    ap (λ old. one_if (rda_becomes_pending s.in_buffer enable old)
+    + one_if (becomes_pending Thre enable (raise_rda_while_held s.in_buffer enable old))) e
     ∙ ap (λ new. one_if new
-    + one_if (becomes_pending Transmit enable
-    (ask_while_held s.in_buffer enable (identification_of transmit receive))))
-    (enable_receives s.in_buffer value transmit receive)
-    ∙ ap (λ new. one_if (receive_called (EnableWrite value) s.in_buffer s.interrupt_enable receive) + one_if new)
-    (enable_transmits s.in_buffer value transmit receive
-    ∙ ap (λ bit. bit && not transmit) (sym (and-true (has_bits value 0x02))))
-due_is (DataWrite value) s transmit receive e =
-    ap (λ old. one_if (becomes_pending Transmit s.interrupt_enable old)) e
-    ∙ ap one_if (transmit_new s.interrupt_enable transmit receive) ∙ sym (zero-add _)
-due_is (Arrival bytes) s transmit receive e = received_due (that_fit s.in_buffer bytes) s transmit receive e
-due_is DataRead s transmit receive e = refl
-due_is _ s transmit receive e = refl
+    + one_if (becomes_pending Thre enable
+    (raise_rda_while_held s.in_buffer enable (identification_of thre receive_bytes))))
+    (enable_receives s.in_buffer value thre receive_bytes)
+    ∙ ap (λ new. one_if (receive_called (IerWrite value) s.in_buffer s.interrupt_enable receive_bytes) + one_if new)
+    (enable_transmits s.in_buffer value thre receive_bytes
+    ∙ ap (λ bit. bit && not thre) (sym (and-true (has_bits value 0x02))))
+due_is (ThrWrite value) s thre receive_bytes e =
+    ap (λ old. one_if (becomes_pending Thre s.interrupt_enable old)) e
+    ∙ ap one_if (transmit_new s.interrupt_enable thre receive_bytes) ∙ sym (zero-add _)
+due_is (Arrival bytes) s thre receive_bytes e = received_due (bytes_that_fit s.in_buffer bytes) s thre receive_bytes e
+due_is RbrRead s thre receive_bytes e = refl
+due_is _ s thre receive_bytes e = refl
 
 -- only an interrupt-enable write may end before the transmitter condition
-ends_early : (k : Kind) (held : List ℕ) (enable : ℕ) (receive refused : Bool)
-    → (transmit_raised_by k enable false && not (receive_called k held enable receive && refused))
-    ≡ transmit_raised_by k enable (receive_called k held enable receive && refused)
-ends_early (EnableWrite value) held enable receive refused =
-    ap (λ raised. raised && not (receive_called (EnableWrite value) held enable receive && refused))
+ends_early : (k : OpKind) (held_bytes : List ℕ) (enable : ℕ) (receive_bytes refused : Bool)
+    → (raises_thre k enable false && not (receive_called k held_bytes enable receive_bytes && refused))
+    ≡ raises_thre k enable (receive_called k held_bytes enable receive_bytes && refused)
+ends_early (IerWrite value) held_bytes enable receive_bytes refused =
+    ap (λ raised. raised && not (receive_called (IerWrite value) held_bytes enable receive_bytes && refused))
     (and-true (has_bits value 0x02))
-ends_early (DataWrite value) held enable receive refused = and-true (has_bits enable 0x02)
-ends_early _ held enable receive refused = refl
+ends_early (ThrWrite value) held_bytes enable receive_bytes refused = and-true (has_bits enable 0x02)
+ends_early _ held_bytes enable receive_bytes refused = refl
 
 and_swap : (a b c : Bool) → ((a && b) && c) ≡ ((a && c) && b)
 and_swap true true true = refl
@@ -125,88 +126,88 @@ and_swap true false false = refl
 and_swap false _ _ = refl
 
 -- as many answers as the conditions that become pending
-test_by_kind : (k : Kind) (asked : Asked) (s : State) (transmit receive : Bool)
-    → s.interrupt_identification ≡ identification_of transmit receive
-    → let first = receive_called k s.in_buffer s.interrupt_enable receive in
-    asked_fits (due_by k s) asked
+test_by_kind : (k : OpKind) (asked : Asked) (s : State) (thre receive_bytes : Bool)
+    → s.interrupt_identification ≡ identification_of thre receive_bytes
+    → let first = receive_called k s.in_buffer s.interrupt_enable receive_bytes in
+    answers_all (kind_calls k s) asked
     ≡ (answer_count asked == one_if first
-    + one_if (transmit_raised_by k s.interrupt_enable (first && is_refused asked) && not transmit))
-test_by_kind k asked s transmit receive e =
-    let first = receive_called k s.in_buffer s.interrupt_enable receive in
-    let second = transmit_raised_by k s.interrupt_enable false in
-    ap (λ calls. asked_fits calls asked) (due_is k s transmit receive e)
-    ∙ answers_counted first (second && not transmit) asked
+    + one_if (raises_thre k s.interrupt_enable (first && is_refused_once asked) && not thre))
+test_by_kind k asked s thre receive_bytes e =
+    let first = receive_called k s.in_buffer s.interrupt_enable receive_bytes in
+    let second = raises_thre k s.interrupt_enable false in
+    ap (λ calls. answers_all calls asked) (due_is k s thre receive_bytes e)
+    ∙ answers_counted first (second && not thre) asked
     ∙ ap (λ new. answer_count asked == one_if first + one_if new)
-    (and_swap second (not transmit) (not (first && is_refused asked))
-    ∙ ap (λ raised. raised && not transmit) (ends_early k s.in_buffer s.interrupt_enable receive (is_refused asked)))
+    (and_swap second (not thre) (not (first && is_refused_once asked))
+    ∙ ap (λ raised. raised && not thre) (ends_early k s.in_buffer s.interrupt_enable receive_bytes (is_refused_once asked)))
 
 -- ---- any past
 
 -- the identification tells what is pending
-pending_law : (start : State) (past : List Entry) (transmit receive : Bool)
-    → start.interrupt_identification ≡ identification_of transmit receive
-    → (state_after start past).interrupt_identification ≡ identification start past
-pending_law start [] transmit receive e =
-    e ∙ ap (λ bit. identification_of bit receive)
-    (sym (transmit_bit transmit receive) ∙ ap (λ byte. has_bits byte 0x02) (sym e))
+pending_law : (start : State) (trace : List TraceEntry) (thre receive_bytes : Bool)
+    → start.interrupt_identification ≡ identification_of thre receive_bytes
+    → (state_after start trace).interrupt_identification ≡ interrupt_identification start trace
+pending_law start [] thre receive_bytes e =
+    e ∙ ap (λ bit. identification_of bit receive_bytes)
+    (sym (transmit_bit thre receive_bytes) ∙ ap (λ byte. has_bits byte 0x02) (sym e))
     ∙ ap (identification_of (has_bits start.interrupt_identification 0x02))
-    (sym (receive_bit transmit receive) ∙ ap (λ byte. has_bits byte 0x04) (sym e))
-pending_law start (entry ∷ past) transmit receive e =
-    let s = state_after start past in
-    let k = kind start past entry.act in
-    let registers = register_law start past in
-    let t = transmit_pending start past in
-    let r = receive_pending start past in
+    (sym (receive_bit thre receive_bytes) ∙ ap (λ byte. has_bits byte 0x04) (sym e))
+pending_law start (entry ∷ trace) thre receive_bytes e =
+    let s = state_after start trace in
+    let k = kind_at start trace entry.op in
+    let registers = register_law start trace in
+    let t = thre_pending start trace in
+    let r = rda_pending start trace in
     let next_of =
     λ (bytes : List ℕ) (enable : ℕ). identification_of (transmit_next k bytes enable entry.asked t r)
     (receive_next k bytes enable r) in
-    (next_at_place start past entry).interrupt_identification
-    ∙ pending_by_kind k entry.asked s t r (pending_law start past transmit receive e)
-    ∙ ap (λ bytes. next_of bytes s.interrupt_enable) (held_bytes_law start past)
-    ∙ ap (next_of (held start past)) registers.interrupt_enable
+    (next_at_place start trace entry).interrupt_identification
+    ∙ pending_by_kind k entry.asked s t r (pending_law start trace thre receive_bytes e)
+    ∙ ap (λ bytes. next_of bytes s.interrupt_enable) (held_bytes_law start trace)
+    ∙ ap (next_of (held_bytes start trace)) registers.interrupt_enable
 
 -- a record passes the test exactly where it fits
-fits_law : (start : State) (past : List Entry) (transmit receive : Bool) (entry : Entry)
-    → start.interrupt_identification ≡ identification_of transmit receive
-    → fits (state_after start past) entry.act entry.asked entry.sent ≡ record_fits start past entry
-fits_law start past transmit receive entry e =
-    let s = state_after start past in
-    let k = kind start past entry.act in
-    let registers = register_law start past in
-    let same = same_kind start past entry.act in
-    let t = transmit_pending start past in
-    let r = receive_pending start past in
-    let fate = beq (is_sent entry.sent) (not_empty (sent_by k)) in
+fits_law : (start : State) (trace : List TraceEntry) (thre receive_bytes : Bool) (entry : TraceEntry)
+    → start.interrupt_identification ≡ identification_of thre receive_bytes
+    → is_admissible (state_after start trace) entry.op entry.asked entry.sent ≡ is_well_formed_entry start trace entry
+fits_law start trace thre receive_bytes entry e =
+    let s = state_after start trace in
+    let k = kind_at start trace entry.op in
+    let registers = register_law start trace in
+    let same = same_kind start trace entry.op in
+    let t = thre_pending start trace in
+    let r = rda_pending start trace in
+    let outcome_fits = beq (is_sent entry.sent) (not_empty (sent_by k)) in
     let calls_of = λ (bytes : List ℕ) (enable : ℕ).
     one_if (receive_called k bytes enable r)
-    + one_if (transmit_raised_by k enable (receive_called k bytes enable r && is_refused entry.asked) && not t) in
-    ap (λ test. asked_fits (due s entry.act) entry.asked && test)
-    (ap (λ (k : Kind). beq (is_sent entry.sent) (not_empty (sent_by k))) same)
-    ∙ ap (λ calls. asked_fits calls entry.asked && fate) (ap (λ (k : Kind). due_by k s) same)
-    ∙ ap (λ test. test && fate)
-    (test_by_kind k entry.asked s t r (pending_law start past transmit receive e)
-    ∙ ap (λ bytes. answer_count entry.asked == calls_of bytes s.interrupt_enable) (held_bytes_law start past)
-    ∙ ap (λ enable. answer_count entry.asked == calls_of (held start past) enable) registers.interrupt_enable)
+    + one_if (raises_thre k enable (receive_called k bytes enable r && is_refused_once entry.asked) && not t) in
+    ap (λ test. answers_all (step_calls s entry.op) entry.asked && test)
+    (ap (λ (k : OpKind). beq (is_sent entry.sent) (not_empty (sent_by k))) same)
+    ∙ ap (λ calls. answers_all calls entry.asked && outcome_fits) (ap (λ (k : OpKind). kind_calls k s) same)
+    ∙ ap (λ test. test && outcome_fits)
+    (test_by_kind k entry.asked s t r (pending_law start trace thre receive_bytes e)
+    ∙ ap (λ bytes. answer_count entry.asked == calls_of bytes s.interrupt_enable) (held_bytes_law start trace)
+    ∙ ap (λ enable. answer_count entry.asked == calls_of (held_bytes start trace) enable) registers.interrupt_enable)
 
 -- a restore calls the trigger for what is pending and enabled
-restoring_law : (start : State) (past : List Entry) (transmit receive : Bool)
-    → start.interrupt_identification ≡ identification_of transmit receive
-    → restore_calls (state_after start past) ≡ restore_calls_due start past
-restoring_law start past transmit receive e =
-    let t = transmit_pending start past in
-    let r = receive_pending start past in
+restoring_law : (start : State) (trace : List TraceEntry) (thre receive_bytes : Bool)
+    → start.interrupt_identification ≡ identification_of thre receive_bytes
+    → restore_calls (state_after start trace) ≡ restore_calls_due start trace
+restoring_law start trace thre receive_bytes e =
+    let t = thre_pending start trace in
+    let r = rda_pending start trace in
     let calls_of =
-    λ (t r : Bool) (enable : ℕ). transmit_first (t && has_bits enable 0x02) (r && has_bits enable 0x01) in
-    let s = state_after start past in
+    λ (t r : Bool) (enable : ℕ). thre_then_rda (t && has_bits enable 0x02) (r && has_bits enable 0x01) in
+    let s = state_after start trace in
     ap (λ old. calls_of (has_bits old 0x02) (has_bits old 0x04) s.interrupt_enable)
-    (pending_law start past transmit receive e)
+    (pending_law start trace thre receive_bytes e)
     ∙ ap (λ bit. calls_of bit (has_bits (identification_of t r) 0x04) s.interrupt_enable) (transmit_bit t r)
     ∙ ap (λ bit. calls_of t bit s.interrupt_enable) (receive_bit t r)
-    ∙ ap (calls_of t r) (register_law start past).interrupt_enable
+    ∙ ap (calls_of t r) (register_law start trace).interrupt_enable
 
 pub interrupt_law : InterruptLaw
-interrupt_law start past transmit receive e = record {
-  pending = pending_law start past transmit receive e;
-  calls = λ entry. fits_law start past transmit receive entry e;
-  restoring = restoring_law start past transmit receive e;
+interrupt_law start trace thre receive_bytes e = record {
+  pending = pending_law start trace thre receive_bytes e;
+  calls = λ entry. fits_law start trace thre receive_bytes entry e;
+  restoring = restoring_law start trace thre receive_bytes e;
 }

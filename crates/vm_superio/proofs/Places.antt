@@ -5,14 +5,16 @@ use Rattle.std.proofs.lemmas.Bool.{and_parts, false≢true}
 use Rattle.std.specs.Prelude.{IsTrue}
 use Rattle.std.specs.Bool.{IsFalse}
 use Rattle.vm_superio.specs.declared.run.Asked.{Asked}
-use Rattle.vm_superio.specs.State.{State, has_bits, not_empty}
-use Rattle.vm_superio.specs.Acts.{Entry}
-use Rattle.vm_superio.specs.Asking.{receive}
-use Rattle.vm_superio.specs.Meaning.{that_fit, Kind, DataRead, IdentificationRead, EnableWrite, DataWrite, Arrival, Other, is_identification_read}
-use Rattle.vm_superio.specs.History.{kind, held, interrupt_enable}
-use Rattle.vm_superio.specs.Interrupts.{still_raised, receive_raised, acknowledges_receive, receive_pending, transmit_raised}
-use Rattle.vm_superio.specs.Laws.{PendingByPlacesLaw, WaitingBytesLaw, state_after}
-use Rattle.vm_superio.specs.Pasts.{NoneAcknowledges, PendingByPlaces, tells_of_bytes}
+use Rattle.vm_superio.specs.Port.State.{State, not_empty}
+use Rattle.vm_superio.specs.Port.Bits.{has_bits}
+use Rattle.vm_superio.specs.Port.Operations.{TraceEntry}
+use Rattle.vm_superio.specs.Step.Raising.{receive_bytes, bytes_that_fit}
+use Rattle.vm_superio.specs.Port.OpKinds.{OpKind, RbrRead, IirRead, IerWrite, ThrWrite, Arrival, Other, is_iir_read}
+use Rattle.vm_superio.specs.History.Registers.{kind_at, held_bytes, interrupt_enable}
+use Rattle.vm_superio.specs.History.Interrupts.{raised_since, rda_raised, acknowledges_rda, rda_pending, thre_raised}
+use Rattle.vm_superio.specs.Laws.Consequences.{PendingByPrefixesLaw, WaitingBytesLaw, PendingByPrefixes}
+use Rattle.vm_superio.specs.Laws.Agreement.{state_after}
+use Rattle.vm_superio.specs.History.Properties.{NoneAcknowledges, shows_waiting_bytes}
 use Rattle.vm_superio.proofs.Bytes.{enables_receive}
 use Rattle.vm_superio.proofs.ByKind.{by_kind, next_at_place}
 use Rattle.vm_superio.proofs.RegisterSteps.{register_law}
@@ -26,25 +28,25 @@ nothing_there [] before x e = cc
 nothing_there (y ∷ after) before x e = cc
 
 -- one more record that does not acknowledge
-none_more : (start : State) (acknowledges : Kind → Bool) (newest past : List Entry) (entry : Entry)
-    → IsFalse (acknowledges (kind start (newest ++ past) entry.act)) → NoneAcknowledges start acknowledges newest past
-    → NoneAcknowledges start acknowledges (entry ∷ newest) past
-none_more start acknowledges newest past entry not_here none [] before x e =
+none_more : (start : State) (acknowledges : OpKind → Bool) (newest trace : List TraceEntry) (entry : TraceEntry)
+    → IsFalse (acknowledges (kind_at start (newest ++ trace) entry.op)) → NoneAcknowledges start acknowledges newest trace
+    → NoneAcknowledges start acknowledges (entry ∷ newest) trace
+none_more start acknowledges newest trace entry not_here none [] before x e =
     let same_entry : entry ≡ x = cc in
     let same_rest : newest ≡ before = cc in
-    subst (λ (x : Entry). IsFalse (acknowledges (kind start (before ++ past) x.act))) same_entry
-    (subst (λ (rest : List Entry). IsFalse (acknowledges (kind start (rest ++ past) entry.act))) same_rest not_here)
-none_more start acknowledges newest past entry not_here none (y ∷ after) before x e =
+    subst (λ (x : TraceEntry). IsFalse (acknowledges (kind_at start (before ++ trace) x.op))) same_entry
+    (subst (λ (rest : List TraceEntry). IsFalse (acknowledges (kind_at start (rest ++ trace) entry.op))) same_rest not_here)
+none_more start acknowledges newest trace entry not_here none (y ∷ after) before x e =
     let rest : newest ≡ after ++ x ∷ before = cc in none after before x rest
 
 -- and one fewer
-none_fewer : (start : State) (acknowledges : Kind → Bool) (newest past : List Entry) (entry : Entry)
-    → NoneAcknowledges start acknowledges (entry ∷ newest) past → NoneAcknowledges start acknowledges newest past
-none_fewer start acknowledges newest past entry none after before x e =
+none_fewer : (start : State) (acknowledges : OpKind → Bool) (newest trace : List TraceEntry) (entry : TraceEntry)
+    → NoneAcknowledges start acknowledges (entry ∷ newest) trace → NoneAcknowledges start acknowledges newest trace
+none_fewer start acknowledges newest trace entry none after before x e =
     none (entry ∷ after) before x (ap (λ rest. entry ∷ rest) e)
 
-nowhere : (start : State) (acknowledges : Kind → Bool) (past : List Entry) → NoneAcknowledges start acknowledges [] past
-nowhere start acknowledges past after before entry absent = absurd (nothing_there after before entry absent)
+nowhere : (start : State) (acknowledges : OpKind → Bool) (trace : List TraceEntry) → NoneAcknowledges start acknowledges [] trace
+nowhere start acknowledges trace after before entry absent = absurd (nothing_there after before entry absent)
 
 or_true : (b : Bool) → IsTrue (b || true)
 or_true true = refl
@@ -56,22 +58,22 @@ not_false false e = refl
 
 -- ---- pending by places
 
-module _ (start : State) (raises : List Entry → Entry → Bool) (acknowledges : Kind → Bool) (first : Bool) where
+module _ (start : State) (raises : List TraceEntry → TraceEntry → Bool) (acknowledges : OpKind → Bool) (first : Bool) where
   -- what was raised stays raised while none acknowledges
-  stays : (newest past : List Entry) → NoneAcknowledges start acknowledges newest past
-      → IsTrue (still_raised start raises acknowledges first past)
-      → IsTrue (still_raised start raises acknowledges first (newest ++ past))
-  stays [] past none raised = raised
-  stays (entry ∷ newest) past none raised =
-      let rest = stays newest past (none_fewer start acknowledges newest past entry none) raised in
+  stays : (newest trace : List TraceEntry) → NoneAcknowledges start acknowledges newest trace
+      → IsTrue (raised_since start raises acknowledges first trace)
+      → IsTrue (raised_since start raises acknowledges first (newest ++ trace))
+  stays [] trace none raised = raised
+  stays (entry ∷ newest) trace none raised =
+      let rest = stays newest trace (none_fewer start acknowledges newest trace entry none) raised in
       let not_here = none [] newest entry refl in
-      rw (not_here, rest) (or_true (raises (newest ++ past) entry))
+      rw (not_here, rest) (or_true (raises (newest ++ trace) entry))
 
   -- a place for the others is one for all, where the newest record does not acknowledge
-  grown : (entry : Entry) (past : List Entry) → IsFalse (acknowledges (kind start past entry.act))
-      → PendingByPlaces start raises acknowledges first past
-      → PendingByPlaces start raises acknowledges first (entry ∷ past)
-  grown entry past not_here (inl (after, before, x, place, raised, none)) =
+  grown : (entry : TraceEntry) (trace : List TraceEntry) → IsFalse (acknowledges (kind_at start trace entry.op))
+      → PendingByPrefixes start raises acknowledges first trace
+      → PendingByPrefixes start raises acknowledges first (entry ∷ trace)
+  grown entry trace not_here (inl (after, before, x, place, raised, none)) =
       inl (
         entry ∷ after,
         before,
@@ -79,59 +81,59 @@ module _ (start : State) (raises : List Entry → Entry → Bool) (acknowledges 
         ap (λ rest. entry ∷ rest) place,
         raised,
         none_more start acknowledges after (x ∷ before) entry
-            (subst (λ (past : List Entry). IsFalse (acknowledges (kind start past entry.act))) place not_here) none,
+            (subst (λ (trace : List TraceEntry). IsFalse (acknowledges (kind_at start trace entry.op))) place not_here) none,
       )
-  grown entry past not_here (inr (pending, none)) =
+  grown entry trace not_here (inr (pending, none)) =
       inr (
         pending,
-        none_more start acknowledges past [] entry
-            (subst (λ (past : List Entry). IsFalse (acknowledges (kind start past entry.act)))
-            (sym (append-nil past)) not_here) none,
+        none_more start acknowledges trace [] entry
+            (subst (λ (trace : List TraceEntry). IsFalse (acknowledges (kind_at start trace entry.op)))
+            (sym (append-nil trace)) not_here) none,
       )
 
-  found : (entry : Entry) (past : List Entry) (here : Bool) → raises past entry ≡ here
-      → (IsTrue (still_raised start raises acknowledges first past)
-      → PendingByPlaces start raises acknowledges first past)
+  found : (entry : TraceEntry) (trace : List TraceEntry) (here : Bool) → raises trace entry ≡ here
+      → (IsTrue (raised_since start raises acknowledges first trace)
+      → PendingByPrefixes start raises acknowledges first trace)
       → IsTrue (here ||
-      (not (acknowledges (kind start past entry.act)) && still_raised start raises acknowledges first past))
-      → PendingByPlaces start raises acknowledges first (entry ∷ past)
-  found entry past true raised earlier e =
-      inl ([], past, entry, refl, raised, nowhere start acknowledges (entry ∷ past))
-  found entry past false raised earlier e =
-      let acknowledged = acknowledges (kind start past entry.act) in
-      let rest = still_raised start raises acknowledges first past in
-      grown entry past (not_false acknowledged (and_parts (not acknowledged) rest e).0)
+      (not (acknowledges (kind_at start trace entry.op)) && raised_since start raises acknowledges first trace))
+      → PendingByPrefixes start raises acknowledges first (entry ∷ trace)
+  found entry trace true raised earlier e =
+      inl ([], trace, entry, refl, raised, nowhere start acknowledges (entry ∷ trace))
+  found entry trace false raised earlier e =
+      let acknowledged = acknowledges (kind_at start trace entry.op) in
+      let rest = raised_since start raises acknowledges first trace in
+      grown entry trace (not_false acknowledged (and_parts (not acknowledged) rest e).0)
       (earlier (and_parts (not acknowledged) rest e).1)
 
-  to_places : (past : List Entry) → IsTrue (still_raised start raises acknowledges first past)
-      → PendingByPlaces start raises acknowledges first past
+  to_places : (trace : List TraceEntry) → IsTrue (raised_since start raises acknowledges first trace)
+      → PendingByPrefixes start raises acknowledges first trace
   to_places [] e = inr (e, nowhere start acknowledges [])
-  to_places (entry ∷ past) e = found entry past (raises past entry) refl (to_places past) e
+  to_places (entry ∷ trace) e = found entry trace (raises trace entry) refl (to_places trace) e
 
-  from_places : (past : List Entry) → PendingByPlaces start raises acknowledges first past
-      → IsTrue (still_raised start raises acknowledges first past)
-  from_places past (inl (after, before, entry, place, raised, none)) =
-      let there : IsTrue (still_raised start raises acknowledges first (entry ∷ before)) = rw raised refl in
-      subst (λ (past : List Entry). IsTrue (still_raised start raises acknowledges first past)) (sym place)
+  from_places : (trace : List TraceEntry) → PendingByPrefixes start raises acknowledges first trace
+      → IsTrue (raised_since start raises acknowledges first trace)
+  from_places trace (inl (after, before, entry, place, raised, none)) =
+      let there : IsTrue (raised_since start raises acknowledges first (entry ∷ before)) = rw raised refl in
+      subst (λ (trace : List TraceEntry). IsTrue (raised_since start raises acknowledges first trace)) (sym place)
       (stays after (entry ∷ before) none there)
-  from_places past (inr (pending, none)) =
-      subst (λ (past : List Entry). IsTrue (still_raised start raises acknowledges first past)) (append-nil past)
-      (stays past [] none pending)
+  from_places trace (inr (pending, none)) =
+      subst (λ (trace : List TraceEntry). IsTrue (raised_since start raises acknowledges first trace)) (append-nil trace)
+      (stays trace [] none pending)
 
-pub pending_by_places_law : PendingByPlacesLaw
-pending_by_places_law start past =
+pub pending_by_places_law : PendingByPrefixesLaw
+pending_by_places_law start trace =
     let r = has_bits start.interrupt_identification 0x04 in
     let t = has_bits start.interrupt_identification 0x02 in
     record {
-      receive = (
-        to_places start (receive_raised start) acknowledges_receive r past,
+      rda = (
+        to_places start (rda_raised start) acknowledges_rda r trace,
         from_places start
-            (receive_raised start) acknowledges_receive r past,
+            (rda_raised start) acknowledges_rda r trace,
       );
-      transmit = (
-        to_places start (transmit_raised start) is_identification_read t past,
+      thre = (
+        to_places start (thre_raised start) is_iir_read t trace,
         from_places start
-            (transmit_raised start) is_identification_read t past,
+            (thre_raised start) is_iir_read t trace,
       );
     }
 
@@ -146,82 +148,82 @@ or_left true b here = refl
 or_left false b here = absurd (false≢true here)
 
 received_told : (new : List ℕ) (s : State) (pending : Bool) → IsTold s pending
-    → IsTold (receive new s) ((not_empty new && has_bits s.interrupt_enable 0x01) || pending)
-received_told [] s pending before held enabled = before held enabled
-received_told (byte ∷ bytes) s pending before held enabled = or_left (has_bits s.interrupt_enable 0x01) pending enabled
+    → IsTold (receive_bytes new s) ((not_empty new && has_bits s.interrupt_enable 0x01) || pending)
+received_told [] s pending before held_bytes enabled = before held_bytes enabled
+received_told (byte ∷ bytes) s pending before held_bytes enabled = or_left (has_bits s.interrupt_enable 0x01) pending enabled
 
 -- an act that does not acknowledge leaves it so
-told_by_kind : (k : Kind) (asked : Asked) (s : State) (pending : Bool) → IsFalse (acknowledges_receive k)
+told_by_kind : (k : OpKind) (asked : Asked) (s : State) (pending : Bool) → IsFalse (acknowledges_rda k)
     → IsTold s pending
     → IsTold (by_kind k asked s) (receive_next k s.in_buffer s.interrupt_enable pending)
-told_by_kind DataRead asked s pending not_here before some enabled = absurd (false≢true (sym not_here))
-told_by_kind IdentificationRead asked s pending not_here before some enabled = absurd (false≢true (sym not_here))
-told_by_kind (EnableWrite value) asked s pending not_here before some enabled =
+told_by_kind RbrRead asked s pending not_here before some enabled = absurd (false≢true (sym not_here))
+told_by_kind IirRead asked s pending not_here before some enabled = absurd (false≢true (sym not_here))
+told_by_kind (IerWrite value) asked s pending not_here before some enabled =
     or_left (has_bits value 0x01 && not_empty s.in_buffer) pending
     (both_true (sym (enables_receive value) ∙ enabled) some)
-told_by_kind (DataWrite value) asked s pending not_here before some enabled = before some enabled
+told_by_kind (ThrWrite value) asked s pending not_here before some enabled = before some enabled
 told_by_kind (Arrival bytes) asked s pending not_here before some enabled =
-    received_told (that_fit s.in_buffer bytes) s pending before some enabled
+    received_told (bytes_that_fit s.in_buffer bytes) s pending before some enabled
 told_by_kind Other asked s pending not_here before some enabled = before some enabled
 
 received_first : (new : List ℕ) (s : State) (pending : Bool) → IsTrue (not_empty new)
-    → IsTold (receive new s) ((not_empty new && has_bits s.interrupt_enable 0x01) || pending)
+    → IsTold (receive_bytes new s) ((not_empty new && has_bits s.interrupt_enable 0x01) || pending)
 received_first [] s pending arrived some enabled = absurd (false≢true arrived)
 received_first (byte ∷ bytes) s pending arrived some enabled =
     or_left (has_bits s.interrupt_enable 0x01) pending enabled
 
 -- and a place that tells of bytes makes it so
-first_told : (k : Kind) (asked : Asked) (s : State) (pending : Bool) → IsTrue (tells_of_bytes k s.in_buffer)
+first_told : (k : OpKind) (asked : Asked) (s : State) (pending : Bool) → IsTrue (shows_waiting_bytes k s.in_buffer)
     → IsTold (by_kind k asked s) (receive_next k s.in_buffer s.interrupt_enable pending)
-first_told (EnableWrite value) asked s pending tells some enabled =
+first_told (IerWrite value) asked s pending tells some enabled =
     or_left (has_bits value 0x01 && not_empty s.in_buffer) pending
     (both_true (sym (enables_receive value) ∙ enabled) some)
 first_told (Arrival bytes) asked s pending tells some enabled =
-    received_first (that_fit s.in_buffer bytes) s pending tells some enabled
-first_told DataRead asked s pending tells some enabled = absurd (false≢true tells)
+    received_first (bytes_that_fit s.in_buffer bytes) s pending tells some enabled
+first_told RbrRead asked s pending tells some enabled = absurd (false≢true tells)
 first_told _ asked s pending tells some enabled = absurd (false≢true tells)
 
 -- the same at a place of a past
-abbrev IsToldAt : State → List Entry → Type 0
-IsToldAt start past =
-    IsTrue (not_empty (held start past)) → IsTrue (has_bits (interrupt_enable start past) 0x01)
-    → IsTrue (receive_pending start past)
+abbrev IsToldAt : State → List TraceEntry → Type 0
+IsToldAt start trace =
+    IsTrue (not_empty (held_bytes start trace)) → IsTrue (has_bits (interrupt_enable start trace) 0x01)
+    → IsTrue (rda_pending start trace)
 
-at_place : (start : State) (past : List Entry) (entry : Entry)
-    → let s = state_after start past in let k = kind start past entry.act in
-    IsTold (by_kind k entry.asked s) (receive_next k s.in_buffer s.interrupt_enable (receive_pending start past))
-    → IsToldAt start (entry ∷ past)
-at_place start past entry told some enabled =
-    let s = state_after start past in
-    let k = kind start past entry.act in
-    let now = register_law start (entry ∷ past) in
-    let registers = register_law start past in
-    let same = next_at_place start past entry in
-    let pending = receive_pending start past in
-    ap (λ bytes. receive_next k bytes (interrupt_enable start past) pending) (sym (held_bytes_law start past))
+at_place : (start : State) (trace : List TraceEntry) (entry : TraceEntry)
+    → let s = state_after start trace in let k = kind_at start trace entry.op in
+    IsTold (by_kind k entry.asked s) (receive_next k s.in_buffer s.interrupt_enable (rda_pending start trace))
+    → IsToldAt start (entry ∷ trace)
+at_place start trace entry told some enabled =
+    let s = state_after start trace in
+    let k = kind_at start trace entry.op in
+    let now = register_law start (entry ∷ trace) in
+    let registers = register_law start trace in
+    let same = next_at_place start trace entry in
+    let pending = rda_pending start trace in
+    ap (λ bytes. receive_next k bytes (interrupt_enable start trace) pending) (sym (held_bytes_law start trace))
     ∙ ap (λ enable. receive_next k s.in_buffer enable pending) (sym registers.interrupt_enable)
-    ∙ told (ap not_empty (sym same.in_buffer ∙ held_bytes_law start (entry ∷ past)) ∙ some)
+    ∙ told (ap not_empty (sym same.in_buffer ∙ held_bytes_law start (entry ∷ trace)) ∙ some)
     (ap (λ enable. has_bits enable 0x01) (sym same.interrupt_enable ∙ now.interrupt_enable) ∙ enabled)
 
 -- and at each later place, while none acknowledges
-stays_told : (start : State) (newest past : List Entry) → NoneAcknowledges start acknowledges_receive newest past
-    → IsToldAt start past → IsToldAt start (newest ++ past)
-stays_told start [] past none before = before
-stays_told start (entry ∷ newest) past none before =
-    let place = newest ++ past in
+stays_told : (start : State) (newest trace : List TraceEntry) → NoneAcknowledges start acknowledges_rda newest trace
+    → IsToldAt start trace → IsToldAt start (newest ++ trace)
+stays_told start [] trace none before = before
+stays_told start (entry ∷ newest) trace none before =
+    let place = newest ++ trace in
     let s = state_after start place in
-    let rest = stays_told start newest past (none_fewer start acknowledges_receive newest past entry none) before in
+    let rest = stays_told start newest trace (none_fewer start acknowledges_rda newest trace entry none) before in
     at_place start place entry
-    (told_by_kind (kind start place entry.act) entry.asked s (receive_pending start place) (none [] newest entry refl)
+    (told_by_kind (kind_at start place entry.op) entry.asked s (rda_pending start place) (none [] newest entry refl)
     (λ some enabled. rest (ap not_empty (sym (held_bytes_law start place)) ∙ some)
     (ap (λ enable. has_bits enable 0x01) (sym (register_law start place).interrupt_enable) ∙ enabled)))
 
 pub waiting_bytes_law : WaitingBytesLaw
-waiting_bytes_law start past after before entry same tells none =
-    let k = kind start before entry.act in
+waiting_bytes_law start trace after before entry same tells none =
+    let k = kind_at start before entry.op in
     let s = state_after start before in
     subst (IsToldAt start) (sym same)
     (stays_told start after (entry ∷ before) none
     (at_place start before entry
-    (first_told k entry.asked s (receive_pending start before)
-    (ap (tells_of_bytes k) (held_bytes_law start before) ∙ tells))))
+    (first_told k entry.asked s (rda_pending start before)
+    (ap (shows_waiting_bytes k) (held_bytes_law start before) ∙ tells))))

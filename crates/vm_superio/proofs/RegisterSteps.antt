@@ -4,27 +4,27 @@ use Rattle.std.proofs.lemmas.Bool.Decides.{eqb_tells}
 use Rattle.std.specs.Prelude.{if◌then◌else◌, unwrap_or}
 use Rattle.std.specs.Option.{option_or, option_map_or}
 use Rattle.vm_superio.specs.declared.run.Asked.{Asked}
-use Rattle.vm_superio.specs.State.{State, masked}
-use Rattle.vm_superio.specs.Registers.{Register, Data, InterruptIdentification, Unknown, register, is_dlab, is_loopback}
-use Rattle.vm_superio.specs.Acts.{Deed, Reads, Writes, Enqueues, Restores, Entry}
-use Rattle.vm_superio.specs.Asking.{receive, accepted_of}
-use Rattle.vm_superio.specs.Meaning.{that_fit}
-use Rattle.vm_superio.specs.Calls.{next, read_next, write_next, data_write}
-use Rattle.vm_superio.specs.History.{written_at, last, dlab}
-use Rattle.vm_superio.specs.Laws.{RegisterLaw, state_after}
+use Rattle.vm_superio.specs.Port.State.{State}
+use Rattle.vm_superio.specs.Port.Bits.{masked}
+use Rattle.vm_superio.specs.Port.Registers.{Register, RbrThr, Iir, Unassigned, register_at, is_dlab, is_loopback}
+use Rattle.vm_superio.specs.Port.Operations.{Op, Read, Write, Enqueue, Restore, TraceEntry}
+use Rattle.vm_superio.specs.Step.Raising.{receive_bytes, enqueued_bytes, bytes_that_fit}
+use Rattle.vm_superio.specs.Step.Transition.{step, read_step, write_step, thr_write}
+use Rattle.vm_superio.specs.History.Registers.{value_written_at, last_found, dlab}
+use Rattle.vm_superio.specs.Laws.Agreement.{RegisterLaw, state_after}
 
 -- ---- one call
 
 -- the call leaves in each register what the act wrote there, under this DLAB
-pub record Steps (dlab : Bool) (act : Deed) (s new : State) : Type 0 where
-  pub divisor_low : new.baud_divisor_low ≡ unwrap_or (if dlab then written_at 0 act else None) s.baud_divisor_low
-  pub divisor_high : new.baud_divisor_high ≡ unwrap_or (if dlab then written_at 1 act else None) s.baud_divisor_high
+pub record Steps (dlab : Bool) (op : Op) (s new : State) : Type 0 where
+  pub divisor_low : new.baud_divisor_low ≡ unwrap_or (if dlab then value_written_at 0 op else None) s.baud_divisor_low
+  pub divisor_high : new.baud_divisor_high ≡ unwrap_or (if dlab then value_written_at 1 op else None) s.baud_divisor_high
   pub interrupt_enable : new.interrupt_enable
-      ≡ option_map_or (λ value. masked value 0x0F) (if dlab then None else written_at 1 act) s.interrupt_enable
-  pub line_control : new.line_control ≡ unwrap_or (written_at 3 act) s.line_control
-  pub modem_control : new.modem_control ≡ unwrap_or (written_at 4 act) s.modem_control
+      ≡ option_map_or (λ value. masked value 0x0F) (if dlab then None else value_written_at 1 op) s.interrupt_enable
+  pub line_control : new.line_control ≡ unwrap_or (value_written_at 3 op) s.line_control
+  pub modem_control : new.modem_control ≡ unwrap_or (value_written_at 4 op) s.modem_control
   pub modem_status : new.modem_status ≡ s.modem_status
-  pub scratch : new.scratch ≡ unwrap_or (written_at 7 act) s.scratch
+  pub scratch : new.scratch ≡ unwrap_or (value_written_at 7 op) s.scratch
 
 -- the new state has the old one's registers
 SameRegisters : State → State → Type 0
@@ -35,18 +35,18 @@ SameRegisters s new = new ≡ record s {
 }
 
 -- the act writes nothing that a register keeps
-WritesNothing : Bool → Deed → Type 0
-WritesNothing dlab act =
-    ((if dlab then written_at 0 act else None) ≡ None)
-    × ((if dlab then written_at 1 act else None) ≡ None)
-    × ((if dlab then None else written_at 1 act) ≡ None)
-    × (written_at 3 act ≡ None)
-    × (written_at 4 act ≡ None)
-    × (written_at 7 act ≡ None)
+WritesNothing : Bool → Op → Type 0
+WritesNothing dlab op =
+    ((if dlab then value_written_at 0 op else None) ≡ None)
+    × ((if dlab then value_written_at 1 op else None) ≡ None)
+    × ((if dlab then None else value_written_at 1 op) ≡ None)
+    × (value_written_at 3 op ≡ None)
+    × (value_written_at 4 op ≡ None)
+    × (value_written_at 7 op ≡ None)
 
-kept : (dlab : Bool) (act : Deed) (s new : State) → WritesNothing dlab act → SameRegisters s new → Steps dlab act s new
+kept : (dlab : Bool) (op : Op) (s new : State) → WritesNothing dlab op → SameRegisters s new → Steps dlab op s new
 unfolding WritesNothing SameRegisters
-kept dlab act s new nothing same = record {
+kept dlab op s new nothing same = record {
   divisor_low = rw nothing.0 (ap (λ (t : State). t.baud_divisor_low) same);
   divisor_high = rw nothing.1 (ap (λ (t : State). t.baud_divisor_high) same);
   interrupt_enable = rw nothing.2 (ap (λ (t : State). t.interrupt_enable) same);
@@ -56,36 +56,36 @@ kept dlab act s new nothing same = record {
   scratch = rw nothing.5 (ap (λ (t : State). t.scratch) same);
 }
 
-received : (bytes : List ℕ) (s : State) → SameRegisters s (receive bytes s)
+received : (bytes : List ℕ) (s : State) → SameRegisters s (receive_bytes bytes s)
 unfolding SameRegisters
 received [] s = refl
 received (byte ∷ bytes) s = refl
 
-read_done : (r : Register) (s : State) → SameRegisters s (read_next r s)
+read_done : (r : Register) (s : State) → SameRegisters s (read_step r s)
 unfolding SameRegisters
-read_done Data s = refl
-read_done InterruptIdentification s = refl
+read_done RbrThr s = refl
+read_done Iir s = refl
 read_done _ s = refl
 
 data_written : (value : ℕ) (loopback : Bool) (s : State) → is_loopback s.modem_control ≡ loopback
-    → SameRegisters s (data_write value s)
+    → SameRegisters s (thr_write value s)
 unfolding SameRegisters
-data_written value true s e = rw e (received (that_fit s.in_buffer (value ∷ [])) s)
+data_written value true s e = rw e (received (bytes_that_fit s.in_buffer (value ∷ [])) s)
 data_written value false s e = rw e refl
 
 none_either : (b : Bool) → ◌≡◌ {A = Option ℕ} (if b then None else None) None
 none_either true = refl
 none_either false = refl
 
-reads_nothing : (dlab : Bool) (offset : ℕ) → WritesNothing dlab (Reads offset)
+reads_nothing : (dlab : Bool) (offset : ℕ) → WritesNothing dlab (Read offset)
 unfolding WritesNothing
 reads_nothing dlab offset = (none_either dlab, none_either dlab, none_either dlab, refl, refl, refl)
 
-enqueues_nothing : (dlab : Bool) (bytes : List ℕ) → WritesNothing dlab (Enqueues bytes)
+enqueues_nothing : (dlab : Bool) (bytes : List ℕ) → WritesNothing dlab (Enqueue bytes)
 unfolding WritesNothing
 enqueues_nothing dlab bytes = (none_either dlab, none_either dlab, none_either dlab, refl, refl, refl)
 
-restores_nothing : (dlab : Bool) → WritesNothing dlab Restores
+restores_nothing : (dlab : Bool) → WritesNothing dlab Restore
 unfolding WritesNothing
 restores_nothing dlab = (none_either dlab, none_either dlab, none_either dlab, refl, refl, refl)
 
@@ -100,7 +100,7 @@ apart n k below =
     same.1 in absurd (omega arith)) (λ other. other.0)
     (eqb_tells (suc (suc (suc (suc (suc (suc (suc (suc n)))))))) k)
 
-unknown : (dlab : Bool) (n : ℕ) → register dlab (suc (suc (suc (suc (suc (suc (suc (suc n)))))))) ≡ Unknown
+unknown : (dlab : Bool) (n : ℕ) → register_at dlab (suc (suc (suc (suc (suc (suc (suc (suc n)))))))) ≡ Unassigned
 unknown dlab n =
     simp (
       apart n 0 (lit< tt),
@@ -115,7 +115,7 @@ unknown dlab n =
     )
 
 nothing_there : (dlab : Bool) (n value : ℕ)
-    → WritesNothing dlab (Writes (suc (suc (suc (suc (suc (suc (suc (suc n)))))))) value)
+    → WritesNothing dlab (Write (suc (suc (suc (suc (suc (suc (suc (suc n)))))))) value)
 unfolding WritesNothing
 nothing_there true n value =
     simp (apart n 0 (lit< tt), apart n 1 (lit< tt), apart n 3 (lit< tt), apart n 4 (lit< tt), apart n 7 (lit< tt))
@@ -126,11 +126,11 @@ nothing_there false n value =
 
 -- a write, offset by offset
 write_done : (dlab : Bool) (offset value : ℕ) (asked : Asked) (s : State)
-    → Steps dlab (Writes offset value) s (write_next (register dlab offset) value asked s)
+    → Steps dlab (Write offset value) s (write_step (register_at dlab offset) value asked s)
 unfolding WritesNothing SameRegisters
 write_done true zero value asked s = search rules
 write_done false zero value asked s =
-    kept false (Writes 0 value) s (data_write value s) (refl, refl, refl, refl, refl, refl)
+    kept false (Write 0 value) s (thr_write value s) (refl, refl, refl, refl, refl, refl)
     (data_written value _ s refl)
 write_done true (suc zero) value asked s = search rules
 write_done false (suc zero) value asked s = search rules
@@ -148,15 +148,15 @@ write_done true (suc (suc (suc (suc (suc (suc (suc zero))))))) value asked s = s
 write_done false (suc (suc (suc (suc (suc (suc (suc zero))))))) value asked s = search rules
 write_done dlab (suc (suc (suc (suc (suc (suc (suc (suc n)))))))) value asked s =
     rw (unknown dlab n)
-    (kept dlab (Writes (suc (suc (suc (suc (suc (suc (suc (suc n)))))))) value) s s (nothing_there dlab n value) refl)
+    (kept dlab (Write (suc (suc (suc (suc (suc (suc (suc (suc n)))))))) value) s s (nothing_there dlab n value) refl)
 
-pub call_done : (s : State) (act : Deed) (asked : Asked) → Steps (is_dlab s.line_control) act s (next s act asked)
-call_done s (Reads offset) asked =
-    kept _ (Reads offset) s _ (reads_nothing _ offset) (read_done (register (is_dlab s.line_control) offset) s)
-call_done s (Writes offset value) asked = write_done _ offset value asked s
-call_done s (Enqueues bytes) asked =
-    kept _ (Enqueues bytes) s _ (enqueues_nothing _ bytes) (received (accepted_of s bytes) s)
-call_done s Restores asked = kept _ Restores s s (restores_nothing _) (all_kept s)
+pub call_done : (s : State) (op : Op) (asked : Asked) → Steps (is_dlab s.line_control) op s (step s op asked)
+call_done s (Read offset) asked =
+    kept _ (Read offset) s _ (reads_nothing _ offset) (read_done (register_at (is_dlab s.line_control) offset) s)
+call_done s (Write offset value) asked = write_done _ offset value asked s
+call_done s (Enqueue bytes) asked =
+    kept _ (Enqueue bytes) s _ (enqueues_nothing _ bytes) (received (enqueued_bytes s bytes) s)
+call_done s Restore asked = kept _ Restore s s (restores_nothing _) (all_kept s)
 
 -- ---- any past
 
@@ -171,33 +171,33 @@ option_map_or-or f None other byte = refl
 option_map_or-or f (Some value) other byte = refl
 
 -- what the newest record left of what the others left is what the whole past tells
-more : (found : List Entry → Deed → Option ℕ) (entry : Entry) (past : List Entry) (byte old new : ℕ)
-    → old ≡ unwrap_or (last found past) byte → new ≡ unwrap_or (found past entry.act) old
-    → new ≡ unwrap_or (last found (entry ∷ past)) byte
-more found entry past byte old new before step =
-    step ∙ ap (unwrap_or (found past entry.act)) before
-    ∙ sym (unwrap_or-or (found past entry.act) (last found past) byte)
+more : (found : List TraceEntry → Op → Option ℕ) (entry : TraceEntry) (trace : List TraceEntry) (byte old new : ℕ)
+    → old ≡ unwrap_or (last_found found trace) byte → new ≡ unwrap_or (found trace entry.op) old
+    → new ≡ unwrap_or (last_found found (entry ∷ trace)) byte
+more found entry trace byte old new before step =
+    step ∙ ap (unwrap_or (found trace entry.op)) before
+    ∙ sym (unwrap_or-or (found trace entry.op) (last_found found trace) byte)
 
-more_masked : (found : List Entry → Deed → Option ℕ) (entry : Entry) (past : List Entry) (byte old new : ℕ)
-    → old ≡ option_map_or (λ value. masked value 0x0F) (last found past) byte
-    → new ≡ option_map_or (λ value. masked value 0x0F) (found past entry.act) old
-    → new ≡ option_map_or (λ value. masked value 0x0F) (last found (entry ∷ past)) byte
-more_masked found entry past byte old new before step =
-    step ∙ ap (option_map_or (λ value. masked value 0x0F) (found past entry.act)) before
-    ∙ sym (option_map_or-or (λ value. masked value 0x0F) (found past entry.act) (last found past) byte)
+more_masked : (found : List TraceEntry → Op → Option ℕ) (entry : TraceEntry) (trace : List TraceEntry) (byte old new : ℕ)
+    → old ≡ option_map_or (λ value. masked value 0x0F) (last_found found trace) byte
+    → new ≡ option_map_or (λ value. masked value 0x0F) (found trace entry.op) old
+    → new ≡ option_map_or (λ value. masked value 0x0F) (last_found found (entry ∷ trace)) byte
+more_masked found entry trace byte old new before step =
+    step ∙ ap (option_map_or (λ value. masked value 0x0F) (found trace entry.op)) before
+    ∙ sym (option_map_or-or (λ value. masked value 0x0F) (found trace entry.op) (last_found found trace) byte)
 
 pub register_law : RegisterLaw
 register_law start [] = search rules
-register_law start (entry ∷ past) =
-    let before = register_law start past in
-    let step = call_done (state_after start past) entry.act entry.asked in
-    let same : is_dlab (state_after start past).line_control ≡ dlab start past = ap is_dlab before.line_control in
+register_law start (entry ∷ trace) =
+    let before = register_law start trace in
+    let step = call_done (state_after start trace) entry.op entry.asked in
+    let same : is_dlab (state_after start trace).line_control ≡ dlab start trace = ap is_dlab before.line_control in
     record {
-      divisor_low = more _ entry past _ _ _ before.divisor_low (rw same at step.divisor_low);
-      divisor_high = more _ entry past _ _ _ before.divisor_high (rw same at step.divisor_high);
-      interrupt_enable = more_masked _ entry past _ _ _ before.interrupt_enable (rw same at step.interrupt_enable);
-      line_control = more (λ _ act. written_at 3 act) entry past _ _ _ before.line_control step.line_control;
-      modem_control = more (λ _ act. written_at 4 act) entry past _ _ _ before.modem_control step.modem_control;
+      divisor_low = more _ entry trace _ _ _ before.divisor_low (rw same at step.divisor_low);
+      divisor_high = more _ entry trace _ _ _ before.divisor_high (rw same at step.divisor_high);
+      interrupt_enable = more_masked _ entry trace _ _ _ before.interrupt_enable (rw same at step.interrupt_enable);
+      line_control = more (λ _ op. value_written_at 3 op) entry trace _ _ _ before.line_control step.line_control;
+      modem_control = more (λ _ op. value_written_at 4 op) entry trace _ _ _ before.modem_control step.modem_control;
       modem_status = step.modem_status ∙ before.modem_status;
-      scratch = more (λ _ act. written_at 7 act) entry past _ _ _ before.scratch step.scratch;
+      scratch = more (λ _ op. value_written_at 7 op) entry trace _ _ _ before.scratch step.scratch;
     }

@@ -1,5 +1,5 @@
--- The records of a run follow each other by the call cases, so that the laws hold of them.
-use Rattle.std.proofs.Common.{◌≡◌, ℕ, ◌<◌, Bool, true, false, not, ◌&&◌, List, [], ◌∷◌, ◌++◌, Option, Result, refl, sym, ap, ◌∙◌, subst, append-nil}
+-- The entries of a run follow each other by steps, so that the laws hold of them: the history theorem.
+use Rattle.std.proofs.Common.{◌≡◌, ℕ, ◌<◌, Bool, true, false, not, ◌&&◌, List, [], ◌∷◌, ◌++◌, refl, sym, ap, ◌∙◌, subst, append-nil}
 use Rattle.std.proofs.lemmas.Bool.{cond_both, false≢true}
 use Rattle.std.proofs.lemmas.List.Folds.{list_all-append}
 use Rattle.std.specs.Cmp.Derive.{both_true}
@@ -7,9 +7,9 @@ use Rattle.std.specs.Prelude.{IsTrue}
 use Rattle.std.specs.List.{list_all}
 use Rattle.std.specs.Io.KnownBytes.{Appends}
 use Rattle.vm_superio.specs.declared.run.Asked.{Asked}
-use Rattle.vm_superio.specs.declared.run.Asked.TheVariants.{Nothing}
+use Rattle.vm_superio.specs.declared.run.Asked.TheVariants as answers
 use Rattle.vm_superio.specs.declared.run.Sent.{Sent}
-use Rattle.vm_superio.specs.declared.run.Sent.TheVariants as fate
+use Rattle.vm_superio.specs.declared.run.Sent.TheVariants as outcome
 use Rattle.vm_superio.specs.declared.run.Act.{Act}
 use Rattle.vm_superio.specs.declared.run.Act.TheVariants as act
 use Rattle.vm_superio.specs.declared.run.Call.{Call}
@@ -17,23 +17,27 @@ use Rattle.vm_superio.specs.declared.run.Call.TheVariants.{Read, Write, Enqueue,
 use Rattle.vm_superio.specs.declared.run.Reply.{Reply}
 use Rattle.vm_superio.specs.declared.run.Reply.TheVariants.{Byte, Wrote, Enqueued, Restored, NotRestored}
 use Rattle.vm_superio.specs.declared.run.Done.{Done}
-use Rattle.vm_superio.specs.State.{State}
-use Rattle.vm_superio.specs.Events.{Event}
-use Rattle.vm_superio.specs.Acts.{Deed, Reads, Writes, Enqueues, Restores, Entry, Answer, Given, is_lost}
-use Rattle.vm_superio.specs.Fits.{fits}
-use Rattle.vm_superio.specs.Coherent.{Coherent}
-use Rattle.vm_superio.specs.Port.{Port}
-use Rattle.vm_superio.specs.Stretches.{Stretch, first_stretch, stretch_from, extended, IsAfter}
-use Rattle.vm_superio.specs.RunCalls.{Step, RunsCalls}
-use Rattle.vm_superio.specs.Records.{IsReplyTo, RecordsOf, act_of, deed_of, is_restore, entry_of, answer_of, records_of, history_of, without_restores}
-use Rattle.vm_superio.specs.Calls.{next, restore_calls}
-use Rattle.vm_superio.specs.Links.{written}
-use Rattle.vm_superio.specs.Restoring.{all_taken, RefusesOwn}
-use Rattle.vm_superio.specs.Interrupts.{is_fitting, restore_calls_due}
-use Rattle.vm_superio.specs.Laws.{state_after, FollowCases}
-use Rattle.vm_superio.specs.Replies.{RepliesAre, reply}
-use Rattle.vm_superio.specs.History.{taken}
-use Rattle.vm_superio.specs.Pasts.{act_and_asked, acts_and_asked, all_written, none_lost}
+use Rattle.vm_superio.specs.Port.State.{State}
+use Rattle.vm_superio.specs.Port.Operations.{Op, TraceEntry, Response, ByteRead, is_lost}
+use Rattle.vm_superio.specs.Port.Operations as operation
+use Rattle.vm_superio.specs.Port.Coherent.{Coherent}
+use Rattle.vm_superio.specs.Port.ObjectLinks.{PortLinks, bytes_taken_by_writer}
+use Rattle.vm_superio.specs.Port.RestoreCalls.{all_ok, RefusesOwnState}
+use Rattle.vm_superio.specs.Port.Model.{Port}
+use Rattle.vm_superio.specs.Step.Transition.{step, step_response}
+use Rattle.vm_superio.specs.Step.Admissible.{is_admissible}
+use Rattle.vm_superio.specs.Step.Restore.{restore_calls}
+use Rattle.vm_superio.specs.History.Registers.{taken_bytes}
+use Rattle.vm_superio.specs.History.Interrupts.{is_well_formed, restore_calls_due}
+use Rattle.vm_superio.specs.History.Reads.{ResponsesAre, history_response}
+use Rattle.vm_superio.specs.History.Properties.{none_lost}
+use Rattle.vm_superio.specs.Run.Segments.{Segment, first_segment, extend, IsAfter}
+use Rattle.vm_superio.specs.Run.Steps.{CallFollows, next_segment, IsRun}
+use Rattle.vm_superio.specs.Run.Trace.{IsReplyTo, RecordsOf, act_of, op_of, is_restore, entry_of, response_of, refusal_in_reply, entries_of, trace_of, without_restores}
+use Rattle.vm_superio.specs.Run.Observations.{ReadIs, ReadsAre, WriterSegment, OutputIs, OutputAtEnd, next_writer_segment, OutputsAre, TriggerSegment, TriggerAtRestore, next_trigger_segment, TriggersAre}
+use Rattle.vm_superio.specs.Run.HistoryTheorem.{HistoryTheorem}
+use Rattle.vm_superio.specs.Laws.Agreement.{state_after, StepsFollow}
+use Rattle.vm_superio.specs.Laws.Consequences.{op_and_asked, ops_and_asked, recorded_output}
 use Rattle.vm_superio.proofs.Runs.{whole_run_law}
 use Rattle.vm_superio.proofs.Bounds.{trigger_bound_law}
 use Rattle.vm_superio.proofs.Held.{taken_then_held}
@@ -41,288 +45,308 @@ use Rattle.vm_superio.proofs.Pending.{interrupt_law}
 use Rattle.vm_superio.proofs.Places.{waiting_bytes_law}
 use Rattle.vm_superio.proofs.Views.{same_reads_law}
 use Rattle.vm_superio.proofs.Writing.{output_law}
-use Rattle.vm_superio.specs.RunPlaces.{ReadIs, ReadsAre, OutputIs, OutputStep, OutputsAre, TriggerStep, TriggersAre}
-use Rattle.vm_superio.specs.Headline.{Headline}
 
 -- a restore asks and sends nothing of its own
-fits-restore : (s : State) (asked : Asked) (sent : Sent) → asked ≡ Nothing → sent ≡ fate.Nothing → IsTrue (fits s Restores asked sent)
-fits-restore s asked sent no_call no_byte =
-    subst (λ a. IsTrue (fits s Restores a sent)) (sym no_call) (subst (λ b. IsTrue (fits s Restores Nothing b)) (sym no_byte) refl)
+restore_admissible : (s : State) (asked : Asked) (sent : Sent) → asked ≡ answers.Nothing → sent ≡ outcome.Nothing → IsTrue (is_admissible s operation.Restore asked sent)
+restore_admissible s asked sent no_call no_byte =
+    subst (λ a. IsTrue (is_admissible s operation.Restore a sent)) (sym no_call)
+    (subst (λ b. IsTrue (is_admissible s operation.Restore answers.Nothing b)) (sym no_byte) refl)
 
 -- only a restore counts as one
-deed_of-restore : (call : Act) → not (is_restore call) ≡ false → deed_of call ≡ Restores
-deed_of-restore act.Restore is = refl
-deed_of-restore (act.Read offset) is = absurd (false≢true (sym is))
-deed_of-restore (act.Write offset value) is = absurd (false≢true (sym is))
-deed_of-restore (act.Enqueue bytes) is = absurd (false≢true (sym is))
+op_of-restore : (call : Act) → not (is_restore call) ≡ false → op_of call ≡ operation.Restore
+op_of-restore act.Restore is = refl
+op_of-restore (act.Read offset) is = absurd (false≢true (sym is))
+op_of-restore (act.Write offset value) is = absurd (false≢true (sym is))
+op_of-restore (act.Enqueue bytes) is = absurd (false≢true (sym is))
 
--- a further fate, behind in the one list and in front in the other
+-- a further outcome, behind in the one list and in front in the other
 swapped : (before now last : Bool) → before ≡ now → (before && (last && true)) ≡ (last && now)
 swapped true now true same = same
 swapped false now true same = same
 swapped true now false same = refl
 swapped false now false same = refl
 
--- the byte of a read's answer
-abbrev byte_in : Answer → ℕ
-byte_in (Given byte) = byte
+-- the byte of a read's response
+abbrev byte_in : Response → ℕ
+byte_in (ByteRead byte) = byte
 byte_in _ = 0
 
-module _ {T E EV W : Type 0} (trigger_link : T → List (Result (Unit {0}) E) → T → Type 0) (events_link : EV → List Event → EV → Type 0) (contents : W → Option (List ℕ)) where
-  -- one call of a run, in the history's words, and then the rest
-  FollowCases-step :
-      (s : State) (stretch : Stretch T E EV W) (call : Call T EV W) (asked : Asked) (sent : Sent) (reply : Reply T EV W E)
-      (later : List (Entry × Answer)) (end : State) (Rest : State → Stretch T E EV W → Type 0) →
-      ((next_state : State) (next_stretch : Stretch T E EV W) → Rest next_state next_stretch → FollowCases next_state later end) →
-      Step trigger_link events_link contents s stretch call asked sent reply Rest →
-      FollowCases s ((record { act = deed_of (act_of call); asked = asked; sent = sent }, answer_of reply) ∷ later) end
-  FollowCases-step s stretch (Read offset) asked sent (Byte byte) later end Rest on step = (step.0, step.1, on _ _ step.2)
-  FollowCases-step s stretch (Write offset value) asked sent (Wrote outcome) later end Rest on step = (step.0, step.1, on _ _ step.2)
-  FollowCases-step s stretch (Enqueue bytes) asked sent (Enqueued outcome) later end Rest on step = (step.0, step.1, on _ _ step.2)
-  FollowCases-step s stretch (Restore trigger events out) asked sent (Restored old) later end Rest on step =
-      (fits-restore s asked sent step.0 step.1, refl, on _ _ step.4)
-  FollowCases-step s stretch (Restore trigger events out) asked sent (NotRestored refused) later end Rest on step =
-      (fits-restore s asked sent step.0 step.1, refl, on _ _ step.5)
-  FollowCases-step s stretch _ asked sent _ later end Rest on step = absurd step
+-- the entry of a call
+abbrev entry : (made : Act) (asked : Asked) (sent : Sent) → TraceEntry
+entry made asked sent = record { op = op_of made; asked = asked; sent = sent }
 
-  pub FollowCases-run :
-      (s : State) (stretch : Stretch T E EV W) (calls : List (Call T EV W)) (done : List (Done T EV W E)) (end : Port T EV W) →
-      RunsCalls trigger_link events_link contents s stretch calls done end → FollowCases s (records_of done) end.state
-  FollowCases-run s stretch [] [] end run = run.state
-  FollowCases-run s stretch (call ∷ calls) (done ∷ later) end run =
-      subst (λ act. FollowCases s ((record { act = deed_of act; asked = done.asked; sent = done.sent }, answer_of done.reply) ∷ records_of later) end.state) (sym run.0)
-      (FollowCases-step s stretch call done.asked done.sent done.reply (records_of later) end.state _ (λ next_state next_stretch rest. FollowCases-run next_state next_stretch calls later end rest) run.1)
-  FollowCases-run s stretch [] (done ∷ later) end run = absurd run
-  FollowCases-run s stretch (call ∷ calls) [] end run = absurd run
+module _ {T E EV W : Type 0} (links : PortLinks T E EV W) where
+  -- ---- each call is a step
 
-  -- what is left of a run after one call
-  Step-rest :
-      (s : State) (stretch : Stretch T E EV W) (call : Call T EV W) (asked : Asked) (sent : Sent) (reply : Reply T EV W E) (Rest : State → Stretch T E EV W → Type 0) →
-      Step trigger_link events_link contents s stretch call asked sent reply Rest → (next_state : State) × (next_stretch : Stretch T E EV W) × Rest next_state next_stretch
-  Step-rest s stretch (Read offset) asked sent (Byte byte) Rest step = (_, _, step.2)
-  Step-rest s stretch (Write offset value) asked sent (Wrote outcome) Rest step = (_, _, step.2)
-  Step-rest s stretch (Enqueue bytes) asked sent (Enqueued outcome) Rest step = (_, _, step.2)
-  Step-rest s stretch (Restore trigger events out) asked sent (Restored old) Rest step = (_, _, step.4)
-  Step-rest s stretch (Restore trigger events out) asked sent (NotRestored refused) Rest step = (_, _, step.5)
-  Step-rest s stretch _ asked sent _ Rest step = absurd step
+  record EntryFollows (s : State) (made : Act) (asked : Asked) (sent : Sent) (reply : Reply T EV W E) : Type 0 where
+    admissible : IsTrue (is_admissible s (op_of made) asked sent)
+    response : response_of reply ≡ step_response s (op_of made) asked sent
 
-  -- a run has a record of each call
-  IsReplyTo-step :
-      (s : State) (stretch : Stretch T E EV W) (call : Call T EV W) (asked : Asked) (sent : Sent) (reply : Reply T EV W E) (Rest : State → Stretch T E EV W → Type 0) →
-      Step trigger_link events_link contents s stretch call asked sent reply Rest → IsReplyTo (act_of call) reply
-  IsReplyTo-step s stretch (Read offset) asked sent (Byte byte) Rest step = tt
-  IsReplyTo-step s stretch (Write offset value) asked sent (Wrote outcome) Rest step = tt
-  IsReplyTo-step s stretch (Enqueue bytes) asked sent (Enqueued outcome) Rest step = tt
-  IsReplyTo-step s stretch (Restore trigger events out) asked sent (Restored old) Rest step = tt
-  IsReplyTo-step s stretch (Restore trigger events out) asked sent (NotRestored refused) Rest step = tt
-  IsReplyTo-step s stretch _ asked sent _ Rest step = absurd step
+  EntryFollows-call :
+      (s : State) (segment : Segment T E EV W) (call : Call T EV W) (asked : Asked) (sent : Sent) (reply : Reply T EV W E) →
+      CallFollows links s segment call asked sent reply → EntryFollows s (act_of call) asked sent reply
+  EntryFollows-call s segment (Read offset) asked sent (Byte byte) h = record { admissible = h.0; response = h.1 }
+  EntryFollows-call s segment (Write offset value) asked sent (Wrote answer) h = record { admissible = h.0; response = h.1 }
+  EntryFollows-call s segment (Enqueue bytes) asked sent (Enqueued answer) h = record { admissible = h.0; response = h.1 }
+  EntryFollows-call s segment (Restore trigger events out) asked sent (Restored old) h =
+      record { admissible = restore_admissible s asked sent h.0 h.1; response = refl }
+  EntryFollows-call s segment (Restore trigger events out) asked sent (NotRestored refused) h =
+      record { admissible = restore_admissible s asked sent h.0 h.1; response = refl }
+  EntryFollows-call s segment _ asked sent _ h = absurd h
+
+  pub StepsFollow-run :
+      (calls : List (Call T EV W)) (records : List (Done T EV W E)) (s : State) (segment : Segment T E EV W) (end : Port T EV W) →
+      IsRun links s segment calls records end → StepsFollow s (entries_of records) end.state
+  StepsFollow-run [] [] s segment end run = run.state
+  StepsFollow-run (call ∷ calls) (done ∷ later) s segment end run =
+      let follows = subst (λ made. EntryFollows s made done.asked done.sent done.reply) (sym run.0)
+      (EntryFollows-call s segment call done.asked done.sent done.reply run.1) in
+      (follows.admissible, follows.response, StepsFollow-run calls later _ _ end run.2)
+  StepsFollow-run [] (done ∷ later) s segment end run = absurd run
+  StepsFollow-run (call ∷ calls) [] s segment end run = absurd run
+
+  -- ---- a run has a record of each call
+
+  IsReplyTo-call :
+      (s : State) (segment : Segment T E EV W) (call : Call T EV W) (asked : Asked) (sent : Sent) (reply : Reply T EV W E) →
+      CallFollows links s segment call asked sent reply → IsReplyTo (act_of call) reply
+  IsReplyTo-call s segment (Read offset) asked sent (Byte byte) h = tt
+  IsReplyTo-call s segment (Write offset value) asked sent (Wrote answer) h = tt
+  IsReplyTo-call s segment (Enqueue bytes) asked sent (Enqueued answer) h = tt
+  IsReplyTo-call s segment (Restore trigger events out) asked sent (Restored old) h = tt
+  IsReplyTo-call s segment (Restore trigger events out) asked sent (NotRestored refused) h = tt
+  IsReplyTo-call s segment _ asked sent _ h = absurd h
 
   RecordsOf-run :
-      (s : State) (stretch : Stretch T E EV W) (calls : List (Call T EV W)) (done : List (Done T EV W E)) (end : Port T EV W) →
-      RunsCalls trigger_link events_link contents s stretch calls done end → RecordsOf calls done
-  RecordsOf-run s stretch [] [] end run = tt
-  RecordsOf-run s stretch (call ∷ calls) (done ∷ later) end run =
-      let rest = Step-rest s stretch call done.asked done.sent done.reply _ run.1 in
-      (run.0, IsReplyTo-step s stretch call done.asked done.sent done.reply _ run.1, RecordsOf-run rest.0 rest.1 calls later end rest.2)
-  RecordsOf-run s stretch [] (done ∷ later) end run = absurd run
-  RecordsOf-run s stretch (call ∷ calls) [] end run = absurd run
+      (calls : List (Call T EV W)) (records : List (Done T EV W E)) (s : State) (segment : Segment T E EV W) (end : Port T EV W) →
+      IsRun links s segment calls records end → RecordsOf calls records
+  RecordsOf-run [] [] s segment end run = tt
+  RecordsOf-run (call ∷ calls) (done ∷ later) s segment end run =
+      (run.0, IsReplyTo-call s segment call done.asked done.sent done.reply run.1, RecordsOf-run calls later _ _ end run.2)
+  RecordsOf-run [] (done ∷ later) s segment end run = absurd run
+  RecordsOf-run (call ∷ calls) [] s segment end run = absurd run
 
-  -- a read replies the byte that the history says
-  ReadIs-step :
-      (s : State) (stretch : Stretch T E EV W) (call : Call T EV W) (asked : Asked) (sent : Sent) (answered : Reply T EV W E) (Rest : State → Stretch T E EV W → Type 0)
-      (start : State) (past : List Entry) →
-      Step trigger_link events_link contents s stretch call asked sent answered Rest →
-      answer_of answered ≡ reply start past (deed_of (act_of call)) asked sent → ReadIs start past (act_of call) answered
-  ReadIs-step s stretch (Read offset) asked sent (Byte byte) Rest start past step is = ap (λ answer. Byte (byte_in answer)) is
-  ReadIs-step s stretch (Read offset) asked sent _ Rest start past step is = absurd step
-  ReadIs-step s stretch (Write offset value) asked sent answered Rest start past step is = tt
-  ReadIs-step s stretch (Enqueue bytes) asked sent answered Rest start past step is = tt
-  ReadIs-step s stretch (Restore trigger events out) asked sent answered Rest start past step is = tt
+  -- ---- the bytes read
+
+  -- a reply that a read has is the byte of its response
+  ReadIs-reply :
+      (start : State) (trace : List TraceEntry) (made : Act) (asked : Asked) (sent : Sent) (reply : Reply T EV W E) →
+      IsReplyTo made reply → response_of reply ≡ history_response start trace (op_of made) asked sent → ReadIs start trace made reply
+  ReadIs-reply start trace (act.Read offset) asked sent (Byte byte) of is = ap (λ response. Byte (byte_in response)) is
+  ReadIs-reply start trace (act.Read offset) asked sent _ of is = absurd of
+  ReadIs-reply start trace _ asked sent reply of is = tt
 
   ReadsAre-run :
-      (s : State) (stretch : Stretch T E EV W) (calls : List (Call T EV W)) (done : List (Done T EV W E)) (end : Port T EV W) (start : State) (past : List Entry) →
-      RunsCalls trigger_link events_link contents s stretch calls done end → RepliesAre start past (records_of done) → ReadsAre start past done
-  ReadsAre-run s stretch calls [] end start past run replies = tt
-  ReadsAre-run s stretch (call ∷ calls) (done ∷ later) end start past run replies =
-      let rest = Step-rest s stretch call done.asked done.sent done.reply _ run.1 in (
-        subst (λ act. answer_of done.reply ≡ reply start past (deed_of act) done.asked done.sent → ReadIs start past act done.reply) (sym run.0)
-            (ReadIs-step s stretch call done.asked done.sent done.reply _ start past run.1) replies.0,
-        ReadsAre-run rest.0 rest.1 calls later end start (entry_of done ∷ past) rest.2 replies.1,
-      )
-  ReadsAre-run s stretch [] (done ∷ later) end start past run replies = absurd run
+      (start : State) (trace : List TraceEntry) (calls : List (Call T EV W)) (records : List (Done T EV W E)) →
+      RecordsOf calls records → ResponsesAre start trace (entries_of records) → ReadsAre start trace records
+  ReadsAre-run start trace calls [] of responses = tt
+  ReadsAre-run start trace (call ∷ calls) (done ∷ later) of responses = (
+    ReadIs-reply start trace done.act done.asked done.sent done.reply (subst (λ made. IsReplyTo made done.reply) (sym of.0) of.1) responses.0,
+    ReadsAre-run start (entry_of done ∷ trace) calls later of.2 responses.1,
+  )
+  ReadsAre-run start trace [] (done ∷ later) of responses = absurd of
 
   -- ---- the same without restores
 
-  -- each place has the same acts before it, which asked the same, and so the same reads
+  -- at each point the same operations were before, with the same answers, and so it shows the same reads
   ReadIs-elsewhere :
-      (start : State) (past other : List Entry) (call : Act) (answered : Reply T EV W E) → acts_and_asked past ≡ acts_and_asked other →
-      ReadIs start past call answered → ReadIs start other call answered
-  ReadIs-elsewhere start past other (act.Read offset) answered same is = is ∙ ap Byte (same_reads_law start past other same offset)
-  ReadIs-elsewhere start past other _ answered same is = tt
+      (start : State) (trace other : List TraceEntry) (made : Act) (reply : Reply T EV W E) → ops_and_asked trace ≡ ops_and_asked other →
+      ReadIs start trace made reply → ReadIs start other made reply
+  ReadIs-elsewhere start trace other (act.Read offset) reply same is = is ∙ ap Byte (same_reads_law start trace other same offset)
+  ReadIs-elsewhere start trace other _ reply same is = tt
 
   ReadsAre-without_restores :
-      (start : State) (past other : List Entry) (done : List (Done T EV W E)) → acts_and_asked past ≡ acts_and_asked other →
-      ReadsAre start past done → ReadsAre start other (without_restores done)
-  ReadsAre-without_restores start past other [] same are = tt
-  ReadsAre-without_restores start past other (done ∷ later) same are =
+      (start : State) (trace other : List TraceEntry) (records : List (Done T EV W E)) → ops_and_asked trace ≡ ops_and_asked other →
+      ReadsAre start trace records → ReadsAre start other (without_restores records)
+  ReadsAre-without_restores start trace other [] same are = tt
+  ReadsAre-without_restores start trace other (done ∷ later) same are =
       cond_both _ _ _ (ReadsAre start other)
       (λ kept. (
-        ReadIs-elsewhere start past other done.act done.reply same are.0,
-        ReadsAre-without_restores start (entry_of done ∷ past) (entry_of done ∷ other) later
-            (ap (λ acts. act_and_asked (deed_of done.act) done.asked ++ acts) same) are.1,
+        ReadIs-elsewhere start trace other done.act done.reply same are.0,
+        ReadsAre-without_restores start (entry_of done ∷ trace) (entry_of done ∷ other) later
+            (ap (λ ops. op_and_asked (op_of done.act) done.asked ++ ops) same) are.1,
       ))
-      (λ restores. ReadsAre-without_restores start (entry_of done ∷ past) other later
-      (ap (λ deed. act_and_asked deed done.asked ++ acts_and_asked past) (deed_of-restore done.act restores) ∙ same) are.1)
-
-  -- ---- the output of each stretch
-
-  -- a stretch is that of the newest records
-  record IsStretchOf (start : State) (past newest : List Entry) (s : State) (stretch : Stretch T E EV W) : Type 0 where
-    state : s ≡ state_after start (newest ++ past)
-    fitting : IsTrue (is_fitting start (newest ++ past))
-    taken : stretch.written_out ≡ all_written newest
-    fates : list_all (λ what. not (is_lost what)) stretch.fates ≡ none_lost newest
-
-  OutputIs-stretch :
-      (start : State) (past newest : List Entry) (s : State) (stretch : Stretch T E EV W) (port : Port T EV W) →
-      IsStretchOf start past newest s stretch → IsAfter trigger_link events_link contents stretch s port →
-      OutputIs contents start past newest stretch.out port.out
-  OutputIs-stretch start past newest s stretch port is after kept =
-      subst (Appends (contents stretch.out) (contents port.out)) (is.taken ∙ output_law start past newest is.fitting kept) (after.out.grown (is.fates ∙ kept))
+      (λ restores. ReadsAre-without_restores start (entry_of done ∷ trace) other later
+      (ap (λ op. op_and_asked op done.asked ++ ops_and_asked trace) (op_of-restore done.act restores) ∙ same) are.1)
 
   module _ (start : State) (coherent : Coherent start) where
-    -- a record that passes the test of the call cases fits the history
-    fits-history :
-        (past : List Entry) (s : State) (entry : Entry) → s ≡ state_after start past → IsTrue (fits s entry.act entry.asked entry.sent) →
-        IsTrue (is_fitting start past) → IsTrue (is_fitting start (entry ∷ past))
-    fits-history past s entry state fit fitting =
-        let agrees = interrupt_law start past coherent.transmit coherent.receive coherent.identification in
-        both_true (sym (agrees.calls entry) ∙ subst (λ state. IsTrue (fits state entry.act entry.asked entry.sent)) state fit) fitting
+    -- an admissible entry keeps a trace well-formed
+    well_formed-step :
+        (trace : List TraceEntry) (s : State) (entry : TraceEntry) → s ≡ state_after start trace → IsTrue (is_admissible s entry.op entry.asked entry.sent) →
+        IsTrue (is_well_formed start trace) → IsTrue (is_well_formed start (entry ∷ trace))
+    well_formed-step trace s entry state admissible well_formed =
+        let agrees = interrupt_law start trace coherent.thre coherent.rda coherent.identification in
+        both_true (sym (agrees.calls entry) ∙ subst (λ state. IsTrue (is_admissible state entry.op entry.asked entry.sent)) state admissible) well_formed
 
-    -- a call adds to the stretch
-    IsStretchOf-extended :
-        (past newest : List Entry) (s : State) (stretch : Stretch T E EV W) (deed : Deed) (asked : Asked) (sent : Sent) (refusal : Option E) →
-        IsStretchOf start past newest s stretch → IsTrue (fits s deed asked sent) →
-        IsStretchOf start past (record { act = deed; asked = asked; sent = sent } ∷ newest) (next s deed asked) (extended stretch s deed asked sent refusal)
-    IsStretchOf-extended past newest s stretch deed asked sent refusal is fit =
-        let entry : Entry = record { act = deed; asked = asked; sent = sent } in
+    -- ---- the output of each segment
+
+    -- a segment of the run is that of the newest entries
+    record IsSegmentOf (before newest : List TraceEntry) (s : State) (segment : Segment T E EV W) : Type 0 where
+      state : s ≡ state_after start (newest ++ before)
+      well_formed : IsTrue (is_well_formed start (newest ++ before))
+      taken : segment.written_out ≡ recorded_output newest
+      outcomes : list_all (λ outcome. not (is_lost outcome)) segment.outcomes ≡ none_lost newest
+
+    abbrev writer : (before newest : List TraceEntry) (segment : Segment T E EV W) → WriterSegment W
+    writer before newest segment = record { before = before; newest = newest; begun = segment.out }
+
+    OutputIs-segment :
+        (before newest : List TraceEntry) (s : State) (segment : Segment T E EV W) (port : Port T EV W) →
+        IsSegmentOf before newest s segment → IsAfter links segment s port →
+        OutputIs links.contents start (writer before newest segment) port.out
+    OutputIs-segment before newest s segment port is after kept =
+        subst (Appends (links.contents segment.out) (links.contents port.out))
+        (is.taken ∙ output_law start before newest is.well_formed kept) (after.out.grown (is.outcomes ∙ kept))
+
+    -- a call adds to the segment, or ends it
+    record Output-next
+        (before newest : List TraceEntry) (s : State) (segment : Segment T E EV W) (call : Call T EV W) (made : Act)
+        (asked : Asked) (sent : Sent) (reply : Reply T EV W E) : Type 0 where
+      next_before : List TraceEntry
+      next_newest : List TraceEntry
+      end : OutputAtEnd links.contents start (writer before newest segment) call reply
+      same :
+          next_writer_segment links.contents start (writer before newest segment) (entry made asked sent) call reply
+          ≡ writer next_before next_newest (next_segment links s segment call asked sent reply)
+      is : IsSegmentOf next_before next_newest (step s (op_of made) asked) (next_segment links s segment call asked sent reply)
+
+    IsSegmentOf-extend :
+        (before newest : List TraceEntry) (s : State) (segment : Segment T E EV W) (op : Op) (asked : Asked) (sent : Sent) (reply : Reply T EV W E) →
+        IsSegmentOf before newest s segment → IsTrue (is_admissible s op asked sent) →
+        IsSegmentOf before (record { op = op; asked = asked; sent = sent } ∷ newest) (step s op asked) (extend segment s op asked sent (refusal_in_reply reply))
+    IsSegmentOf-extend before newest s segment op asked sent reply is admissible =
+        let added : TraceEntry = record { op = op; asked = asked; sent = sent } in
         record {
-          state = ap (λ before. next before deed asked) is.state;
-          fitting = fits-history (newest ++ past) s entry is.state fit is.fitting;
-          taken = ap (λ bytes. bytes ++ written deed sent) is.taken;
-          fates = list_all-append (λ what. not (is_lost what)) stretch.fates (sent ∷ []) ∙ swapped _ _ (not (is_lost sent)) is.fates;
+          state = ap (λ s. step s op asked) is.state;
+          well_formed = well_formed-step (newest ++ before) s added is.state admissible is.well_formed;
+          taken = ap (λ bytes. bytes ++ bytes_taken_by_writer op sent) is.taken;
+          outcomes = list_all-append (λ outcome. not (is_lost outcome)) segment.outcomes (sent ∷ []) ∙ swapped _ _ (not (is_lost sent)) is.outcomes;
         }
 
-    OutputStep-run :
-        (past newest : List Entry) (s : State) (stretch : Stretch T E EV W) (call : Call T EV W) (asked : Asked) (sent : Sent) (answered : Reply T EV W E)
-        (Rest : State → Stretch T E EV W → Type 0) (Outputs : (past newest : List Entry) → W → Type 0) →
-        ((past newest : List Entry) (next_state : State) (next_stretch : Stretch T E EV W) → IsStretchOf start past newest next_state next_stretch → Rest next_state next_stretch → Outputs past newest next_stretch.out) →
-        IsStretchOf start past newest s stretch → Step trigger_link events_link contents s stretch call asked sent answered Rest →
-        OutputStep contents start past newest stretch.out (record { act = deed_of (act_of call); asked = asked; sent = sent }) call answered Outputs
-    OutputStep-run past newest s stretch (Read offset) asked sent (Byte byte) Rest Outputs on is step =
-        on past _ _ _ (IsStretchOf-extended past newest s stretch _ asked sent _ is step.0) step.2
-    OutputStep-run past newest s stretch (Write offset value) asked sent (Wrote outcome) Rest Outputs on is step =
-        on past _ _ _ (IsStretchOf-extended past newest s stretch _ asked sent _ is step.0) step.2
-    OutputStep-run past newest s stretch (Enqueue bytes) asked sent (Enqueued outcome) Rest Outputs on is step =
-        on past _ _ _ (IsStretchOf-extended past newest s stretch _ asked sent _ is step.0) step.2
-    OutputStep-run past newest s stretch (Restore trigger events out) asked sent (Restored old) Rest Outputs on is step =
-        let entry : Entry = record { act = Restores; asked = asked; sent = sent } in (
-          OutputIs-stretch start past newest s stretch old is step.2,
-          on (entry ∷ newest ++ past) [] s (stretch_from (restore_calls s) trigger events out)
-              (record {
-                state = is.state;
-                fitting = fits-history (newest ++ past) s entry is.state (fits-restore s asked sent step.0 step.1) is.fitting;
-                taken = refl;
-                fates = refl;
-              }) step.4,
-        )
-    OutputStep-run past newest s stretch (Restore trigger events out) asked sent (NotRestored refused) Rest Outputs on is step =
-        let entry : Entry = record { act = Restores; asked = asked; sent = sent } in
-        on past (entry ∷ newest) s stretch
-        (record {
-          state = is.state;
-          fitting = fits-history (newest ++ past) s entry is.state (fits-restore s asked sent step.0 step.1) is.fitting;
-          taken = is.taken ∙ sym (append-nil (all_written newest));
-          fates = is.fates ∙ ap (λ what. not (is_lost what) && none_lost newest) (sym step.1);
-        }) step.5
-    OutputStep-run past newest s stretch _ asked sent _ Rest Outputs on is step = absurd step
+    Output-call :
+        (before newest : List TraceEntry) (s : State) (segment : Segment T E EV W) (call : Call T EV W)
+        (asked : Asked) (sent : Sent) (reply : Reply T EV W E) → IsSegmentOf before newest s segment →
+        CallFollows links s segment call asked sent reply → Output-next before newest s segment call (act_of call) asked sent reply
+    Output-call before newest s segment (Read offset) asked sent (Byte byte) is h = record {
+      next_before = before; next_newest = entry (act.Read offset) asked sent ∷ newest; end = tt; same = refl;
+      is = IsSegmentOf-extend before newest s segment _ asked sent (Byte byte) is h.0;
+    }
+    Output-call before newest s segment (Write offset value) asked sent (Wrote answer) is h = record {
+      next_before = before; next_newest = entry (act.Write offset value) asked sent ∷ newest; end = tt; same = refl;
+      is = IsSegmentOf-extend before newest s segment _ asked sent (Wrote answer) is h.0;
+    }
+    Output-call before newest s segment (Enqueue bytes) asked sent (Enqueued answer) is h = record {
+      next_before = before; next_newest = entry (act.Enqueue bytes) asked sent ∷ newest; end = tt; same = refl;
+      is = IsSegmentOf-extend before newest s segment _ asked sent (Enqueued answer) is h.0;
+    }
+    Output-call before newest s segment (Restore trigger events out) asked sent (Restored old) is h = record {
+      next_before = entry act.Restore asked sent ∷ newest ++ before;
+      next_newest = [];
+      end = OutputIs-segment before newest s segment old is h.2;
+      same = refl;
+      is = record {
+        state = is.state;
+        well_formed = well_formed-step (newest ++ before) s (entry act.Restore asked sent) is.state (restore_admissible s asked sent h.0 h.1) is.well_formed;
+        taken = refl;
+        outcomes = refl;
+      };
+    }
+    Output-call before newest s segment (Restore trigger events out) asked sent (NotRestored refused) is h = record {
+      next_before = before;
+      next_newest = entry act.Restore asked sent ∷ newest;
+      end = tt;
+      same = refl;
+      is = record {
+        state = is.state;
+        well_formed = well_formed-step (newest ++ before) s (entry act.Restore asked sent) is.state (restore_admissible s asked sent h.0 h.1) is.well_formed;
+        taken = is.taken ∙ sym (append-nil (recorded_output newest));
+        outcomes = is.outcomes ∙ ap (λ outcome. not (is_lost outcome) && none_lost newest) (sym h.1);
+      };
+    }
+    Output-call before newest s segment _ asked sent _ is h = absurd h
 
     OutputsAre-run :
-        (past newest : List Entry) (s : State) (stretch : Stretch T E EV W) (calls : List (Call T EV W)) (done : List (Done T EV W E)) (end : Port T EV W) →
-        IsStretchOf start past newest s stretch → RunsCalls trigger_link events_link contents s stretch calls done end →
-        OutputsAre contents start past newest stretch.out calls done end.out
-    OutputsAre-run past newest s stretch [] [] end is run = OutputIs-stretch start past newest s stretch end is run
-    OutputsAre-run past newest s stretch (call ∷ calls) (done ∷ later) end is run =
-        let Outputs = λ (past newest : List Entry) (begun : W). OutputsAre contents start past newest begun calls later end.out in
-        subst (λ made. OutputStep contents start past newest stretch.out (record { act = deed_of made; asked = done.asked; sent = done.sent }) call done.reply Outputs) (sym run.0)
-        (OutputStep-run past newest s stretch call done.asked done.sent done.reply _ Outputs
-        (λ past newest next_state next_stretch is rest. OutputsAre-run past newest next_state next_stretch calls later end is rest) is run.1)
-    OutputsAre-run past newest s stretch [] (done ∷ later) end is run = absurd run
-    OutputsAre-run past newest s stretch (call ∷ calls) [] end is run = absurd run
+        (calls : List (Call T EV W)) (records : List (Done T EV W E)) (before newest : List TraceEntry) (s : State) (segment : Segment T E EV W) (end : Port T EV W) →
+        IsSegmentOf before newest s segment → IsRun links s segment calls records end →
+        OutputsAre links.contents start (writer before newest segment) calls records end.out
+    OutputsAre-run [] [] before newest s segment end is run = OutputIs-segment before newest s segment end is run
+    OutputsAre-run (call ∷ calls) (done ∷ later) before newest s segment end is run =
+        let next = subst (λ made. Output-next before newest s segment call made done.asked done.sent done.reply) (sym run.0)
+        (Output-call before newest s segment call done.asked done.sent done.reply is run.1) in
+        (next.end, subst (λ segment. OutputsAre links.contents start segment calls later end.out) (sym next.same)
+        (OutputsAre-run calls later next.next_before next.next_newest _ _ end next.is run.2))
+    OutputsAre-run [] (done ∷ later) before newest s segment end is run = absurd run
+    OutputsAre-run (call ∷ calls) [] before newest s segment end is run = absurd run
 
-    -- ---- the trigger calls of each stretch
+    -- ---- the trigger calls of each segment
 
-    restoring : (past : List Entry) (s : State) → s ≡ state_after start past → restore_calls s ≡ restore_calls_due start past
-    restoring past s state = ap restore_calls state ∙ (interrupt_law start past coherent.transmit coherent.receive coherent.identification).restoring
+    restoring : (trace : List TraceEntry) (s : State) → s ≡ state_after start trace → restore_calls s ≡ restore_calls_due start trace
+    restoring trace s state = ap restore_calls state ∙ (interrupt_law start trace coherent.thre coherent.rda coherent.identification).restoring
 
-    TriggerStep-run :
-        (past : List Entry) (s : State) (stretch : Stretch T E EV W) (call : Call T EV W) (asked : Asked) (sent : Sent) (answered : Reply T EV W E)
-        (Rest : State → Stretch T E EV W → Type 0) (Triggers : T → List (Result (Unit {0}) E) → Type 0) →
-        ((next_state : State) (next_stretch : Stretch T E EV W) → next_state ≡ state_after start (record { act = deed_of (act_of call); asked = asked; sent = sent } ∷ past) → Rest next_state next_stretch → Triggers next_stretch.trigger next_stretch.answered) →
-        s ≡ state_after start past → Step trigger_link events_link contents s stretch call asked sent answered Rest →
-        TriggerStep trigger_link start past stretch.trigger stretch.answered call asked answered Triggers
-    TriggerStep-run past s stretch (Read offset) asked sent (Byte byte) Rest Triggers on state step =
-        on _ _ (ap (λ before. next before (Reads offset) asked) state) step.2
-    TriggerStep-run past s stretch (Write offset value) asked sent (Wrote outcome) Rest Triggers on state step =
-        on _ _ (ap (λ before. next before (Writes offset value) asked) state) step.2
-    TriggerStep-run past s stretch (Enqueue bytes) asked sent (Enqueued outcome) Rest Triggers on state step =
-        on _ _ (ap (λ before. next before (Enqueues bytes.items) asked) state) step.2
-    TriggerStep-run past s stretch (Restore trigger events out) asked sent (Restored old) Rest Triggers on state step = (
-      step.2.trigger,
-      subst (λ due. (now : T) × trigger_link trigger (all_taken due) now) (restoring past s state) step.3,
-      subst (λ due. Triggers trigger (all_taken due)) (restoring past s state) (on s (stretch_from (restore_calls s) trigger events out) state step.4),
-    )
-    TriggerStep-run past s stretch (Restore trigger events out) asked sent (NotRestored refused) Rest Triggers on state step = (
-      subst (λ due. RefusesOwn trigger_link due refused.error trigger refused.trigger) (restoring past s state) step.2,
-      on s stretch state step.5,
-    )
-    TriggerStep-run past s stretch _ asked sent _ Rest Triggers on state step = absurd step
+    abbrev called : (segment : Segment T E EV W) → TriggerSegment T E
+    called segment = record { begun = segment.trigger; answers = segment.answers }
+
+    -- a call adds to the segment of the trigger, or ends it
+    record Trigger-next
+        (trace : List TraceEntry) (s : State) (segment : Segment T E EV W) (call : Call T EV W)
+        (asked : Asked) (sent : Sent) (reply : Reply T EV W E) : Type 0 where
+      at_restore : TriggerAtRestore links.trigger start trace (called segment) call reply
+      same :
+          next_trigger_segment links.trigger start trace (called segment) call asked reply
+          ≡ called (next_segment links s segment call asked sent reply)
+
+    Trigger-call :
+        (trace : List TraceEntry) (s : State) (segment : Segment T E EV W) (call : Call T EV W)
+        (asked : Asked) (sent : Sent) (reply : Reply T EV W E) → s ≡ state_after start trace →
+        CallFollows links s segment call asked sent reply → Trigger-next trace s segment call asked sent reply
+    Trigger-call trace s segment (Read offset) asked sent (Byte byte) state h = record { at_restore = tt; same = refl }
+    Trigger-call trace s segment (Write offset value) asked sent (Wrote answer) state h = record { at_restore = tt; same = refl }
+    Trigger-call trace s segment (Enqueue bytes) asked sent (Enqueued answer) state h = record { at_restore = tt; same = refl }
+    Trigger-call trace s segment (Restore trigger events out) asked sent (Restored old) state h = record {
+      at_restore = (h.2.trigger, subst (λ due. (now : T) × links.trigger trigger (all_ok due) now) (restoring trace s state) h.3);
+      same = ap (λ due. record { begun = trigger; answers = all_ok due }) (sym (restoring trace s state));
+    }
+    Trigger-call trace s segment (Restore trigger events out) asked sent (NotRestored refused) state h = record {
+      at_restore = subst (λ due. RefusesOwnState links.trigger due refused.error trigger refused.trigger) (restoring trace s state) h.2;
+      same = refl;
+    }
+    Trigger-call trace s segment _ asked sent _ state h = absurd h
 
     TriggersAre-run :
-        (past : List Entry) (s : State) (stretch : Stretch T E EV W) (calls : List (Call T EV W)) (done : List (Done T EV W E)) (end : Port T EV W) →
-        s ≡ state_after start past → RunsCalls trigger_link events_link contents s stretch calls done end →
-        TriggersAre trigger_link start past stretch.trigger stretch.answered calls done end.trigger
-    TriggersAre-run past s stretch [] [] end state run = run.trigger
-    TriggersAre-run past s stretch (call ∷ calls) (done ∷ later) end state run =
-        let Triggers = λ (past : List Entry) (begun : T) (answered : List (Result (Unit {0}) E)). TriggersAre trigger_link start past begun answered calls later end.trigger in
-        subst (λ made. TriggerStep trigger_link start past stretch.trigger stretch.answered call done.asked done.reply (Triggers (record { act = deed_of made; asked = done.asked; sent = done.sent } ∷ past))) (sym run.0)
-        (TriggerStep-run past s stretch call done.asked done.sent done.reply _ (Triggers (record { act = deed_of (act_of call); asked = done.asked; sent = done.sent } ∷ past))
-        (λ next_state next_stretch state rest. TriggersAre-run (record { act = deed_of (act_of call); asked = done.asked; sent = done.sent } ∷ past) next_state next_stretch calls later end state rest) state run.1)
-    TriggersAre-run past s stretch [] (done ∷ later) end state run = absurd run
-    TriggersAre-run past s stretch (call ∷ calls) [] end state run = absurd run
+        (calls : List (Call T EV W)) (records : List (Done T EV W E)) (trace : List TraceEntry) (s : State) (segment : Segment T E EV W) (end : Port T EV W) →
+        s ≡ state_after start trace → IsRun links s segment calls records end →
+        TriggersAre links.trigger start trace (called segment) calls records end.trigger
+    TriggersAre-run [] [] trace s segment end state run = run.trigger
+    TriggersAre-run (call ∷ calls) (done ∷ later) trace s segment end state run =
+        let next = Trigger-call trace s segment call done.asked done.sent done.reply state run.1 in
+        (next.at_restore, subst (λ segment. TriggersAre links.trigger start (entry_of done ∷ trace) segment calls later end.trigger) (sym next.same)
+        (TriggersAre-run calls later (entry_of done ∷ trace) _ _ end (ap (λ s. step s (op_of done.act) done.asked) state) run.2))
+    TriggersAre-run [] (done ∷ later) trace s segment end state run = absurd run
+    TriggersAre-run (call ∷ calls) [] trace s segment end state run = absurd run
 
-  -- ---- the headline
+  -- ---- the history theorem
 
-  pub Headline-run :
-      (start : Port T EV W) (calls : List (Call T EV W)) (done : List (Done T EV W E)) (end : Port T EV W) →
-      start.state.line_status < 256 → RunsCalls trigger_link events_link contents start.state (first_stretch start) calls done end →
-      Coherent start.state → Headline trigger_link contents start calls done end
-  Headline-run start calls done end below run coherent =
+  pub HistoryTheorem-run :
+      (start : Port T EV W) (calls : List (Call T EV W)) (records : List (Done T EV W E)) (end : Port T EV W) →
+      start.state.line_status < 256 → IsRun links start.state (first_segment start) calls records end →
+      Coherent start.state → HistoryTheorem links.trigger links.contents start calls records end
+  HistoryTheorem-run start calls records end below run coherent =
       let s = start.state in
-      let past = history_of done in
-      let agrees = whole_run_law s end.state (records_of done) coherent below (FollowCases-run s (first_stretch start) calls done end run) in
-      let reads = ReadsAre-run s (first_stretch start) calls done end s [] run agrees.answers in
+      let trace = trace_of records in
+      let agrees = whole_run_law s end.state (entries_of records) coherent below (StepsFollow-run calls records s (first_segment start) end run) in
+      let of = RecordsOf-run calls records s (first_segment start) end run in
+      let reads = ReadsAre-run s [] calls records of agrees.responses in
       record {
-        records = RecordsOf-run s (first_stretch start) calls done end run;
+        records_of_calls = of;
         reads = reads;
-        answers = agrees.answers;
-        kept = ap (λ (port : State). taken s past ++ port.in_buffer) agrees.state ∙ taken_then_held s past;
-        trigger_calls = agrees.fitting;
-        bound = trigger_bound_law s past agrees.fitting;
-        waiting = waiting_bytes_law s past;
-        output = OutputsAre-run s coherent [] [] s (first_stretch start) calls done end (record { state = refl; fitting = refl; taken = refl; fates = refl }) run;
-        restores = TriggersAre-run s coherent [] s (first_stretch start) calls done end refl run;
-        reads_alone = ReadsAre-without_restores s [] [] done refl reads;
+        responses = agrees.responses;
+        kept = ap (λ (port : State). taken_bytes s trace ++ port.in_buffer) agrees.state ∙ taken_then_held s trace;
+        trigger_calls = agrees.well_formed;
+        bound = trigger_bound_law s trace agrees.well_formed;
+        waiting = waiting_bytes_law s trace;
+        output = OutputsAre-run s coherent calls records [] [] s (first_segment start) end (record { state = refl; well_formed = refl; taken = refl; outcomes = refl }) run;
+        restores = TriggersAre-run s coherent calls records [] s (first_segment start) end refl run;
+        reads_alone = ReadsAre-without_restores s [] [] records refl reads;
         end_state = agrees.state;
         end_coherent = agrees.coherent;
       }

@@ -1,21 +1,23 @@
 -- A coherent state stays coherent, is the one that the past describes, and answers what the history replies; so whole
--- runs by the call cases are fitting histories.
+-- runs by the call cases are well_formed histories.
 use Rattle.std.proofs.Common.{◌≡◌, ℕ, ◌+◌, ◌<◌, ◌≤◌, Bool, true, false, ◌==◌, ◌&&◌, ◌||◌, List, [], ◌∷◌, length, drop, refl, ap, sym, ◌∙◌, subst, length-append, length-take, length-drop, arith}
 use Rattle.std.specs.Cmp.Derive.{both_true}
 use Rattle.std.proofs.lemmas.Bool.{false≢true}
 use Rattle.std.specs.Prelude.{if◌then◌else◌, nat_le, IsTrue}
 use Rattle.vm_superio.specs.declared.run.Asked.{Asked}
 use Rattle.vm_superio.specs.declared.run.Sent.{Sent}
-use Rattle.vm_superio.specs.State.{State, fresh, has_bits, without, not_empty}
-use Rattle.vm_superio.specs.Acts.{Deed, Reads, Writes, Enqueues, Restores, Entry, Answer, Added, FifoFull, TriggerRefused, is_refused}
-use Rattle.vm_superio.specs.Asking.{receive}
-use Rattle.vm_superio.specs.Meaning.{that_fit, kind_in, Kind, DataRead, IdentificationRead, EnableWrite, DataWrite, Arrival, Other, accepted_by}
-use Rattle.vm_superio.specs.Calls.{answer}
-use Rattle.vm_superio.specs.Coherent.{Coherent}
-use Rattle.vm_superio.specs.History.{loopback, held}
-use Rattle.vm_superio.specs.Replies.{reply, described}
-use Rattle.vm_superio.specs.Interrupts.{is_fitting}
-use Rattle.vm_superio.specs.Laws.{state_after, CoherenceLaw, StateLaw, AnswerLaw, FollowCases, RunAgrees, WholeRunLaw}
+use Rattle.vm_superio.specs.Port.State.{State, fresh_state, not_empty}
+use Rattle.vm_superio.specs.Port.Bits.{has_bits, without}
+use Rattle.vm_superio.specs.Port.Operations.{Op, Read, Write, Enqueue, Restore, TraceEntry, Response, EnqueueOk, FifoFull, TriggerRefused, is_refused_once}
+use Rattle.vm_superio.specs.Step.Raising.{receive_bytes, bytes_that_fit}
+use Rattle.vm_superio.specs.Step.Admissible.{kind_in_state}
+use Rattle.vm_superio.specs.Port.OpKinds.{OpKind, RbrRead, IirRead, IerWrite, ThrWrite, Arrival, Other}
+use Rattle.vm_superio.specs.History.Registers.{accepted_by, loopback, held_bytes}
+use Rattle.vm_superio.specs.Step.Transition.{step_response}
+use Rattle.vm_superio.specs.Port.Coherent.{Coherent}
+use Rattle.vm_superio.specs.History.Reads.{history_response, state_of_history}
+use Rattle.vm_superio.specs.History.Interrupts.{is_well_formed}
+use Rattle.vm_superio.specs.Laws.Agreement.{state_after, CoherenceLaw, StateLaw, ResponseLaw, StepsFollow, RunAgrees, WholeRunLaw}
 use Rattle.vm_superio.proofs.Bytes.{data_ready_set, data_ready_cleared}
 use Rattle.vm_superio.proofs.ByKind.{by_kind, next_by_kind}
 use Rattle.vm_superio.proofs.RegisterSteps.{register_law}
@@ -24,11 +26,11 @@ use Rattle.vm_superio.proofs.Pending.{interrupt_law, pending_by_kind, transmit_n
 
 -- ---- a new port is coherent: nothing is pending, and no byte is held
 
-pub fresh_coherent : Coherent fresh
+pub fresh_coherent : Coherent fresh_state
 unfolding has_bits
 fresh_coherent = record {
-  transmit = false;
-  receive = false;
+  thre = false;
+  rda = false;
   identification = refl;
   received = λ impossible. impossible;
   data_ready = refl;
@@ -39,25 +41,25 @@ fresh_coherent = record {
 
 -- the receive condition is pending only while a byte is held
 received_kept : (new : List ℕ) (s : State) (bit before : Bool) → (IsTrue before → IsTrue (not_empty s.in_buffer))
-    → IsTrue ((not_empty new && bit) || before) → IsTrue (not_empty (receive new s).in_buffer)
+    → IsTrue ((not_empty new && bit) || before) → IsTrue (not_empty (receive_bytes new s).in_buffer)
 received_kept [] s bit before kept now = kept now
 received_kept (byte ∷ bytes) s bit before kept now = not_empty-append s.in_buffer byte bytes
 
-enabled_held : (bit held before : Bool) → (IsTrue before → IsTrue held) → IsTrue ((bit && held) || before) → IsTrue held
+enabled_held : (bit held_bytes before : Bool) → (IsTrue before → IsTrue held_bytes) → IsTrue ((bit && held_bytes) || before) → IsTrue held_bytes
 enabled_held bit true before kept now = refl
 enabled_held true false before kept now = kept now
 enabled_held false false before kept now = kept now
 
-received_by_kind : (k : Kind) (asked : Asked) (s : State) (before : Bool)
+received_by_kind : (k : OpKind) (asked : Asked) (s : State) (before : Bool)
     → (IsTrue before → IsTrue (not_empty s.in_buffer))
     → IsTrue (receive_next k s.in_buffer s.interrupt_enable before) → IsTrue (not_empty (by_kind k asked s).in_buffer)
-received_by_kind DataRead asked s before kept now = absurd (false≢true now)
-received_by_kind IdentificationRead asked s before kept now = absurd (false≢true now)
-received_by_kind (EnableWrite value) asked s before kept now =
+received_by_kind RbrRead asked s before kept now = absurd (false≢true now)
+received_by_kind IirRead asked s before kept now = absurd (false≢true now)
+received_by_kind (IerWrite value) asked s before kept now =
     enabled_held (has_bits value 0x01) (not_empty s.in_buffer) before kept now
-received_by_kind (DataWrite value) asked s before kept now = kept now
+received_by_kind (ThrWrite value) asked s before kept now = kept now
 received_by_kind (Arrival bytes) asked s before kept now =
-    received_kept (that_fit s.in_buffer bytes) s (has_bits s.interrupt_enable 0x01) before kept now
+    received_kept (bytes_that_fit s.in_buffer bytes) s (has_bits s.interrupt_enable 0x01) before kept now
 received_by_kind Other asked s before kept now = kept now
 
 -- data ready is set exactly while a byte is held
@@ -69,113 +71,113 @@ read_shows (byte ∷ []) line_status shows = data_ready_cleared line_status
 read_shows (byte ∷ other ∷ bytes) line_status shows = shows
 
 received_shows : (new : List ℕ) (s : State) → has_bits s.line_status 0x01 ≡ not_empty s.in_buffer
-    → has_bits (receive new s).line_status 0x01 ≡ not_empty (receive new s).in_buffer
+    → has_bits (receive_bytes new s).line_status 0x01 ≡ not_empty (receive_bytes new s).in_buffer
 received_shows [] s shows = shows
 received_shows (byte ∷ bytes) s shows = data_ready_set s.line_status ∙ sym (not_empty-append s.in_buffer byte bytes)
 
-shown_by_kind : (k : Kind) (asked : Asked) (s : State) → has_bits s.line_status 0x01 ≡ not_empty s.in_buffer
+shown_by_kind : (k : OpKind) (asked : Asked) (s : State) → has_bits s.line_status 0x01 ≡ not_empty s.in_buffer
     → has_bits (by_kind k asked s).line_status 0x01 ≡ not_empty (by_kind k asked s).in_buffer
-shown_by_kind DataRead asked s shows = read_shows s.in_buffer s.line_status shows
-shown_by_kind (Arrival bytes) asked s shows = received_shows (that_fit s.in_buffer bytes) s shows
-shown_by_kind IdentificationRead asked s shows = shows
+shown_by_kind RbrRead asked s shows = read_shows s.in_buffer s.line_status shows
+shown_by_kind (Arrival bytes) asked s shows = received_shows (bytes_that_fit s.in_buffer bytes) s shows
+shown_by_kind IirRead asked s shows = shows
 shown_by_kind _ asked s shows = shows
 
 -- at most 64 bytes are held
-received_length : (new : List ℕ) (s : State) → length (receive new s).in_buffer ≡ length s.in_buffer + length new
+received_length : (new : List ℕ) (s : State) → length (receive_bytes new s).in_buffer ≡ length s.in_buffer + length new
 received_length [] s = omega arith
 received_length (byte ∷ bytes) s = length-append s.in_buffer (byte ∷ bytes)
 
-few_by_kind : (k : Kind) (asked : Asked) (s : State) → length s.in_buffer ≤ 64
+few_by_kind : (k : OpKind) (asked : Asked) (s : State) → length s.in_buffer ≤ 64
     → length (by_kind k asked s).in_buffer ≤ 64
-few_by_kind DataRead asked s few = simp length-drop (omega arith)
+few_by_kind RbrRead asked s few = simp length-drop (omega arith)
 few_by_kind (Arrival bytes) asked s few = rw received_length (simp length-take (omega arith))
-few_by_kind IdentificationRead asked s few = few
+few_by_kind IirRead asked s few = few
 few_by_kind _ asked s few = few
 
 pub coherence_law : CoherenceLaw
-coherence_law s act asked coherent =
-    let k = kind_in s act in
-    let same = next_by_kind s act asked in
+coherence_law s op asked coherent =
+    let k = kind_in_state s op in
+    let same = next_by_kind s op asked in
     record {
-      transmit = transmit_next k s.in_buffer s.interrupt_enable asked coherent.transmit coherent.receive;
-      receive = receive_next k s.in_buffer s.interrupt_enable coherent.receive;
+      thre = transmit_next k s.in_buffer s.interrupt_enable asked coherent.thre coherent.rda;
+      rda = receive_next k s.in_buffer s.interrupt_enable coherent.rda;
       identification =
           same.interrupt_identification
-          ∙ pending_by_kind k asked s coherent.transmit coherent.receive coherent.identification;
-      received = λ now. ap not_empty same.in_buffer ∙ received_by_kind k asked s coherent.receive coherent.received now;
+          ∙ pending_by_kind k asked s coherent.thre coherent.rda coherent.identification;
+      received = λ now. ap not_empty same.in_buffer ∙ received_by_kind k asked s coherent.rda coherent.received now;
       data_ready =
           ap (λ byte. has_bits byte 0x01) same.line_status ∙ shown_by_kind k asked s coherent.data_ready
           ∙ ap not_empty (sym same.in_buffer);
       few = rw same.in_buffer (few_by_kind k asked s coherent.few);
     }
 
-coherent_after : (start : State) (past : List Entry) → Coherent start → Coherent (state_after start past)
+coherent_after : (start : State) (trace : List TraceEntry) → Coherent start → Coherent (state_after start trace)
 coherent_after start [] coherent = coherent
-coherent_after start (entry ∷ past) coherent =
-    coherence_law (state_after start past) entry.act entry.asked (coherent_after start past coherent)
+coherent_after start (entry ∷ trace) coherent =
+    coherence_law (state_after start trace) entry.op entry.asked (coherent_after start trace coherent)
 
 -- ---- the state is described, and the answers are the replies
 
 pub state_law : StateLaw
-state_law start past coherent below =
-    let registers = register_law start past in
-    let interrupts = interrupt_law start past coherent.transmit coherent.receive coherent.identification in
+state_law start trace coherent below =
+    let registers = register_law start trace in
+    let interrupts = interrupt_law start trace coherent.thre coherent.rda coherent.identification in
     λ i. record {
       baud_divisor_low = registers.divisor_low i;
       baud_divisor_high = registers.divisor_high i;
       interrupt_enable = registers.interrupt_enable i;
       interrupt_identification = interrupts.pending i;
       line_control = registers.line_control i;
-      line_status = line_status_law start past below coherent.data_ready i;
+      line_status = line_status_law start trace below coherent.data_ready i;
       modem_control = registers.modem_control i;
       modem_status = registers.modem_status i;
       scratch = registers.scratch i;
-      in_buffer = held_bytes_law start past i;
+      in_buffer = held_bytes_law start trace i;
     }
 
-enqueue_told : (loopback : Bool) (bytes held : List ℕ) (asked : Asked)
-    → (if loopback || (length bytes == 0) then Added 0
-    else (if nat_le 64 (length held) then FifoFull
-    else (if is_refused asked then TriggerRefused
-    else Added (length (if loopback then [] else that_fit held bytes)))))
-    ≡ (if loopback || (length bytes == 0) then Added 0
-    else (if nat_le 64 (length held) then FifoFull
-    else (if is_refused asked then TriggerRefused
-    else Added (length (accepted_by (if loopback then Other else Arrival bytes) held)))))
-enqueue_told true bytes held asked = refl
-enqueue_told false bytes held asked = refl
+enqueue_told : (loopback : Bool) (bytes held_bytes : List ℕ) (asked : Asked)
+    → (if loopback || (length bytes == 0) then EnqueueOk 0
+    else (if nat_le 64 (length held_bytes) then FifoFull
+    else (if is_refused_once asked then TriggerRefused
+    else EnqueueOk (length (if loopback then [] else bytes_that_fit held_bytes bytes)))))
+    ≡ (if loopback || (length bytes == 0) then EnqueueOk 0
+    else (if nat_le 64 (length held_bytes) then FifoFull
+    else (if is_refused_once asked then TriggerRefused
+    else EnqueueOk (length (accepted_by (if loopback then Other else Arrival bytes) held_bytes)))))
+enqueue_told true bytes held_bytes asked = refl
+enqueue_told false bytes held_bytes asked = refl
 
-answer_told : (start : State) (past : List Entry) (act : Deed) (asked : Asked) (what : Sent)
-    → answer (described start past) act asked what ≡ reply start past act asked what
-answer_told start past (Reads offset) asked what = refl
-answer_told start past (Writes offset value) asked what = refl
-answer_told start past (Enqueues bytes) asked what = enqueue_told (loopback start past) bytes (held start past) asked
-answer_told start past Restores asked what = refl
+answer_told : (start : State) (trace : List TraceEntry) (op : Op) (asked : Asked) (outcome : Sent)
+    → step_response (state_of_history start trace) op asked outcome ≡ history_response start trace op asked outcome
+answer_told start trace (Read offset) asked outcome = refl
+answer_told start trace (Write offset value) asked outcome = refl
+answer_told start trace (Enqueue bytes) asked outcome = enqueue_told (loopback start trace) bytes (held_bytes start trace) asked
+answer_told start trace Restore asked outcome = refl
 
-pub answer_law : AnswerLaw
-answer_law start past entry coherent below =
-    ap (λ (s : State). answer s entry.act entry.asked entry.sent) (state_law start past coherent below)
-    ∙ answer_told start past entry.act entry.asked entry.sent
+pub answer_law : ResponseLaw
+answer_law start trace entry coherent below =
+    ap (λ (s : State). step_response s entry.op entry.asked entry.sent) (state_law start trace coherent below)
+    ∙ answer_told start trace entry.op entry.asked entry.sent
 
 -- ---- a whole run
 
-run_from : (start : State) (past : List Entry) (calls : List (Entry × Answer)) (end : State) → Coherent start
-    → start.line_status < 256 → IsTrue (is_fitting start past) → FollowCases (state_after start past) calls end
-    → RunAgrees start past calls end
-run_from start past [] end coherent below fitting follow = record {
-  fitting = fitting;
-  answers = tt;
-  state = follow ∙ state_law start past coherent below;
-  coherent = subst Coherent (sym follow) (coherent_after start past coherent);
+run_from : (start : State) (trace : List TraceEntry) (calls : List (TraceEntry × Response)) (end : State) → Coherent start
+    → start.line_status < 256 → IsTrue (is_well_formed start trace) → StepsFollow (state_after start trace) calls end
+    → RunAgrees start trace calls end
+run_from start trace [] end coherent below well_formed follow = record {
+  well_formed = well_formed;
+  responses = tt;
+  state = follow ∙ state_law start trace coherent below;
+  coherent = subst Coherent (sym follow) (coherent_after start trace coherent);
 }
-run_from start past (call ∷ later) end coherent below fitting follow =
-    let interrupts = interrupt_law start past coherent.transmit coherent.receive coherent.identification in
+run_from start trace (call ∷ later) end coherent below well_formed follow =
+    let interrupts = interrupt_law start trace coherent.thre coherent.rda coherent.identification in
     let here = sym (interrupts.calls call.0) ∙ follow.0 in
-    let all = both_true here fitting in
-    let rest = run_from start (call.0 ∷ past) later end coherent below all follow.2 in
+    let all = both_true here well_formed in
+    let rest = run_from start (call.0 ∷ trace) later end coherent below all follow.2 in
     record {
-      fitting = rest.fitting;
-      answers = (follow.1 ∙ answer_law start past call.0 coherent below, rest.answers);
+      well_formed = rest.well_formed;
+      responses = (follow.1 ∙ answer_law start trace call.0 coherent below, rest.responses);
       state = rest.state;
       coherent = rest.coherent;
     }

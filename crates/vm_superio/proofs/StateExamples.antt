@@ -2,18 +2,19 @@
 use Rattle.std.proofs.Common.{◌≡◌, [], ◌∷◌, refl}
 use Rattle.vm_superio.specs.declared.run.Asked.TheVariants.{Took}
 use Rattle.vm_superio.specs.declared.run.Sent.TheVariants as sent
-use Rattle.vm_superio.specs.State.{State, fresh, has_bits, masked, joined}
-use Rattle.vm_superio.specs.Registers.{Receive, Transmit}
-use Rattle.vm_superio.specs.Events.{buffer_read, in_buffer_empty}
-use Rattle.vm_superio.specs.Calls.{restore_calls}
+use Rattle.vm_superio.specs.Port.State.{State, fresh_state}
+use Rattle.vm_superio.specs.Port.Bits.{has_bits, masked, joined}
+use Rattle.vm_superio.specs.Port.Registers.{Rda, Thre}
+use Rattle.vm_superio.specs.Port.Operations.{buffer_read, in_buffer_empty}
+use Rattle.vm_superio.specs.Step.Restore.{restore_calls}
 use Rattle.vm_superio.proofs.Examples.{read, write, store, restore, told_events, GivenByCases, GivenByBoth, RestoresWith}
 
 -- both conditions are pending and enabled, and a byte is held
 both_pending : State
 both_pending =
-    record fresh { interrupt_identification = 0x06; interrupt_enable = 0x03; line_status = 0x61; in_buffer = 0x61 ∷ [] }
+    record fresh_state { interrupt_identification = 0x06; interrupt_enable = 0x03; line_status = 0x61; in_buffer = 0x61 ∷ [] }
 
-both_called_for : RestoresWith both_pending [] (Transmit ∷ Receive ∷ [])
+both_called_for : RestoresWith both_pending [] (Thre ∷ Rda ∷ [])
 unfolding has_bits both_pending
 both_called_for = (refl, refl)
 
@@ -23,20 +24,20 @@ both_still_pending = (refl, refl)
 
 -- any bits of interrupt enable may stand in a state; the next write cuts them
 all_enabled : State
-all_enabled = record fresh { interrupt_identification = 0x02; interrupt_enable = 0xFF }
+all_enabled = record fresh_state { interrupt_identification = 0x02; interrupt_enable = 0xFF }
 
 enabled_bits_are_cut : GivenByBoth all_enabled (read 1 0xFF ∷ store 1 0xFF ∷ read 1 0x0F ∷ [])
 unfolding has_bits masked joined all_enabled
 enabled_bits_are_cut = (refl, refl)
 
-transmitter_called_for : RestoresWith all_enabled [] (Transmit ∷ [])
+transmitter_called_for : RestoresWith all_enabled [] (Thre ∷ [])
 unfolding has_bits all_enabled
 transmitter_called_for = (refl, refl)
 
 -- ---- states that are not coherent, by the call cases alone
 
 identification_zero : State
-identification_zero = record fresh { interrupt_identification = 0x00 }
+identification_zero = record fresh_state { interrupt_identification = 0x00 }
 
 zero_is_shown_once : GivenByCases identification_zero (read 2 0xC0 ∷ read 2 0xC1 ∷ [])
 unfolding has_bits masked joined identification_zero
@@ -52,7 +53,7 @@ zero_becomes_pending = refl
 
 -- data ready with no byte
 ready_for_nothing : State
-ready_for_nothing = record fresh { line_status = 0x61 }
+ready_for_nothing = record fresh_state { line_status = 0x61 }
 
 nothing_is_read : GivenByCases ready_for_nothing (read 5 0x61 ∷ read 0 0x00 ∷ read 5 0x60 ∷ [])
 unfolding has_bits masked joined ready_for_nothing
@@ -64,13 +65,13 @@ nothing_is_told = refl
 
 -- every bit of the identification
 all_bits : State
-all_bits = record fresh { interrupt_identification = 0xFF; interrupt_enable = 0x03; line_status = 0x00 }
+all_bits = record fresh_state { interrupt_identification = 0xFF; interrupt_enable = 0x03; line_status = 0x00 }
 
 all_bits_are_shown_once : GivenByCases all_bits (read 2 0xFF ∷ read 2 0xC1 ∷ [])
 unfolding has_bits masked joined all_bits
 all_bits_are_shown_once = refl
 
-all_bits_call_for_both : restore_calls all_bits ≡ Transmit ∷ Receive ∷ []
+all_bits_call_for_both : restore_calls all_bits ≡ Thre ∷ Rda ∷ []
 unfolding has_bits all_bits
 all_bits_call_for_both = refl
 
@@ -80,7 +81,7 @@ data_read_clears_one_bit = refl
 
 -- the receive condition with no byte, and a bit that means nothing
 receive_alone : State
-receive_alone = record fresh { interrupt_identification = 0x04 }
+receive_alone = record fresh_state { interrupt_identification = 0x04 }
 
 data_read_leaves_none : GivenByCases receive_alone (read 0 0x00 ∷ read 2 0xC1 ∷ [])
 unfolding has_bits masked joined receive_alone
@@ -91,7 +92,7 @@ unfolding has_bits masked joined receive_alone
 data_read_tells_both = refl
 
 other_bit : State
-other_bit = record fresh { interrupt_identification = 0x08 }
+other_bit = record fresh_state { interrupt_identification = 0x08 }
 
 data_read_keeps_it : GivenByCases other_bit (read 0 0x00 ∷ read 2 0xC8 ∷ [])
 unfolding has_bits masked joined other_bit

@@ -7,16 +7,18 @@ use Rattle.std.specs.Bool.{beq}
 use Rattle.vm_superio.specs.declared.run.Asked.{Asked}
 use Rattle.vm_superio.specs.declared.run.Sent.{Sent}
 use Rattle.vm_superio.specs.declared.run.Sent.TheVariants as sent
-use Rattle.vm_superio.specs.State.{State, not_empty}
-use Rattle.vm_superio.specs.Registers.{Register, Data, InterruptEnable, InterruptIdentification, register}
-use Rattle.vm_superio.specs.Acts.{Deed, Reads, Writes, Enqueues, Restores, Entry, is_sent, one_if}
-use Rattle.vm_superio.specs.Fits.{asked_fits, due, sends}
-use Rattle.vm_superio.specs.Calls.{answer, next, read_next, read_events, sent_events, events, restore_calls}
-use Rattle.vm_superio.specs.Meaning.{Kind, EnableWrite, DataWrite, Arrival, Other, read_kind, write_kind, kind_of, sent_by}
-use Rattle.vm_superio.specs.History.{kind, dlab, loopback, interrupt_enable, held}
-use Rattle.vm_superio.specs.Interrupts.{receive_raised_by, receive_pending, transmit_raised_by, transmit_pending, calls_due}
-use Rattle.vm_superio.specs.Replies.{described, events_by, events_told}
-use Rattle.vm_superio.specs.Laws.{StepLaw}
+use Rattle.vm_superio.specs.Port.State.{State, not_empty}
+use Rattle.vm_superio.specs.Port.Registers.{Register, RbrThr, Ier, Iir, register_at}
+use Rattle.vm_superio.specs.Port.Operations.{Op, Read, Write, Enqueue, Restore, TraceEntry, is_sent, one_if}
+use Rattle.vm_superio.specs.Step.Admissible.{answers_all, step_calls, sends_byte}
+use Rattle.vm_superio.specs.Step.Transition.{step_response, step, read_step, read_events, sent_events, step_events}
+use Rattle.vm_superio.specs.Step.Restore.{restore_calls}
+use Rattle.vm_superio.specs.Port.OpKinds.{OpKind, IerWrite, ThrWrite, Arrival, Other, read_kind, write_kind, kind_of, sent_by}
+use Rattle.vm_superio.specs.History.Registers.{kind_at, dlab, loopback, interrupt_enable, held_bytes}
+use Rattle.vm_superio.specs.History.Interrupts.{raises_rda, rda_pending, raises_thre, thre_pending, calls_due}
+use Rattle.vm_superio.specs.History.Reads.{state_of_history}
+use Rattle.vm_superio.specs.History.Events.{kind_events, history_events}
+use Rattle.vm_superio.specs.Laws.Agreement.{StepLaw}
 use Rattle.vm_superio.proofs.Pending.{due_is, interrupt_law}
 use Rattle.vm_superio.proofs.Runs.{state_law, answer_law}
 use Rattle.vm_superio.proofs.Writing.{call_written}
@@ -24,20 +26,20 @@ use Rattle.vm_superio.proofs.Writing.{call_written}
 -- ---- events
 
 -- where nothing is sent, no fate is told
-not_sent : (what : Sent) → IsTrue (beq (is_sent what) false) → what ≡ sent.Nothing
-not_sent sent.Nothing fate = refl
-not_sent sent.Out fate = absurd (false≢true fate)
-not_sent sent.Lost fate = absurd (false≢true fate)
+not_sent : (outcome : Sent) → IsTrue (beq (is_sent outcome) false) → outcome ≡ sent.Nothing
+not_sent sent.Nothing outcome_fits = refl
+not_sent sent.Out outcome_fits = absurd (false≢true outcome_fits)
+not_sent sent.Lost outcome_fits = absurd (false≢true outcome_fits)
 
-read_told : (r : Register) (s : State) (after : List ℕ) → (read_next r s).in_buffer ≡ after
-    → read_events r s.in_buffer ≡ events_by (read_kind r) after sent.Nothing
-read_told Data s after same = ap (λ bytes. events_by (read_kind Data) bytes sent.Nothing) same
-read_told InterruptIdentification s after same = refl
+read_told : (r : Register) (s : State) (after : List ℕ) → (read_step r s).in_buffer ≡ after
+    → read_events r s.in_buffer ≡ kind_events (read_kind r) after sent.Nothing
+read_told RbrThr s after same = ap (λ bytes. kind_events (read_kind RbrThr) bytes sent.Nothing) same
+read_told Iir s after same = refl
 read_told _ s after same = refl
 
 -- no write is a data read
-abbrev TellsFate : Kind → Type 0
-TellsFate k = (after : List ℕ) (what : Sent) → sent_events what ≡ events_by k after what
+abbrev TellsFate : OpKind → Type 0
+TellsFate k = (after : List ℕ) (outcome : Sent) → sent_events outcome ≡ kind_events k after outcome
 
 other_told : TellsFate Other
 other_told after sent.Nothing = refl
@@ -49,94 +51,94 @@ arrival_told bytes after sent.Nothing = refl
 arrival_told bytes after sent.Out = refl
 arrival_told bytes after sent.Lost = refl
 
-data_told : (value : ℕ) → TellsFate (DataWrite value)
+data_told : (value : ℕ) → TellsFate (ThrWrite value)
 data_told value after sent.Nothing = refl
 data_told value after sent.Out = refl
 data_told value after sent.Lost = refl
 
-enable_told : (value : ℕ) → TellsFate (EnableWrite value)
+enable_told : (value : ℕ) → TellsFate (IerWrite value)
 enable_told value after sent.Nothing = refl
 enable_told value after sent.Out = refl
 enable_told value after sent.Lost = refl
 
 write_told : (r : Register) (loopback : Bool) (value : ℕ) → TellsFate (write_kind r loopback value)
-write_told Data true value = arrival_told (value ∷ [])
-write_told Data false value = data_told value
-write_told InterruptEnable loopback value = enable_told value
+write_told RbrThr true value = arrival_told (value ∷ [])
+write_told RbrThr false value = data_told value
+write_told Ier loopback value = enable_told value
 write_told _ loopback value = other_told
 
-enqueue_told : (loopback dlab : Bool) (bytes after : List ℕ) (what : Sent)
-    → IsTrue (beq (is_sent what) (not_empty (sent_by (kind_of dlab loopback (Enqueues bytes)))))
-    → [] ≡ events_by (kind_of dlab loopback (Enqueues bytes)) after what
-enqueue_told true dlab bytes after what fate =
-    ap (λ (what : Sent). events_by Other after what) (sym (not_sent what fate))
-enqueue_told false dlab bytes after what fate =
-    ap (λ (what : Sent). events_by (Arrival bytes) after what) (sym (not_sent what fate))
+enqueue_told : (loopback dlab : Bool) (bytes after : List ℕ) (outcome : Sent)
+    → IsTrue (beq (is_sent outcome) (not_empty (sent_by (kind_of dlab loopback (Enqueue bytes)))))
+    → [] ≡ kind_events (kind_of dlab loopback (Enqueue bytes)) after outcome
+enqueue_told true dlab bytes after outcome outcome_fits =
+    ap (λ (outcome : Sent). kind_events Other after outcome) (sym (not_sent outcome outcome_fits))
+enqueue_told false dlab bytes after outcome outcome_fits =
+    ap (λ (outcome : Sent). kind_events (Arrival bytes) after outcome) (sym (not_sent outcome outcome_fits))
 
 read_sends : (r : Register) → not_empty (sent_by (read_kind r)) ≡ false
-read_sends Data = refl
-read_sends InterruptIdentification = refl
+read_sends RbrThr = refl
+read_sends Iir = refl
 read_sends _ = refl
 
 -- the events of a call are those of its place
-told_at_place : (start : State) (past : List Entry) (act : Deed) (asked : Asked) (what : Sent)
-    → (let entry : Entry = record { act = act; asked = asked; sent = what } in
-    next (described start past) act asked ≡ described start (entry ∷ past)
-    → IsTrue (beq (is_sent what) (sends (described start past) act))
-    → events (described start past) act what ≡ events_told start past entry)
-told_at_place start past (Reads offset) asked what goes_on fate =
-    let entry : Entry = record { act = Reads offset; asked = asked; sent = what } in
-    let after = held start (entry ∷ past) in
-    let r = register (dlab start past) offset in
-    let none = not_sent what (subst (λ (b : Bool). IsTrue (beq (is_sent what) b)) (read_sends r) fate) in
-    read_told r (described start past) after (ap (λ (s : State). s.in_buffer) goes_on)
-    ∙ ap (λ (fate : Sent). events_by (read_kind r) after fate) (sym none)
-told_at_place start past (Writes offset value) asked what goes_on fate =
-    write_told (register (dlab start past) offset) (loopback start past) value _ what
-told_at_place start past (Enqueues bytes) asked what goes_on fate =
-    enqueue_told (loopback start past) (dlab start past) bytes _ what fate
-told_at_place start past Restores asked what goes_on fate =
-    ap (λ (fate : Sent). events_by Other [] fate) (sym (not_sent what fate))
+told_at_place : (start : State) (trace : List TraceEntry) (op : Op) (asked : Asked) (outcome : Sent)
+    → (let entry : TraceEntry = record { op = op; asked = asked; sent = outcome } in
+    step (state_of_history start trace) op asked ≡ state_of_history start (entry ∷ trace)
+    → IsTrue (beq (is_sent outcome) (sends_byte (state_of_history start trace) op))
+    → step_events (state_of_history start trace) op outcome ≡ history_events start trace entry)
+told_at_place start trace (Read offset) asked outcome goes_on outcome_fits =
+    let entry : TraceEntry = record { op = Read offset; asked = asked; sent = outcome } in
+    let after = held_bytes start (entry ∷ trace) in
+    let r = register_at (dlab start trace) offset in
+    let none = not_sent outcome (subst (λ (b : Bool). IsTrue (beq (is_sent outcome) b)) (read_sends r) outcome_fits) in
+    read_told r (state_of_history start trace) after (ap (λ (s : State). s.in_buffer) goes_on)
+    ∙ ap (λ (outcome_fits : Sent). kind_events (read_kind r) after outcome_fits) (sym none)
+told_at_place start trace (Write offset value) asked outcome goes_on outcome_fits =
+    write_told (register_at (dlab start trace) offset) (loopback start trace) value _ outcome
+told_at_place start trace (Enqueue bytes) asked outcome goes_on outcome_fits =
+    enqueue_told (loopback start trace) (dlab start trace) bytes _ outcome outcome_fits
+told_at_place start trace Restore asked outcome goes_on outcome_fits =
+    ap (λ (outcome_fits : Sent). kind_events Other [] outcome_fits) (sym (not_sent outcome outcome_fits))
 
 -- ---- trigger calls
 
 -- as long as none is refused, the transmitter condition is raised as if no call was made for the other one
-none_refused : (k : Kind) (enable : ℕ) (called pending : Bool)
-    → (transmit_raised_by k enable false && not pending)
-    ≡ (transmit_raised_by k enable (called && false) && not pending)
+none_refused : (k : OpKind) (enable : ℕ) (called pending : Bool)
+    → (raises_thre k enable false && not pending)
+    ≡ (raises_thre k enable (called && false) && not pending)
 none_refused k enable called pending =
-    ap (λ refused. transmit_raised_by k enable refused && not pending) (sym (and-false called))
+    ap (λ refused. raises_thre k enable refused && not pending) (sym (and-false called))
 
-calls_at_place : (start : State) (past : List Entry) (act : Deed)
-    → due (described start past) act ≡ calls_due start past act
-calls_at_place start past act =
-    let k = kind start past act in
-    let raised = receive_raised_by k (held start past) (interrupt_enable start past) in
-    let called = raised && not (receive_pending start past) in
-    due_is k (described start past) (transmit_pending start past) (receive_pending start past) refl
+calls_at_place : (start : State) (trace : List TraceEntry) (op : Op)
+    → step_calls (state_of_history start trace) op ≡ calls_due start trace op
+calls_at_place start trace op =
+    let k = kind_at start trace op in
+    let raised = raises_rda k (held_bytes start trace) (interrupt_enable start trace) in
+    let called = raised && not (rda_pending start trace) in
+    due_is k (state_of_history start trace) (thre_pending start trace) (rda_pending start trace) refl
     ∙ ap (λ second. one_if called + one_if second)
-    (none_refused k (interrupt_enable start past) called (transmit_pending start past))
+    (none_refused k (interrupt_enable start trace) called (thre_pending start trace))
 
 -- ---- the law
 
 pub step_law : StepLaw
-step_law start past coherent below =
-    let interrupts = interrupt_law start past coherent.transmit coherent.receive coherent.identification in
-    let here = state_law start past coherent below in
+step_law start trace coherent below =
+    let interrupts = interrupt_law start trace coherent.thre coherent.rda coherent.identification in
+    let here = state_law start trace coherent below in
     record {
-      calls = calls_at_place start past;
+      calls = calls_at_place start trace;
       restoring = ap restore_calls (sym here) ∙ interrupts.restoring;
       steps = λ entry fits.
-          let fate = (and_parts (asked_fits (due (described start past) entry.act) entry.asked)
-          (beq (is_sent entry.sent) (sends (described start past) entry.act)) fits).1 in
-          let goes_on = ap (λ (s : State). next s entry.act entry.asked) (sym here)
-          ∙ state_law start (entry ∷ past) coherent below in
+          let outcome_fits = (and_parts (answers_all (step_calls (state_of_history start trace) entry.op) entry.asked)
+          (beq (is_sent entry.sent) (sends_byte (state_of_history start trace) entry.op)) fits).1 in
+          let goes_on = ap (λ (s : State). step s entry.op entry.asked) (sym here)
+          ∙ state_law start (entry ∷ trace) coherent below in
           record {
-            answered = ap (λ (s : State). answer s entry.act entry.asked entry.sent) (sym here)
-                ∙ answer_law start past entry coherent below;
-            goes_on = goes_on;
-            told = told_at_place start past entry.act entry.asked entry.sent goes_on fate;
-            went_out = λ kept.
-                call_written (dlab start past) (loopback start past) entry.act entry.sent kept fate;
+            response = ap (λ (s : State). step_response s entry.op entry.asked entry.sent) (sym here)
+                ∙ answer_law start trace entry coherent below;
+            state = goes_on;
+            events = told_at_place start trace entry.op entry.asked entry.sent goes_on outcome_fits;
+            output = λ kept.
+                call_written (dlab start trace) (loopback start trace) entry.op entry.sent kept outcome_fits;
           };
     }

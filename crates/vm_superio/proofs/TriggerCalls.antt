@@ -1,8 +1,8 @@
 -- Two calls of a trigger in a row, of which the first was taken.
 use Rattle.std.proofs.Common.{List, [], ◌∷◌, ◌++◌, Result, Ok, Err, refl, inl, inr}
 use Rattle.std.specs.Prelude.{OnOk, IfErr}
-use Rattle.vm_superio.specs.Registers.{Receive, Transmit}
-use Rattle.vm_superio.specs.Restoring.{EndsRefused}
+use Rattle.vm_superio.specs.Port.Registers.{Rda, Thre}
+use Rattle.vm_superio.specs.Port.RestoreCalls.{StopsAtRefusal}
 
 module _ {T E : Type 0} (link : T → List (Result (Unit {0}) E) → T → Type 0) (joined : (x y z : T) (first second : List (Result (Unit {0}) E)) → link x first y → link y second z → link x (first ++ second) z) where
   pub both-taken :
@@ -13,7 +13,7 @@ module _ {T E : Type 0} (link : T → List (Result (Unit {0}) E) → T → Type 
 
   pub second-refused :
       (answer : Result (Unit {0}) E) (x y z : T) → link x (Ok tt ∷ []) y → link y (answer ∷ []) z →
-      IfErr answer (λ refusal. (answers : List (Result (Unit {0}) E)) × EndsRefused (Transmit ∷ Receive ∷ []) refusal answers × link x answers z)
+      IfErr answer (λ refusal. (answers : List (Result (Unit {0}) E)) × StopsAtRefusal (Thre ∷ Rda ∷ []) refusal answers × link x answers z)
   second-refused (Ok done) x y z first second = tt
   second-refused (Err refusal) x y z first second =
       (Ok tt ∷ Err refusal ∷ [], inr (refl, inl (refl, refl)), joined x y z (Ok tt ∷ []) (Err refusal ∷ []) first second)

@@ -6,14 +6,15 @@ use Rattle.std.specs.Prelude.{if◌then◌else◌, IsTrue, nat_lt}
 use Rattle.std.specs.Bool.{beq}
 use Rattle.vm_superio.specs.declared.run.Asked.{Asked}
 use Rattle.vm_superio.specs.declared.run.Asked.TheVariants.{Nothing, Took, Refused}
-use Rattle.vm_superio.specs.State.{State, has_bits, masked, joined, without, not_empty}
-use Rattle.vm_superio.specs.Registers.{Receive, Transmit, turns}
-use Rattle.vm_superio.specs.Acts.{is_refused, one_if}
-use Rattle.vm_superio.specs.Meaning.{Kind, DataRead, IdentificationRead, EnableWrite, DataWrite, Arrival, Other, kind_in, that_fit}
-use Rattle.vm_superio.specs.Asking.{becomes_pending, ask, receive}
-use Rattle.vm_superio.specs.Fits.{receive_due, due_by, due, asked_fits}
-use Rattle.vm_superio.specs.Interrupts.{answer_count}
-use Rattle.vm_superio.specs.Laws.{TurnedBitsLaw}
+use Rattle.vm_superio.specs.Port.State.{State, not_empty}
+use Rattle.vm_superio.specs.Port.Bits.{has_bits, masked, joined, without}
+use Rattle.vm_superio.specs.Port.Registers.{Rda, Thre}
+use Rattle.vm_superio.specs.Step.PortStep.{turns_on}
+use Rattle.vm_superio.specs.Port.Operations.{is_refused_once, one_if, answer_count}
+use Rattle.vm_superio.specs.Port.OpKinds.{OpKind, RbrRead, IirRead, IerWrite, ThrWrite, Arrival, Other}
+use Rattle.vm_superio.specs.Step.Admissible.{kind_in_state, arrival_calls, kind_calls, step_calls, answers_all}
+use Rattle.vm_superio.specs.Step.Raising.{bytes_that_fit, becomes_pending, raise, receive_bytes}
+use Rattle.vm_superio.specs.Laws.OneCall.{TurnedBitsLaw}
 use Rattle.vm_superio.proofs.Asks.{answers_counted}
 use Rattle.vm_superio.proofs.Bytes.{all_below, holds_below}
 use Rattle.vm_superio.proofs.ByKind.{by_kind, next_by_kind}
@@ -28,7 +29,7 @@ beq-eq false false e = refl
 
 -- how many of the two bits are turned
 abbrev count : ℕ → ℕ → ℕ
-count old new = one_if (turns 0x04 old new) + one_if (turns 0x02 old new)
+count old new = one_if (turns_on 0x04 old new) + one_if (turns_on 0x02 old new)
 
 module _ (old : ℕ) (below : old < 256) where
   -- neither a data read nor a read of the identification turns any
@@ -108,12 +109,12 @@ set_once true false = refl
 set_once false true = refl
 set_once false false = refl
 
-no_answers : (asked : Asked) → IsTrue (asked_fits 0 asked) → answer_count asked ≡ 0
+no_answers : (asked : Asked) → IsTrue (answers_all 0 asked) → answer_count asked ≡ 0
 no_answers Nothing fit = refl
 no_answers Took fit = absurd (false≢true fit)
 no_answers _ fit = absurd (false≢true fit)
 
-one_answer : (call : Bool) (asked : Asked) → IsTrue (asked_fits (one_if call) asked) → answer_count asked ≡ one_if call
+one_answer : (call : Bool) (asked : Asked) → IsTrue (answers_all (one_if call) asked) → answer_count asked ≡ one_if call
 one_answer false asked fit = no_answers asked fit
 one_answer true Nothing fit = absurd (false≢true fit)
 one_answer true Took fit = refl
@@ -122,33 +123,33 @@ one_answer true _ fit = absurd (false≢true fit)
 
 none_turned : (old : ℕ) → 0 ≡ count old old
 none_turned old =
-    sym (ap (λ turned. one_if turned + one_if (turns 0x02 old old)) (kept (has_bits old 0x04))
+    sym (ap (λ turned. one_if turned + one_if (turns_on 0x02 old old)) (kept (has_bits old 0x04))
     ∙ ap (λ turned. 0 + one_if turned) (kept (has_bits old 0x02)))
 
 receive_turned : (enable old : ℕ) → old < 256
-    → one_if (becomes_pending Receive enable old) ≡ count old (ask Receive enable old)
+    → one_if (becomes_pending Rda enable old) ≡ count old (raise Rda enable old)
 receive_turned enable old below =
     let enabled = has_bits enable 0x01 in
-    let new = ask Receive enable old in
+    let new = raise Rda enable old in
     let bit = has_bits old 0x04 in
     sym
-    (ap (λ after. one_if (not bit && after) + one_if (turns 0x02 old new)) (receive_asked old below enabled bit refl)
-    ∙ ap (λ turned. one_if turned + one_if (turns 0x02 old new)) (set_once enabled bit)
+    (ap (λ after. one_if (not bit && after) + one_if (turns_on 0x02 old new)) (receive_asked old below enabled bit refl)
+    ∙ ap (λ turned. one_if turned + one_if (turns_on 0x02 old new)) (set_once enabled bit)
     ∙ ap (λ after. one_if (enabled && not bit) + one_if (not (has_bits old 0x02) && after))
     (receive_other old below (enabled && not bit))
     ∙ ap (λ turned. one_if (enabled && not bit) + one_if turned) (kept (has_bits old 0x02))
     ∙ add-zero _)
 
 transmit_turned : (enable old : ℕ) → old < 256
-    → one_if (becomes_pending Transmit enable old) ≡ count old (ask Transmit enable old)
+    → one_if (becomes_pending Thre enable old) ≡ count old (raise Thre enable old)
 transmit_turned enable old below =
     let enabled = has_bits enable 0x02 in
-    let new = ask Transmit enable old in
+    let new = raise Thre enable old in
     let bit = has_bits old 0x02 in
     sym
-    (ap (λ after. one_if (not (has_bits old 0x04) && after) + one_if (turns 0x02 old new))
+    (ap (λ after. one_if (not (has_bits old 0x04) && after) + one_if (turns_on 0x02 old new))
     (transmit_other old below (enabled && not bit))
-    ∙ ap (λ turned. one_if turned + one_if (turns 0x02 old new)) (kept (has_bits old 0x04))
+    ∙ ap (λ turned. one_if turned + one_if (turns_on 0x02 old new)) (kept (has_bits old 0x04))
     ∙ ap (λ after. 0 + one_if (not bit && after)) (transmit_asked old below enabled bit refl)
     ∙ ap (λ turned. 0 + one_if turned) (set_once enabled bit)
     ∙ zero-add _)
@@ -156,14 +157,14 @@ transmit_turned enable old below =
 -- an interrupt-enable write, first for the receive condition
 module _ (enable old : ℕ) (below : old < 256) where
   first : Bool → ℕ
-  first held = if held then ask Receive enable old else old
+  first held = if held then raise Rda enable old else old
 
   first_below : (held : Bool) → first held < 256
   unfolding first
-  first_below true = still_below old below (becomes_pending Receive enable old)
+  first_below true = still_below old below (becomes_pending Rda enable old)
   first_below false = below
 
-  first_turns : (held : Bool) → turns 0x04 old (first held) ≡ (held && becomes_pending Receive enable old)
+  first_turns : (held : Bool) → turns_on 0x04 old (first held) ≡ (held && becomes_pending Rda enable old)
   unfolding first
   first_turns true =
       ap (λ after. not (has_bits old 0x04) && after)
@@ -173,74 +174,74 @@ module _ (enable old : ℕ) (below : old < 256) where
 
   first_leaves : (held : Bool) → has_bits (first held) 0x02 ≡ has_bits old 0x02
   unfolding first
-  first_leaves true = receive_other old below (becomes_pending Receive enable old)
+  first_leaves true = receive_other old below (becomes_pending Rda enable old)
   first_leaves false = refl
 
   -- and then for the transmitter condition, unless the trigger refused
   second : Bool → Bool → ℕ
-  second held refused = if refused then first held else ask Transmit enable (first held)
+  second held refused = if refused then first held else raise Thre enable (first held)
 
   second_leaves : (held refused : Bool) → has_bits (second held refused) 0x04 ≡ has_bits (first held) 0x04
   unfolding second
   second_leaves held true = refl
   second_leaves held false =
-      transmit_other (first held) (first_below held) (becomes_pending Transmit enable (first held))
+      transmit_other (first held) (first_below held) (becomes_pending Thre enable (first held))
 
   second_turns : (held refused : Bool)
-      → turns 0x02 old (second held refused) ≡ (becomes_pending Transmit enable (first held) && not refused)
+      → turns_on 0x02 old (second held refused) ≡ (becomes_pending Thre enable (first held) && not refused)
   unfolding second
   second_turns held true =
       ap (λ after. not (has_bits old 0x02) && after) (first_leaves held) ∙ kept (has_bits old 0x02)
-      ∙ sym (and-false (becomes_pending Transmit enable (first held)))
+      ∙ sym (and-false (becomes_pending Thre enable (first held)))
   second_turns held false =
       let bit = has_bits (first held) 0x02 in
-      ap (λ before. not before && has_bits (ask Transmit enable (first held)) 0x02) (sym (first_leaves held))
+      ap (λ before. not before && has_bits (raise Thre enable (first held)) 0x02) (sym (first_leaves held))
       ∙ ap (λ after. not bit && after) (transmit_asked (first held) (first_below held) (has_bits enable 0x02) bit refl)
       ∙ set_once (has_bits enable 0x02) bit
-      ∙ sym (and-true (becomes_pending Transmit enable (first held)))
+      ∙ sym (and-true (becomes_pending Thre enable (first held)))
 
   enable_turned : (held refused : Bool)
-      → one_if (held && becomes_pending Receive enable old)
-      + one_if (becomes_pending Transmit enable (first held) && not refused)
+      → one_if (held && becomes_pending Rda enable old)
+      + one_if (becomes_pending Thre enable (first held) && not refused)
       ≡ count old (second held refused)
   enable_turned held refused =
       sym
-      (ap (λ after. one_if (not (has_bits old 0x04) && after) + one_if (turns 0x02 old (second held refused)))
+      (ap (λ after. one_if (not (has_bits old 0x04) && after) + one_if (turns_on 0x02 old (second held refused)))
       (second_leaves held refused)
-      ∙ ap (λ turned. one_if turned + one_if (turns 0x02 old (second held refused))) (first_turns held)
-      ∙ ap (λ turned. one_if (held && becomes_pending Receive enable old) + one_if turned) (second_turns held refused))
+      ∙ ap (λ turned. one_if turned + one_if (turns_on 0x02 old (second held refused))) (first_turns held)
+      ∙ ap (λ turned. one_if (held && becomes_pending Rda enable old) + one_if turned) (second_turns held refused))
 
 -- ---- one act
 
 received_turned : (new : List ℕ) (s : State) (asked : Asked) → s.interrupt_identification < 256
-    → IsTrue (asked_fits (receive_due new s) asked)
-    → answer_count asked ≡ count s.interrupt_identification (receive new s).interrupt_identification
+    → IsTrue (answers_all (arrival_calls new s) asked)
+    → answer_count asked ≡ count s.interrupt_identification (receive_bytes new s).interrupt_identification
 received_turned [] s asked below fit = no_answers asked fit ∙ none_turned s.interrupt_identification
 received_turned (byte ∷ bytes) s asked below fit =
     one_answer _ asked fit ∙ receive_turned s.interrupt_enable s.interrupt_identification below
 
-turned_by_kind : (k : Kind) (asked : Asked) (s : State) → s.interrupt_identification < 256
-    → IsTrue (asked_fits (due_by k s) asked)
+turned_by_kind : (k : OpKind) (asked : Asked) (s : State) → s.interrupt_identification < 256
+    → IsTrue (answers_all (kind_calls k s) asked)
     → answer_count asked ≡ count s.interrupt_identification (by_kind k asked s).interrupt_identification
 unfolding first second
-turned_by_kind DataRead asked s below fit =
+turned_by_kind RbrRead asked s below fit =
     no_answers asked fit ∙ sym (data_read_turns s.interrupt_identification below)
-turned_by_kind IdentificationRead asked s below fit =
+turned_by_kind IirRead asked s below fit =
     no_answers asked fit ∙ sym (identification_read_turns s.interrupt_identification below)
-turned_by_kind (EnableWrite value) asked s below fit =
+turned_by_kind (IerWrite value) asked s below fit =
     let enable = masked value 0x0F in
     let old = s.interrupt_identification in
     let held = not_empty s.in_buffer in
-    let call = held && becomes_pending Receive enable old in
+    let call = held && becomes_pending Rda enable old in
     eqb-true _ _
-    (sym (answers_counted call (becomes_pending Transmit enable (first enable old below held)) asked) ∙ fit)
-    ∙ enable_turned enable old below held (call && is_refused asked)
-turned_by_kind (DataWrite value) asked s below fit =
+    (sym (answers_counted call (becomes_pending Thre enable (first enable old below held)) asked) ∙ fit)
+    ∙ enable_turned enable old below held (call && is_refused_once asked)
+turned_by_kind (ThrWrite value) asked s below fit =
     one_answer _ asked fit ∙ transmit_turned s.interrupt_enable s.interrupt_identification below
-turned_by_kind (Arrival bytes) asked s below fit = received_turned (that_fit s.in_buffer bytes) s asked below fit
+turned_by_kind (Arrival bytes) asked s below fit = received_turned (bytes_that_fit s.in_buffer bytes) s asked below fit
 turned_by_kind Other asked s below fit = no_answers asked fit ∙ none_turned s.interrupt_identification
 
 pub turned_bits_law : TurnedBitsLaw
-turned_bits_law s act asked what below fit =
-    turned_by_kind (kind_in s act) asked s below (and_parts (asked_fits (due s act) asked) _ fit).0
-    ∙ ap (count s.interrupt_identification) (sym (next_by_kind s act asked).interrupt_identification)
+turned_bits_law s op asked outcome below fit =
+    turned_by_kind (kind_in_state s op) asked s below (and_parts (answers_all (step_calls s op) asked) _ fit).0
+    ∙ ap (count s.interrupt_identification) (sym (next_by_kind s op asked).interrupt_identification)

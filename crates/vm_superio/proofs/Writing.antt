@@ -5,70 +5,70 @@ use Rattle.std.specs.Prelude.{IsTrue, ◌==◌}
 use Rattle.std.specs.Bool.{beq}
 use Rattle.vm_superio.specs.declared.run.Sent.{Sent}
 use Rattle.vm_superio.specs.declared.run.Sent.TheVariants as sent
-use Rattle.vm_superio.specs.State.{not_empty}
-use Rattle.vm_superio.specs.Registers.{Register, Data, InterruptEnable, InterruptIdentification, register}
-use Rattle.vm_superio.specs.Acts.{Deed, Reads, Writes, Enqueues, Restores, is_sent, is_lost}
-use Rattle.vm_superio.specs.Links.{written}
-use Rattle.vm_superio.specs.Meaning.{read_kind, write_kind, kind_of, sent_by}
-use Rattle.vm_superio.specs.History.{dlab, loopback}
-use Rattle.vm_superio.specs.Interrupts.{answer_count, trigger_calls, record_fits, is_fitting}
-use Rattle.vm_superio.specs.Pasts.{none_lost}
-use Rattle.vm_superio.specs.Laws.{OutputLaw}
-use Rattle.vm_superio.specs.Replies.{output}
+use Rattle.vm_superio.specs.Port.State.{not_empty}
+use Rattle.vm_superio.specs.Port.Registers.{Register, RbrThr, Ier, Iir, register_at}
+use Rattle.vm_superio.specs.Port.Operations.{Op, Read, Write, Enqueue, Restore, is_sent, is_lost, answer_count}
+use Rattle.vm_superio.specs.Port.ObjectLinks.{bytes_taken_by_writer}
+use Rattle.vm_superio.specs.Port.OpKinds.{read_kind, write_kind, kind_of, sent_by}
+use Rattle.vm_superio.specs.History.Registers.{dlab, loopback}
+use Rattle.vm_superio.specs.History.Interrupts.{trigger_calls, is_well_formed_entry, is_well_formed}
+use Rattle.vm_superio.specs.History.Properties.{none_lost}
+use Rattle.vm_superio.specs.Laws.Consequences.{OutputLaw}
+use Rattle.vm_superio.specs.History.Reads.{output}
 
 -- ---- one call
 
 -- nothing is sent where the kind sends nothing
 abbrev Fate : List ℕ → Sent → Type 0
-Fate bytes what = IsTrue (beq (is_sent what) (not_empty bytes))
+Fate bytes outcome = IsTrue (beq (is_sent outcome) (not_empty bytes))
 
-written_none : (offset value : ℕ) (what : Sent) → Fate [] what → written (Writes offset value) what ≡ []
-written_none offset value sent.Nothing fate = refl
-written_none offset value sent.Out fate = absurd (false≢true fate)
-written_none offset value sent.Lost fate = absurd (false≢true fate)
+written_none : (offset value : ℕ) (outcome : Sent) → Fate [] outcome → bytes_taken_by_writer (Write offset value) outcome ≡ []
+written_none offset value sent.Nothing outcome_fits = refl
+written_none offset value sent.Out outcome_fits = absurd (false≢true outcome_fits)
+written_none offset value sent.Lost outcome_fits = absurd (false≢true outcome_fits)
 
-written_one : (offset value : ℕ) (what : Sent) → IsTrue (not (is_lost what)) → Fate (value ∷ []) what
-    → written (Writes offset value) what ≡ value ∷ []
-written_one offset value sent.Nothing kept fate = absurd (false≢true fate)
-written_one offset value sent.Out kept fate = refl
-written_one offset value sent.Lost kept fate = absurd (false≢true kept)
+written_one : (offset value : ℕ) (outcome : Sent) → IsTrue (not (is_lost outcome)) → Fate (value ∷ []) outcome
+    → bytes_taken_by_writer (Write offset value) outcome ≡ value ∷ []
+written_one offset value sent.Nothing kept outcome_fits = absurd (false≢true outcome_fits)
+written_one offset value sent.Out kept outcome_fits = refl
+written_one offset value sent.Lost kept outcome_fits = absurd (false≢true kept)
 
-write_written : (r : Register) (loopback : Bool) (offset value : ℕ) (what : Sent) → IsTrue (not (is_lost what))
-    → Fate (sent_by (write_kind r loopback value)) what
-    → written (Writes offset value) what ≡ sent_by (write_kind r loopback value)
-write_written Data true offset value what kept fate = written_none offset value what fate
-write_written Data false offset value what kept fate = written_one offset value what kept fate
-write_written InterruptEnable loopback offset value what kept fate = written_none offset value what fate
-write_written _ loopback offset value what kept fate = written_none offset value what fate
+write_written : (r : Register) (loopback : Bool) (offset value : ℕ) (outcome : Sent) → IsTrue (not (is_lost outcome))
+    → Fate (sent_by (write_kind r loopback value)) outcome
+    → bytes_taken_by_writer (Write offset value) outcome ≡ sent_by (write_kind r loopback value)
+write_written RbrThr true offset value outcome kept outcome_fits = written_none offset value outcome outcome_fits
+write_written RbrThr false offset value outcome kept outcome_fits = written_one offset value outcome kept outcome_fits
+write_written Ier loopback offset value outcome kept outcome_fits = written_none offset value outcome outcome_fits
+write_written _ loopback offset value outcome kept outcome_fits = written_none offset value outcome outcome_fits
 
 read_sends : (r : Register) → [] ≡ sent_by (read_kind r)
-read_sends Data = refl
-read_sends InterruptIdentification = refl
+read_sends RbrThr = refl
+read_sends Iir = refl
 read_sends _ = refl
 
-enqueue_sends : (dlab loopback : Bool) (bytes : List ℕ) → [] ≡ sent_by (kind_of dlab loopback (Enqueues bytes))
+enqueue_sends : (dlab loopback : Bool) (bytes : List ℕ) → [] ≡ sent_by (kind_of dlab loopback (Enqueue bytes))
 enqueue_sends dlab true bytes = refl
 enqueue_sends dlab false bytes = refl
 
 -- what the writer took is what the act sends
-pub call_written : (dlab loopback : Bool) (act : Deed) (what : Sent) → IsTrue (not (is_lost what))
-    → Fate (sent_by (kind_of dlab loopback act)) what → written act what ≡ sent_by (kind_of dlab loopback act)
-call_written dlab loopback (Reads offset) what kept fate = read_sends (register dlab offset)
-call_written dlab loopback (Writes offset value) what kept fate =
-    write_written (register dlab offset) loopback offset value what kept fate
-call_written dlab loopback (Enqueues bytes) what kept fate = enqueue_sends dlab loopback bytes
-call_written dlab loopback Restores what kept fate = refl
+pub call_written : (dlab loopback : Bool) (op : Op) (outcome : Sent) → IsTrue (not (is_lost outcome))
+    → Fate (sent_by (kind_of dlab loopback op)) outcome → bytes_taken_by_writer op outcome ≡ sent_by (kind_of dlab loopback op)
+call_written dlab loopback (Read offset) outcome kept outcome_fits = read_sends (register_at dlab offset)
+call_written dlab loopback (Write offset value) outcome kept outcome_fits =
+    write_written (register_at dlab offset) loopback offset value outcome kept outcome_fits
+call_written dlab loopback (Enqueue bytes) outcome kept outcome_fits = enqueue_sends dlab loopback bytes
+call_written dlab loopback Restore outcome kept outcome_fits = refl
 
 -- ---- the newest records
 
 pub output_law : OutputLaw
-output_law start past [] fitting kept = refl
-output_law start past (entry ∷ newest) fitting kept =
-    let place = newest ++ past in
-    let here = (and_parts (record_fits start place entry) (is_fitting start place) fitting).0 in
-    let rest = output_law start past newest (and_parts (record_fits start place entry) (is_fitting start place) fitting).1
+output_law start trace [] fitting kept = refl
+output_law start trace (entry ∷ newest) fitting kept =
+    let place = newest ++ trace in
+    let here = (and_parts (is_well_formed_entry start place entry) (is_well_formed start place) fitting).0 in
+    let rest = output_law start trace newest (and_parts (is_well_formed_entry start place entry) (is_well_formed start place) fitting).1
     (and_parts (not (is_lost entry.sent)) (none_lost newest) kept).1 in
-    let call = call_written (dlab start place) (loopback start place) entry.act entry.sent
+    let call = call_written (dlab start place) (loopback start place) entry.op entry.sent
     (and_parts (not (is_lost entry.sent)) (none_lost newest) kept).0
     (and_parts (answer_count entry.asked == trigger_calls start place entry) _ here).1 in
-    ap (λ bytes. bytes ++ written entry.act entry.sent) rest ∙ ap (λ bytes. output start past newest ++ bytes) call
+    ap (λ bytes. bytes ++ bytes_taken_by_writer entry.op entry.sent) rest ∙ ap (λ bytes. output start trace newest ++ bytes) call

@@ -1,6 +1,6 @@
 //! The receive FIFO: at most 64 bytes, oldest first.
 ghost use Rattle.std.specs.Prelude.{◌≡◌, ◌-◌, ◌≤◌, ℕ, List, [], ◌++◌, length, take, drop, slice_get, not, IfOk, IsOk};
-ghost use Rattle.vm_superio.specs.State.{not_empty};
+ghost use Rattle.vm_superio.specs.Port.State.{not_empty};
 ghost use Rattle.vm_superio.specs.declared.fifo.TheConstants.{FIFO_SIZE};
 
 use arrayvec::ArrayVec;

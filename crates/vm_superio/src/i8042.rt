@@ -1,7 +1,7 @@
 //! The i8042 controller, reduced to the CPU reset command.
 ghost use Rattle.std.specs.Prelude.{◌≡◌, [], ◌∷◌};
 ghost use Rattle.std.specs.Bool.{OnTrue, OnFalse};
-ghost use Rattle.vm_superio.specs.Reset.{is_reset_command};
+ghost use Rattle.vm_superio.specs.I8042.{is_reset_command};
 
 use crate::Trigger;
 use std::marker::Model;

@@ -3,7 +3,9 @@
 //! The call cases say what one call does to a state, as a device would. A history keeps no state: from a start and the
 //! records of the calls so far it searches for the last write, for the bytes not yet taken and for a raise that nothing
 //! has acknowledged. The first laws say that both tell the same; the others follow from one of them alone.
-ghost use Rattle.vm_superio.specs.Laws.{RegisterLaw, HeldBytesLaw, LineStatusLaw, InterruptLaw, CoherenceLaw, StateLaw, AnswerLaw, StepLaw, WholeRunLaw, PendingByPlacesLaw, TriggerBoundLaw, WaitingBytesLaw, SameReadsLaw, TakenThenHeldLaw, OutputLaw, OneCallLaw, EventsLaw, TurnedBitsLaw, ExactTestLaw};
+ghost use Rattle.vm_superio.specs.Laws.Agreement.{RegisterLaw, HeldBytesLaw, LineStatusLaw, InterruptLaw, CoherenceLaw, StateLaw, ResponseLaw, StepLaw, WholeRunLaw};
+ghost use Rattle.vm_superio.specs.Laws.Consequences.{PendingByPrefixesLaw, TriggerBoundLaw, WaitingBytesLaw, SameReadsLaw, TakenThenHeldLaw, OutputLaw};
+ghost use Rattle.vm_superio.specs.Laws.OneCall.{OneCallLaw, EventsLaw, TurnedBitsLaw, ExactTestLaw};
 
 mod clock;
 
@@ -38,7 +40,7 @@ pub fn coherence()
 /// history replies: a read the guest read, any other call the other answer.
 pub fn described_states()
     ensures state { StateLaw }
-    ensures answers { AnswerLaw }
+    ensures answers { ResponseLaw }
 {}
 
 /// From a coherent start, in the state that a past describes: a call makes the trigger calls of its place, answers what
@@ -57,7 +59,7 @@ pub fn whole_runs()
 /// From any start, a condition is pending exactly if it was raised at some place, or was pending at the start, and no
 /// later place acknowledged it.
 pub fn pending_by_places()
-    ensures { PendingByPlacesLaw }
+    ensures { PendingByPrefixesLaw }
 {}
 
 /// From any start, a fitting history calls the trigger at most twice, twice more for each read of the identification

@@ -6,15 +6,16 @@
 ghost use Rattle.std.specs.Prelude.{◌≡◌, ◌↔◌, List, [], ◌∷◌, ◌++◌, pos, ◌+ℤ◌};
 ghost use Rattle.std.specs.Bool.{OnTrue, OnFalse};
 ghost use Rattle.std.proofs.Common.{◌∙◌};
-ghost use Rattle.vm_superio.specs.RtcEvents.{RtcEvent, invalid_read, invalid_write};
-ghost use Rattle.vm_superio.specs.ClockRegisters.{read, write_of, register_at, is_readable, is_writable};
-ghost use Rattle.vm_superio.specs.ClockRegisters.{host_time, guest_time, shown, bytes_left};
-ghost use Rattle.vm_superio.specs.Clock.{Device, fresh, answer, written, next, events_of};
-ghost use Rattle.vm_superio.specs.ClockLaws.{ReadsByHistory, GoesOnByHistory};
+ghost use Rattle.vm_superio.specs.Clock.Events.{RtcEvent, invalid_read, invalid_write};
+ghost use Rattle.vm_superio.specs.Clock.Registers.{read, write_of, clock_register_at, is_readable, is_writable};
+ghost use Rattle.vm_superio.specs.Clock.Registers.{host_time, guest_time, clock_register_read, bytes_left};
+ghost use Rattle.vm_superio.specs.Clock.Step.{ClockDevice, clock_response, after_write, clock_step, clock_events};
+ghost use Rattle.vm_superio.specs.Clock.Registers.{fresh_clock};
+ghost use Rattle.vm_superio.specs.Clock.Laws.{ReadsByHistory, GoesOnByHistory};
 
 mod registers;
 
-use registers::Register;
+use registers::ClockRegister;
 use std::marker::Model;
 
 /// Hears of the accesses that a clock cannot serve.
@@ -89,43 +90,43 @@ impl RtcState {
     }
 
     /// The number that a read of `register` shows where the host's time is `time`, or `None` where it shows nothing.
-    fn shown(&self, register: Register, time: u32) -> Option<u32>
-        ensures { result ≡ shown register (guest_time (pos time +ℤ self.now.offset) time) self.now }
+    fn shown(&self, register: ClockRegister, time: u32) -> Option<u32>
+        ensures { result ≡ clock_register_read register (guest_time (pos time +ℤ self.now.offset) time) self.now }
     {
         match register {
-            Register::Data => Some(self.guest_time(time)),
-            Register::Match => Some(self.mr),
-            Register::Load => Some(self.lr),
-            Register::Control => Some(1),
-            Register::InterruptMask => Some(self.imsc),
-            Register::RawInterrupts => Some(self.ris),
-            Register::MaskedInterrupts => Some(self.ris & self.imsc),
-            Register::Identification(byte) => Some(u32::from(byte)),
-            Register::InterruptClear | Register::Reserved => None,
+            ClockRegister::Dr => Some(self.guest_time(time)),
+            ClockRegister::Mr => Some(self.mr),
+            ClockRegister::Lr => Some(self.lr),
+            ClockRegister::Cr => Some(1),
+            ClockRegister::Imsc => Some(self.imsc),
+            ClockRegister::Ris => Some(self.ris),
+            ClockRegister::Mis => Some(self.ris & self.imsc),
+            ClockRegister::Id(byte) => Some(u32::from(byte)),
+            ClockRegister::Icr | ClockRegister::Reserved => None,
         }
     }
 
     /// Writes `value` to `register` where the host's time is `time`, and answers whether the register takes a write.
     /// Where it takes none nothing changes.
     #[tactic(auto, using(crate::proofs::ClockBits::and_not_is_without_bits))]
-    fn store(&mut self, register: Register, value: u32, time: u32) -> bool
-        ensures state { self.new ≡ written self.old register value time }
+    fn store(&mut self, register: ClockRegister, value: u32, time: u32) -> bool
+        ensures state { self.new ≡ after_write self.old register value time }
         ensures taken { result ≡ is_writable register }
     {
         match register {
-            Register::Match => self.mr = value,
-            Register::Load => {
+            ClockRegister::Mr => self.mr = value,
+            ClockRegister::Lr => {
                 self.lr = value;
                 self.offset = i64::from(value) - i64::from(time);
             }
-            Register::Control => {
+            ClockRegister::Cr => {
                 if value == 1 {
                     self.lr = 0;
                     self.offset = 0;
                 }
             }
-            Register::InterruptMask => self.imsc = value & 1,
-            Register::InterruptClear => self.ris &= !value,
+            ClockRegister::Imsc => self.imsc = value & 1,
+            ClockRegister::Icr => self.ris &= !value,
             _ => return false,
         }
         true
@@ -142,13 +143,13 @@ pub struct Rtc<EV: RtcEvents> {
 }
 
 impl<EV: RtcEvents> Model for Rtc<EV> {
-    ghost Value = { Device EV };
+    ghost Value = { ClockDevice EV };
 
     ghost view = { λ clock. record { state = clock.state; events = clock.events } };
 }
 
 impl Default for Rtc<NoEvents> {
-    ghost is_default = { λ clock. clock.state ≡ fresh };
+    ghost is_default = { λ clock. clock.state ≡ fresh_clock };
 
     /// Makes a clock as `new` does.
     fn default() -> Self {
@@ -159,7 +160,7 @@ impl Default for Rtc<NoEvents> {
 impl Rtc<NoEvents> {
     /// Makes a clock of the default state, which tells its events to nobody.
     pub fn new() -> Rtc<NoEvents>
-        ensures { result.state ≡ fresh }
+        ensures { result.state ≡ fresh_clock }
     {
         Self::with_events(NoEvents)
     }
@@ -180,7 +181,7 @@ impl<EV: RtcEvents> Rtc<EV> {
 
     /// Makes a clock of the default state, which owns the events object `rtc_events`. The object is not called.
     pub fn with_events(rtc_events: EV) -> Self
-        ensures state { result.state ≡ fresh }
+        ensures state { result.state ≡ fresh_clock }
         ensures events { result.events ≡ rtc_events }
     {
         Self::from_state(&RtcState::default(), rtc_events)
@@ -219,17 +220,17 @@ impl<EV: RtcEvents> Rtc<EV> {
     ///
     /// A write at any other offset changes no register and calls `invalid_write` of the events object once.
     pub fn write(&mut self, offset: u16, bytes: &[u8; 4], now: u64)
-        ensures state { self.new.state ≡ next self.old.state (write_of offset bytes.now now) }
-        ensures invalid { OnFalse (is_writable (register_at offset)) (self.new.state ≡ self.old.state) }
+        ensures state { self.new.state ≡ clock_step self.old.state (write_of offset bytes.now now) }
+        ensures invalid { OnFalse (is_writable (clock_register_at offset)) (self.new.state ≡ self.old.state) }
         ensures history { GoesOnByHistory self.old.state (write_of offset bytes.now now) self.new.state }
 
         // The events object hears of an invalid write, and of nothing else.
-        ensures events { EV.link self.old.events (events_of (write_of offset bytes.now now)) self.new.events }
-        ensures quiet { OnTrue (is_writable (register_at offset)) (self.new.events ≡ self.old.events) }
+        ensures events { EV.link self.old.events (clock_events (write_of offset bytes.now now)) self.new.events }
+        ensures quiet { OnTrue (is_writable (clock_register_at offset)) (self.new.events ≡ self.old.events) }
     {
         let time = self.begin_access(now);
         let value = u32::from_le_bytes(*bytes);
-        if !self.state.store(Register::at(offset), value, time) {
+        if !self.state.store(ClockRegister::at(offset), value, time) {
             self.events.invalid_write();
         }
     }
@@ -244,19 +245,19 @@ impl<EV: RtcEvents> Rtc<EV> {
     /// A read at any other offset, RTCICR (0x01C) among them, leaves `bytes` as they were and calls `invalid_read` of
     /// the events object once.
     pub fn read(&mut self, offset: u16, bytes: &mut [u8; 4], now: u64)
-        ensures answer { bytes.new ≡ bytes_left (answer self.old.state (read offset now)) bytes.old }
-        ensures invalid { OnFalse (is_readable (register_at offset)) (bytes.new ≡ bytes.old) }
+        ensures clock_response { bytes.new ≡ bytes_left (clock_response self.old.state (read offset now)) bytes.old }
+        ensures invalid { OnFalse (is_readable (clock_register_at offset)) (bytes.new ≡ bytes.old) }
         ensures answer_by_history { ReadsByHistory self.old.state offset now bytes.old bytes.new }
 
         ensures unchanged { self.new.state ≡ self.old.state }
         ensures history { GoesOnByHistory self.old.state (read offset now) self.new.state }
 
         // The events object hears of an invalid read, and of nothing else.
-        ensures events { EV.link self.old.events (events_of (read offset now)) self.new.events }
-        ensures quiet { OnTrue (is_readable (register_at offset)) (self.new.events ≡ self.old.events) }
+        ensures events { EV.link self.old.events (clock_events (read offset now)) self.new.events }
+        ensures quiet { OnTrue (is_readable (clock_register_at offset)) (self.new.events ≡ self.old.events) }
     {
         let time = self.begin_access(now);
-        match self.state.shown(Register::at(offset), time) {
+        match self.state.shown(ClockRegister::at(offset), time) {
             Some(number) => *bytes = number.to_le_bytes(),
             None => self.events.invalid_read(),
         }

@@ -1,10 +1,11 @@
 //! Runs: a list of calls of a serial port as one call, with a record of each.
 ghost use Rattle.std.specs.Prelude.{◌≡◌, IfOk, OnErr};
-ghost use Rattle.vm_superio.specs.Stretches.{first_stretch};
-ghost use Rattle.vm_superio.specs.RunCalls.{Makes, RunsCalls};
-ghost use Rattle.vm_superio.specs.Records.{act_of};
-ghost use Rattle.vm_superio.specs.Coherent.{Coherent};
-ghost use Rattle.vm_superio.specs.Headline.{Headline};
+ghost use Rattle.vm_superio.specs.Port.ObjectLinks.{port_links};
+ghost use Rattle.vm_superio.specs.Run.Segments.{first_segment};
+ghost use Rattle.vm_superio.specs.Run.Steps.{IsCallStep, IsRun};
+ghost use Rattle.vm_superio.specs.Run.Trace.{act_of};
+ghost use Rattle.vm_superio.specs.Port.Coherent.{Coherent};
+ghost use Rattle.vm_superio.specs.Run.HistoryTheorem.{HistoryTheorem};
 
 use crate::Trigger;
 use crate::serial::{Error, Refused, Serial, SerialEvents};
@@ -120,11 +121,11 @@ pub fn run<T: Trigger + Drop, EV: SerialEvents + Drop, W: Write + Drop>(
     calls: Vec<Call<T, EV, W>>,
 ) -> Result<Vec<Done<T, EV, W>>, AllocError>
     ensures run { IfOk result (λ done.
-        RunsCalls T.link EV.link W.contents serial.old.state (first_stretch serial.old) calls.items done.items
+        IsRun (port_links T.link EV.link W.contents) serial.old.state (first_segment serial.old) calls.items done.items
         serial.new) }
     ensures history { IfOk result (λ done.
         Coherent serial.old.state →
-        Headline T.link W.contents serial.old calls.items done.items serial.new) }
+        HistoryTheorem T.link W.contents serial.old calls.items done.items serial.new) }
     ensures refused { OnErr result (serial.new ≡ serial.old) }
 {
     // For the proof alone: the laws start from a line status that is a byte.
@@ -144,7 +145,7 @@ fn make<T: Trigger, EV: SerialEvents, W: Write>(
     call: Call<T, EV, W>,
 ) -> Done<T, EV, W>
     ensures act { result.act ≡ act_of call }
-    ensures made { Makes T.link EV.link W.contents call result.asked result.sent result.reply serial.old serial.new }
+    ensures made { IsCallStep (port_links T.link EV.link W.contents) call result.asked result.sent result.reply serial.old serial.new }
 {
     match call {
         Call::Read(offset) => {
@@ -191,7 +192,7 @@ fn restore<T: Trigger, EV: SerialEvents, W: Write>(
     events: EV,
     out: W,
 ) -> Reply<T, EV, W>
-    ensures { Makes T.link EV.link W.contents (Call.Restore trigger events out) Asked.Nothing Sent.Nothing result serial.old
+    ensures { IsCallStep (port_links T.link EV.link W.contents) (Call.Restore trigger events out) Asked.Nothing Sent.Nothing result serial.old
         serial.new }
 {
     let Ok(state) = serial.state(alloc) else {

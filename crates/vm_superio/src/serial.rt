@@ -1,12 +1,11 @@
 //! A serial port with the registers of a 16550.
 ghost use Rattle.std.specs.Prelude.{◌≡◌, ◌<◌, ◌≤◌, ◌-◌, length, vec_len, IsOk, IsErr, IfOk, IfErr};
-ghost use Rattle.vm_superio.specs.State.{fresh};
-ghost use Rattle.vm_superio.specs.Acts.{Reads, Writes, Enqueues, Given};
-ghost use Rattle.vm_superio.specs.Calls.{restore_calls};
-ghost use Rattle.vm_superio.specs.Coherent.{Coherent};
-ghost use Rattle.vm_superio.specs.Port.{write_reply, enqueue_reply, refusal_of};
-ghost use Rattle.vm_superio.specs.Restoring.{all_taken, RefusesRestore};
-ghost use Rattle.vm_superio.specs.SavedState.{state_of};
+ghost use Rattle.vm_superio.specs.Port.State.{fresh_state};
+ghost use Rattle.vm_superio.specs.Step.Restore.{restore_calls};
+ghost use Rattle.vm_superio.specs.Port.Coherent.{Coherent};
+ghost use Rattle.vm_superio.specs.Port.RestoreCalls.{all_ok};
+ghost use Rattle.vm_superio.specs.Step.Restore.{RefusesRestore};
+ghost use Rattle.vm_superio.specs.Port.SavedState.{state_of};
 
 mod answers;
 mod errors;
@@ -50,7 +49,7 @@ pub struct Serial<T: Trigger, EV: SerialEvents, W: Write> {
 }
 
 impl<T: Trigger, EV: SerialEvents, W: Write> Model for Serial<T, EV, W> {
-    ghost use Rattle.vm_superio.specs.Port.{Port};
+    ghost use Rattle.vm_superio.specs.Port.Model.{Port};
 
     ghost Value = { Port T EV W };
 
@@ -86,7 +85,7 @@ impl<T: Trigger, W: Write> Serial<T, NoEvents, W> {
         out: W,
     ) -> Result<Serial<T, NoEvents, W>, Refused<T, NoEvents, W>>
         ensures made { IsOk result }
-        ensures state { IfOk result (λ serial. serial.state ≡ fresh) }
+        ensures state { IfOk result (λ serial. serial.state ≡ fresh_state) }
         ensures trigger { IfOk result (λ serial. serial.trigger ≡ trigger) }
         ensures out { IfOk result (λ serial. serial.out ≡ out) }
         ensures coherent { IfOk result (λ serial. Coherent serial.state) }
@@ -98,8 +97,8 @@ impl<T: Trigger, W: Write> Serial<T, NoEvents, W> {
 impl<T: Trigger, EV: SerialEvents, W: Write> Serial<T, EV, W> {
     ghost use Rattle.std.specs.Borrow.{Lends, sem};
     ghost use Rattle.vm_superio.specs.contracts.serial.Serial.{the_row};
-    ghost use Rattle.vm_superio.specs.Port.{with_writer};
-    ghost use Rattle.vm_superio.specs.CallCase.{IsCase, CallsPerBit};
+    ghost use Rattle.vm_superio.specs.Port.Model.{with_writer};
+    ghost use Rattle.vm_superio.specs.Step.PortStep.{IsReadStep, IsWriteStep, IsEnqueueStep};
 
     /// Makes a serial port as `new` does, which tells its events to `serial_evts`. Neither the trigger nor the events
     /// object is called.
@@ -114,7 +113,7 @@ impl<T: Trigger, EV: SerialEvents, W: Write> Serial<T, EV, W> {
         out: W,
     ) -> Result<Self, Refused<T, EV, W>>
         ensures made { IsOk result }
-        ensures state { IfOk result (λ serial. serial.state ≡ fresh) }
+        ensures state { IfOk result (λ serial. serial.state ≡ fresh_state) }
         ensures trigger { IfOk result (λ serial. serial.trigger ≡ trigger) }
         ensures events { IfOk result (λ serial. serial.events ≡ serial_evts) }
         ensures out { IfOk result (λ serial. serial.out ≡ out) }
@@ -162,7 +161,7 @@ impl<T: Trigger, EV: SerialEvents, W: Write> Serial<T, EV, W> {
         out: W,
     ) -> Result<Self, Refused<T, EV, W>>
         ensures state { IfOk result (λ serial. serial.state ≡ state_of state.now) }
-        ensures called { IfOk result (λ serial. T.link trigger (all_taken (restore_calls (state_of state.now))) serial.trigger) }
+        ensures called { IfOk result (λ serial. T.link trigger (all_ok (restore_calls (state_of state.now))) serial.trigger) }
         ensures events { IfOk result (λ serial. serial.events ≡ serial_evts) }
         ensures out { IfOk result (λ serial. serial.out ≡ out) }
         ensures coherent { IfOk result (λ serial. Coherent (state_of state.now) → Coherent serial.state) }
@@ -190,8 +189,8 @@ impl<T: Trigger, EV: SerialEvents, W: Write> Serial<T, EV, W> {
                 out,
             });
         };
-        let transmit = is_asserted(Condition::Transmit, state);
-        let receive = is_asserted(Condition::Receive, state);
+        let transmit = is_asserted(Condition::Thre, state);
+        let receive = is_asserted(Condition::Rda, state);
         if let Err(refusal) = assert_again(&mut trigger, transmit, receive) {
             return Err(Refused {
                 error: Error::Trigger(refusal),
@@ -290,10 +289,7 @@ impl<T: Trigger, EV: SerialEvents, W: Write> Serial<T, EV, W> {
     /// as after its success, and a refused condition stays pending: its trigger is not called again until the guest has
     /// acknowledged it.
     pub fn write(&mut self, offset: u8, value: u8) -> Result<(), Error<T::E>>
-        ensures case { (asked : Asked) × (sent : Sent)
-            × IsCase T.link EV.link W.contents (Writes offset value) asked sent (write_reply result) (refusal_of result)
-            self.old self.new }
-        ensures calls { CallsPerBit T.link self.old self.new }
+        ensures step { IsWriteStep T.link EV.link W.contents offset value result self.old self.new }
         ensures coherent { Coherent self.old.state → Coherent self.new.state }
     {
         self.traced_write(offset, value).reply
@@ -301,7 +297,7 @@ impl<T: Trigger, EV: SerialEvents, W: Write> Serial<T, EV, W> {
 
     /// Reads the byte at `offset`, as a guest does. The trigger is not called and the writer not used.
     pub fn read(&mut self, offset: u8) -> u8
-        ensures case { IsCase T.link EV.link W.contents (Reads offset) Asked.Nothing Sent.Nothing (Given result) None self.old self.new }
+        ensures step { IsReadStep T.link EV.link W.contents offset result self.old self.new }
         ensures trigger { self.new.trigger ≡ self.old.trigger }
         ensures out { self.new.out ≡ self.old.out }
         ensures coherent { Coherent self.old.state → Coherent self.new.state }
@@ -334,12 +330,9 @@ impl<T: Trigger, EV: SerialEvents, W: Write> Serial<T, EV, W> {
     /// [`Error::FullFifo`] where there are bytes and 64 are held already, outside loopback: nothing changes then.
     /// [`Error::Trigger`] where the trigger refused: the bytes are kept, and the guest finds them when it looks.
     pub fn enqueue_raw_bytes(&mut self, input: &[u8]) -> Result<usize, Error<T::E>>
-        ensures case { (asked : Asked) × (sent : Sent)
-            × IsCase T.link EV.link W.contents (Enqueues input.now) asked sent (enqueue_reply result)
-            (refusal_of result) self.old self.new }
+        ensures step { IsEnqueueStep T.link EV.link W.contents input.now result self.old self.new }
         ensures full { result ≡ Err Error.FullFifo → self.new ≡ self.old }
         ensures out { self.new.out ≡ self.old.out }
-        ensures calls { CallsPerBit T.link self.old self.new }
         ensures coherent { Coherent self.old.state → Coherent self.new.state }
     {
         self.traced_enqueue(input).reply

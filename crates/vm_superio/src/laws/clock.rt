@@ -1,5 +1,5 @@
 //! The clock's laws, each as the contract of a function that does nothing.
-ghost use Rattle.vm_superio.specs.ClockLaws.{ClockIsHistory, RawBitsByHistory};
+ghost use Rattle.vm_superio.specs.Clock.Laws.{ClockIsHistory, RawBitsByHistory};
 
 /// The clock is its history: over any accesses from any state, the states and the answers are those that a search of
 /// the past accesses gives.

@@ -1,6 +1,6 @@
 //! The PL031's register map.
 ghost use Rattle.std.specs.Prelude.{◌≡◌};
-ghost use Rattle.vm_superio.specs.ClockRegisters.{register_at};
+ghost use Rattle.vm_superio.specs.Clock.Registers.{clock_register_at};
 
 /// The data register: guest time. Read only.
 pub(super) const RTCDR: u16 = 0x000;
@@ -37,48 +37,48 @@ const AMBA_IDS: [u8; 8] = [0x31, 0x10, 0x04, 0x00, 0x0D, 0xF0, 0x05, 0xB1];
 
 /// What the clock has at an offset from its base address.
 #[derive(Clone, Copy)]
-pub(super) enum Register {
+pub(super) enum ClockRegister {
     /// RTCDR.
-    Data,
+    Dr,
     /// RTCMR.
-    Match,
+    Mr,
     /// RTCLR.
-    Load,
+    Lr,
     /// RTCCR.
-    Control,
+    Cr,
     /// RTCIMSC.
-    InterruptMask,
+    Imsc,
     /// RTCRIS.
-    RawInterrupts,
+    Ris,
     /// RTCMIS.
-    MaskedInterrupts,
+    Mis,
     /// RTCICR.
-    InterruptClear,
+    Icr,
     /// An identification register, which shows this byte.
-    Identification(u8),
+    Id(u8),
     /// No register.
     Reserved,
 }
 
-impl Register {
+impl ClockRegister {
     /// The register at `offset`.
-    pub(super) fn at(offset: u16) -> Register
-        ensures { result ≡ register_at offset }
+    pub(super) fn at(offset: u16) -> ClockRegister
+        ensures { result ≡ clock_register_at offset }
     {
         match offset {
-            RTCDR => Register::Data,
-            RTCMR => Register::Match,
-            RTCLR => Register::Load,
-            RTCCR => Register::Control,
-            RTCIMSC => Register::InterruptMask,
-            RTCRIS => Register::RawInterrupts,
-            RTCMIS => Register::MaskedInterrupts,
-            RTCICR => Register::InterruptClear,
+            RTCDR => ClockRegister::Dr,
+            RTCMR => ClockRegister::Mr,
+            RTCLR => ClockRegister::Lr,
+            RTCCR => ClockRegister::Cr,
+            RTCIMSC => ClockRegister::Imsc,
+            RTCRIS => ClockRegister::Ris,
+            RTCMIS => ClockRegister::Mis,
+            RTCICR => ClockRegister::Icr,
             AMBA_ID_LOW..=AMBA_ID_HIGH => {
                 let index = (offset - AMBA_ID_LOW) / 4;
-                Register::Identification(AMBA_IDS[usize::from(index)])
+                ClockRegister::Id(AMBA_IDS[usize::from(index)])
             }
-            _ => Register::Reserved,
+            _ => ClockRegister::Reserved,
         }
     }
 }

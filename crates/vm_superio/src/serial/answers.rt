@@ -19,7 +19,7 @@ pub(super) enum Answers<E> {
 }
 
 impl<E> Answers<E> {
-    ghost use Rattle.vm_superio.specs.Answers.{asked_of, refusal_in_answers, answers_to_one};
+    ghost use Rattle.vm_superio.specs.Port.TriggerAnswers.{asked_of, refusal_in_answers, answers_to_one};
 
     /// The answers to the one call that was made, if any.
     pub(super) fn to_one(answer: Option<Result<(), E>>) -> Answers<E>

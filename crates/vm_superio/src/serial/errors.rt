@@ -19,7 +19,7 @@ pub enum Error<E> {
 }
 
 impl<E: fmt::Display> fmt::Display for Error<E> {
-    ghost use Rattle.vm_superio.specs.Errors.{text_of};
+    ghost use Rattle.vm_superio.specs.Port.ErrorText.{text_of};
 
     ghost output = { text_of E.output };
 

@@ -1,7 +1,7 @@
 //! What a serial port tells of what it does.
 ghost use Rattle.std.specs.Prelude.{◌≡◌, ◌↔◌, List, [], ◌∷◌, ◌++◌};
 ghost use Rattle.std.proofs.Common.{◌∙◌};
-ghost use Rattle.vm_superio.specs.Events.{Event, buffer_read, out_byte, tx_lost_byte, in_buffer_empty};
+ghost use Rattle.vm_superio.specs.Port.Operations.{Event, buffer_read, out_byte, tx_lost_byte, in_buffer_empty};
 
 /// Hears of what a serial port does: to count it, to log it, or to feed more input once the port ran empty.
 ///

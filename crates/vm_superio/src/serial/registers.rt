@@ -1,7 +1,7 @@
 //! The registers of a 16550, and their bits.
 ghost use Rattle.std.specs.Prelude.{◌≡◌, Bool};
-ghost use Rattle.vm_superio.specs.State.{has_bits, masked, joined, without};
-ghost use Rattle.vm_superio.specs.Registers.{modem_status_read};
+ghost use Rattle.vm_superio.specs.Port.Bits.{has_bits, masked, joined, without};
+ghost use Rattle.vm_superio.specs.Port.Registers.{msr_read};
 
 /// Bit 0x80 of the line control: the divisor latch is at offsets 0 and 1.
 pub(super) const LCR_DLAB_BIT: u8 = 0x80;
@@ -10,7 +10,7 @@ pub(super) const LCR_DLAB_BIT: u8 = 0x80;
 pub(super) const MCR_LOOP_BIT: u8 = 0x10;
 
 /// The byte has all of these bits.
-#[tactic(auto, unfolding(crate::specs::State::has_bits))]
+#[tactic(auto, unfolding(crate::specs::Port::Bits::has_bits))]
 pub(super) fn has_bits(byte: u8, bits: u8) -> bool
     ensures { result ≡ has_bits byte bits }
 {
@@ -18,7 +18,7 @@ pub(super) fn has_bits(byte: u8, bits: u8) -> bool
 }
 
 /// The byte with these bits set.
-#[tactic(auto, unfolding(crate::specs::State::joined))]
+#[tactic(auto, unfolding(crate::specs::Port::Bits::joined))]
 pub(super) fn joined(byte: u8, bits: u8) -> u8
     ensures { result ≡ joined byte bits }
 {
@@ -26,7 +26,7 @@ pub(super) fn joined(byte: u8, bits: u8) -> u8
 }
 
 /// The byte with no bits but these.
-#[tactic(auto, unfolding(crate::specs::State::masked))]
+#[tactic(auto, unfolding(crate::specs::Port::Bits::masked))]
 pub(super) fn masked(byte: u8, bits: u8) -> u8
     ensures { result ≡ masked byte bits }
 {
@@ -43,7 +43,7 @@ pub(super) fn without(byte: u8, bits: u8) -> u8
 /// The modem status as it is read: in loopback its four high bits show the outputs of the modem control, DTR as DSR,
 /// RTS as CTS, OUT1 as RI and OUT2 as DCD.
 pub(super) fn modem_status_read(modem_control: u8, modem_status: u8) -> u8
-    ensures { result ≡ modem_status_read modem_control modem_status }
+    ensures { result ≡ msr_read modem_control modem_status }
 {
     if !has_bits(modem_control, MCR_LOOP_BIT) {
         return modem_status;
@@ -64,81 +64,81 @@ pub(super) fn modem_status_read(modem_control: u8, modem_status: u8) -> u8
 #[derive(Clone, Copy)]
 pub(super) enum Register {
     /// DLL, the low byte of the divisor latch.
-    DivisorLow,
+    Dll,
     /// DLH, the high byte of the divisor latch.
-    DivisorHigh,
+    Dlm,
     /// RBR and THR, the receiver's and the transmitter's data.
-    Data,
+    RbrThr,
     /// IER.
-    InterruptEnable,
+    Ier,
     /// IIR.
-    InterruptIdentification,
+    Iir,
     /// LCR.
-    LineControl,
+    Lcr,
     /// MCR.
-    ModemControl,
+    Mcr,
     /// LSR.
-    LineStatus,
+    Lsr,
     /// MSR.
-    ModemStatus,
+    Msr,
     /// SCR.
-    Scratch,
+    Scr,
     /// Nothing stands at this offset.
-    Unknown,
+    Unassigned,
 }
 
 /// A condition that may interrupt.
 #[derive(Clone, Copy)]
 pub(super) enum Condition {
     /// Bytes were received.
-    Receive,
+    Rda,
     /// The transmitter has room.
-    Transmit,
+    Thre,
 }
 
 impl Register {
-    ghost use Rattle.vm_superio.specs.Registers.{register};
+    ghost use Rattle.vm_superio.specs.Port.Registers.{register_at};
 
     /// The register at an offset, with the divisor latch at offsets 0 and 1 or not.
     pub(super) fn at(dlab: bool, offset: u8) -> Register
-        ensures { result ≡ register dlab offset }
+        ensures { result ≡ register_at dlab offset }
     {
         match offset {
-            0 if dlab => Register::DivisorLow,
-            0 => Register::Data,
-            1 if dlab => Register::DivisorHigh,
-            1 => Register::InterruptEnable,
-            2 => Register::InterruptIdentification,
-            3 => Register::LineControl,
-            4 => Register::ModemControl,
-            5 => Register::LineStatus,
-            6 => Register::ModemStatus,
-            7 => Register::Scratch,
-            _ => Register::Unknown,
+            0 if dlab => Register::Dll,
+            0 => Register::RbrThr,
+            1 if dlab => Register::Dlm,
+            1 => Register::Ier,
+            2 => Register::Iir,
+            3 => Register::Lcr,
+            4 => Register::Mcr,
+            5 => Register::Lsr,
+            6 => Register::Msr,
+            7 => Register::Scr,
+            _ => Register::Unassigned,
         }
     }
 }
 
 impl Condition {
-    ghost use Rattle.vm_superio.specs.Registers.{enable_bit, pending_bit};
+    ghost use Rattle.vm_superio.specs.Port.Registers.{ier_bit, iir_bit};
 
     /// The bit of the interrupt enable register that enables it.
     pub(super) fn enable_bit(self) -> u8
-        ensures { result ≡ enable_bit self }
+        ensures { result ≡ ier_bit self }
     {
         match self {
-            Condition::Receive => 0x01,
-            Condition::Transmit => 0x02,
+            Condition::Rda => 0x01,
+            Condition::Thre => 0x02,
         }
     }
 
     /// The bit of the identification that says that it is pending.
     pub(super) fn pending_bit(self) -> u8
-        ensures { result ≡ pending_bit self }
+        ensures { result ≡ iir_bit self }
     {
         match self {
-            Condition::Receive => 0x04,
-            Condition::Transmit => 0x02,
+            Condition::Rda => 0x04,
+            Condition::Thre => 0x02,
         }
     }
 }

@@ -1,9 +1,9 @@
 //! The trigger calls of a restore.
 ghost use Rattle.std.specs.Prelude.{◌≡◌, List, [], ◌∷◌, Result, true, OnOk, IfErr};
-ghost use Rattle.vm_superio.specs.Registers.{transmit_first};
-ghost use Rattle.vm_superio.specs.Calls.{is_asserted};
-ghost use Rattle.vm_superio.specs.Restoring.{all_taken, EndsRefused};
-ghost use Rattle.vm_superio.specs.SavedState.{state_of};
+ghost use Rattle.vm_superio.specs.Port.Registers.{thre_then_rda};
+ghost use Rattle.vm_superio.specs.Step.Restore.{is_asserted};
+ghost use Rattle.vm_superio.specs.Port.RestoreCalls.{all_ok, StopsAtRefusal};
+ghost use Rattle.vm_superio.specs.Port.SavedState.{state_of};
 
 use super::SerialState;
 use super::registers::{Condition, has_bits};
@@ -21,7 +21,7 @@ pub(super) fn is_asserted(condition: Condition, state: &SerialState) -> bool
 fn trigger_twice<T: Trigger>(trigger: &mut T) -> Result<(), T::E>
     ensures taken { OnOk result (T.link trigger.old (Ok tt ∷ Ok tt ∷ []) trigger.new) }
     ensures refused { IfErr result (λ refusal. (answers : List (Result (Unit {0}) T.E))
-        × EndsRefused (transmit_first true true) refusal answers × T.link trigger.old answers trigger.new) }
+        × StopsAtRefusal (thre_then_rda true true) refusal answers × T.link trigger.old answers trigger.new) }
 {
     trigger.trigger()?;
     trigger.trigger()
@@ -33,9 +33,9 @@ pub(super) fn assert_again<T: Trigger>(
     transmit: bool,
     receive: bool,
 ) -> Result<(), T::E>
-    ensures taken { OnOk result (T.link trigger.old (all_taken (transmit_first transmit receive)) trigger.new) }
+    ensures taken { OnOk result (T.link trigger.old (all_ok (thre_then_rda transmit receive)) trigger.new) }
     ensures refused { IfErr result (λ refusal. (answers : List (Result (Unit {0}) T.E))
-        × EndsRefused (transmit_first transmit receive) refusal answers × T.link trigger.old answers trigger.new) }
+        × StopsAtRefusal (thre_then_rda transmit receive) refusal answers × T.link trigger.old answers trigger.new) }
 {
     match (transmit, receive) {
         (true, true) => trigger_twice(trigger),

@@ -1,8 +1,8 @@
 //! A saved serial port.
 ghost use Rattle.std.specs.Prelude.{◌≡◌, ◌↔◌, Bool, IfOk, IsTrue};
-ghost use Rattle.vm_superio.specs.State.{fresh};
-ghost use Rattle.vm_superio.specs.Coherent.{Coherent};
-ghost use Rattle.vm_superio.specs.Registers.{identification_of};
+ghost use Rattle.vm_superio.specs.Port.State.{fresh_state};
+ghost use Rattle.vm_superio.specs.Port.Coherent.{Coherent};
+ghost use Rattle.vm_superio.specs.Port.Registers.{identification_of};
 
 use super::registers::has_bits;
 use crate::fifo::FIFO_SIZE;
@@ -37,11 +37,11 @@ pub struct SerialState {
 }
 
 impl SerialState {
-    ghost use Rattle.vm_superio.specs.SavedState.{state_of};
+    ghost use Rattle.vm_superio.specs.Port.SavedState.{state_of};
 
     /// The state of a new serial port. It takes no memory.
     pub fn default(alloc: Global) -> SerialState
-        ensures { state_of result ≡ fresh }
+        ensures { state_of result ≡ fresh_state }
     {
         SerialState {
             baud_divisor_low: 0x0C,

@@ -3,17 +3,19 @@ ghost use Rattle.std.specs.Prelude.{◌≡◌, ◌<◌, length, [], ◌∷◌, �
 ghost use Rattle.std.specs.Io.KnownBytes.{Appends};
 ghost use Rattle.std.specs.Bool.{beq};
 ghost use Rattle.std.specs.Option.{option_to_list};
-ghost use Rattle.vm_superio.specs.State.{masked, not_empty};
-ghost use Rattle.vm_superio.specs.Registers.{is_loopback, shown};
-ghost use Rattle.vm_superio.specs.Meaning.{write_kind, sent_by, that_fit};
-ghost use Rattle.vm_superio.specs.Events.{out_byte, tx_lost_byte, in_buffer_empty, buffer_read};
-ghost use Rattle.vm_superio.specs.Acts.{Reads, Writes, Enqueues, Given, Written, TriggerRefused, WriterFailed, is_lost, is_sent, one_if};
-ghost use Rattle.vm_superio.specs.Asking.{becomes_pending, ask, receive_becomes_pending, ask_while_held, receive};
-ghost use Rattle.vm_superio.specs.Fits.{asked_fits, enable_due, receive_due, due_by};
-ghost use Rattle.vm_superio.specs.Calls.{read_next, enable_write, data_read, data_write, write_next, read_events, sent_events};
-ghost use Rattle.vm_superio.specs.Links.{answers, written, WriterLink};
-ghost use Rattle.vm_superio.specs.Answers.{asked_of, refusal_in_answers, sent_of};
-ghost use Rattle.vm_superio.specs.Port.{write_reply, enqueue_reply, refusal_of};
+ghost use Rattle.vm_superio.specs.Port.Bits.{masked};
+ghost use Rattle.vm_superio.specs.Port.State.{not_empty};
+ghost use Rattle.vm_superio.specs.Port.Registers.{is_loopback, register_read};
+ghost use Rattle.vm_superio.specs.Port.OpKinds.{write_kind, sent_by};
+ghost use Rattle.vm_superio.specs.Step.Raising.{bytes_that_fit};
+ghost use Rattle.vm_superio.specs.Port.Operations.{out_byte, tx_lost_byte, in_buffer_empty, buffer_read};
+ghost use Rattle.vm_superio.specs.Port.Operations.{Read, Write, Enqueue, ByteRead, WriteOk, TriggerRefused, WriterFailed, is_lost, is_sent, one_if};
+ghost use Rattle.vm_superio.specs.Step.Raising.{becomes_pending, raise, rda_becomes_pending, raise_rda_while_held, receive_bytes};
+ghost use Rattle.vm_superio.specs.Step.Admissible.{answers_all, ier_write_calls, arrival_calls, kind_calls};
+ghost use Rattle.vm_superio.specs.Step.Transition.{read_step, ier_write, rbr_read, thr_write, write_step, read_events, sent_events};
+ghost use Rattle.vm_superio.specs.Port.ObjectLinks.{port_links, answers_of, bytes_taken_by_writer, WriterLink};
+ghost use Rattle.vm_superio.specs.Port.TriggerAnswers.{asked_of, refusal_in_answers, sent_of};
+ghost use Rattle.vm_superio.specs.Port.Model.{write_response, enqueue_response, refusal_in_result};
 
 use super::answers::Answers;
 use super::registers::{
@@ -27,7 +29,7 @@ use std::io;
 use std::io::Write;
 
 impl<T: Trigger, EV: SerialEvents, W: Write> Serial<T, EV, W> {
-    ghost use Rattle.vm_superio.specs.CallCase.{IsCase};
+    ghost use Rattle.vm_superio.specs.Step.PortStep.{IsPortStep};
 
     /// Asks for a condition: where it is enabled and not pending, it becomes pending, and the trigger is called once.
     fn ask(&mut self, condition: Condition) -> Option<Result<(), T::E>>
@@ -35,7 +37,7 @@ impl<T: Trigger, EV: SerialEvents, W: Write> Serial<T, EV, W> {
             ≡ becomes_pending condition self.old.state.interrupt_enable self.old.state.interrupt_identification }
         ensures state { self.new.state ≡ record self.old.state {
           interrupt_identification =
-              ask condition self.old.state.interrupt_enable self.old.state.interrupt_identification;
+              raise condition self.old.state.interrupt_enable self.old.state.interrupt_identification;
         } }
         ensures trigger { T.link self.old.trigger (option_to_list result) self.new.trigger }
         ensures events { self.new.events ≡ self.old.events }
@@ -54,11 +56,11 @@ impl<T: Trigger, EV: SerialEvents, W: Write> Serial<T, EV, W> {
     /// Asks for the receive condition, which an interrupt-enable write does only while bytes are held.
     fn ask_while_held(&mut self) -> Option<Result<(), T::E>>
         ensures called { is_some result
-            ≡ receive_becomes_pending self.old.state.in_buffer self.old.state.interrupt_enable
+            ≡ rda_becomes_pending self.old.state.in_buffer self.old.state.interrupt_enable
             self.old.state.interrupt_identification }
         ensures state { self.new.state ≡ record self.old.state {
           interrupt_identification =
-              ask_while_held self.old.state.in_buffer self.old.state.interrupt_enable
+              raise_rda_while_held self.old.state.in_buffer self.old.state.interrupt_enable
               self.old.state.interrupt_identification;
         } }
         ensures trigger { T.link self.old.trigger (option_to_list result) self.new.trigger }
@@ -68,23 +70,23 @@ impl<T: Trigger, EV: SerialEvents, W: Write> Serial<T, EV, W> {
         if self.in_buffer.is_empty() {
             return None;
         }
-        self.ask(Condition::Receive)
+        self.ask(Condition::Rda)
     }
 
     /// The interrupt-enable write: stores the low four bits, and asks for both conditions, the receive condition first.
     /// A refusal ends the call.
     fn write_interrupt_enable(&mut self, value: u8) -> Answers<T::E>
-        ensures asked { IsTrue (asked_fits (enable_due (masked value 0x0F) self.old.state) (asked_of result)) }
-        ensures state { self.new.state ≡ enable_write (masked value 0x0F) (asked_of result) self.old.state }
-        ensures trigger { T.link self.old.trigger (answers (asked_of result) (refusal_in_answers result)) self.new.trigger }
+        ensures asked { IsTrue (answers_all (ier_write_calls (masked value 0x0F) self.old.state) (asked_of result)) }
+        ensures state { self.new.state ≡ ier_write (masked value 0x0F) (asked_of result) self.old.state }
+        ensures trigger { T.link self.old.trigger (answers_of (asked_of result) (refusal_in_answers result)) self.new.trigger }
         ensures events { self.new.events ≡ self.old.events }
         ensures out { self.new.out ≡ self.old.out }
     {
         self.interrupt_enable = masked(value, 0x0F);
         match self.ask_while_held() {
-            None => Answers::to_one(self.ask(Condition::Transmit)),
+            None => Answers::to_one(self.ask(Condition::Thre)),
             Some(Err(refusal)) => Answers::Refused(refusal),
-            Some(Ok(())) => match self.ask(Condition::Transmit) {
+            Some(Ok(())) => match self.ask(Condition::Thre) {
                 None => Answers::Took,
                 Some(Ok(())) => Answers::TookTook,
                 Some(Err(refusal)) => Answers::TookRefused(refusal),
@@ -95,9 +97,9 @@ impl<T: Trigger, EV: SerialEvents, W: Write> Serial<T, EV, W> {
     /// Bytes that come in: the first of them, as many as there is room for, stand behind those that are held. If there
     /// is one, data ready is set and the receive condition is asked for. Answers how many were added.
     fn receive(&mut self, bytes: &[u8]) -> (usize, Option<Result<(), T::E>>)
-        ensures count { result.0 ≡ length (that_fit self.old.state.in_buffer bytes.now) }
-        ensures called { one_if (is_some result.1) ≡ receive_due (that_fit self.old.state.in_buffer bytes.now) self.old.state }
-        ensures state { self.new.state ≡ receive (that_fit self.old.state.in_buffer bytes.now) self.old.state }
+        ensures count { result.0 ≡ length (bytes_that_fit self.old.state.in_buffer bytes.now) }
+        ensures called { one_if (is_some result.1) ≡ arrival_calls (bytes_that_fit self.old.state.in_buffer bytes.now) self.old.state }
+        ensures state { self.new.state ≡ receive_bytes (bytes_that_fit self.old.state.in_buffer bytes.now) self.old.state }
         ensures trigger { T.link self.old.trigger (option_to_list result.1) self.new.trigger }
         ensures events { self.new.events ≡ self.old.events }
         ensures out { self.new.out ≡ self.old.out }
@@ -107,7 +109,7 @@ impl<T: Trigger, EV: SerialEvents, W: Write> Serial<T, EV, W> {
             return (0, None);
         }
         self.line_status = joined(self.line_status, 0x01);
-        (count, self.ask(Condition::Receive))
+        (count, self.ask(Condition::Rda))
     }
 
     /// Hands a byte to the writer, and tells its fate.
@@ -125,14 +127,14 @@ impl<T: Trigger, EV: SerialEvents, W: Write> Serial<T, EV, W> {
     /// The data read: clears the receive condition, and takes the oldest byte, or gives 0.
     fn read_data(&mut self) -> u8
         ensures value { result ≡ slice_index self.old.state.in_buffer 0 }
-        ensures state { self.new.state ≡ data_read self.old.state }
+        ensures state { self.new.state ≡ rbr_read self.old.state }
         ensures trigger { self.new.trigger ≡ self.old.trigger }
-        ensures events { EV.link self.old.events (read_events Register.Data self.old.state.in_buffer) self.new.events }
+        ensures events { EV.link self.old.events (read_events Register.RbrThr self.old.state.in_buffer) self.new.events }
         ensures out { self.new.out ≡ self.old.out }
     {
         let others = without(
             self.interrupt_identification,
-            Condition::Receive.pending_bit(),
+            Condition::Rda.pending_bit(),
         );
         self.interrupt_identification = if others == 0 { 0x01 } else { others };
         let byte = self.in_buffer.take_first().unwrap_or(0);
@@ -147,14 +149,14 @@ impl<T: Trigger, EV: SerialEvents, W: Write> Serial<T, EV, W> {
     /// The data write: in loopback the byte comes in, and else it is sent, after which the transmitter condition is asked
     /// for, whatever became of the byte.
     fn write_data(&mut self, value: u8) -> (Answers<T::E>, Option<io::Result<()>>)
-        ensures asked { let kind = write_kind Register.Data (is_loopback self.old.state.modem_control) value in
-            IsTrue (asked_fits (due_by kind self.old.state) (asked_of result.0)) }
-        ensures sent { let kind = write_kind Register.Data (is_loopback self.old.state.modem_control) value in
+        ensures asked { let kind = write_kind Register.RbrThr (is_loopback self.old.state.modem_control) value in
+            IsTrue (answers_all (kind_calls kind self.old.state) (asked_of result.0)) }
+        ensures sent { let kind = write_kind Register.RbrThr (is_loopback self.old.state.modem_control) value in
             IsTrue (beq (is_sent (sent_of result.1)) (not_empty (sent_by kind))) }
-        ensures state { self.new.state ≡ data_write value self.old.state }
-        ensures trigger { T.link self.old.trigger (answers (asked_of result.0) (refusal_in_answers result.0)) self.new.trigger }
+        ensures state { self.new.state ≡ thr_write value self.old.state }
+        ensures trigger { T.link self.old.trigger (answers_of (asked_of result.0) (refusal_in_answers result.0)) self.new.trigger }
         ensures events { EV.link self.old.events (sent_events (sent_of result.1)) self.new.events }
-        ensures out { WriterLink W.contents (sent_of result.1 ∷ []) (written (Writes 0 value) (sent_of result.1)) self.old.out
+        ensures out { WriterLink W.contents (sent_of result.1 ∷ []) (bytes_taken_by_writer (Write 0 value) (sent_of result.1)) self.old.out
             self.new.out }
     {
         if has_bits(self.modem_control, MCR_LOOP_BIT) {
@@ -162,33 +164,33 @@ impl<T: Trigger, EV: SerialEvents, W: Write> Serial<T, EV, W> {
             return (Answers::to_one(answer), None);
         }
         let fate = self.send(value);
-        (Answers::to_one(self.ask(Condition::Transmit)), Some(fate))
+        (Answers::to_one(self.ask(Condition::Thre)), Some(fate))
     }
 
     /// Reads a register.
     fn read_register(&mut self, register: Register) -> u8
-        ensures value { result ≡ shown register self.old.state }
-        ensures state { self.new.state ≡ read_next register self.old.state }
+        ensures value { result ≡ register_read register self.old.state }
+        ensures state { self.new.state ≡ read_step register self.old.state }
         ensures trigger { self.new.trigger ≡ self.old.trigger }
         ensures events { EV.link self.old.events (read_events register self.old.state.in_buffer) self.new.events }
         ensures out { self.new.out ≡ self.old.out }
     {
         match register {
-            Register::DivisorLow => self.baud_divisor_low,
-            Register::DivisorHigh => self.baud_divisor_high,
-            Register::Data => self.read_data(),
-            Register::InterruptEnable => self.interrupt_enable,
-            Register::InterruptIdentification => {
+            Register::Dll => self.baud_divisor_low,
+            Register::Dlm => self.baud_divisor_high,
+            Register::RbrThr => self.read_data(),
+            Register::Ier => self.interrupt_enable,
+            Register::Iir => {
                 let identification = self.interrupt_identification;
                 self.interrupt_identification = 0x01;
                 joined(identification, 0xC0)
             }
-            Register::LineControl => self.line_control,
-            Register::ModemControl => self.modem_control,
-            Register::LineStatus => self.line_status,
-            Register::ModemStatus => modem_status_read(self.modem_control, self.modem_status),
-            Register::Scratch => self.scratch,
-            Register::Unknown => 0,
+            Register::Lcr => self.line_control,
+            Register::Mcr => self.modem_control,
+            Register::Lsr => self.line_status,
+            Register::Msr => modem_status_read(self.modem_control, self.modem_status),
+            Register::Scr => self.scratch,
+            Register::Unassigned => 0,
         }
     }
 
@@ -199,34 +201,34 @@ impl<T: Trigger, EV: SerialEvents, W: Write> Serial<T, EV, W> {
         value: u8,
     ) -> (Answers<T::E>, Option<io::Result<()>>)
         ensures asked { let kind = write_kind register (is_loopback self.old.state.modem_control) value in
-            IsTrue (asked_fits (due_by kind self.old.state) (asked_of result.0)) }
+            IsTrue (answers_all (kind_calls kind self.old.state) (asked_of result.0)) }
         ensures sent { let kind = write_kind register (is_loopback self.old.state.modem_control) value in
             IsTrue (beq (is_sent (sent_of result.1)) (not_empty (sent_by kind))) }
-        ensures state { self.new.state ≡ write_next register value (asked_of result.0) self.old.state }
-        ensures trigger { T.link self.old.trigger (answers (asked_of result.0) (refusal_in_answers result.0)) self.new.trigger }
+        ensures state { self.new.state ≡ write_step register value (asked_of result.0) self.old.state }
+        ensures trigger { T.link self.old.trigger (answers_of (asked_of result.0) (refusal_in_answers result.0)) self.new.trigger }
         ensures events { EV.link self.old.events (sent_events (sent_of result.1)) self.new.events }
-        ensures out { WriterLink W.contents (sent_of result.1 ∷ []) (written (Writes 0 value) (sent_of result.1)) self.old.out
+        ensures out { WriterLink W.contents (sent_of result.1 ∷ []) (bytes_taken_by_writer (Write 0 value) (sent_of result.1)) self.old.out
             self.new.out }
     {
         match register {
-            Register::DivisorLow => self.baud_divisor_low = value,
-            Register::DivisorHigh => self.baud_divisor_high = value,
-            Register::Data => return self.write_data(value),
-            Register::InterruptEnable => return (self.write_interrupt_enable(value), None),
-            Register::LineControl => self.line_control = value,
-            Register::ModemControl => self.modem_control = value,
-            Register::Scratch => self.scratch = value,
-            Register::InterruptIdentification
-            | Register::LineStatus
-            | Register::ModemStatus
-            | Register::Unknown => {}
+            Register::Dll => self.baud_divisor_low = value,
+            Register::Dlm => self.baud_divisor_high = value,
+            Register::RbrThr => return self.write_data(value),
+            Register::Ier => return (self.write_interrupt_enable(value), None),
+            Register::Lcr => self.line_control = value,
+            Register::Mcr => self.modem_control = value,
+            Register::Scr => self.scratch = value,
+            Register::Iir
+            | Register::Lsr
+            | Register::Msr
+            | Register::Unassigned => {}
         }
         (Answers::Nothing, None)
     }
 
     /// `read`, with what it asked and sent, which is nothing.
     pub(crate) fn traced_read(&mut self, offset: u8) -> Traced<u8>
-        ensures { IsCase T.link EV.link W.contents (Reads offset) result.asked result.sent (Given result.reply) None self.old
+        ensures { IsPortStep (port_links T.link EV.link W.contents) (Read offset) result.asked result.sent (ByteRead result.reply) None self.old
             self.new }
     {
         let register = Register::at(has_bits(self.line_control, LCR_DLAB_BIT), offset);
@@ -239,8 +241,8 @@ impl<T: Trigger, EV: SerialEvents, W: Write> Serial<T, EV, W> {
 
     /// `write`, with what it asked and sent.
     pub(crate) fn traced_write(&mut self, offset: u8, value: u8) -> Traced<Result<(), Error<T::E>>>
-        ensures case { IsCase T.link EV.link W.contents (Writes offset value) result.asked result.sent (write_reply result.reply)
-            (refusal_of result.reply) self.old self.new }
+        ensures step { IsPortStep (port_links T.link EV.link W.contents) (Write offset value) result.asked result.sent (write_response result.reply)
+            (refusal_in_result result.reply) self.old self.new }
         ensures byte { self.old.state.interrupt_identification < 256 }
     {
         // No effect at run time. The proof takes from this read that the identification is a byte.
@@ -258,8 +260,8 @@ impl<T: Trigger, EV: SerialEvents, W: Write> Serial<T, EV, W> {
 
     /// `enqueue_raw_bytes`, with what it asked and sent.
     pub(crate) fn traced_enqueue(&mut self, input: &[u8]) -> Traced<Result<usize, Error<T::E>>>
-        ensures case { IsCase T.link EV.link W.contents (Enqueues input.now) result.asked result.sent (enqueue_reply result.reply)
-            (refusal_of result.reply) self.old self.new }
+        ensures step { IsPortStep (port_links T.link EV.link W.contents) (Enqueue input.now) result.asked result.sent (enqueue_response result.reply)
+            (refusal_in_result result.reply) self.old self.new }
         ensures byte { self.old.state.interrupt_identification < 256 }
     {
         // No effect at run time. The proof takes from this read that the identification is a byte.
@@ -305,8 +307,8 @@ fn sent(fate: &Option<io::Result<()>>) -> Sent
 
 /// What a write answers: a refusal of the trigger before a fault of the writer.
 fn reply<E>(refusal: Option<E>, fate: Option<io::Result<()>>) -> Result<(), Error<E>>
-    ensures refusal { refusal_of result ≡ refusal }
-    ensures answer { write_reply result ≡ (if is_some refusal then TriggerRefused else (if is_lost (sent_of fate) then WriterFailed else Written)) }
+    ensures refusal { refusal_in_result result ≡ refusal }
+    ensures answer { write_response result ≡ (if is_some refusal then TriggerRefused else (if is_lost (sent_of fate) then WriterFailed else WriteOk)) }
 {
     match (refusal, fate) {
         (Some(refusal), _) => Err(Error::Trigger(refusal)),

@@ -1,8 +1,8 @@
 -- A call case keeps a coherent state coherent.
-use Rattle.vm_superio.specs.Acts.{Reads}
+use Rattle.vm_superio.specs.Port.Operations.{Read}
 use Rattle.vm_superio.proofs.Runs.{coherence_law}
 use Rattle.vm_superio.proofs.serial.Serial.read.Goals as goal
 
 pub returns-clause-coherent : goal.returns-clause-coherent
 returns-clause-coherent g c = λ before.
-    rw c.traced_read.ensures.state (coherence_law c.args.self.now.state (Reads c.args.offset) c.traced_read.result.asked before)
+    rw c.traced_read.ensures.state (coherence_law c.args.self.now.state (Read c.args.offset) c.traced_read.result.asked before)

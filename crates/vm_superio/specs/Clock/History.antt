@@ -1,0 +1,79 @@
+-- The history of a clock: what its registers hold, by a search of its accesses alone. A trace is a list of accesses with
+-- their moments, newest first. Nothing is kept from one access to the next.
+use Rattle.std.specs.Prelude.{ℕ, ◌+◌, ◌%◌, ℤ, pos, ◌+ℤ◌, ◌-ℤ◌, ◌==◌, ◌&&◌, if◌then◌else◌, List, [], ◌∷◌, Option, Some, None, unwrap_or, bit_or}
+use Rattle.std.specs.Option.{option_or, option_map_or}
+use Rattle.vm_superio.specs.declared.rtc_pl031.RtcState.{RtcState}
+use Rattle.vm_superio.specs.Clock.Registers.{Access, read, write, clock_register_at, host_time, guest_time, clock_register_read, without_bits}
+
+-- what the newest access that gives something gives
+abbrev pub newest_found : {A : Type 0} → (find : Access → Option A) (trace : List Access) → Option A
+newest_found find [] = None
+newest_found find (access ∷ trace) = option_or (find access) (newest_found find trace)
+
+-- the value that an access writes at an offset
+abbrev pub value_written : (offset : ℕ) (access : Access) → Option ℕ
+value_written offset (read _ _) = None
+value_written offset (write at value _) = if at == offset then Some value else None
+
+-- ---- the counter
+
+-- how the counter was set: to a value loaded at a host's time, or back to the host's time
+pub data Setting : Type 0 where
+  load : (value time : ℕ) → Setting
+  reset : Setting
+
+-- a write to RTCLR, at 0x008, loads its value, and a write of 1 to RTCCR, at 0x00C, resets
+abbrev pub setting_of : (access : Access) → Option Setting
+setting_of (read _ _) = None
+setting_of (write offset value now) =
+    if offset == 0x008 then Some (load value (host_time now)) else
+    if (offset == 0x00C) && (value == 1) then Some reset else
+    None
+
+-- the counter at a host's time, by its last setting: the loaded value and the seconds since, or the host's time, or
+-- with no setting the host's time and the offset of the start
+abbrev pub counter_by : (setting : Option Setting) (start : RtcState) (time : ℕ) → ℤ
+counter_by (Some (load value load_time)) start time = pos (value + time) -ℤ pos load_time
+counter_by (Some reset) start time = pos time
+counter_by None start time = pos time +ℤ start.offset
+
+abbrev pub counter : (start : RtcState) (trace : List Access) (time : ℕ) → ℤ
+counter start trace time = counter_by (newest_found setting_of trace) start time
+
+-- the load register, by the last setting
+abbrev pub load_by : (setting : Option Setting) (start : RtcState) → ℕ
+load_by (Some (load value _)) start = value
+load_by (Some reset) start = 0
+load_by None start = start.lr
+
+-- ---- the interrupt bits
+
+-- the bits that an access clears: those of a write to RTCICR, at 0x01C
+abbrev pub cleared_by : (access : Access) → ℕ
+cleared_by access = unwrap_or (value_written 0x01C access) 0
+
+-- the bits that any access of the trace cleared
+abbrev pub cleared_bits : (trace : List Access) → ℕ
+cleared_bits [] = 0
+cleared_bits (access ∷ trace) = bit_or (cleared_by access) (cleared_bits trace)
+
+-- ---- the clock
+
+-- the offset is how far the counter is ahead of the host's time, so the counter at host's time 0; the match register is
+-- the last write to RTCMR, at 0x004, and the mask bit 0 of the last write to RTCIMSC, at 0x010; a raw bit is set where
+-- the start has it and no write to RTCICR had it
+abbrev pub clock_of_history : (start : RtcState) (trace : List Access) → RtcState
+clock_of_history start trace = record {
+  lr = load_by (newest_found setting_of trace) start;
+  offset = counter start trace 0;
+  mr = unwrap_or (newest_found (value_written 0x004) trace) start.mr;
+  imsc = option_map_or (λ value. value % 2) (newest_found (value_written 0x010) trace) start.imsc;
+  ris = without_bits start.ris (cleared_bits trace);
+}
+
+-- the number that a read shows at its moment; a write responds nothing
+abbrev pub clock_history_response : (start : RtcState) (trace : List Access) (access : Access) → Option ℕ
+clock_history_response start trace (read offset now) =
+    clock_register_read (clock_register_at offset)
+    (guest_time (counter start trace (host_time now)) (host_time now)) (clock_of_history start trace)
+clock_history_response start trace (write _ _ _) = None

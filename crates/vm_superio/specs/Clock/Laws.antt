@@ -1,0 +1,50 @@
+-- The laws by which the steps and the history of a clock agree.
+use Rattle.std.specs.Prelude.{◌≡◌, ℕ, Bool, ◌==◌, if◌then◌else◌, List, ◌∷◌, Option, pos, ◌+ℤ◌}
+use Rattle.std.specs.Int.{bit_at}
+use Rattle.std.specs.List.{list_any}
+use Rattle.vm_superio.specs.declared.rtc_pl031.RtcState.{RtcState}
+use Rattle.vm_superio.specs.Clock.Registers.{Access, read, bytes_left}
+use Rattle.vm_superio.specs.Clock.Step.{clock_response, clock_step, state_after_accesses}
+use Rattle.vm_superio.specs.Clock.History.{counter, clock_of_history, clock_history_response, cleared_by}
+
+-- for each history of the state before an access, the access responds as the history says
+abbrev pub RespondsByHistory : (state : RtcState) (access : Access) (response : Option ℕ) → Type 0
+RespondsByHistory state access response =
+    (start : RtcState) (trace : List Access) → state ≡ clock_of_history start trace
+    → response ≡ clock_history_response start trace access
+
+-- and a read leaves the bytes that the history says
+abbrev pub ReadsByHistory : (state : RtcState) (offset now : ℕ) (old new : List ℕ) → Type 0
+ReadsByHistory state offset now old new =
+    (start : RtcState) (trace : List Access) → state ≡ clock_of_history start trace
+    → new ≡ bytes_left (clock_history_response start trace (read offset now)) old
+
+-- and the state after it is that of the longer trace
+abbrev pub GoesOnByHistory : (old : RtcState) (access : Access) (new : RtcState) → Type 0
+GoesOnByHistory old access new =
+    (start : RtcState) (trace : List Access) → old ≡ clock_of_history start trace
+    → new ≡ clock_of_history start (access ∷ trace)
+
+-- the clock is its history, at each access and so over any accesses from any state; the counter is at each moment the
+-- host's time and the offset together
+pub record ClockIsHistory : Type 0 where
+  pub response_follows :
+      (state : RtcState) (access : Access) → RespondsByHistory state access (clock_response state access)
+  pub state_follows : (state : RtcState) (access : Access) → GoesOnByHistory state access (clock_step state access)
+  pub all_responses :
+      (start : RtcState) (trace : List Access) (access : Access)
+      → clock_response (state_after_accesses start trace) access ≡ clock_history_response start trace access
+  pub all_states : (start : RtcState) (trace : List Access) → state_after_accesses start trace ≡ clock_of_history start trace
+  pub offset_is :
+      (start : RtcState) (trace : List Access) (time : ℕ)
+      → pos time +ℤ (clock_of_history start trace).offset ≡ counter start trace time
+
+-- whether some access of the trace cleared a bit
+abbrev pub is_cleared : (trace : List Access) (bit : ℕ) → Bool
+is_cleared trace bit = list_any (λ access. bit_at (cleared_by access) bit == 1) trace
+
+-- a raw interrupt bit is that of the start, unless an access of the trace cleared it
+abbrev pub RawBitsByHistory : Type 0
+RawBitsByHistory =
+    (start : RtcState) (trace : List Access) (bit : ℕ)
+    → bit_at (clock_of_history start trace).ris bit ≡ (if is_cleared trace bit then 0 else bit_at start.ris bit)

@@ -1,0 +1,42 @@
+-- The step of one access to the clock, in any state: its response, the state that it leaves and the events that it
+-- reports.
+use Rattle.std.specs.Prelude.{ℕ, ◌%◌, pos, ◌+ℤ◌, ◌-ℤ◌, ◌==◌, if◌then◌else◌, List, [], ◌∷◌, Option, None}
+use Rattle.vm_superio.specs.declared.rtc_pl031.RtcState.{RtcState}
+use Rattle.vm_superio.specs.Clock.Events.{RtcEvent, invalid_read, invalid_write}
+use Rattle.vm_superio.specs.Clock.Registers.{Access, read, write, ClockRegister, Mr, Lr, Cr, Imsc, Icr, clock_register_at, is_readable, is_writable, host_time, guest_time, clock_register_read, without_bits}
+
+-- a clock: its registers, and the events object that it owns
+pub record ClockDevice (EV : Type 0) : Type 0 where
+  pub state : RtcState
+  pub events : EV
+
+-- the number that a read shows at its moment; a write responds nothing
+abbrev pub clock_response : (state : RtcState) (access : Access) → Option ℕ
+clock_response state (read offset now) =
+    clock_register_read (clock_register_at offset)
+    (guest_time (pos (host_time now) +ℤ state.offset) (host_time now)) state
+clock_response state (write _ _ _) = None
+
+-- the state that a write leaves, at the host's time
+abbrev pub after_write : (state : RtcState) (register : ClockRegister) (value time : ℕ) → RtcState
+after_write state Mr value time = record state { mr = value }
+after_write state Lr value time = record state { lr = value; offset = pos value -ℤ pos time }
+after_write state Cr value time = if value == 1 then record state { lr = 0; offset = pos 0 } else state
+after_write state Imsc value time = record state { imsc = value % 2 }
+after_write state Icr value time = record state { ris = without_bits state.ris value }
+after_write state _ value time = state
+
+-- the state that an access leaves: no read changes a register
+abbrev pub clock_step : (state : RtcState) (access : Access) → RtcState
+clock_step state (read _ _) = state
+clock_step state (write offset value now) = after_write state (clock_register_at offset) value (host_time now)
+
+-- the events that an access reports: one where its register has no such access
+abbrev pub clock_events : (access : Access) → List RtcEvent
+clock_events (read offset now) = if is_readable (clock_register_at offset) then [] else invalid_read ∷ []
+clock_events (write offset value now) = if is_writable (clock_register_at offset) then [] else invalid_write ∷ []
+
+-- the state that a trace of accesses leads to, newest first
+abbrev pub state_after_accesses : (start : RtcState) (trace : List Access) → RtcState
+state_after_accesses start [] = start
+state_after_accesses start (access ∷ trace) = clock_step (state_after_accesses start trace) access

@@ -1,0 +1,21 @@
+-- The history of events: what a port reports to its events object at each point of a trace.
+use Rattle.std.specs.Prelude.{ℕ, if◌then◌else◌, List, [], ◌∷◌, ◌++◌}
+use Rattle.vm_superio.specs.declared.run.Sent.{Sent}
+use Rattle.vm_superio.specs.declared.run.Sent.TheVariants as sent
+use Rattle.vm_superio.specs.Port.State.{State, not_empty}
+use Rattle.vm_superio.specs.Port.Operations.{TraceEntry, Event, buffer_read, out_byte, tx_lost_byte, in_buffer_empty}
+use Rattle.vm_superio.specs.Port.OpKinds.{OpKind, RbrRead}
+use Rattle.vm_superio.specs.History.Registers.{kind_at, held_bytes}
+
+-- an RBR read reports that no byte is left, where none is, and then that it read; a byte that was sent is reported as
+-- out or as lost
+abbrev pub kind_events : (kind : OpKind) (left : List ℕ) (outcome : Sent) → List Event
+kind_events RbrRead left outcome = (if not_empty left then [] else in_buffer_empty ∷ []) ++ buffer_read ∷ []
+kind_events kind left sent.Nothing = []
+kind_events kind left sent.Out = out_byte ∷ []
+kind_events kind left sent.Lost = tx_lost_byte ∷ []
+
+-- the events of an entry, with the bytes that are held after it
+abbrev pub history_events : (start : State) (trace : List TraceEntry) (entry : TraceEntry) → List Event
+history_events start trace entry =
+    kind_events (kind_at start trace entry.op) (held_bytes start (entry ∷ trace)) entry.sent

@@ -1,0 +1,93 @@
+-- The history of interrupts: which conditions were raised and are pending, which trigger calls are due, and which traces
+-- are well-formed.
+use Rattle.std.specs.Prelude.{ℕ, ◌+◌, Bool, true, false, not, ◌==◌, ◌&&◌, ◌||◌, List, [], ◌∷◌}
+use Rattle.std.specs.Bool.{beq}
+use Rattle.vm_superio.specs.declared.run.Asked.TheVariants as asked
+use Rattle.vm_superio.specs.declared.run.Sent.TheVariants as sent
+use Rattle.vm_superio.specs.Port.Bits.{has_bits}
+use Rattle.vm_superio.specs.Port.State.{State, not_empty}
+use Rattle.vm_superio.specs.Port.Registers.{Condition, Rda, Thre, ier_bit, iir_bit, thre_then_rda}
+use Rattle.vm_superio.specs.Port.Operations.{Op, TraceEntry, is_refused_once, is_sent, answer_count, one_if}
+use Rattle.vm_superio.specs.Port.OpKinds.{OpKind, IerWrite, ThrWrite, sent_by, is_iir_read, is_rbr_read}
+use Rattle.vm_superio.specs.History.Registers.{accepted_by, kind_at, interrupt_enable, held_bytes}
+
+-- ---- raised, acknowledged and pending
+
+-- a condition is pending if the newest entry that raises or acknowledges it raises it; where there is none, if it was
+-- pending at the start
+abbrev pub raised_since :
+    (start : State) (raises : List TraceEntry → TraceEntry → Bool) (acknowledges : OpKind → Bool) (first : Bool)
+    (trace : List TraceEntry) → Bool
+raised_since start raises acknowledges first [] = first
+raised_since start raises acknowledges first (entry ∷ trace) =
+    raises trace entry
+    || (not (acknowledges (kind_at start trace entry.op)) && raised_since start raises acknowledges first trace)
+
+-- RDA is raised by an IER write whose value has its bit while bytes are held, and by an operation that accepts at least
+-- one byte while IER has the bit
+abbrev pub raises_rda : (kind : OpKind) (held : List ℕ) (enable : ℕ) → Bool
+raises_rda (IerWrite value) held enable = has_bits value (ier_bit Rda) && not_empty held
+raises_rda kind held enable = not_empty (accepted_by kind held) && has_bits enable (ier_bit Rda)
+
+abbrev pub rda_raised : (start : State) (trace : List TraceEntry) (entry : TraceEntry) → Bool
+rda_raised start trace entry =
+    raises_rda (kind_at start trace entry.op) (held_bytes start trace) (interrupt_enable start trace)
+
+-- an IIR read acknowledges RDA, and so does an RBR read, also where it takes nothing
+abbrev pub acknowledges_rda : (kind : OpKind) → Bool
+acknowledges_rda kind = is_iir_read kind || is_rbr_read kind
+
+abbrev pub rda_pending : (start : State) (trace : List TraceEntry) → Bool
+rda_pending start trace =
+    raised_since start (rda_raised start) acknowledges_rda (has_bits start.interrupt_identification (iir_bit Rda)) trace
+
+-- a trigger call is due for RDA where it is raised and was not pending
+abbrev pub rda_call : (start : State) (trace : List TraceEntry) (entry : TraceEntry) → Bool
+rda_call start trace entry = rda_raised start trace entry && not (rda_pending start trace)
+
+-- THRE is raised by a THR write while IER has its bit, and by an IER write whose value has the bit, unless the trigger
+-- refused that write's call for RDA
+abbrev pub raises_thre : (kind : OpKind) (enable : ℕ) (refused : Bool) → Bool
+raises_thre (ThrWrite value) enable refused = has_bits enable (ier_bit Thre)
+raises_thre (IerWrite value) enable refused = has_bits value (ier_bit Thre) && not refused
+raises_thre _ enable refused = false
+
+abbrev pub thre_raised : (start : State) (trace : List TraceEntry) (entry : TraceEntry) → Bool
+thre_raised start trace entry =
+    raises_thre (kind_at start trace entry.op) (interrupt_enable start trace)
+    (rda_call start trace entry && is_refused_once entry.asked)
+
+-- only an IIR read acknowledges THRE
+abbrev pub thre_pending : (start : State) (trace : List TraceEntry) → Bool
+thre_pending start trace =
+    raised_since start (thre_raised start) is_iir_read (has_bits start.interrupt_identification (iir_bit Thre)) trace
+
+abbrev pub thre_call : (start : State) (trace : List TraceEntry) (entry : TraceEntry) → Bool
+thre_call start trace entry = thre_raised start trace entry && not (thre_pending start trace)
+
+-- ---- trigger calls, and well-formed traces
+
+-- one trigger call for each condition that becomes pending; a restore raises nothing
+abbrev pub trigger_calls : (start : State) (trace : List TraceEntry) (entry : TraceEntry) → ℕ
+trigger_calls start trace entry = one_if (rda_call start trace entry) + one_if (thre_call start trace entry)
+
+-- the trigger calls that an operation makes as long as none is refused
+abbrev pub calls_due : (start : State) (trace : List TraceEntry) (op : Op) → ℕ
+calls_due start trace op =
+    trigger_calls start trace (record { op = op; asked = asked.Nothing; sent = sent.Nothing })
+
+-- there are as many answers as trigger calls, and an outcome exactly where a byte is sent
+abbrev pub is_well_formed_entry : (start : State) (trace : List TraceEntry) (entry : TraceEntry) → Bool
+is_well_formed_entry start trace entry =
+    (answer_count entry.asked == trigger_calls start trace entry)
+    && beq (is_sent entry.sent) (not_empty (sent_by (kind_at start trace entry.op)))
+
+abbrev pub is_well_formed : (start : State) (trace : List TraceEntry) → Bool
+is_well_formed start [] = true
+is_well_formed start (entry ∷ trace) = is_well_formed_entry start trace entry && is_well_formed start trace
+
+-- a restore calls for each condition that is pending and enabled, as long as no call is refused: THRE first
+abbrev pub restore_calls_due : (start : State) (trace : List TraceEntry) → List Condition
+restore_calls_due start trace =
+    thre_then_rda (thre_pending start trace && has_bits (interrupt_enable start trace) (ier_bit Thre))
+    (rda_pending start trace && has_bits (interrupt_enable start trace) (ier_bit Rda))

@@ -1,0 +1,124 @@
+-- The laws by which steps and history agree: after any trace, both describe the same port.
+use Rattle.std.specs.Prelude.{◌≡◌, ℕ, ◌<◌, Bool, not, List, [], ◌∷◌, IsTrue}
+use Rattle.vm_superio.specs.declared.run.Asked.{Asked}
+use Rattle.vm_superio.specs.Port.Bits.{has_bits, lsr_dr_bit}
+use Rattle.vm_superio.specs.Port.State.{State, not_empty}
+use Rattle.vm_superio.specs.Port.Registers.{identification_of}
+use Rattle.vm_superio.specs.Port.Coherent.{Coherent}
+use Rattle.vm_superio.specs.Port.Operations.{Op, TraceEntry, Response, is_lost}
+use Rattle.vm_superio.specs.Port.OpKinds.{sent_by}
+use Rattle.vm_superio.specs.Port.ObjectLinks.{bytes_taken_by_writer}
+use Rattle.vm_superio.specs.Step.Transition.{step, step_response, step_events}
+use Rattle.vm_superio.specs.Step.Admissible.{step_calls, is_admissible}
+use Rattle.vm_superio.specs.Step.Restore.{restore_calls}
+use Rattle.vm_superio.specs.History.Registers.{kind_at, line_control, modem_control, scratch, divisor_low, divisor_high, interrupt_enable, held_bytes}
+use Rattle.vm_superio.specs.History.Interrupts.{is_well_formed_entry, is_well_formed, calls_due, restore_calls_due}
+use Rattle.vm_superio.specs.History.Reads.{interrupt_identification, line_status, state_of_history, history_response, ResponsesAre}
+use Rattle.vm_superio.specs.History.Events.{history_events}
+use Rattle.vm_superio.specs.Run.Trace.{trace_after}
+
+-- the state that the steps of a trace lead to
+abbrev pub state_after : (start : State) (trace : List TraceEntry) → State
+state_after start [] = start
+state_after start (entry ∷ trace) = step (state_after start trace) entry.op entry.asked
+
+-- ---- state and trace
+
+-- the register law, from any start and over any trace: each register is its last effective write, and MSR stays
+pub record RegistersAgree (start : State) (trace : List TraceEntry) (s : State) : Type 0 where
+  pub divisor_low : s.baud_divisor_low ≡ divisor_low start trace
+  pub divisor_high : s.baud_divisor_high ≡ divisor_high start trace
+  pub interrupt_enable : s.interrupt_enable ≡ interrupt_enable start trace
+  pub line_control : s.line_control ≡ line_control start trace
+  pub modem_control : s.modem_control ≡ modem_control start trace
+  pub modem_status : s.modem_status ≡ start.modem_status
+  pub scratch : s.scratch ≡ scratch start trace
+
+abbrev pub RegisterLaw : Type 0
+RegisterLaw = (start : State) (trace : List TraceEntry) → RegistersAgree start trace (state_after start trace)
+
+-- the held-bytes law, from any start and over any trace
+abbrev pub HeldBytesLaw : Type 0
+HeldBytesLaw = (start : State) (trace : List TraceEntry) → (state_after start trace).in_buffer ≡ held_bytes start trace
+
+-- its LSR, from a start whose LSR is a byte that shows whether bytes are held
+abbrev pub LineStatusLaw : Type 0
+LineStatusLaw = (start : State) (trace : List TraceEntry) → start.line_status < 256
+    → has_bits start.line_status lsr_dr_bit ≡ not_empty start.in_buffer
+    → (state_after start trace).line_status ≡ line_status start trace
+
+-- the interrupt law, from a start whose IIR shows two conditions, and over any trace: IIR shows the conditions that are
+-- pending, an entry is admissible exactly where it is well-formed, and a restore makes the calls that are due
+pub record InterruptsAgree (start : State) (trace : List TraceEntry) (s : State) : Type 0 where
+  pub pending : s.interrupt_identification ≡ interrupt_identification start trace
+  pub calls :
+      (entry : TraceEntry) → is_admissible s entry.op entry.asked entry.sent ≡ is_well_formed_entry start trace entry
+  pub restoring : restore_calls s ≡ restore_calls_due start trace
+
+abbrev pub InterruptLaw : Type 0
+InterruptLaw = (start : State) (trace : List TraceEntry) (thre rda : Bool)
+    → start.interrupt_identification ≡ identification_of thre rda
+    → InterruptsAgree start trace (state_after start trace)
+
+-- every step keeps a coherent state coherent
+abbrev pub CoherenceLaw : Type 0
+CoherenceLaw = (s : State) (op : Op) (asked : Asked) → Coherent s → Coherent (step s op asked)
+
+-- from a coherent start the state is the one of the history
+abbrev pub StateLaw : Type 0
+StateLaw = (start : State) (trace : List TraceEntry) → Coherent start → start.line_status < 256
+    → state_after start trace ≡ state_of_history start trace
+
+-- and a call responds as the history says: a read with the guest read
+abbrev pub ResponseLaw : Type 0
+ResponseLaw = (start : State) (trace : List TraceEntry) (entry : TraceEntry) → Coherent start → start.line_status < 256
+    → step_response (state_after start trace) entry.op entry.asked entry.sent
+    ≡ history_response start trace entry.op entry.asked entry.sent
+
+-- ---- one step, in the state of a history
+
+-- an admissible call responds as the history says, leaves the state of the longer trace, and reports the events of its
+-- point; and the writer took the byte that is sent there, if it was not lost
+pub record StepAgrees (start : State) (trace : List TraceEntry) (entry : TraceEntry) : Type 0 where
+  pub response :
+      step_response (state_of_history start trace) entry.op entry.asked entry.sent
+      ≡ history_response start trace entry.op entry.asked entry.sent
+  pub state : step (state_of_history start trace) entry.op entry.asked ≡ state_of_history start (entry ∷ trace)
+  pub events : step_events (state_of_history start trace) entry.op entry.sent ≡ history_events start trace entry
+  pub output :
+      IsTrue (not (is_lost entry.sent))
+      → bytes_taken_by_writer entry.op entry.sent ≡ sent_by (kind_at start trace entry.op)
+
+-- the trigger calls that a call makes, as long as none is refused, are those of the history, and so are a restore's
+pub record PrefixAgrees (start : State) (trace : List TraceEntry) : Type 0 where
+  pub calls : (op : Op) → step_calls (state_of_history start trace) op ≡ calls_due start trace op
+  pub restoring : restore_calls (state_of_history start trace) ≡ restore_calls_due start trace
+  pub steps :
+      (entry : TraceEntry) → IsTrue (is_admissible (state_of_history start trace) entry.op entry.asked entry.sent)
+      → StepAgrees start trace entry
+
+abbrev pub StepLaw : Type 0
+StepLaw = (start : State) (trace : List TraceEntry) → Coherent start → start.line_status < 256
+    → PrefixAgrees start trace
+
+-- ---- a whole run
+
+-- entries, oldest first and each with its response, that follow each other by steps, to an end
+abbrev pub StepsFollow : (s : State) (calls : List (TraceEntry × Response)) (end : State) → Type 0
+StepsFollow s [] end = end ≡ s
+StepsFollow s (call ∷ later) end =
+    IsTrue (is_admissible s call.0.op call.0.asked call.0.sent)
+    × (call.1 ≡ step_response s call.0.op call.0.asked call.0.sent)
+    × StepsFollow (step s call.0.op call.0.asked) later end
+
+-- behind `trace` the calls make a well-formed trace with these responses, and end in its state, which is coherent
+pub record RunAgrees
+    (start : State) (trace : List TraceEntry) (calls : List (TraceEntry × Response)) (end : State) : Type 0 where
+  pub well_formed : IsTrue (is_well_formed start (trace_after trace calls))
+  pub responses : ResponsesAre start trace calls
+  pub state : end ≡ state_of_history start (trace_after trace calls)
+  pub coherent : Coherent end
+
+abbrev pub WholeRunLaw : Type 0
+WholeRunLaw = (start end : State) (calls : List (TraceEntry × Response)) → Coherent start → start.line_status < 256
+    → StepsFollow start calls end → RunAgrees start [] calls end

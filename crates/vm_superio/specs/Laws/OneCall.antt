@@ -1,0 +1,55 @@
+-- The laws of one call, in any state.
+use Rattle.std.specs.Prelude.{◌≡◌, ◌↔◌, ℕ, zero, suc, ◌<◌, Bool, true, false, if◌then◌else◌, ◌++◌, length, count_by, IsTrue}
+use Rattle.vm_superio.specs.declared.run.Asked.{Asked}
+use Rattle.vm_superio.specs.declared.run.Asked.TheVariants as asked
+use Rattle.vm_superio.specs.declared.run.Sent.{Sent}
+use Rattle.vm_superio.specs.declared.run.Sent.TheVariants as sent
+use Rattle.vm_superio.specs.Port.State.{State}
+use Rattle.vm_superio.specs.Port.Operations.{Op, Event, out_byte, tx_lost_byte, answer_count}
+use Rattle.vm_superio.specs.Port.OpKinds.{sent_by}
+use Rattle.vm_superio.specs.Step.Transition.{step, step_events}
+use Rattle.vm_superio.specs.Step.Admissible.{kind_in_state, step_calls, sends_byte, is_admissible}
+use Rattle.vm_superio.specs.Step.PortStep.{turned_on_count}
+use Rattle.vm_superio.specs.History.Registers.{accepted_by, taken_by}
+
+-- what a call takes, then what is held after it, is what was held, then what it accepts
+abbrev pub OneCallLaw : Type 0
+OneCallLaw = (s : State) (op : Op) (asked : Asked)
+    → taken_by (kind_in_state s op) s.in_buffer ++ (step s op asked).in_buffer
+    ≡ s.in_buffer ++ accepted_by (kind_in_state s op) s.in_buffer
+
+-- the events that report the outcome of a byte
+abbrev pub reports_outcome : (event : Event) → Bool
+reports_outcome out_byte = true
+reports_outcome tx_lost_byte = true
+reports_outcome _ = false
+
+-- a THR write reports exactly one of the two, once, and no other call reports either
+abbrev pub EventsLaw : Type 0
+EventsLaw = (s : State) (op : Op) (asked : Asked) (sent : Sent) → IsTrue (is_admissible s op asked sent)
+    → count_by reports_outcome (step_events s op sent) ≡ length (sent_by (kind_in_state s op))
+
+-- the trigger is called once for each of the two pending bits of IIR that the call turns from clear to set
+abbrev pub TurnedBitsLaw : Type 0
+TurnedBitsLaw = (s : State) (op : Op) (asked : Asked) (sent : Sent) → s.interrupt_identification < 256
+    → IsTrue (is_admissible s op asked sent)
+    → answer_count asked ≡ turned_on_count s (step s op asked)
+
+-- the record of a trigger that is called so often: the answer to the first call and, if there is one, to the second
+abbrev pub asked_when : (calls : ℕ) (first second : Bool) → Asked
+asked_when zero first second = asked.Nothing
+asked_when (suc zero) first second = if first then asked.Took else asked.Refused
+asked_when (suc (suc more)) first second =
+    if first then (if second then asked.TookTook else asked.TookRefused) else asked.Refused
+
+-- the outcome of a byte, if one is sent: the writer's success or failure
+abbrev pub sent_when : (sends success : Bool) → Sent
+sent_when false success = sent.Nothing
+sent_when true success = if success then sent.Out else sent.Lost
+
+-- admissible is what some answers to the trigger's calls and some success or failure of the writer give, and no more
+abbrev pub ExactTestLaw : Type 0
+ExactTestLaw = (s : State) (op : Op) (asked : Asked) (sent : Sent)
+    → IsTrue (is_admissible s op asked sent)
+    ↔ ((first second success : Bool)
+    × (asked ≡ asked_when (step_calls s op) first second) × (sent ≡ sent_when (sends_byte s op) success))

@@ -1,0 +1,15 @@
+-- The invariant of a serial port.
+use Rattle.std.specs.Prelude.{◌≡◌, ◌≤◌, Bool, length, IsTrue}
+use Rattle.vm_superio.specs.Port.Bits.{has_bits, lsr_dr_bit}
+use Rattle.vm_superio.specs.Port.State.{State, not_empty}
+use Rattle.vm_superio.specs.Port.Registers.{identification_of}
+
+-- IIR shows which of THRE and RDA are pending; RDA is pending only while a received byte is held; data ready is set
+-- exactly while one is; and at most 64 are. The other fields are free
+pub record Coherent (s : State) : Type 0 where
+  pub thre : Bool
+  pub rda : Bool
+  pub identification : s.interrupt_identification ≡ identification_of thre rda
+  pub received : IsTrue rda → IsTrue (not_empty s.in_buffer)
+  pub data_ready : has_bits s.line_status lsr_dr_bit ≡ not_empty s.in_buffer
+  pub few : length s.in_buffer ≤ 64

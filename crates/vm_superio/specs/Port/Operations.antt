@@ -1,0 +1,80 @@
+-- The operations on a serial port, their responses, the events that the port reports, and the entries of a trace.
+use Rattle.std.specs.Prelude.{ℕ, Bool, true, false, if◌then◌else◌, List}
+use Rattle.vm_superio.specs.declared.run.Asked.{Asked}
+use Rattle.vm_superio.specs.declared.run.Asked.TheVariants as asked
+use Rattle.vm_superio.specs.declared.run.Sent.{Sent}
+use Rattle.vm_superio.specs.declared.run.Sent.TheVariants as sent
+
+-- an operation, without the objects that a restore brings
+pub data Op : Type 0 where
+  Read : (offset : ℕ) → Op
+  Write : (offset value : ℕ) → Op
+  Enqueue : (bytes : List ℕ) → Op
+  Restore : Op
+
+-- a trace is a list of these, newest first: the operation, the trigger's answers to its calls, and the outcome of the
+-- byte that it sent to the writer
+pub record TraceEntry : Type 0 where
+  pub op : Op
+  pub asked : Asked
+  pub sent : Sent
+
+-- what a call responds
+pub data Response : Type 0 where
+  ByteRead : (byte : ℕ) → Response
+  WriteOk : Response
+  EnqueueOk : (count : ℕ) → Response
+  TriggerRefused : Response
+  WriterFailed : Response
+  FifoFull : Response
+  OutOfMemory : Response
+  -- nothing is stated of what a restore responds
+  NoResponse : Response
+
+-- the events that a port reports to its events object
+pub data Event : Type 0 where
+  buffer_read : Event
+  out_byte : Event
+  tx_lost_byte : Event
+  in_buffer_empty : Event
+
+-- ---- the trigger's answers
+
+-- there was one call, and it was refused
+abbrev pub is_refused_once : (answers : Asked) → Bool
+is_refused_once asked.Refused = true
+is_refused_once _ = false
+
+-- the last call was refused
+abbrev pub ends_in_refusal : (answers : Asked) → Bool
+ends_in_refusal asked.Refused = true
+ends_in_refusal asked.TookRefused = true
+ends_in_refusal _ = false
+
+-- how many calls were answered
+abbrev pub answer_count : (answers : Asked) → ℕ
+answer_count asked.Nothing = 0
+answer_count asked.Took = 1
+answer_count asked.Refused = 1
+answer_count asked.TookTook = 2
+answer_count asked.TookRefused = 2
+
+abbrev pub one_if : (called : Bool) → ℕ
+one_if called = if called then 1 else 0
+
+-- ---- the outcome of a byte
+
+-- a byte was sent to the writer, which took it or failed
+abbrev pub is_sent : (outcome : Sent) → Bool
+is_sent sent.Nothing = false
+is_sent _ = true
+
+-- the writer failed
+abbrev pub is_lost : (outcome : Sent) → Bool
+is_lost sent.Lost = true
+is_lost _ = false
+
+-- a write responds with a refusal of the trigger rather than with a failure of the writer
+abbrev pub write_outcome : (answers : Asked) (outcome : Sent) → Response
+write_outcome answers outcome =
+    if ends_in_refusal answers then TriggerRefused else (if is_lost outcome then WriterFailed else WriteOk)

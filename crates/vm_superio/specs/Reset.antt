@@ -1,6 +1,0 @@
--- The i8042 controller, of which only the CPU reset command is there.
-use Rattle.std.specs.Prelude.{ℕ, Bool, ◌==◌, ◌&&◌}
-
--- a write is the reset command: the byte 0xFE at offset 4, the command register
-abbrev pub is_reset_command : ℕ → ℕ → Bool
-is_reset_command offset value = (offset == 4) && (value == 0xFE)

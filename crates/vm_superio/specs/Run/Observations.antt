@@ -1,0 +1,109 @@
+-- What a run from a coherent start shows along its trace, by the history alone: bytes read, output, trigger calls.
+use Rattle.std.specs.Prelude.{◌≡◌, ℕ, List, [], ◌∷◌, ◌++◌, IsTrue, ⊤}
+use Rattle.std.specs.Io.KnownBytes.{Appends}
+use Rattle.vm_superio.specs.declared.run.Asked.{Asked}
+use Rattle.vm_superio.specs.declared.run.Act.{Act}
+use Rattle.vm_superio.specs.declared.run.Act.TheVariants.{Read}
+use Rattle.vm_superio.specs.declared.run.Call.{Call}
+use Rattle.vm_superio.specs.declared.run.Call.TheVariants.{Restore}
+use Rattle.vm_superio.specs.declared.run.Reply.{Reply}
+use Rattle.vm_superio.specs.declared.run.Reply.TheVariants.{Byte, Restored, NotRestored}
+use Rattle.vm_superio.specs.declared.run.Done.{Done}
+use Rattle.vm_superio.specs.Port.State.{State}
+use Rattle.vm_superio.specs.Port.Operations.{TraceEntry}
+use Rattle.vm_superio.specs.Port.ObjectLinks.{Link, TriggerAnswer, Contents, answers_of}
+use Rattle.vm_superio.specs.Port.RestoreCalls.{all_ok, RefusesOwnState}
+use Rattle.vm_superio.specs.History.Interrupts.{restore_calls_due}
+use Rattle.vm_superio.specs.History.Reads.{guest_read, output}
+use Rattle.vm_superio.specs.History.Properties.{none_lost}
+use Rattle.vm_superio.specs.Run.Trace.{entry_of, refusal_in_reply}
+
+-- ---- bytes read
+
+module _ {T E EV W : Type 0} where
+  -- each read replied the guest read at its point
+  abbrev pub ReadIs : (start : State) (trace : List TraceEntry) (act : Act) (reply : Reply T EV W E) → Type 0
+  ReadIs start trace (Read offset) reply = reply ≡ Byte (guest_read start trace offset)
+  ReadIs start trace _ reply = ⊤
+
+  abbrev pub ReadsAre : (start : State) (trace : List TraceEntry) (records : List (Done T EV W E)) → Type 0
+  ReadsAre start trace [] = ⊤
+  ReadsAre start trace (done ∷ later) =
+      ReadIs start trace done.act done.reply × ReadsAre start (entry_of done ∷ trace) later
+
+-- ---- output
+
+-- the segment of a writer: the trace at its start, the entries since, and the writer as it was then
+pub record WriterSegment (W : Type 0) : Type 0 where
+  pub before : List TraceEntry
+  pub newest : List TraceEntry
+  pub begun : W
+
+-- where no byte of the segment is lost, a writer whose contents are known took the segment's output
+abbrev pub OutputIs :
+    {W : Type 0} → (contents : Contents W) (start : State) (segment : WriterSegment W) (now : W) → Type 0
+OutputIs contents start segment now =
+    IsTrue (none_lost segment.newest)
+    → Appends (contents segment.begun) (contents now) (output start segment.before segment.newest)
+
+module _ {T E EV W : Type 0} (contents : Contents W) (start : State) where
+  -- a restore that succeeds ends a segment
+  abbrev pub OutputAtEnd : (segment : WriterSegment W) (call : Call T EV W) (reply : Reply T EV W E) → Type 0
+  OutputAtEnd segment (Restore trigger events out) (Restored old) = OutputIs contents start segment old.out
+  OutputAtEnd segment call reply = ⊤
+
+  -- and the writer that it brings begins the next
+  abbrev pub next_writer_segment :
+      (segment : WriterSegment W) (entry : TraceEntry) (call : Call T EV W) (reply : Reply T EV W E) → WriterSegment W
+  next_writer_segment segment entry (Restore trigger events out) (Restored old) =
+      record { before = entry ∷ segment.newest ++ segment.before; newest = []; begun = out }
+  next_writer_segment segment entry call reply = record segment { newest = entry ∷ segment.newest }
+
+  -- over calls and their records, to the writer at the end
+  abbrev pub OutputsAre :
+      (segment : WriterSegment W) (calls : List (Call T EV W)) (records : List (Done T EV W E)) (end : W) → Type 0
+  OutputsAre segment [] [] end = OutputIs contents start segment end
+  OutputsAre segment (call ∷ calls) (done ∷ later) end =
+      OutputAtEnd segment call done.reply
+      × OutputsAre (next_writer_segment segment (entry_of done) call done.reply) calls later end
+  OutputsAre segment _ _ end = ⊥
+
+-- ---- trigger calls
+
+-- the segment of a trigger: the trigger as it was at its start, and its answers since
+pub record TriggerSegment (T E : Type 0) : Type 0 where
+  pub begun : T
+  pub answers : List (TriggerAnswer E)
+
+module _ {T E EV W : Type 0} (link : Link T (TriggerAnswer E)) (start : State) where
+  -- at a restore that succeeds the old trigger gave the answers of its segment, and the new one is called for the
+  -- conditions that are due, and refuses none. The trigger of a restore that fails is called up to the refusal
+  abbrev pub TriggerAtRestore :
+      (trace : List TraceEntry) (segment : TriggerSegment T E) (call : Call T EV W) (reply : Reply T EV W E) → Type 0
+  TriggerAtRestore trace segment (Restore trigger events out) (Restored old) =
+      link segment.begun segment.answers old.trigger
+      × ((now : T) × link trigger (all_ok (restore_calls_due start trace)) now)
+  TriggerAtRestore trace segment (Restore trigger events out) (NotRestored refused) =
+      RefusesOwnState link (restore_calls_due start trace) refused.error trigger refused.trigger
+  TriggerAtRestore trace segment call reply = ⊤
+
+  -- the trigger of a successful restore begins a segment with these calls; every other call adds its own answers
+  abbrev pub next_trigger_segment :
+      (trace : List TraceEntry) (segment : TriggerSegment T E) (call : Call T EV W) (asked : Asked)
+      (reply : Reply T EV W E) → TriggerSegment T E
+  next_trigger_segment trace segment (Restore trigger events out) asked (Restored old) =
+      record { begun = trigger; answers = all_ok (restore_calls_due start trace) }
+  next_trigger_segment trace segment (Restore trigger events out) asked reply = segment
+  next_trigger_segment trace segment call asked reply =
+      record segment { answers = segment.answers ++ answers_of asked (refusal_in_reply reply) }
+
+  -- over calls and their records, to the trigger at the end
+  abbrev pub TriggersAre :
+      (trace : List TraceEntry) (segment : TriggerSegment T E) (calls : List (Call T EV W))
+      (records : List (Done T EV W E)) (end : T) → Type 0
+  TriggersAre trace segment [] [] end = link segment.begun segment.answers end
+  TriggersAre trace segment (call ∷ calls) (done ∷ later) end =
+      TriggerAtRestore trace segment call done.reply
+      × TriggersAre (entry_of done ∷ trace) (next_trigger_segment trace segment call done.asked done.reply)
+      calls later end
+  TriggersAre trace segment _ _ end = ⊥

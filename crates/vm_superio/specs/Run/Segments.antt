@@ -1,0 +1,66 @@
+-- A segment of a run: the part of it that the same three objects serve, from the run's start or a successful restore on.
+use Rattle.std.specs.Prelude.{◌≡◌, ℕ, List, [], ◌∷◌, ◌++◌, Option}
+use Rattle.vm_superio.specs.declared.run.Asked.{Asked}
+use Rattle.vm_superio.specs.declared.run.Sent.{Sent}
+use Rattle.vm_superio.specs.Port.State.{State}
+use Rattle.vm_superio.specs.Port.Registers.{Condition}
+use Rattle.vm_superio.specs.Port.Operations.{Op, Event}
+use Rattle.vm_superio.specs.Port.ObjectLinks.{TriggerAnswer, PortLinks, answers_of, bytes_taken_by_writer, WriterLink}
+use Rattle.vm_superio.specs.Port.RestoreCalls.{all_ok}
+use Rattle.vm_superio.specs.Port.Model.{Port}
+use Rattle.vm_superio.specs.Step.Transition.{step_events}
+
+-- the objects as they were at its start; then the trigger's answers since, the events reported, the outcomes of the bytes
+-- that were sent, and the bytes that the writer took, each in order
+pub record Segment (T E EV W : Type 0) : Type 0 where
+  pub trigger : T
+  pub events : EV
+  pub out : W
+  pub answers : List (TriggerAnswer E)
+  pub reported : List Event
+  pub outcomes : List Sent
+  pub written_out : List ℕ
+
+module _ {T E EV W : Type 0} where
+  -- the first segment begins with the port as it is
+  abbrev pub first_segment : (port : Port T EV W) → Segment T E EV W
+  first_segment port = record {
+    trigger = port.trigger;
+    events = port.events;
+    out = port.out;
+    answers = [];
+    reported = [];
+    outcomes = [];
+    written_out = [];
+  }
+
+  -- each later one begins with the objects that a restore brings, and with the calls of its trigger that are due then
+  abbrev pub segment_from : (due : List Condition) (trigger : T) (events : EV) (out : W) → Segment T E EV W
+  segment_from due trigger events out = record {
+    trigger = trigger;
+    events = events;
+    out = out;
+    answers = all_ok due;
+    reported = [];
+    outcomes = [];
+    written_out = [];
+  }
+
+  -- it goes on by a call in a state
+  abbrev pub extend :
+      (segment : Segment T E EV W) (s : State) (op : Op) (asked : Asked) (sent : Sent) (refusal : Option E)
+      → Segment T E EV W
+  extend segment s op asked sent refusal = record segment {
+    answers = segment.answers ++ answers_of asked refusal;
+    reported = segment.reported ++ step_events s op sent;
+    outcomes = segment.outcomes ++ sent ∷ [];
+    written_out = segment.written_out ++ bytes_taken_by_writer op sent;
+  }
+
+  -- a port of this state, whose objects are those of the segment's start after all that was done with them
+  pub record IsAfter
+      (links : PortLinks T E EV W) (segment : Segment T E EV W) (s : State) (port : Port T EV W) : Type 0 where
+    pub state : port.state ≡ s
+    pub trigger : links.trigger segment.trigger segment.answers port.trigger
+    pub events : links.events segment.events segment.reported port.events
+    pub out : WriterLink links.contents segment.outcomes segment.written_out segment.out port.out

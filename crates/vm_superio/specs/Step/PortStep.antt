@@ -1,0 +1,69 @@
+-- One call of a port, as its contract states it.
+use Rattle.std.specs.Prelude.{◌≡◌, ℕ, ◌+◌, Bool, not, ◌&&◌, List, [], ◌∷◌, IsTrue, Option, None, Result, is_some}
+use Rattle.vm_superio.specs.declared.run.Asked.{Asked}
+use Rattle.vm_superio.specs.declared.run.Asked.TheVariants as asked
+use Rattle.vm_superio.specs.declared.run.Sent.{Sent}
+use Rattle.vm_superio.specs.declared.run.Sent.TheVariants as sent
+use Rattle.vm_superio.specs.declared.serial.errors.Error.{Error}
+use Rattle.vm_superio.specs.Port.Bits.{has_bits}
+use Rattle.vm_superio.specs.Port.State.{State}
+use Rattle.vm_superio.specs.Port.Registers.{Rda, Thre, iir_bit}
+use Rattle.vm_superio.specs.Port.Operations.{Op, Read, Write, Enqueue, Response, ByteRead, Event, ends_in_refusal, answer_count, one_if}
+use Rattle.vm_superio.specs.Port.ObjectLinks.{Link, TriggerAnswer, Contents, PortLinks, port_links, answers_of, bytes_taken_by_writer, WriterLink}
+use Rattle.vm_superio.specs.Port.Model.{Port, write_response, enqueue_response, refusal_in_result}
+use Rattle.vm_superio.specs.Step.Transition.{step, step_response, step_events}
+use Rattle.vm_superio.specs.Step.Admissible.{is_admissible}
+
+-- a call takes a port from `old` to `new` by one step, with these answers of the trigger and this outcome of a byte. A
+-- refusal is that of the trigger's last call
+pub record IsPortStep
+    {T E EV W : Type 0} (links : PortLinks T E EV W) (op : Op) (answers : Asked) (outcome : Sent) (answered : Response)
+    (refusal : Option E) (old new : Port T EV W) : Type 0 where
+  pub admissible : IsTrue (is_admissible old.state op answers outcome)
+  pub response : answered ≡ step_response old.state op answers outcome
+  pub refused : is_some refusal ≡ ends_in_refusal answers
+  pub state : new.state ≡ step old.state op answers
+  pub trigger : links.trigger old.trigger (answers_of answers refusal) new.trigger
+  pub events : links.events old.events (step_events old.state op outcome) new.events
+  pub out : WriterLink links.contents (outcome ∷ []) (bytes_taken_by_writer op outcome) old.out new.out
+
+-- ---- trigger calls, by the bits of IIR
+
+-- the bit goes from clear to set
+abbrev pub turns_on : (bit old new : ℕ) → Bool
+turns_on bit old new = not (has_bits old bit) && has_bits new bit
+
+-- how many of the two pending bits do
+abbrev pub turned_on_count : (old new : State) → ℕ
+turned_on_count old new =
+    one_if (turns_on (iir_bit Rda) old.interrupt_identification new.interrupt_identification)
+    + one_if (turns_on (iir_bit Thre) old.interrupt_identification new.interrupt_identification)
+
+-- ---- the calls
+
+module _ {T E EV W : Type 0} (trigger : Link T (TriggerAnswer E)) (events : Link EV Event) (contents : Contents W) where
+  -- a read calls no trigger and sends no byte
+  abbrev pub IsReadStep : (offset byte : ℕ) (old new : Port T EV W) → Type 0
+  IsReadStep offset byte old new =
+      IsPortStep (port_links trigger events contents) (Read offset) asked.Nothing sent.Nothing (ByteRead byte) None old new
+
+  -- a write, with the trigger's answers and the outcome of its byte. The trigger is called once for each pending bit of
+  -- IIR that the write turns on
+  pub record IsWriteStep
+      (offset value : ℕ) (result : Result (Unit {0}) (Error E)) (old new : Port T EV W) : Type 0 where
+    pub asked : Asked
+    pub sent : Sent
+    pub step :
+        IsPortStep (port_links trigger events contents) (Write offset value) asked sent
+        (write_response result) (refusal_in_result result) old new
+    pub calls : answer_count asked ≡ turned_on_count old.state new.state
+
+  -- an enqueue, likewise
+  pub record IsEnqueueStep
+      (bytes : List ℕ) (result : Result ℕ (Error E)) (old new : Port T EV W) : Type 0 where
+    pub asked : Asked
+    pub sent : Sent
+    pub step :
+        IsPortStep (port_links trigger events contents) (Enqueue bytes) asked sent
+        (enqueue_response result) (refusal_in_result result) old new
+    pub calls : answer_count asked ≡ turned_on_count old.state new.state

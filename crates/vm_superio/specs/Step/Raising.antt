@@ -1,0 +1,48 @@
+-- Raising a condition, and receiving bytes: the small parts of a step.
+use Rattle.std.specs.Prelude.{ℕ, ◌-◌, Bool, not, ◌&&◌, if◌then◌else◌, List, [], ◌∷◌, ◌++◌, length, take}
+use Rattle.vm_superio.specs.Port.Bits.{has_bits, joined, without, lsr_dr_bit, iir_none_bit}
+use Rattle.vm_superio.specs.Port.State.{State, not_empty}
+use Rattle.vm_superio.specs.Port.Registers.{is_loopback, Condition, Rda, ier_bit, iir_bit}
+
+-- ---- raising a condition
+
+-- a condition that is raised becomes pending where IER enables it and IIR does not show it; the trigger is called
+-- exactly then
+abbrev pub becomes_pending : (condition : Condition) (enable identification : ℕ) → Bool
+becomes_pending condition enable identification =
+    has_bits enable (ier_bit condition) && not (has_bits identification (iir_bit condition))
+
+-- IIR afterwards: where the condition became pending, its bit is set and the bit for 'none' cleared. A refusal of the
+-- trigger takes neither back
+abbrev pub raise : (condition : Condition) (enable identification : ℕ) → ℕ
+raise condition enable identification =
+    if becomes_pending condition enable identification
+    then joined (without identification iir_none_bit) (iir_bit condition)
+    else identification
+
+-- an IER write raises RDA only while bytes are held
+abbrev pub rda_becomes_pending : (held : List ℕ) (enable identification : ℕ) → Bool
+rda_becomes_pending held enable identification = not_empty held && becomes_pending Rda enable identification
+
+abbrev pub raise_rda_while_held : (held : List ℕ) (enable identification : ℕ) → ℕ
+raise_rda_while_held held enable identification =
+    if not_empty held then raise Rda enable identification else identification
+
+-- ---- receiving bytes
+
+-- as many of the first bytes as there is room for beside the held ones: the FIFO holds at most 64
+abbrev pub bytes_that_fit : (held bytes : List ℕ) → List ℕ
+bytes_that_fit held bytes = take (64 - length held) bytes
+
+-- an enqueue accepts the bytes that fit, and in loopback none; DLAB plays no part
+abbrev pub enqueued_bytes : (s : State) (bytes : List ℕ) → List ℕ
+enqueued_bytes s bytes = if is_loopback s.modem_control then [] else bytes_that_fit s.in_buffer bytes
+
+-- received bytes go behind the others, data ready is set, and RDA is raised
+abbrev pub receive_bytes : (bytes : List ℕ) (s : State) → State
+receive_bytes [] s = s
+receive_bytes (byte ∷ bytes) s = record s {
+  in_buffer = s.in_buffer ++ byte ∷ bytes;
+  line_status = joined s.line_status lsr_dr_bit;
+  interrupt_identification = raise Rda s.interrupt_enable s.interrupt_identification;
+}

@@ -1,0 +1,104 @@
+-- The step of a call in any state, coherent or not: what it responds, the state that it leaves, and the events that it
+-- reports, given the trigger's answers and the outcome of a byte.
+use Rattle.std.specs.Prelude.{ℕ, Bool, ◌==◌, ◌&&◌, ◌||◌, nat_le, if◌then◌else◌, List, [], ◌∷◌, ◌++◌, length, drop}
+use Rattle.vm_superio.specs.declared.run.Asked.{Asked}
+use Rattle.vm_superio.specs.declared.run.Sent.{Sent}
+use Rattle.vm_superio.specs.declared.run.Sent.TheVariants as sent
+use Rattle.vm_superio.specs.Port.Bits.{masked, without, lsr_dr_bit, ier_bits, iir_none_bit}
+use Rattle.vm_superio.specs.Port.State.{State, not_empty}
+use Rattle.vm_superio.specs.Port.Registers.{Register, Dll, Dlm, RbrThr, Ier, Iir, Lcr, Mcr, Scr, register_at, is_dlab, is_loopback, Rda, Thre, iir_bit, register_read}
+use Rattle.vm_superio.specs.Port.Operations.{Op, Read, Write, Enqueue, Restore, Response, ByteRead, EnqueueOk, TriggerRefused, FifoFull, NoResponse, Event, buffer_read, out_byte, tx_lost_byte, in_buffer_empty, is_refused_once, write_outcome}
+use Rattle.vm_superio.specs.Step.Raising.{raise, rda_becomes_pending, raise_rda_while_held, bytes_that_fit, enqueued_bytes, receive_bytes}
+
+-- ---- the response
+
+-- an enqueue responds 0 in loopback, whatever is passed, and for no bytes; else that the FIFO is full; else the
+-- trigger's refusal; else how many bytes it added
+abbrev pub enqueue_step_response : (s : State) (bytes : List ℕ) (answers : Asked) → Response
+enqueue_step_response s bytes answers =
+    if is_loopback s.modem_control || (length bytes == 0) then EnqueueOk 0
+    else (if nat_le 64 (length s.in_buffer) then FifoFull
+    else (if is_refused_once answers then TriggerRefused
+    else EnqueueOk (length (enqueued_bytes s bytes))))
+
+-- any call: a read shows the register at its offset
+abbrev pub step_response : (s : State) (op : Op) (answers : Asked) (outcome : Sent) → Response
+step_response s (Read offset) answers outcome =
+    ByteRead (register_read (register_at (is_dlab s.line_control) offset) s)
+step_response s (Write offset value) answers outcome = write_outcome answers outcome
+step_response s (Enqueue bytes) answers outcome = enqueue_step_response s bytes answers
+step_response s Restore answers outcome = NoResponse
+
+-- ---- the state afterwards
+
+-- an RBR read clears RDA, and an IIR of 0 is then 1; it takes the oldest byte, and clears data ready when none is left
+abbrev pub rbr_read : (s : State) → State
+rbr_read s =
+    let identification = without s.interrupt_identification (iir_bit Rda) in
+    let left = drop 1 s.in_buffer in
+    record s {
+      interrupt_identification = if identification == 0 then iir_none_bit else identification;
+      in_buffer = left;
+      line_status = if not_empty left then s.line_status else without s.line_status lsr_dr_bit;
+    }
+
+-- after an IIR read nothing is pending; no other read changes anything
+abbrev pub read_step : (register : Register) (s : State) → State
+read_step RbrThr s = rbr_read s
+read_step Iir s = record s { interrupt_identification = iir_none_bit }
+read_step _ s = s
+
+-- an IER write raises RDA while bytes are held, and then THRE, unless the trigger refused the first call. It clears no
+-- pending condition
+abbrev pub ier_write : (enable : ℕ) (answers : Asked) (s : State) → State
+ier_write enable answers s =
+    let refused = rda_becomes_pending s.in_buffer enable s.interrupt_identification && is_refused_once answers in
+    let identification = raise_rda_while_held s.in_buffer enable s.interrupt_identification in
+    record s {
+      interrupt_enable = enable;
+      interrupt_identification = if refused then identification else raise Thre enable identification;
+    }
+
+-- a THR write in loopback is received, if there is room; outside loopback it raises THRE, whatever became of the byte
+abbrev pub thr_write : (value : ℕ) (s : State) → State
+thr_write value s =
+    if is_loopback s.modem_control then receive_bytes (bytes_that_fit s.in_buffer (value ∷ [])) s
+    else record s { interrupt_identification = raise Thre s.interrupt_enable s.interrupt_identification }
+
+-- a write, by the register at its offset: IER keeps the low four bits, and IIR, LSR, MSR and unassigned offsets ignore
+-- the write
+abbrev pub write_step : (register : Register) (value : ℕ) (answers : Asked) (s : State) → State
+write_step Dll value answers s = record s { baud_divisor_low = value }
+write_step Dlm value answers s = record s { baud_divisor_high = value }
+write_step RbrThr value answers s = thr_write value s
+write_step Ier value answers s = ier_write (masked value ier_bits) answers s
+write_step Lcr value answers s = record s { line_control = value }
+write_step Mcr value answers s = record s { modem_control = value }
+write_step Scr value answers s = record s { scratch = value }
+write_step _ value answers s = s
+
+-- any call: an enqueue receives what it accepts, and a restore keeps the state
+abbrev pub step : (s : State) (op : Op) (answers : Asked) → State
+step s (Read offset) answers = read_step (register_at (is_dlab s.line_control) offset) s
+step s (Write offset value) answers = write_step (register_at (is_dlab s.line_control) offset) value answers s
+step s (Enqueue bytes) answers = receive_bytes (enqueued_bytes s bytes) s
+step s Restore answers = s
+
+-- ---- the events
+
+-- an RBR read reports that no byte is left, where none is, and then that it read
+abbrev pub read_events : (register : Register) (held : List ℕ) → List Event
+read_events RbrThr held = (if not_empty (drop 1 held) then [] else in_buffer_empty ∷ []) ++ buffer_read ∷ []
+read_events _ held = []
+
+-- a byte that was sent is reported as out or as lost
+abbrev pub sent_events : (outcome : Sent) → List Event
+sent_events sent.Nothing = []
+sent_events sent.Out = out_byte ∷ []
+sent_events sent.Lost = tx_lost_byte ∷ []
+
+-- any call
+abbrev pub step_events : (s : State) (op : Op) (outcome : Sent) → List Event
+step_events s (Read offset) outcome = read_events (register_at (is_dlab s.line_control) offset) s.in_buffer
+step_events s (Write offset value) outcome = sent_events outcome
+step_events s _ outcome = []
