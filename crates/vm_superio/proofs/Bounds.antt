@@ -7,9 +7,8 @@ use Rattle.vm_superio.specs.Port.State.{State}
 use Rattle.vm_superio.specs.Port.Operations.{TraceEntry, one_if, answer_count}
 use Rattle.vm_superio.specs.Port.OpKinds.{OpKind, RbrRead, IirRead, is_iir_read, is_rbr_read}
 use Rattle.vm_superio.specs.History.Registers.{kind_at}
-use Rattle.vm_superio.specs.History.Interrupts.{trigger_calls, rda_raised, acknowledges_rda, rda_pending, thre_raised, thre_pending, is_well_formed_entry, is_well_formed}
+use Rattle.vm_superio.specs.History.Interrupts.{trigger_calls, rda_raised, acknowledges_rda, rda_pending, thre_raised, thre_pending, is_well_formed_entry, is_well_formed, op_kinds}
 use Rattle.vm_superio.specs.Laws.Consequences.{TriggerBoundLaw}
-use Rattle.vm_superio.specs.History.Properties.{op_kinds}
 
 -- each call makes a condition pending that was not, and only an acknowledgement makes it one that is not
 one_condition : (raised acknowledged before : Bool)

@@ -11,10 +11,9 @@ use Rattle.vm_superio.specs.Port.Operations.{TraceEntry}
 use Rattle.vm_superio.specs.Step.Raising.{receive_bytes, bytes_that_fit}
 use Rattle.vm_superio.specs.Port.OpKinds.{OpKind, RbrRead, IirRead, IerWrite, ThrWrite, Arrival, Other, is_iir_read}
 use Rattle.vm_superio.specs.History.Registers.{kind_at, held_bytes, interrupt_enable}
-use Rattle.vm_superio.specs.History.Interrupts.{raised_since, rda_raised, acknowledges_rda, rda_pending, thre_raised}
+use Rattle.vm_superio.specs.History.Interrupts.{raised_since, rda_raised, acknowledges_rda, rda_pending, thre_raised, NoneAcknowledges, shows_waiting_bytes}
 use Rattle.vm_superio.specs.Laws.Consequences.{PendingByPrefixesLaw, WaitingBytesLaw, PendingByPrefixes}
 use Rattle.vm_superio.specs.Laws.Agreement.{state_after}
-use Rattle.vm_superio.specs.History.Properties.{NoneAcknowledges, shows_waiting_bytes}
 use Rattle.vm_superio.proofs.Bytes.{enables_receive}
 use Rattle.vm_superio.proofs.ByKind.{by_kind, next_at_place}
 use Rattle.vm_superio.proofs.RegisterSteps.{register_law}

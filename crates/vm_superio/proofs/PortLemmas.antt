@@ -3,7 +3,7 @@ use Rattle.std.proofs.Common.{◌≡◌, ◌<◌, Option, ap, sym, ◌∙◌}
 use Rattle.vm_superio.specs.declared.run.Asked.{Asked}
 use Rattle.vm_superio.specs.declared.run.Sent.{Sent}
 use Rattle.vm_superio.specs.Port.Operations.{Op, Response, answer_count}
-use Rattle.vm_superio.specs.Port.ObjectLinks.{PortLinks}
+use Rattle.vm_superio.specs.Port.WriterLink.{PortLinks}
 use Rattle.vm_superio.specs.Port.Model.{Port}
 use Rattle.vm_superio.specs.Step.PortStep.{turned_on_count, IsPortStep}
 use Rattle.vm_superio.proofs.Turned.{turned_bits_law}

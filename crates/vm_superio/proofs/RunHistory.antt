@@ -21,16 +21,15 @@ use Rattle.vm_superio.specs.Port.State.{State}
 use Rattle.vm_superio.specs.Port.Operations.{Op, TraceEntry, Response, ByteRead, is_lost}
 use Rattle.vm_superio.specs.Port.Operations as operation
 use Rattle.vm_superio.specs.Port.Coherent.{Coherent}
-use Rattle.vm_superio.specs.Port.ObjectLinks.{PortLinks, bytes_taken_by_writer}
-use Rattle.vm_superio.specs.Port.RestoreCalls.{all_ok, RefusesOwnState}
+use Rattle.vm_superio.specs.Port.WriterLink.{PortLinks, bytes_taken_by_writer}
+use Rattle.vm_superio.specs.Port.ObjectLinks.{all_ok, RefusesOwnState}
 use Rattle.vm_superio.specs.Port.Model.{Port}
 use Rattle.vm_superio.specs.Step.Transition.{step, step_response}
 use Rattle.vm_superio.specs.Step.Admissible.{is_admissible}
 use Rattle.vm_superio.specs.Step.Restore.{restore_calls}
 use Rattle.vm_superio.specs.History.Registers.{taken_bytes}
 use Rattle.vm_superio.specs.History.Interrupts.{is_well_formed, restore_calls_due}
-use Rattle.vm_superio.specs.History.Reads.{ResponsesAre, history_response}
-use Rattle.vm_superio.specs.History.Properties.{none_lost}
+use Rattle.vm_superio.specs.History.Reads.{ResponsesAre, history_response, none_lost}
 use Rattle.vm_superio.specs.Run.Segments.{Segment, first_segment, extend, IsAfter}
 use Rattle.vm_superio.specs.Run.Steps.{CallFollows, next_segment, IsRun}
 use Rattle.vm_superio.specs.Run.Trace.{IsReplyTo, RecordsOf, act_of, op_of, is_restore, entry_of, response_of, refusal_in_reply, entries_of, trace_of, without_restores}

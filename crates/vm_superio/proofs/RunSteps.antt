@@ -13,7 +13,8 @@ use Rattle.vm_superio.specs.declared.run.Reply.TheVariants.{Byte, Wrote, Enqueue
 use Rattle.vm_superio.specs.declared.run.Done.{Done}
 use Rattle.vm_superio.specs.Port.State.{State}
 use Rattle.vm_superio.specs.Port.Operations.{Event, Op, Response}
-use Rattle.vm_superio.specs.Port.ObjectLinks.{TriggerAnswer, Contents, PortLinks, answers_of, bytes_taken_by_writer, WriterLink}
+use Rattle.vm_superio.specs.Port.ObjectLinks.{TriggerAnswer, Contents, answers_of}
+use Rattle.vm_superio.specs.Port.WriterLink.{PortLinks, bytes_taken_by_writer, WriterLink}
 use Rattle.vm_superio.specs.Port.Model.{Port}
 use Rattle.vm_superio.specs.Step.Transition.{step}
 use Rattle.vm_superio.specs.Step.PortStep.{IsPortStep}

@@ -2,7 +2,7 @@
 use Rattle.std.proofs.Common.{List, [], ◌∷◌, ◌++◌, Result, Ok, Err, refl, inl, inr}
 use Rattle.std.specs.Prelude.{OnOk, IfErr}
 use Rattle.vm_superio.specs.Port.Registers.{Rda, Thre}
-use Rattle.vm_superio.specs.Port.RestoreCalls.{StopsAtRefusal}
+use Rattle.vm_superio.specs.Port.ObjectLinks.{StopsAtRefusal}
 
 module _ {T E : Type 0} (link : T → List (Result (Unit {0}) E) → T → Type 0) (joined : (x y z : T) (first second : List (Result (Unit {0}) E)) → link x first y → link y second z → link x (first ++ second) z) where
   pub both-taken :

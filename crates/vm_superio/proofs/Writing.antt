@@ -8,13 +8,12 @@ use Rattle.vm_superio.specs.declared.run.Sent.TheVariants as sent
 use Rattle.vm_superio.specs.Port.State.{not_empty}
 use Rattle.vm_superio.specs.Port.Registers.{Register, RbrThr, Ier, Iir, register_at}
 use Rattle.vm_superio.specs.Port.Operations.{Op, Read, Write, Enqueue, Restore, is_sent, is_lost, answer_count}
-use Rattle.vm_superio.specs.Port.ObjectLinks.{bytes_taken_by_writer}
+use Rattle.vm_superio.specs.Port.WriterLink.{bytes_taken_by_writer}
 use Rattle.vm_superio.specs.Port.OpKinds.{read_kind, write_kind, kind_of, sent_by}
 use Rattle.vm_superio.specs.History.Registers.{dlab, loopback}
 use Rattle.vm_superio.specs.History.Interrupts.{trigger_calls, is_well_formed_entry, is_well_formed}
-use Rattle.vm_superio.specs.History.Properties.{none_lost}
+use Rattle.vm_superio.specs.History.Reads.{none_lost, output}
 use Rattle.vm_superio.specs.Laws.Consequences.{OutputLaw}
-use Rattle.vm_superio.specs.History.Reads.{output}
 
 -- ---- one call
 

@@ -2,5 +2,4 @@
 pub mod Registers
 pub mod Interrupts
 pub mod Reads
-pub mod Properties
 pub mod Events

@@ -6,7 +6,7 @@ pub mod Coherent
 pub mod Operations
 pub mod OpKinds
 pub mod ObjectLinks
-pub mod RestoreCalls
+pub mod WriterLink
 pub mod Model
 pub mod TriggerAnswers
 pub mod SavedState

@@ -1,6 +1,6 @@
 //! Runs: a list of calls of a serial port as one call, with a record of each.
 ghost use Rattle.std.specs.Prelude.{◌≡◌, IfOk, OnErr};
-ghost use Rattle.vm_superio.specs.Port.ObjectLinks.{port_links};
+ghost use Rattle.vm_superio.specs.Port.WriterLink.{port_links};
 ghost use Rattle.vm_superio.specs.Run.Segments.{first_segment};
 ghost use Rattle.vm_superio.specs.Run.Steps.{IsCallStep, IsRun};
 ghost use Rattle.vm_superio.specs.Run.Trace.{act_of};

@@ -3,7 +3,7 @@ ghost use Rattle.std.specs.Prelude.{◌≡◌, ◌<◌, ◌≤◌, ◌-◌, leng
 ghost use Rattle.vm_superio.specs.Port.State.{fresh_state};
 ghost use Rattle.vm_superio.specs.Step.Restore.{restore_calls};
 ghost use Rattle.vm_superio.specs.Port.Coherent.{Coherent};
-ghost use Rattle.vm_superio.specs.Port.RestoreCalls.{all_ok};
+ghost use Rattle.vm_superio.specs.Port.ObjectLinks.{all_ok};
 ghost use Rattle.vm_superio.specs.Step.Restore.{RefusesRestore};
 ghost use Rattle.vm_superio.specs.Port.SavedState.{state_of};
 

@@ -3,7 +3,7 @@ use Rattle.std.specs.Prelude.{ℕ, if◌then◌else◌, List, [], ◌∷◌, ◌
 use Rattle.vm_superio.specs.declared.run.Sent.{Sent}
 use Rattle.vm_superio.specs.declared.run.Sent.TheVariants as sent
 use Rattle.vm_superio.specs.Port.State.{State, not_empty}
-use Rattle.vm_superio.specs.Port.Operations.{TraceEntry, Event, buffer_read, out_byte, tx_lost_byte, in_buffer_empty}
+use Rattle.vm_superio.specs.Port.Operations.{TraceEntry, Event, buffer_read, out_byte, tx_lost_byte, in_buffer_empty, Trace}
 use Rattle.vm_superio.specs.Port.OpKinds.{OpKind, RbrRead}
 use Rattle.vm_superio.specs.History.Registers.{kind_at, held_bytes}
 
@@ -16,6 +16,6 @@ kind_events kind left sent.Out = out_byte ∷ []
 kind_events kind left sent.Lost = tx_lost_byte ∷ []
 
 -- the events of an entry, with the bytes that are held after it
-abbrev pub history_events : (start : State) (trace : List TraceEntry) (entry : TraceEntry) → List Event
+abbrev pub history_events : (start : State) (trace : Trace) (entry : TraceEntry) → List Event
 history_events start trace entry =
     kind_events (kind_at start trace entry.op) (held_bytes start (entry ∷ trace)) entry.sent

@@ -1,13 +1,13 @@
 -- The history of interrupts: which conditions were raised and are pending, which trigger calls are due, and which traces
 -- are well-formed.
-use Rattle.std.specs.Prelude.{ℕ, ◌+◌, Bool, true, false, not, ◌==◌, ◌&&◌, ◌||◌, List, [], ◌∷◌}
-use Rattle.std.specs.Bool.{beq}
+use Rattle.std.specs.Prelude.{◌≡◌, ℕ, ◌+◌, ◌*◌, ◌≤◌, Bool, true, false, not, ◌==◌, ◌&&◌, ◌||◌, List, [], ◌∷◌, ◌++◌, sum_by, count_by, IsTrue}
+use Rattle.std.specs.Bool.{beq, IsFalse}
 use Rattle.vm_superio.specs.declared.run.Asked.TheVariants as asked
 use Rattle.vm_superio.specs.declared.run.Sent.TheVariants as sent
 use Rattle.vm_superio.specs.Port.Bits.{has_bits}
 use Rattle.vm_superio.specs.Port.State.{State, not_empty}
 use Rattle.vm_superio.specs.Port.Registers.{Condition, Rda, Thre, ier_bit, iir_bit, thre_then_rda}
-use Rattle.vm_superio.specs.Port.Operations.{Op, TraceEntry, is_refused_once, is_sent, answer_count, one_if}
+use Rattle.vm_superio.specs.Port.Operations.{Op, TraceEntry, is_refused_once, is_sent, answer_count, one_if, Trace}
 use Rattle.vm_superio.specs.Port.OpKinds.{OpKind, IerWrite, ThrWrite, sent_by, is_iir_read, is_rbr_read}
 use Rattle.vm_superio.specs.History.Registers.{accepted_by, kind_at, interrupt_enable, held_bytes}
 
@@ -16,8 +16,8 @@ use Rattle.vm_superio.specs.History.Registers.{accepted_by, kind_at, interrupt_e
 -- a condition is pending if the newest entry that raises or acknowledges it raises it; where there is none, if it was
 -- pending at the start
 abbrev pub raised_since :
-    (start : State) (raises : List TraceEntry → TraceEntry → Bool) (acknowledges : OpKind → Bool) (first : Bool)
-    (trace : List TraceEntry) → Bool
+    (start : State) (raises : Trace → TraceEntry → Bool) (acknowledges : OpKind → Bool) (first : Bool)
+    (trace : Trace) → Bool
 raised_since start raises acknowledges first [] = first
 raised_since start raises acknowledges first (entry ∷ trace) =
     raises trace entry
@@ -29,7 +29,7 @@ abbrev pub raises_rda : (kind : OpKind) (held : List ℕ) (enable : ℕ) → Boo
 raises_rda (IerWrite value) held enable = has_bits value (ier_bit Rda) && not_empty held
 raises_rda kind held enable = not_empty (accepted_by kind held) && has_bits enable (ier_bit Rda)
 
-abbrev pub rda_raised : (start : State) (trace : List TraceEntry) (entry : TraceEntry) → Bool
+abbrev pub rda_raised : (start : State) (trace : Trace) (entry : TraceEntry) → Bool
 rda_raised start trace entry =
     raises_rda (kind_at start trace entry.op) (held_bytes start trace) (interrupt_enable start trace)
 
@@ -37,12 +37,12 @@ rda_raised start trace entry =
 abbrev pub acknowledges_rda : (kind : OpKind) → Bool
 acknowledges_rda kind = is_iir_read kind || is_rbr_read kind
 
-abbrev pub rda_pending : (start : State) (trace : List TraceEntry) → Bool
+abbrev pub rda_pending : (start : State) (trace : Trace) → Bool
 rda_pending start trace =
     raised_since start (rda_raised start) acknowledges_rda (has_bits start.interrupt_identification (iir_bit Rda)) trace
 
 -- a trigger call is due for RDA where it is raised and was not pending
-abbrev pub rda_call : (start : State) (trace : List TraceEntry) (entry : TraceEntry) → Bool
+abbrev pub rda_call : (start : State) (trace : Trace) (entry : TraceEntry) → Bool
 rda_call start trace entry = rda_raised start trace entry && not (rda_pending start trace)
 
 -- THRE is raised by a THR write while IER has its bit, and by an IER write whose value has the bit, unless the trigger
@@ -52,42 +52,77 @@ raises_thre (ThrWrite value) enable refused = has_bits enable (ier_bit Thre)
 raises_thre (IerWrite value) enable refused = has_bits value (ier_bit Thre) && not refused
 raises_thre _ enable refused = false
 
-abbrev pub thre_raised : (start : State) (trace : List TraceEntry) (entry : TraceEntry) → Bool
+abbrev pub thre_raised : (start : State) (trace : Trace) (entry : TraceEntry) → Bool
 thre_raised start trace entry =
     raises_thre (kind_at start trace entry.op) (interrupt_enable start trace)
     (rda_call start trace entry && is_refused_once entry.asked)
 
 -- only an IIR read acknowledges THRE
-abbrev pub thre_pending : (start : State) (trace : List TraceEntry) → Bool
+abbrev pub thre_pending : (start : State) (trace : Trace) → Bool
 thre_pending start trace =
     raised_since start (thre_raised start) is_iir_read (has_bits start.interrupt_identification (iir_bit Thre)) trace
 
-abbrev pub thre_call : (start : State) (trace : List TraceEntry) (entry : TraceEntry) → Bool
+abbrev pub thre_call : (start : State) (trace : Trace) (entry : TraceEntry) → Bool
 thre_call start trace entry = thre_raised start trace entry && not (thre_pending start trace)
 
 -- ---- trigger calls, and well-formed traces
 
 -- one trigger call for each condition that becomes pending; a restore raises nothing
-abbrev pub trigger_calls : (start : State) (trace : List TraceEntry) (entry : TraceEntry) → ℕ
+abbrev pub trigger_calls : (start : State) (trace : Trace) (entry : TraceEntry) → ℕ
 trigger_calls start trace entry = one_if (rda_call start trace entry) + one_if (thre_call start trace entry)
 
 -- the trigger calls that an operation makes as long as none is refused
-abbrev pub calls_due : (start : State) (trace : List TraceEntry) (op : Op) → ℕ
+abbrev pub calls_due : (start : State) (trace : Trace) (op : Op) → ℕ
 calls_due start trace op =
     trigger_calls start trace (record { op = op; asked = asked.Nothing; sent = sent.Nothing })
 
 -- there are as many answers as trigger calls, and an outcome exactly where a byte is sent
-abbrev pub is_well_formed_entry : (start : State) (trace : List TraceEntry) (entry : TraceEntry) → Bool
+abbrev pub is_well_formed_entry : (start : State) (trace : Trace) (entry : TraceEntry) → Bool
 is_well_formed_entry start trace entry =
     (answer_count entry.asked == trigger_calls start trace entry)
     && beq (is_sent entry.sent) (not_empty (sent_by (kind_at start trace entry.op)))
 
-abbrev pub is_well_formed : (start : State) (trace : List TraceEntry) → Bool
+abbrev pub is_well_formed : (start : State) (trace : Trace) → Bool
 is_well_formed start [] = true
 is_well_formed start (entry ∷ trace) = is_well_formed_entry start trace entry && is_well_formed start trace
 
 -- a restore calls for each condition that is pending and enabled, as long as no call is refused: THRE first
-abbrev pub restore_calls_due : (start : State) (trace : List TraceEntry) → List Condition
+abbrev pub restore_calls_due : (start : State) (trace : Trace) → List Condition
 restore_calls_due start trace =
     thre_then_rda (thre_pending start trace && has_bits (interrupt_enable start trace) (ier_bit Thre))
     (rda_pending start trace && has_bits (interrupt_enable start trace) (ier_bit Rda))
+
+-- ---- what holds of a trace as a whole
+
+-- what the operations of a trace meant at their points, newest first
+abbrev pub op_kinds : (start : State) (trace : Trace) → List OpKind
+op_kinds start [] = []
+op_kinds start (entry ∷ trace) = kind_at start trace entry.op ∷ op_kinds start trace
+
+-- the trigger calls outside restores are at most two, two more for each IIR read, and one more for each RBR read
+abbrev pub IsWithinBound : (start : State) (trace : Trace) → Type 0
+IsWithinBound start trace =
+    sum_by (λ (entry : TraceEntry). answer_count entry.asked) trace
+    ≤ 2 + 2 * count_by is_iir_read (op_kinds start trace) + count_by is_rbr_read (op_kinds start trace)
+
+-- none of the newest entries, those in front of `trace`, acknowledges
+abbrev pub NoneAcknowledges :
+    (start : State) (acknowledges : OpKind → Bool) (newest trace : Trace) → Type 0
+NoneAcknowledges start acknowledges newest trace =
+    (after before : Trace) (entry : TraceEntry) → newest ≡ after ++ entry ∷ before
+    → IsFalse (acknowledges (kind_at start (before ++ trace) entry.op))
+
+-- an operation that accepts a byte, or an IER write
+abbrev pub shows_waiting_bytes : (kind : OpKind) (held : List ℕ) → Bool
+shows_waiting_bytes (IerWrite value) held = true
+shows_waiting_bytes kind held = not_empty (accepted_by kind held)
+
+-- after such an operation, with no IIR read and no RBR read since, RDA is pending where bytes are held and IER enables it
+abbrev pub WaitingBytesShow : (start : State) (trace : Trace) → Type 0
+WaitingBytesShow start trace =
+    (after before : Trace) (entry : TraceEntry) → trace ≡ after ++ entry ∷ before
+    → IsTrue (shows_waiting_bytes (kind_at start before entry.op) (held_bytes start before))
+    → NoneAcknowledges start acknowledges_rda after (entry ∷ before)
+    → IsTrue (not_empty (held_bytes start trace))
+    → IsTrue (has_bits (interrupt_enable start trace) (ier_bit Rda))
+    → IsTrue (rda_pending start trace)

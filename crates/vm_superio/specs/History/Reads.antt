@@ -1,17 +1,18 @@
 -- What the history makes of a port: its state, what a guest reads, what the other calls respond, and the output.
-use Rattle.std.specs.Prelude.{◌≡◌, ⊤, ℕ, Bool, ◌==◌, ◌||◌, nat_le, if◌then◌else◌, List, [], ◌∷◌, ◌++◌, length}
+use Rattle.std.specs.Prelude.{◌≡◌, ⊤, ℕ, Bool, not, ◌==◌, ◌||◌, nat_le, if◌then◌else◌, List, [], ◌∷◌, ◌++◌, length}
+use Rattle.std.specs.List.{list_all}
 use Rattle.vm_superio.specs.declared.run.Asked.{Asked}
 use Rattle.vm_superio.specs.declared.run.Sent.{Sent}
 use Rattle.vm_superio.specs.Port.Bits.{joined, without, lsr_dr_bit}
 use Rattle.vm_superio.specs.Port.State.{State, not_empty}
 use Rattle.vm_superio.specs.Port.Registers.{register_at, identification_of, register_read}
-use Rattle.vm_superio.specs.Port.Operations.{Op, Read, Write, Enqueue, Restore, TraceEntry, Response, ByteRead, EnqueueOk, TriggerRefused, FifoFull, NoResponse, is_refused_once, write_outcome}
+use Rattle.vm_superio.specs.Port.Operations.{Op, Read, Write, Enqueue, Restore, TraceEntry, Response, ByteRead, EnqueueOk, TriggerRefused, FifoFull, NoResponse, is_refused_once, is_lost, write_outcome, Trace}
 use Rattle.vm_superio.specs.Port.OpKinds.{sent_by}
 use Rattle.vm_superio.specs.History.Registers.{kind_at, line_control, modem_control, scratch, dlab, loopback, divisor_low, divisor_high, interrupt_enable, accepted_by, held_bytes}
 use Rattle.vm_superio.specs.History.Interrupts.{rda_pending, thre_pending}
 
 -- IIR: 0x01 where nothing is pending, else 0x02 for THRE and 0x04 for RDA
-abbrev pub interrupt_identification : (start : State) (trace : List TraceEntry) → ℕ
+abbrev pub interrupt_identification : (start : State) (trace : Trace) → ℕ
 interrupt_identification start trace = identification_of (thre_pending start trace) (rda_pending start trace)
 
 -- LSR with data ready set or cleared
@@ -20,11 +21,11 @@ with_data_ready line_status ready =
     if ready then joined line_status lsr_dr_bit else without line_status lsr_dr_bit
 
 -- the start's LSR, in which data ready says whether bytes are held
-abbrev pub line_status : (start : State) (trace : List TraceEntry) → ℕ
+abbrev pub line_status : (start : State) (trace : Trace) → ℕ
 line_status start trace = with_data_ready start.line_status (not_empty (held_bytes start trace))
 
 -- the state that a trace leads to
-abbrev pub state_of_history : (start : State) (trace : List TraceEntry) → State
+abbrev pub state_of_history : (start : State) (trace : Trace) → State
 state_of_history start trace = record {
   baud_divisor_low = divisor_low start trace;
   baud_divisor_high = divisor_high start trace;
@@ -39,13 +40,13 @@ state_of_history start trace = record {
 }
 
 -- what a guest reads at an offset
-abbrev pub guest_read : (start : State) (trace : List TraceEntry) (offset : ℕ) → ℕ
+abbrev pub guest_read : (start : State) (trace : Trace) (offset : ℕ) → ℕ
 guest_read start trace offset = register_read (register_at (dlab start trace) offset) (state_of_history start trace)
 
 -- an enqueue responds 0 in loopback or for no bytes; else that the FIFO is full where 64 bytes are held; else the
 -- trigger's refusal; else how many bytes it accepted
 abbrev pub enqueue_history_response :
-    (start : State) (trace : List TraceEntry) (bytes : List ℕ) (answers : Asked) → Response
+    (start : State) (trace : Trace) (bytes : List ℕ) (answers : Asked) → Response
 enqueue_history_response start trace bytes answers =
     if loopback start trace || (length bytes == 0) then EnqueueOk 0
     else (if nat_le 64 (length (held_bytes start trace)) then FifoFull
@@ -54,21 +55,25 @@ enqueue_history_response start trace bytes answers =
 
 -- what any call responds: a write by the trigger's answers and the outcome of its byte
 abbrev pub history_response :
-    (start : State) (trace : List TraceEntry) (op : Op) (answers : Asked) (outcome : Sent) → Response
+    (start : State) (trace : Trace) (op : Op) (answers : Asked) (outcome : Sent) → Response
 history_response start trace (Read offset) answers outcome = ByteRead (guest_read start trace offset)
 history_response start trace (Write offset value) answers outcome = write_outcome answers outcome
 history_response start trace (Enqueue bytes) answers outcome = enqueue_history_response start trace bytes answers
 history_response start trace Restore answers outcome = NoResponse
 
 -- each call of some entries, oldest first, responded as the history says
-abbrev pub ResponsesAre : (start : State) (trace : List TraceEntry) (calls : List (TraceEntry × Response)) → Type 0
+abbrev pub ResponsesAre : (start : State) (trace : Trace) (calls : List (TraceEntry × Response)) → Type 0
 ResponsesAre start trace [] = ⊤
 ResponsesAre start trace (call ∷ later) =
     (call.1 ≡ history_response start trace call.0.op call.0.asked call.0.sent)
     × ResponsesAre start (call.0 ∷ trace) later
 
 -- the output of the newest entries, those in front of `trace`: the values of their THR writes, in order
-abbrev pub output : (start : State) (trace newest : List TraceEntry) → List ℕ
+abbrev pub output : (start : State) (trace newest : Trace) → List ℕ
 output start trace [] = []
 output start trace (entry ∷ newest) =
     output start trace newest ++ sent_by (kind_at start (newest ++ trace) entry.op)
+
+-- no byte is lost in these entries
+abbrev pub none_lost : (newest : Trace) → Bool
+none_lost newest = list_all (λ (entry : TraceEntry). not (is_lost entry.sent)) newest

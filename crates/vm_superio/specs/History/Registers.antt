@@ -6,7 +6,7 @@ use Rattle.std.specs.Option.{option_or, option_map_or}
 use Rattle.vm_superio.specs.Port.Bits.{masked, ier_bits}
 use Rattle.vm_superio.specs.Port.State.{State}
 use Rattle.vm_superio.specs.Port.Registers.{is_dlab, is_loopback}
-use Rattle.vm_superio.specs.Port.Operations.{Op, Write, TraceEntry}
+use Rattle.vm_superio.specs.Port.Operations.{Op, Write, Trace}
 use Rattle.vm_superio.specs.Port.OpKinds.{OpKind, RbrRead, Arrival, kind_of}
 
 -- ---- the last effective write to a register
@@ -17,45 +17,45 @@ value_written_at offset (Write at value) = if at == offset then Some value else 
 value_written_at offset _ = None
 
 -- the last value found, where each operation is looked at with the trace before it
-abbrev pub last_found : (find : List TraceEntry → Op → Option ℕ) (trace : List TraceEntry) → Option ℕ
+abbrev pub last_found : (find : Trace → Op → Option ℕ) (trace : Trace) → Option ℕ
 last_found find [] = None
 last_found find (entry ∷ trace) = option_or (find trace entry.op) (last_found find trace)
 
 -- LCR, MCR and SCR: the last write at offset 3, 4 or 7, or the start's byte
-abbrev pub line_control : (start : State) (trace : List TraceEntry) → ℕ
+abbrev pub line_control : (start : State) (trace : Trace) → ℕ
 line_control start trace = unwrap_or (last_found (λ before op. value_written_at 3 op) trace) start.line_control
 
-abbrev pub modem_control : (start : State) (trace : List TraceEntry) → ℕ
+abbrev pub modem_control : (start : State) (trace : Trace) → ℕ
 modem_control start trace = unwrap_or (last_found (λ before op. value_written_at 4 op) trace) start.modem_control
 
-abbrev pub scratch : (start : State) (trace : List TraceEntry) → ℕ
+abbrev pub scratch : (start : State) (trace : Trace) → ℕ
 scratch start trace = unwrap_or (last_found (λ before op. value_written_at 7 op) trace) start.scratch
 
-abbrev pub dlab : (start : State) (trace : List TraceEntry) → Bool
+abbrev pub dlab : (start : State) (trace : Trace) → Bool
 dlab start trace = is_dlab (line_control start trace)
 
-abbrev pub loopback : (start : State) (trace : List TraceEntry) → Bool
+abbrev pub loopback : (start : State) (trace : Trace) → Bool
 loopback start trace = is_loopback (modem_control start trace)
 
 -- DLL and DLM: the last write at offset 0 or 1 with DLAB set at that point, or the start's byte
-abbrev pub divisor_low : (start : State) (trace : List TraceEntry) → ℕ
+abbrev pub divisor_low : (start : State) (trace : Trace) → ℕ
 divisor_low start trace =
     unwrap_or (last_found (λ before op. if dlab start before then value_written_at 0 op else None) trace)
     start.baud_divisor_low
 
-abbrev pub divisor_high : (start : State) (trace : List TraceEntry) → ℕ
+abbrev pub divisor_high : (start : State) (trace : Trace) → ℕ
 divisor_high start trace =
     unwrap_or (last_found (λ before op. if dlab start before then value_written_at 1 op else None) trace)
     start.baud_divisor_high
 
 -- IER: the low four bits of the last write at offset 1 with DLAB clear at that point, or the start's whole byte
-abbrev pub interrupt_enable : (start : State) (trace : List TraceEntry) → ℕ
+abbrev pub interrupt_enable : (start : State) (trace : Trace) → ℕ
 interrupt_enable start trace =
     option_map_or (λ value. masked value ier_bits)
     (last_found (λ before op. if dlab start before then None else value_written_at 1 op) trace) start.interrupt_enable
 
 -- what an operation means at this point
-abbrev pub kind_at : (start : State) (trace : List TraceEntry) (op : Op) → OpKind
+abbrev pub kind_at : (start : State) (trace : Trace) (op : Op) → OpKind
 kind_at start trace op = kind_of (dlab start trace) (loopback start trace) op
 
 -- ---- received bytes
@@ -76,14 +76,14 @@ remaining_bytes first accepted taken = drop (length taken) (first ++ accepted)
 
 -- all bytes accepted so far, and all taken, each in order
 abbrev mutual
-  pub accepted_bytes : (start : State) (trace : List TraceEntry) → List ℕ
+  pub accepted_bytes : (start : State) (trace : Trace) → List ℕ
   accepted_bytes start [] = []
   accepted_bytes start (entry ∷ trace) =
       accepted_bytes start trace
       ++ accepted_by (kind_at start trace entry.op)
       (remaining_bytes start.in_buffer (accepted_bytes start trace) (taken_bytes start trace))
 
-  pub taken_bytes : (start : State) (trace : List TraceEntry) → List ℕ
+  pub taken_bytes : (start : State) (trace : Trace) → List ℕ
   taken_bytes start [] = []
   taken_bytes start (entry ∷ trace) =
       taken_bytes start trace
@@ -91,5 +91,5 @@ abbrev mutual
       (remaining_bytes start.in_buffer (accepted_bytes start trace) (taken_bytes start trace))
 
 -- the bytes held
-abbrev pub held_bytes : (start : State) (trace : List TraceEntry) → List ℕ
+abbrev pub held_bytes : (start : State) (trace : Trace) → List ℕ
 held_bytes start trace = remaining_bytes start.in_buffer (accepted_bytes start trace) (taken_bytes start trace)

@@ -5,9 +5,9 @@ use Rattle.vm_superio.specs.Port.Bits.{has_bits, lsr_dr_bit}
 use Rattle.vm_superio.specs.Port.State.{State, not_empty}
 use Rattle.vm_superio.specs.Port.Registers.{identification_of}
 use Rattle.vm_superio.specs.Port.Coherent.{Coherent}
-use Rattle.vm_superio.specs.Port.Operations.{Op, TraceEntry, Response, is_lost}
+use Rattle.vm_superio.specs.Port.Operations.{Op, TraceEntry, Response, is_lost, Trace}
 use Rattle.vm_superio.specs.Port.OpKinds.{sent_by}
-use Rattle.vm_superio.specs.Port.ObjectLinks.{bytes_taken_by_writer}
+use Rattle.vm_superio.specs.Port.WriterLink.{bytes_taken_by_writer}
 use Rattle.vm_superio.specs.Step.Transition.{step, step_response, step_events}
 use Rattle.vm_superio.specs.Step.Admissible.{step_calls, is_admissible}
 use Rattle.vm_superio.specs.Step.Restore.{restore_calls}
@@ -18,14 +18,14 @@ use Rattle.vm_superio.specs.History.Events.{history_events}
 use Rattle.vm_superio.specs.Run.Trace.{trace_after}
 
 -- the state that the steps of a trace lead to
-abbrev pub state_after : (start : State) (trace : List TraceEntry) → State
+abbrev pub state_after : (start : State) (trace : Trace) → State
 state_after start [] = start
 state_after start (entry ∷ trace) = step (state_after start trace) entry.op entry.asked
 
 -- ---- state and trace
 
 -- the register law, from any start and over any trace: each register is its last effective write, and MSR stays
-pub record RegistersAgree (start : State) (trace : List TraceEntry) (s : State) : Type 0 where
+pub record RegistersAgree (start : State) (trace : Trace) (s : State) : Type 0 where
   pub divisor_low : s.baud_divisor_low ≡ divisor_low start trace
   pub divisor_high : s.baud_divisor_high ≡ divisor_high start trace
   pub interrupt_enable : s.interrupt_enable ≡ interrupt_enable start trace
@@ -35,28 +35,28 @@ pub record RegistersAgree (start : State) (trace : List TraceEntry) (s : State) 
   pub scratch : s.scratch ≡ scratch start trace
 
 abbrev pub RegisterLaw : Type 0
-RegisterLaw = (start : State) (trace : List TraceEntry) → RegistersAgree start trace (state_after start trace)
+RegisterLaw = (start : State) (trace : Trace) → RegistersAgree start trace (state_after start trace)
 
 -- the held-bytes law, from any start and over any trace
 abbrev pub HeldBytesLaw : Type 0
-HeldBytesLaw = (start : State) (trace : List TraceEntry) → (state_after start trace).in_buffer ≡ held_bytes start trace
+HeldBytesLaw = (start : State) (trace : Trace) → (state_after start trace).in_buffer ≡ held_bytes start trace
 
 -- its LSR, from a start whose LSR is a byte that shows whether bytes are held
 abbrev pub LineStatusLaw : Type 0
-LineStatusLaw = (start : State) (trace : List TraceEntry) → start.line_status < 256
+LineStatusLaw = (start : State) (trace : Trace) → start.line_status < 256
     → has_bits start.line_status lsr_dr_bit ≡ not_empty start.in_buffer
     → (state_after start trace).line_status ≡ line_status start trace
 
 -- the interrupt law, from a start whose IIR shows two conditions, and over any trace: IIR shows the conditions that are
 -- pending, an entry is admissible exactly where it is well-formed, and a restore makes the calls that are due
-pub record InterruptsAgree (start : State) (trace : List TraceEntry) (s : State) : Type 0 where
+pub record InterruptsAgree (start : State) (trace : Trace) (s : State) : Type 0 where
   pub pending : s.interrupt_identification ≡ interrupt_identification start trace
   pub calls :
       (entry : TraceEntry) → is_admissible s entry.op entry.asked entry.sent ≡ is_well_formed_entry start trace entry
   pub restoring : restore_calls s ≡ restore_calls_due start trace
 
 abbrev pub InterruptLaw : Type 0
-InterruptLaw = (start : State) (trace : List TraceEntry) (thre rda : Bool)
+InterruptLaw = (start : State) (trace : Trace) (thre rda : Bool)
     → start.interrupt_identification ≡ identification_of thre rda
     → InterruptsAgree start trace (state_after start trace)
 
@@ -66,12 +66,12 @@ CoherenceLaw = (s : State) (op : Op) (asked : Asked) → Coherent s → Coherent
 
 -- from a coherent start the state is the one of the history
 abbrev pub StateLaw : Type 0
-StateLaw = (start : State) (trace : List TraceEntry) → Coherent start → start.line_status < 256
+StateLaw = (start : State) (trace : Trace) → Coherent start → start.line_status < 256
     → state_after start trace ≡ state_of_history start trace
 
 -- and a call responds as the history says: a read with the guest read
 abbrev pub ResponseLaw : Type 0
-ResponseLaw = (start : State) (trace : List TraceEntry) (entry : TraceEntry) → Coherent start → start.line_status < 256
+ResponseLaw = (start : State) (trace : Trace) (entry : TraceEntry) → Coherent start → start.line_status < 256
     → step_response (state_after start trace) entry.op entry.asked entry.sent
     ≡ history_response start trace entry.op entry.asked entry.sent
 
@@ -79,7 +79,7 @@ ResponseLaw = (start : State) (trace : List TraceEntry) (entry : TraceEntry) →
 
 -- an admissible call responds as the history says, leaves the state of the longer trace, and reports the events of its
 -- point; and the writer took the byte that is sent there, if it was not lost
-pub record StepAgrees (start : State) (trace : List TraceEntry) (entry : TraceEntry) : Type 0 where
+pub record StepAgrees (start : State) (trace : Trace) (entry : TraceEntry) : Type 0 where
   pub response :
       step_response (state_of_history start trace) entry.op entry.asked entry.sent
       ≡ history_response start trace entry.op entry.asked entry.sent
@@ -90,7 +90,7 @@ pub record StepAgrees (start : State) (trace : List TraceEntry) (entry : TraceEn
       → bytes_taken_by_writer entry.op entry.sent ≡ sent_by (kind_at start trace entry.op)
 
 -- the trigger calls that a call makes, as long as none is refused, are those of the history, and so are a restore's
-pub record PrefixAgrees (start : State) (trace : List TraceEntry) : Type 0 where
+pub record PrefixAgrees (start : State) (trace : Trace) : Type 0 where
   pub calls : (op : Op) → step_calls (state_of_history start trace) op ≡ calls_due start trace op
   pub restoring : restore_calls (state_of_history start trace) ≡ restore_calls_due start trace
   pub steps :
@@ -98,7 +98,7 @@ pub record PrefixAgrees (start : State) (trace : List TraceEntry) : Type 0 where
       → StepAgrees start trace entry
 
 abbrev pub StepLaw : Type 0
-StepLaw = (start : State) (trace : List TraceEntry) → Coherent start → start.line_status < 256
+StepLaw = (start : State) (trace : Trace) → Coherent start → start.line_status < 256
     → PrefixAgrees start trace
 
 -- ---- a whole run
@@ -113,7 +113,7 @@ StepsFollow s (call ∷ later) end =
 
 -- behind `trace` the calls make a well-formed trace with these responses, and end in its state, which is coherent
 pub record RunAgrees
-    (start : State) (trace : List TraceEntry) (calls : List (TraceEntry × Response)) (end : State) : Type 0 where
+    (start : State) (trace : Trace) (calls : List (TraceEntry × Response)) (end : State) : Type 0 where
   pub well_formed : IsTrue (is_well_formed start (trace_after trace calls))
   pub responses : ResponsesAre start trace calls
   pub state : end ≡ state_of_history start (trace_after trace calls)

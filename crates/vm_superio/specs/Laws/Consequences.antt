@@ -4,27 +4,26 @@ use Rattle.vm_superio.specs.declared.run.Asked.{Asked}
 use Rattle.vm_superio.specs.Port.Bits.{has_bits}
 use Rattle.vm_superio.specs.Port.State.{State}
 use Rattle.vm_superio.specs.Port.Registers.{Rda, Thre, iir_bit}
-use Rattle.vm_superio.specs.Port.Operations.{Op, Restore, TraceEntry}
+use Rattle.vm_superio.specs.Port.Operations.{Op, Restore, TraceEntry, Trace}
 use Rattle.vm_superio.specs.Port.OpKinds.{OpKind, is_iir_read}
-use Rattle.vm_superio.specs.Port.ObjectLinks.{bytes_taken_by_writer}
+use Rattle.vm_superio.specs.Port.WriterLink.{bytes_taken_by_writer}
 use Rattle.vm_superio.specs.History.Registers.{accepted_bytes, taken_bytes, held_bytes}
-use Rattle.vm_superio.specs.History.Interrupts.{rda_raised, acknowledges_rda, rda_pending, thre_raised, thre_pending, is_well_formed}
-use Rattle.vm_superio.specs.History.Reads.{guest_read, output}
-use Rattle.vm_superio.specs.History.Properties.{none_lost, NoneAcknowledges, IsWithinBound, WaitingBytesShow}
+use Rattle.vm_superio.specs.History.Interrupts.{rda_raised, acknowledges_rda, rda_pending, thre_raised, thre_pending, is_well_formed, NoneAcknowledges, IsWithinBound, WaitingBytesShow}
+use Rattle.vm_superio.specs.History.Reads.{guest_read, output, none_lost}
 
 -- ---- pending
 
 -- raised at some point, or pending at the start, and acknowledged at no later point
 abbrev pub PendingByPrefixes :
-    (start : State) (raises : List TraceEntry → TraceEntry → Bool) (acknowledges : OpKind → Bool) (first : Bool)
-    (trace : List TraceEntry) → Type 0
+    (start : State) (raises : Trace → TraceEntry → Bool) (acknowledges : OpKind → Bool) (first : Bool)
+    (trace : Trace) → Type 0
 PendingByPrefixes start raises acknowledges first trace =
-    ((after before : List TraceEntry) × (entry : TraceEntry) × (trace ≡ after ++ entry ∷ before)
+    ((after before : Trace) × (entry : TraceEntry) × (trace ≡ after ++ entry ∷ before)
     × IsTrue (raises before entry) × NoneAcknowledges start acknowledges after (entry ∷ before))
     ⊎ (IsTrue first × NoneAcknowledges start acknowledges trace [])
 
 -- the backward search finds what the sentence says
-pub record PendingAgrees (start : State) (trace : List TraceEntry) : Type 0 where
+pub record PendingAgrees (start : State) (trace : Trace) : Type 0 where
   pub rda :
       IsTrue (rda_pending start trace)
       ↔ PendingByPrefixes start (rda_raised start) acknowledges_rda
@@ -35,16 +34,16 @@ pub record PendingAgrees (start : State) (trace : List TraceEntry) : Type 0 wher
       (has_bits start.interrupt_identification (iir_bit Thre)) trace
 
 abbrev pub PendingByPrefixesLaw : Type 0
-PendingByPrefixesLaw = (start : State) (trace : List TraceEntry) → PendingAgrees start trace
+PendingByPrefixesLaw = (start : State) (trace : Trace) → PendingAgrees start trace
 
 -- ---- trigger calls
 
 abbrev pub TriggerBoundLaw : Type 0
 TriggerBoundLaw =
-    (start : State) (trace : List TraceEntry) → IsTrue (is_well_formed start trace) → IsWithinBound start trace
+    (start : State) (trace : Trace) → IsTrue (is_well_formed start trace) → IsWithinBound start trace
 
 abbrev pub WaitingBytesLaw : Type 0
-WaitingBytesLaw = (start : State) (trace : List TraceEntry) → WaitingBytesShow start trace
+WaitingBytesLaw = (start : State) (trace : Trace) → WaitingBytesShow start trace
 
 -- ---- reads
 
@@ -53,29 +52,29 @@ abbrev pub op_and_asked : (op : Op) (asked : Asked) → List (Op × Asked)
 op_and_asked Restore asked = []
 op_and_asked op asked = (op, asked) ∷ []
 
-abbrev pub ops_and_asked : (trace : List TraceEntry) → List (Op × Asked)
+abbrev pub ops_and_asked : (trace : Trace) → List (Op × Asked)
 ops_and_asked [] = []
 ops_and_asked (entry ∷ trace) = op_and_asked entry.op entry.asked ++ ops_and_asked trace
 
 -- neither the writer nor a restore changes a read: it depends on the operations and the trigger's answers alone
 abbrev pub SameReadsLaw : Type 0
-SameReadsLaw = (start : State) (one other : List TraceEntry) → ops_and_asked one ≡ ops_and_asked other
+SameReadsLaw = (start : State) (one other : Trace) → ops_and_asked one ≡ ops_and_asked other
     → (offset : ℕ) → guest_read start one offset ≡ guest_read start other offset
 
 -- ---- bytes
 
 -- no byte is lost or made up: those taken, then those held, are those held at the start, then those accepted
 abbrev pub TakenThenHeldLaw : Type 0
-TakenThenHeldLaw = (start : State) (trace : List TraceEntry)
+TakenThenHeldLaw = (start : State) (trace : Trace)
     → taken_bytes start trace ++ held_bytes start trace ≡ start.in_buffer ++ accepted_bytes start trace
 
 -- the bytes that are recorded as taken by the writer, in order
-abbrev pub recorded_output : (newest : List TraceEntry) → List ℕ
+abbrev pub recorded_output : (newest : Trace) → List ℕ
 recorded_output [] = []
 recorded_output (entry ∷ newest) = recorded_output newest ++ bytes_taken_by_writer entry.op entry.sent
 
 -- in the newest entries of a well-formed trace, if no byte of them is lost, the recorded output is the output
 abbrev pub OutputLaw : Type 0
-OutputLaw = (start : State) (trace newest : List TraceEntry) → IsTrue (is_well_formed start (newest ++ trace))
+OutputLaw = (start : State) (trace newest : Trace) → IsTrue (is_well_formed start (newest ++ trace))
     → IsTrue (none_lost newest)
     → recorded_output newest ≡ output start trace newest

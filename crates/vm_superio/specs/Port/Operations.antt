@@ -12,12 +12,15 @@ pub data Op : Type 0 where
   Enqueue : (bytes : List ℕ) → Op
   Restore : Op
 
--- a trace is a list of these, newest first: the operation, the trigger's answers to its calls, and the outcome of the
--- byte that it sent to the writer
+-- an entry of a trace, which stands newest first: the operation, the trigger's answers to its calls, and the outcome of
+-- the byte that it sent to the writer
 pub record TraceEntry : Type 0 where
   pub op : Op
   pub asked : Asked
   pub sent : Sent
+
+abbrev pub Trace : Type 0
+Trace = List TraceEntry
 
 -- what a call responds
 pub data Response : Type 0 where

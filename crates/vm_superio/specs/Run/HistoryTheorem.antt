@@ -6,9 +6,8 @@ use Rattle.vm_superio.specs.Port.Coherent.{Coherent}
 use Rattle.vm_superio.specs.Port.ObjectLinks.{Link, TriggerAnswer, Contents}
 use Rattle.vm_superio.specs.Port.Model.{Port}
 use Rattle.vm_superio.specs.History.Registers.{taken_bytes, accepted_bytes}
-use Rattle.vm_superio.specs.History.Interrupts.{is_well_formed}
+use Rattle.vm_superio.specs.History.Interrupts.{is_well_formed, IsWithinBound, WaitingBytesShow}
 use Rattle.vm_superio.specs.History.Reads.{ResponsesAre, state_of_history}
-use Rattle.vm_superio.specs.History.Properties.{IsWithinBound, WaitingBytesShow}
 use Rattle.vm_superio.specs.Run.Trace.{RecordsOf, entries_of, trace_of, without_restores}
 use Rattle.vm_superio.specs.Run.Observations.{ReadsAre, OutputsAre, TriggersAre}
 

@@ -10,23 +10,21 @@ use Rattle.vm_superio.specs.declared.run.Reply.{Reply}
 use Rattle.vm_superio.specs.declared.run.Reply.TheVariants.{Byte, Restored, NotRestored}
 use Rattle.vm_superio.specs.declared.run.Done.{Done}
 use Rattle.vm_superio.specs.Port.State.{State}
-use Rattle.vm_superio.specs.Port.Operations.{TraceEntry}
-use Rattle.vm_superio.specs.Port.ObjectLinks.{Link, TriggerAnswer, Contents, answers_of}
-use Rattle.vm_superio.specs.Port.RestoreCalls.{all_ok, RefusesOwnState}
+use Rattle.vm_superio.specs.Port.Operations.{TraceEntry, Trace}
+use Rattle.vm_superio.specs.Port.ObjectLinks.{Link, TriggerAnswer, Contents, answers_of, all_ok, RefusesOwnState}
 use Rattle.vm_superio.specs.History.Interrupts.{restore_calls_due}
-use Rattle.vm_superio.specs.History.Reads.{guest_read, output}
-use Rattle.vm_superio.specs.History.Properties.{none_lost}
+use Rattle.vm_superio.specs.History.Reads.{guest_read, output, none_lost}
 use Rattle.vm_superio.specs.Run.Trace.{entry_of, refusal_in_reply}
 
 -- ---- bytes read
 
 module _ {T E EV W : Type 0} where
   -- each read replied the guest read at its point
-  abbrev pub ReadIs : (start : State) (trace : List TraceEntry) (act : Act) (reply : Reply T EV W E) → Type 0
+  abbrev pub ReadIs : (start : State) (trace : Trace) (act : Act) (reply : Reply T EV W E) → Type 0
   ReadIs start trace (Read offset) reply = reply ≡ Byte (guest_read start trace offset)
   ReadIs start trace _ reply = ⊤
 
-  abbrev pub ReadsAre : (start : State) (trace : List TraceEntry) (records : List (Done T EV W E)) → Type 0
+  abbrev pub ReadsAre : (start : State) (trace : Trace) (records : List (Done T EV W E)) → Type 0
   ReadsAre start trace [] = ⊤
   ReadsAre start trace (done ∷ later) =
       ReadIs start trace done.act done.reply × ReadsAre start (entry_of done ∷ trace) later
@@ -35,8 +33,8 @@ module _ {T E EV W : Type 0} where
 
 -- the segment of a writer: the trace at its start, the entries since, and the writer as it was then
 pub record WriterSegment (W : Type 0) : Type 0 where
-  pub before : List TraceEntry
-  pub newest : List TraceEntry
+  pub before : Trace
+  pub newest : Trace
   pub begun : W
 
 -- where no byte of the segment is lost, a writer whose contents are known took the segment's output
@@ -79,7 +77,7 @@ module _ {T E EV W : Type 0} (link : Link T (TriggerAnswer E)) (start : State) w
   -- at a restore that succeeds the old trigger gave the answers of its segment, and the new one is called for the
   -- conditions that are due, and refuses none. The trigger of a restore that fails is called up to the refusal
   abbrev pub TriggerAtRestore :
-      (trace : List TraceEntry) (segment : TriggerSegment T E) (call : Call T EV W) (reply : Reply T EV W E) → Type 0
+      (trace : Trace) (segment : TriggerSegment T E) (call : Call T EV W) (reply : Reply T EV W E) → Type 0
   TriggerAtRestore trace segment (Restore trigger events out) (Restored old) =
       link segment.begun segment.answers old.trigger
       × ((now : T) × link trigger (all_ok (restore_calls_due start trace)) now)
@@ -89,7 +87,7 @@ module _ {T E EV W : Type 0} (link : Link T (TriggerAnswer E)) (start : State) w
 
   -- the trigger of a successful restore begins a segment with these calls; every other call adds its own answers
   abbrev pub next_trigger_segment :
-      (trace : List TraceEntry) (segment : TriggerSegment T E) (call : Call T EV W) (asked : Asked)
+      (trace : Trace) (segment : TriggerSegment T E) (call : Call T EV W) (asked : Asked)
       (reply : Reply T EV W E) → TriggerSegment T E
   next_trigger_segment trace segment (Restore trigger events out) asked (Restored old) =
       record { begun = trigger; answers = all_ok (restore_calls_due start trace) }
@@ -99,7 +97,7 @@ module _ {T E EV W : Type 0} (link : Link T (TriggerAnswer E)) (start : State) w
 
   -- over calls and their records, to the trigger at the end
   abbrev pub TriggersAre :
-      (trace : List TraceEntry) (segment : TriggerSegment T E) (calls : List (Call T EV W))
+      (trace : Trace) (segment : TriggerSegment T E) (calls : List (Call T EV W))
       (records : List (Done T EV W E)) (end : T) → Type 0
   TriggersAre trace segment [] [] end = link segment.begun segment.answers end
   TriggersAre trace segment (call ∷ calls) (done ∷ later) end =

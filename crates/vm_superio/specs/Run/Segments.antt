@@ -5,8 +5,8 @@ use Rattle.vm_superio.specs.declared.run.Sent.{Sent}
 use Rattle.vm_superio.specs.Port.State.{State}
 use Rattle.vm_superio.specs.Port.Registers.{Condition}
 use Rattle.vm_superio.specs.Port.Operations.{Op, Event}
-use Rattle.vm_superio.specs.Port.ObjectLinks.{TriggerAnswer, PortLinks, answers_of, bytes_taken_by_writer, WriterLink}
-use Rattle.vm_superio.specs.Port.RestoreCalls.{all_ok}
+use Rattle.vm_superio.specs.Port.ObjectLinks.{TriggerAnswer, answers_of, all_ok}
+use Rattle.vm_superio.specs.Port.WriterLink.{PortLinks, bytes_taken_by_writer, WriterLink}
 use Rattle.vm_superio.specs.Port.Model.{Port}
 use Rattle.vm_superio.specs.Step.Transition.{step_events}
 

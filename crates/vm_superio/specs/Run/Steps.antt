@@ -11,8 +11,8 @@ use Rattle.vm_superio.specs.declared.run.Reply.TheVariants.{Byte, Wrote, Enqueue
 use Rattle.vm_superio.specs.declared.run.Done.{Done}
 use Rattle.vm_superio.specs.Port.State.{State}
 use Rattle.vm_superio.specs.Port.Operations.{Op, Read, Write, Enqueue, Response, ByteRead}
-use Rattle.vm_superio.specs.Port.ObjectLinks.{PortLinks}
-use Rattle.vm_superio.specs.Port.RestoreCalls.{all_ok, RefusesOwnState}
+use Rattle.vm_superio.specs.Port.WriterLink.{PortLinks}
+use Rattle.vm_superio.specs.Port.ObjectLinks.{all_ok, RefusesOwnState}
 use Rattle.vm_superio.specs.Port.Model.{Port, write_response, enqueue_response, refusal_in_result}
 use Rattle.vm_superio.specs.Step.Transition.{step, step_response}
 use Rattle.vm_superio.specs.Step.Admissible.{is_admissible}

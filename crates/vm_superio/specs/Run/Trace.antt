@@ -8,7 +8,7 @@ use Rattle.vm_superio.specs.declared.run.Reply.TheVariants.{Byte, Wrote, Enqueue
 use Rattle.vm_superio.specs.declared.run.Call.{Call}
 use Rattle.vm_superio.specs.declared.run.Call.TheVariants as call
 use Rattle.vm_superio.specs.declared.run.Done.{Done}
-use Rattle.vm_superio.specs.Port.Operations.{Op, Read, Write, Enqueue, Restore, TraceEntry, Response, ByteRead, NoResponse}
+use Rattle.vm_superio.specs.Port.Operations.{Op, Read, Write, Enqueue, Restore, TraceEntry, Response, ByteRead, NoResponse, Trace}
 use Rattle.vm_superio.specs.Port.Model.{write_response, enqueue_response, refusal_in_result}
 
 abbrev pub op_of : (done : Act) → Op
@@ -29,7 +29,7 @@ act_of (call.Enqueue bytes) = act.Enqueue bytes
 act_of (call.Restore trigger events out) = act.Restore
 
 -- the trace with further entries, which stand oldest first, each with its response
-abbrev pub trace_after : (trace : List TraceEntry) (later : List (TraceEntry × Response)) → List TraceEntry
+abbrev pub trace_after : (trace : Trace) (later : List (TraceEntry × Response)) → Trace
 trace_after trace [] = trace
 trace_after trace (next ∷ later) = trace_after (next.0 ∷ trace) later
 
@@ -70,7 +70,7 @@ module _ {T E EV W : Type 0} where
   entries_of (done ∷ later) = (entry_of done, response_of done.reply) ∷ entries_of later
 
   -- the trace at the end of a run
-  abbrev pub trace_of : (records : List (Done T EV W E)) → List TraceEntry
+  abbrev pub trace_of : (records : List (Done T EV W E)) → Trace
   trace_of records = trace_after [] (entries_of records)
 
   abbrev pub without_restores : (records : List (Done T EV W E)) → List (Done T EV W E)

@@ -9,7 +9,8 @@ use Rattle.vm_superio.specs.Port.Bits.{has_bits}
 use Rattle.vm_superio.specs.Port.State.{State}
 use Rattle.vm_superio.specs.Port.Registers.{Rda, Thre, iir_bit}
 use Rattle.vm_superio.specs.Port.Operations.{Op, Read, Write, Enqueue, Response, ByteRead, Event, ends_in_refusal, answer_count, one_if}
-use Rattle.vm_superio.specs.Port.ObjectLinks.{Link, TriggerAnswer, Contents, PortLinks, port_links, answers_of, bytes_taken_by_writer, WriterLink}
+use Rattle.vm_superio.specs.Port.ObjectLinks.{Link, TriggerAnswer, Contents, answers_of}
+use Rattle.vm_superio.specs.Port.WriterLink.{PortLinks, port_links, bytes_taken_by_writer, WriterLink}
 use Rattle.vm_superio.specs.Port.Model.{Port, write_response, enqueue_response, refusal_in_result}
 use Rattle.vm_superio.specs.Step.Transition.{step, step_response, step_events}
 use Rattle.vm_superio.specs.Step.Admissible.{is_admissible}

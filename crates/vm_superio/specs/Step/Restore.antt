@@ -5,8 +5,7 @@ use Rattle.vm_superio.specs.declared.serial.errors.Error.TheVariants.{Trigger, F
 use Rattle.vm_superio.specs.Port.Bits.{has_bits}
 use Rattle.vm_superio.specs.Port.State.{State}
 use Rattle.vm_superio.specs.Port.Registers.{Condition, Rda, Thre, ier_bit, iir_bit, thre_then_rda}
-use Rattle.vm_superio.specs.Port.ObjectLinks.{Link, TriggerAnswer}
-use Rattle.vm_superio.specs.Port.RestoreCalls.{RefusesOwnState}
+use Rattle.vm_superio.specs.Port.ObjectLinks.{Link, TriggerAnswer, RefusesOwnState}
 
 -- a condition is pending and enabled
 abbrev pub is_asserted : (condition : Condition) (s : State) → Bool

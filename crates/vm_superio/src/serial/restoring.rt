@@ -2,7 +2,7 @@
 ghost use Rattle.std.specs.Prelude.{◌≡◌, List, [], ◌∷◌, Result, true, OnOk, IfErr};
 ghost use Rattle.vm_superio.specs.Port.Registers.{thre_then_rda};
 ghost use Rattle.vm_superio.specs.Step.Restore.{is_asserted};
-ghost use Rattle.vm_superio.specs.Port.RestoreCalls.{all_ok, StopsAtRefusal};
+ghost use Rattle.vm_superio.specs.Port.ObjectLinks.{all_ok, StopsAtRefusal};
 ghost use Rattle.vm_superio.specs.Port.SavedState.{state_of};
 
 use super::SerialState;

@@ -13,7 +13,8 @@ ghost use Rattle.vm_superio.specs.Port.Operations.{Read, Write, Enqueue, ByteRea
 ghost use Rattle.vm_superio.specs.Step.Raising.{becomes_pending, raise, rda_becomes_pending, raise_rda_while_held, receive_bytes};
 ghost use Rattle.vm_superio.specs.Step.Admissible.{answers_all, ier_write_calls, arrival_calls, kind_calls};
 ghost use Rattle.vm_superio.specs.Step.Transition.{read_step, ier_write, rbr_read, thr_write, write_step, read_events, sent_events};
-ghost use Rattle.vm_superio.specs.Port.ObjectLinks.{port_links, answers_of, bytes_taken_by_writer, WriterLink};
+ghost use Rattle.vm_superio.specs.Port.WriterLink.{port_links, bytes_taken_by_writer, WriterLink};
+ghost use Rattle.vm_superio.specs.Port.ObjectLinks.{answers_of};
 ghost use Rattle.vm_superio.specs.Port.TriggerAnswers.{asked_of, refusal_in_answers, sent_of};
 ghost use Rattle.vm_superio.specs.Port.Model.{write_response, enqueue_response, refusal_in_result};
 

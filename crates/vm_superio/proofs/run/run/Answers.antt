@@ -1,7 +1,7 @@
 -- A call that was made goes from the run that is left to the run so far.
 use Rattle.std.proofs.Common.{◌<◌, append_assoc, append-nil, ◌∷◌, [], arith}
 use Rattle.std.proofs.lemmas.List.{nil_from_length}
-use Rattle.vm_superio.specs.Port.ObjectLinks.{port_links}
+use Rattle.vm_superio.specs.Port.WriterLink.{port_links}
 use Rattle.vm_superio.specs.Run.Segments.{first_segment}
 use Rattle.vm_superio.specs.Run.Steps.{next_segment}
 use Rattle.vm_superio.proofs.RunHistory.{HistoryTheorem-run}

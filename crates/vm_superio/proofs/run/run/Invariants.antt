@@ -2,7 +2,7 @@
 use Rattle.std.proofs.Common.{◌≤◌, ◌+◌, List, ◌++◌, vec_len}
 use Rattle.std.specs.Prelude.{vec_capacity}
 use Rattle.std.specs.VecDeque.{deque_len}
-use Rattle.vm_superio.specs.Port.ObjectLinks.{port_links}
+use Rattle.vm_superio.specs.Port.WriterLink.{port_links}
 use Rattle.vm_superio.specs.Port.Model.{Port}
 use Rattle.vm_superio.specs.Run.Segments.{Segment, first_segment, IsAfter}
 use Rattle.vm_superio.specs.Run.Steps.{IsRun}

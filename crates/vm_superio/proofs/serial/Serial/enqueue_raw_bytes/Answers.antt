@@ -1,6 +1,6 @@
 -- A step calls the trigger once for each bit that it turns on, and keeps a coherent state coherent.
 use Rattle.vm_superio.specs.Port.Operations.{Enqueue}
-use Rattle.vm_superio.specs.Port.ObjectLinks.{port_links}
+use Rattle.vm_superio.specs.Port.WriterLink.{port_links}
 use Rattle.vm_superio.proofs.PortLemmas.{answer_count-step}
 use Rattle.vm_superio.proofs.Runs.{coherence_law}
 use Rattle.vm_superio.proofs.serial.Serial.enqueue_raw_bytes.Goals as goal
