@@ -7,7 +7,8 @@ use Rattle.vm_superio.specs.Port.State.{State}
 use Rattle.vm_superio.specs.Port.Operations.{TraceEntry, one_if, answer_count}
 use Rattle.vm_superio.specs.Port.OpKinds.{OpKind, RbrRead, IirRead, is_iir_read, is_rbr_read}
 use Rattle.vm_superio.specs.History.Registers.{kind_at}
-use Rattle.vm_superio.specs.History.Interrupts.{trigger_calls, rda_raised, acknowledges_rda, rda_pending, thre_raised, thre_pending, is_well_formed_entry, is_well_formed, op_kinds}
+use Rattle.vm_superio.specs.Port.Registers.{Rda, Thre}
+use Rattle.vm_superio.specs.History.Interrupts.{trigger_calls, is_raised, acknowledges, is_pending, is_well_formed_entry, is_well_formed, op_kinds}
 use Rattle.vm_superio.specs.Laws.Consequences.{TriggerBoundLaw}
 
 -- each call makes a condition pending that was not, and only an acknowledgement makes it one that is not
@@ -25,7 +26,7 @@ one_condition false false false = omega arith
 
 -- a read of the identification acknowledges two conditions, a data read one
 acknowledged_by : (k : OpKind)
-    → one_if (acknowledges_rda k) + one_if (is_iir_read k)
+    → one_if (acknowledges Rda k) + one_if (is_iir_read k)
     ≤ 2 * one_if (is_iir_read k) + one_if (is_rbr_read k)
 acknowledged_by RbrRead = omega arith
 acknowledged_by IirRead = omega arith
@@ -38,7 +39,7 @@ one_at_most false = omega arith
 -- the calls so far are at most the acknowledgements and the conditions that are pending now
 calls_so_far : (start : State) (trace : List TraceEntry) → IsTrue (is_well_formed start trace)
     → sum_by (λ (entry : TraceEntry). answer_count entry.asked) trace
-    ≤ one_if (rda_pending start trace) + one_if (thre_pending start trace)
+    ≤ one_if (is_pending Rda start trace) + one_if (is_pending Thre start trace)
     + 2 * count_by is_iir_read (op_kinds start trace) + count_by is_rbr_read (op_kinds start trace)
 calls_so_far start [] fitting = omega arith
 calls_so_far start (entry ∷ trace) fitting =
@@ -58,8 +59,8 @@ calls_so_far start (entry ∷ trace) fitting =
     omega (
       arith,
       before,
-      one_condition (rda_raised start trace entry) (acknowledges_rda k) (rda_pending start trace),
-      one_condition (thre_raised start trace entry) (is_iir_read k) (thre_pending start trace),
+      one_condition (is_raised Rda start trace entry) (acknowledges Rda k) (is_pending Rda start trace),
+      one_condition (is_raised Thre start trace entry) (is_iir_read k) (is_pending Thre start trace),
       acknowledged_by k,
     ))
 
@@ -68,7 +69,7 @@ trigger_bound_law start trace fitting =
     omega (
       arith,
       calls_so_far start trace fitting,
-      one_at_most (rda_pending start trace),
+      one_at_most (is_pending Rda start trace),
       one_at_most
-          (thre_pending start trace),
+          (is_pending Thre start trace),
     )

@@ -12,7 +12,7 @@ use Rattle.vm_superio.specs.Step.Raising.{raise, raise_rda_while_held, becomes_p
 use Rattle.vm_superio.specs.Port.OpKinds.{OpKind, RbrRead, IirRead, IerWrite, ThrWrite, Arrival, Other, sent_by, is_iir_read}
 use Rattle.vm_superio.specs.Step.Admissible.{arrival_calls, kind_calls, answers_all, step_calls, is_admissible}
 use Rattle.vm_superio.specs.History.Registers.{kind_at, held_bytes}
-use Rattle.vm_superio.specs.History.Interrupts.{raises_rda, acknowledges_rda, rda_pending, raises_thre, thre_pending, is_well_formed_entry, restore_calls_due}
+use Rattle.vm_superio.specs.History.Interrupts.{raises_rda, acknowledges, is_pending, raises_thre, is_well_formed_entry, restore_calls_due}
 use Rattle.vm_superio.specs.History.Reads.{interrupt_identification}
 use Rattle.vm_superio.specs.Step.Restore.{restore_calls}
 use Rattle.vm_superio.specs.Laws.Agreement.{state_after, InterruptLaw}
@@ -34,7 +34,7 @@ transmit_next k held_bytes enable asked thre receive_bytes =
     (not (is_iir_read k) && thre)
 
 abbrev pub receive_next : OpKind → List ℕ → ℕ → Bool → Bool
-receive_next k held_bytes enable receive_bytes = raises_rda k held_bytes enable || (not (acknowledges_rda k) && receive_bytes)
+receive_next k held_bytes enable receive_bytes = raises_rda k held_bytes enable || (not (acknowledges Rda k) && receive_bytes)
 
 received_pending : (new : List ℕ) (s : State) (thre receive_before : Bool)
     → s.interrupt_identification ≡ identification_of thre receive_before
@@ -156,8 +156,8 @@ pending_law start (entry ∷ trace) thre receive_bytes e =
     let s = state_after start trace in
     let k = kind_at start trace entry.op in
     let registers = register_law start trace in
-    let t = thre_pending start trace in
-    let r = rda_pending start trace in
+    let t = is_pending Thre start trace in
+    let r = is_pending Rda start trace in
     let next_of =
     λ (bytes : List ℕ) (enable : ℕ). identification_of (transmit_next k bytes enable entry.asked t r)
     (receive_next k bytes enable r) in
@@ -175,8 +175,8 @@ fits_law start trace thre receive_bytes entry e =
     let k = kind_at start trace entry.op in
     let registers = register_law start trace in
     let same = same_kind start trace entry.op in
-    let t = thre_pending start trace in
-    let r = rda_pending start trace in
+    let t = is_pending Thre start trace in
+    let r = is_pending Rda start trace in
     let outcome_fits = beq (is_sent entry.sent) (not_empty (sent_by k)) in
     let calls_of = λ (bytes : List ℕ) (enable : ℕ).
     one_if (receive_called k bytes enable r)
@@ -194,8 +194,8 @@ restoring_law : (start : State) (trace : List TraceEntry) (thre receive_bytes : 
     → start.interrupt_identification ≡ identification_of thre receive_bytes
     → restore_calls (state_after start trace) ≡ restore_calls_due start trace
 restoring_law start trace thre receive_bytes e =
-    let t = thre_pending start trace in
-    let r = rda_pending start trace in
+    let t = is_pending Thre start trace in
+    let r = is_pending Rda start trace in
     let calls_of =
     λ (t r : Bool) (enable : ℕ). thre_then_rda (t && has_bits enable 0x02) (r && has_bits enable 0x01) in
     let s = state_after start trace in

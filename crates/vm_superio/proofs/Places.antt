@@ -2,7 +2,7 @@
 use Rattle.std.proofs.Common.{◌≡◌, inl, inr, ℕ, Bool, true, false, not, ◌&&◌, ◌||◌, List, [], ◌∷◌, ◌++◌, refl, ap, sym, ◌∙◌, subst, append-nil}
 use Rattle.std.specs.Cmp.Derive.{both_true}
 use Rattle.std.proofs.lemmas.Bool.{and_parts, false≢true}
-use Rattle.std.specs.Prelude.{IsTrue}
+use Rattle.std.specs.Prelude.{IsTrue, ◌⊎◌}
 use Rattle.std.specs.Bool.{IsFalse}
 use Rattle.vm_superio.specs.declared.run.Asked.{Asked}
 use Rattle.vm_superio.specs.Port.State.{State, not_empty}
@@ -11,8 +11,9 @@ use Rattle.vm_superio.specs.Port.Operations.{TraceEntry}
 use Rattle.vm_superio.specs.Step.Raising.{receive_bytes, bytes_that_fit}
 use Rattle.vm_superio.specs.Port.OpKinds.{OpKind, RbrRead, IirRead, IerWrite, ThrWrite, Arrival, Other, is_iir_read}
 use Rattle.vm_superio.specs.History.Registers.{kind_at, held_bytes, interrupt_enable}
-use Rattle.vm_superio.specs.History.Interrupts.{raised_since, rda_raised, acknowledges_rda, rda_pending, thre_raised, NoneAcknowledges, shows_waiting_bytes}
-use Rattle.vm_superio.specs.Laws.Consequences.{PendingByPrefixesLaw, WaitingBytesLaw, PendingByPrefixes}
+use Rattle.vm_superio.specs.Port.Registers.{Rda, iir_bit}
+use Rattle.vm_superio.specs.History.Interrupts.{raised_since, is_raised, acknowledges, is_pending, NoneAcknowledges, shows_waiting_bytes}
+use Rattle.vm_superio.specs.Laws.Consequences.{PendingByPrefixesLaw, WaitingBytesLaw}
 use Rattle.vm_superio.specs.Laws.Agreement.{state_after}
 use Rattle.vm_superio.proofs.Bytes.{enables_receive}
 use Rattle.vm_superio.proofs.ByKind.{by_kind, next_at_place}
@@ -58,6 +59,13 @@ not_false false e = refl
 -- ---- pending by places
 
 module _ (start : State) (raises : List TraceEntry → TraceEntry → Bool) (acknowledges : OpKind → Bool) (first : Bool) where
+  -- raised at some point, or at first, and acknowledged at no later point
+  abbrev ByPrefixes : (trace : List TraceEntry) → Type 0
+  ByPrefixes trace =
+      ((after before : List TraceEntry) × (entry : TraceEntry) × (trace ≡ after ++ entry ∷ before)
+      × IsTrue (raises before entry) × NoneAcknowledges start acknowledges after (entry ∷ before))
+      ⊎ (IsTrue first × NoneAcknowledges start acknowledges trace [])
+
   -- what was raised stays raised while none acknowledges
   stays : (newest trace : List TraceEntry) → NoneAcknowledges start acknowledges newest trace
       → IsTrue (raised_since start raises acknowledges first trace)
@@ -70,8 +78,8 @@ module _ (start : State) (raises : List TraceEntry → TraceEntry → Bool) (ack
 
   -- a place for the others is one for all, where the newest record does not acknowledge
   grown : (entry : TraceEntry) (trace : List TraceEntry) → IsFalse (acknowledges (kind_at start trace entry.op))
-      → PendingByPrefixes start raises acknowledges first trace
-      → PendingByPrefixes start raises acknowledges first (entry ∷ trace)
+      → ByPrefixes trace
+      → ByPrefixes (entry ∷ trace)
   grown entry trace not_here (inl (after, before, x, place, raised, none)) =
       inl (
         entry ∷ after,
@@ -92,10 +100,10 @@ module _ (start : State) (raises : List TraceEntry → TraceEntry → Bool) (ack
 
   found : (entry : TraceEntry) (trace : List TraceEntry) (here : Bool) → raises trace entry ≡ here
       → (IsTrue (raised_since start raises acknowledges first trace)
-      → PendingByPrefixes start raises acknowledges first trace)
+      → ByPrefixes trace)
       → IsTrue (here ||
       (not (acknowledges (kind_at start trace entry.op)) && raised_since start raises acknowledges first trace))
-      → PendingByPrefixes start raises acknowledges first (entry ∷ trace)
+      → ByPrefixes (entry ∷ trace)
   found entry trace true raised earlier e =
       inl ([], trace, entry, refl, raised, nowhere start acknowledges (entry ∷ trace))
   found entry trace false raised earlier e =
@@ -105,11 +113,11 @@ module _ (start : State) (raises : List TraceEntry → TraceEntry → Bool) (ack
       (earlier (and_parts (not acknowledged) rest e).1)
 
   to_places : (trace : List TraceEntry) → IsTrue (raised_since start raises acknowledges first trace)
-      → PendingByPrefixes start raises acknowledges first trace
+      → ByPrefixes trace
   to_places [] e = inr (e, nowhere start acknowledges [])
   to_places (entry ∷ trace) e = found entry trace (raises trace entry) refl (to_places trace) e
 
-  from_places : (trace : List TraceEntry) → PendingByPrefixes start raises acknowledges first trace
+  from_places : (trace : List TraceEntry) → ByPrefixes trace
       → IsTrue (raised_since start raises acknowledges first trace)
   from_places trace (inl (after, before, entry, place, raised, none)) =
       let there : IsTrue (raised_since start raises acknowledges first (entry ∷ before)) = rw raised refl in
@@ -119,22 +127,11 @@ module _ (start : State) (raises : List TraceEntry → TraceEntry → Bool) (ack
       subst (λ (trace : List TraceEntry). IsTrue (raised_since start raises acknowledges first trace)) (append-nil trace)
       (stays trace [] none pending)
 
-pub pending_by_places_law : PendingByPrefixesLaw
-pending_by_places_law start trace =
-    let r = has_bits start.interrupt_identification 0x04 in
-    let t = has_bits start.interrupt_identification 0x02 in
-    record {
-      rda = (
-        to_places start (rda_raised start) acknowledges_rda r trace,
-        from_places start
-            (rda_raised start) acknowledges_rda r trace,
-      );
-      thre = (
-        to_places start (thre_raised start) is_iir_read t trace,
-        from_places start
-            (thre_raised start) is_iir_read t trace,
-      );
-    }
+pub pending_by_prefixes_law : PendingByPrefixesLaw
+pending_by_prefixes_law condition start trace =
+    let raises = is_raised condition start in
+    let first = has_bits start.interrupt_identification (iir_bit condition) in
+    (to_places start raises (acknowledges condition) first trace, from_places start raises (acknowledges condition) first trace)
 
 -- ---- waiting bytes
 
@@ -152,7 +149,7 @@ received_told [] s pending before held_bytes enabled = before held_bytes enabled
 received_told (byte ∷ bytes) s pending before held_bytes enabled = or_left (has_bits s.interrupt_enable 0x01) pending enabled
 
 -- an act that does not acknowledge leaves it so
-told_by_kind : (k : OpKind) (asked : Asked) (s : State) (pending : Bool) → IsFalse (acknowledges_rda k)
+told_by_kind : (k : OpKind) (asked : Asked) (s : State) (pending : Bool) → IsFalse (acknowledges Rda k)
     → IsTold s pending
     → IsTold (by_kind k asked s) (receive_next k s.in_buffer s.interrupt_enable pending)
 told_by_kind RbrRead asked s pending not_here before some enabled = absurd (false≢true (sym not_here))
@@ -186,11 +183,11 @@ first_told _ asked s pending tells some enabled = absurd (false≢true tells)
 abbrev IsToldAt : State → List TraceEntry → Type 0
 IsToldAt start trace =
     IsTrue (not_empty (held_bytes start trace)) → IsTrue (has_bits (interrupt_enable start trace) 0x01)
-    → IsTrue (rda_pending start trace)
+    → IsTrue (is_pending Rda start trace)
 
 at_place : (start : State) (trace : List TraceEntry) (entry : TraceEntry)
     → let s = state_after start trace in let k = kind_at start trace entry.op in
-    IsTold (by_kind k entry.asked s) (receive_next k s.in_buffer s.interrupt_enable (rda_pending start trace))
+    IsTold (by_kind k entry.asked s) (receive_next k s.in_buffer s.interrupt_enable (is_pending Rda start trace))
     → IsToldAt start (entry ∷ trace)
 at_place start trace entry told some enabled =
     let s = state_after start trace in
@@ -198,22 +195,22 @@ at_place start trace entry told some enabled =
     let now = register_law start (entry ∷ trace) in
     let registers = register_law start trace in
     let same = next_at_place start trace entry in
-    let pending = rda_pending start trace in
+    let pending = is_pending Rda start trace in
     ap (λ bytes. receive_next k bytes (interrupt_enable start trace) pending) (sym (held_bytes_law start trace))
     ∙ ap (λ enable. receive_next k s.in_buffer enable pending) (sym registers.interrupt_enable)
     ∙ told (ap not_empty (sym same.in_buffer ∙ held_bytes_law start (entry ∷ trace)) ∙ some)
     (ap (λ enable. has_bits enable 0x01) (sym same.interrupt_enable ∙ now.interrupt_enable) ∙ enabled)
 
 -- and at each later place, while none acknowledges
-stays_told : (start : State) (newest trace : List TraceEntry) → NoneAcknowledges start acknowledges_rda newest trace
+stays_told : (start : State) (newest trace : List TraceEntry) → NoneAcknowledges start (acknowledges Rda) newest trace
     → IsToldAt start trace → IsToldAt start (newest ++ trace)
 stays_told start [] trace none before = before
 stays_told start (entry ∷ newest) trace none before =
     let place = newest ++ trace in
     let s = state_after start place in
-    let rest = stays_told start newest trace (none_fewer start acknowledges_rda newest trace entry none) before in
+    let rest = stays_told start newest trace (none_fewer start (acknowledges Rda) newest trace entry none) before in
     at_place start place entry
-    (told_by_kind (kind_at start place entry.op) entry.asked s (rda_pending start place) (none [] newest entry refl)
+    (told_by_kind (kind_at start place entry.op) entry.asked s (is_pending Rda start place) (none [] newest entry refl)
     (λ some enabled. rest (ap not_empty (sym (held_bytes_law start place)) ∙ some)
     (ap (λ enable. has_bits enable 0x01) (sym (register_law start place).interrupt_enable) ∙ enabled)))
 
@@ -224,5 +221,5 @@ waiting_bytes_law start trace after before entry same tells none =
     subst (IsToldAt start) (sym same)
     (stays_told start after (entry ∷ before) none
     (at_place start before entry
-    (first_told k entry.asked s (rda_pending start before)
+    (first_told k entry.asked s (is_pending Rda start before)
     (ap (shows_waiting_bytes k) (held_bytes_law start before) ∙ tells))))

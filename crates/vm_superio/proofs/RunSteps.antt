@@ -69,10 +69,10 @@ module _ {T E EV W : Type 0} (links : PortLinks T E EV W) (laws : LawfulLinks li
 
   -- a step adds to it
   IsAfter-extend :
-      (segment : Segment T E EV W) (op : Op) (asked : Asked) (sent : Sent) (response : Response) (refusal : Option E) (old new : Port T EV W) →
-      IsAfter links segment old.state old → IsPortStep links op asked sent response refusal old new →
+      (segment : Segment T E EV W) (op : Op) (asked : Asked) (sent : Sent) (answered : Response) (refusal : Option E) (old new : Port T EV W) →
+      IsAfter links segment old.state old → IsPortStep links op asked sent answered refusal old new →
       IsAfter links (extend segment old.state op asked sent refusal) new.state new
-  IsAfter-extend segment op asked sent response refusal old new before h = record {
+  IsAfter-extend segment op asked sent answered refusal old new before h = record {
     state = refl;
     trigger = laws.calls_joined segment.trigger old.trigger new.trigger segment.answers (answers_of asked refusal) before.trigger h.trigger;
     events = laws.events_joined segment.events old.events new.events segment.reported _ before.events h.events;

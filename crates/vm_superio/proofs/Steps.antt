@@ -8,14 +8,14 @@ use Rattle.vm_superio.specs.declared.run.Asked.{Asked}
 use Rattle.vm_superio.specs.declared.run.Sent.{Sent}
 use Rattle.vm_superio.specs.declared.run.Sent.TheVariants as sent
 use Rattle.vm_superio.specs.Port.State.{State, not_empty}
-use Rattle.vm_superio.specs.Port.Registers.{Register, RbrThr, Ier, Iir, register_at}
+use Rattle.vm_superio.specs.Port.Registers.{Register, RbrThr, Ier, Iir, register_at, Rda, Thre}
 use Rattle.vm_superio.specs.Port.Operations.{Op, Read, Write, Enqueue, Restore, TraceEntry, is_sent, one_if}
 use Rattle.vm_superio.specs.Step.Admissible.{answers_all, step_calls, sends_byte}
 use Rattle.vm_superio.specs.Step.Transition.{step_response, step, read_step, read_events, sent_events, step_events}
 use Rattle.vm_superio.specs.Step.Restore.{restore_calls}
 use Rattle.vm_superio.specs.Port.OpKinds.{OpKind, IerWrite, ThrWrite, Arrival, Other, read_kind, write_kind, kind_of, sent_by}
 use Rattle.vm_superio.specs.History.Registers.{kind_at, dlab, loopback, interrupt_enable, held_bytes}
-use Rattle.vm_superio.specs.History.Interrupts.{raises_rda, rda_pending, raises_thre, thre_pending, calls_due}
+use Rattle.vm_superio.specs.History.Interrupts.{raises_rda, is_pending, raises_thre, calls_due}
 use Rattle.vm_superio.specs.History.Reads.{state_of_history}
 use Rattle.vm_superio.specs.History.Events.{kind_events, history_events}
 use Rattle.vm_superio.specs.Laws.Agreement.{StepLaw}
@@ -114,10 +114,10 @@ calls_at_place : (start : State) (trace : List TraceEntry) (op : Op)
 calls_at_place start trace op =
     let k = kind_at start trace op in
     let raised = raises_rda k (held_bytes start trace) (interrupt_enable start trace) in
-    let called = raised && not (rda_pending start trace) in
-    due_is k (state_of_history start trace) (thre_pending start trace) (rda_pending start trace) refl
+    let called = raised && not (is_pending Rda start trace) in
+    due_is k (state_of_history start trace) (is_pending Thre start trace) (is_pending Rda start trace) refl
     ∙ ap (λ second. one_if called + one_if second)
-    (none_refused k (interrupt_enable start trace) called (thre_pending start trace))
+    (none_refused k (interrupt_enable start trace) called (is_pending Thre start trace))
 
 -- ---- the law
 

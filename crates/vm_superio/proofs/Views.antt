@@ -5,13 +5,13 @@ use Rattle.vm_superio.specs.declared.run.Sent.{Sent}
 use Rattle.vm_superio.specs.declared.run.Sent.TheVariants as sent
 use Rattle.vm_superio.specs.Port.State.{State, not_empty}
 use Rattle.vm_superio.specs.History.Reads.{with_data_ready, state_of_history}
-use Rattle.vm_superio.specs.Port.Registers.{register_read, register_at, is_dlab, identification_of}
+use Rattle.vm_superio.specs.Port.Registers.{register_read, register_at, is_dlab, identification_of, Rda, Thre}
 use Rattle.vm_superio.specs.Port.Operations.{Op, Read, Write, Enqueue, Restore, TraceEntry}
 use Rattle.vm_superio.specs.Step.Transition.{step}
 use Rattle.vm_superio.specs.Step.Admissible.{kind_in_state}
 use Rattle.vm_superio.specs.Port.OpKinds.{OpKind}
 use Rattle.vm_superio.specs.History.Registers.{held_bytes, interrupt_enable}
-use Rattle.vm_superio.specs.History.Interrupts.{rda_pending, thre_pending}
+use Rattle.vm_superio.specs.History.Interrupts.{is_pending}
 use Rattle.vm_superio.specs.Laws.Agreement.{state_after}
 use Rattle.vm_superio.specs.Laws.Consequences.{SameReadsLaw, op_and_asked, ops_and_asked}
 use Rattle.vm_superio.proofs.ByKind.{same_kind}
@@ -27,16 +27,16 @@ unsent (call ∷ calls) = record { op = call.0; asked = call.1; sent = sent.Noth
 -- what a guest can read: the state's registers and bytes, and the conditions that are pending
 record SameView (start : State) (one other : List TraceEntry) : Type 0 where
   state : state_after start one ≡ state_after start other
-  rda : rda_pending start one ≡ rda_pending start other
-  thre : thre_pending start one ≡ thre_pending start other
+  rda : (is_pending Rda) start one ≡ is_pending Rda start other
+  thre : (is_pending Thre) start one ≡ is_pending Thre start other
 
 -- the conditions that are pending after one more act, by the state before it
 receive_by_state : (start : State) (trace : List TraceEntry) (entry : TraceEntry) → let s = state_after start trace in
-    rda_pending start (entry ∷ trace)
-    ≡ receive_next (kind_in_state s entry.op) s.in_buffer s.interrupt_enable (rda_pending start trace)
+    is_pending Rda start (entry ∷ trace)
+    ≡ receive_next (kind_in_state s entry.op) s.in_buffer s.interrupt_enable (is_pending Rda start trace)
 receive_by_state start trace entry =
     let s = state_after start trace in
-    let r = rda_pending start trace in
+    let r = is_pending Rda start trace in
     ap (λ (k : OpKind). receive_next k (held_bytes start trace) (interrupt_enable start trace) r)
     (sym (same_kind start trace entry.op))
     ∙ ap (λ bytes. receive_next (kind_in_state s entry.op) bytes (interrupt_enable start trace) r)
@@ -45,13 +45,13 @@ receive_by_state start trace entry =
     (sym (register_law start trace).interrupt_enable)
 
 transmit_by_state : (start : State) (trace : List TraceEntry) (entry : TraceEntry) → let s = state_after start trace in
-    thre_pending start (entry ∷ trace)
-    ≡ transmit_next (kind_in_state s entry.op) s.in_buffer s.interrupt_enable entry.asked (thre_pending start trace)
-    (rda_pending start trace)
+    is_pending Thre start (entry ∷ trace)
+    ≡ transmit_next (kind_in_state s entry.op) s.in_buffer s.interrupt_enable entry.asked (is_pending Thre start trace)
+    (is_pending Rda start trace)
 transmit_by_state start trace entry =
     let s = state_after start trace in
-    let r = rda_pending start trace in
-    let t = thre_pending start trace in
+    let r = is_pending Rda start trace in
+    let t = is_pending Thre start trace in
     ap (λ (k : OpKind). transmit_next k (held_bytes start trace) (interrupt_enable start trace) entry.asked t r)
     (sym (same_kind start trace entry.op))
     ∙ ap (λ bytes. transmit_next (kind_in_state s entry.op) bytes (interrupt_enable start trace) entry.asked t r)
@@ -73,13 +73,13 @@ more start one other op asked first second same =
       state = ap (λ (s : State). step s op asked) same.state;
       rda =
           receive_by_state start one (record { op = op; asked = asked; sent = first })
-          ∙ ap (λ (s : State). receive_of s (rda_pending start one)) same.state ∙ ap (receive_of s) same.rda
+          ∙ ap (λ (s : State). receive_of s (is_pending Rda start one)) same.state ∙ ap (receive_of s) same.rda
           ∙ sym (receive_by_state start other (record { op = op; asked = asked; sent = second }));
       thre =
           transmit_by_state start one (record { op = op; asked = asked; sent = first })
-          ∙ ap (λ (s : State). transmit_of s (thre_pending start one) (rda_pending start one)) same.state
-          ∙ ap (λ t. transmit_of s t (rda_pending start one)) same.thre
-          ∙ ap (transmit_of s (thre_pending start other)) same.rda
+          ∙ ap (λ (s : State). transmit_of s (is_pending Thre start one) (is_pending Rda start one)) same.state
+          ∙ ap (λ t. transmit_of s t (is_pending Rda start one)) same.thre
+          ∙ ap (transmit_of s (is_pending Thre start other)) same.rda
           ∙ sym (transmit_by_state start other (record { op = op; asked = asked; sent = second }));
     }
 
@@ -119,7 +119,7 @@ view_of start s thre rda = record s {
 
 described_by_state : (start : State) (trace : List TraceEntry)
     → state_of_history start trace
-    ≡ view_of start (state_after start trace) (thre_pending start trace) (rda_pending start trace)
+    ≡ view_of start (state_after start trace) (is_pending Thre start trace) (is_pending Rda start trace)
 unfolding view_of
 described_by_state start trace =
     let registers = register_law start trace in
@@ -128,7 +128,7 @@ described_by_state start trace =
       baud_divisor_low = sym registers.divisor_low i;
       baud_divisor_high = sym registers.divisor_high i;
       interrupt_enable = sym registers.interrupt_enable i;
-      interrupt_identification = identification_of (thre_pending start trace) (rda_pending start trace);
+      interrupt_identification = identification_of (is_pending Thre start trace) (is_pending Rda start trace);
       line_control = sym registers.line_control i;
       line_status = with_data_ready start.line_status (not_empty (sym bytes i));
       modem_control = sym registers.modem_control i;
@@ -141,9 +141,9 @@ same_described : (start : State) (one other : List TraceEntry) → SameView star
     → state_of_history start one ≡ state_of_history start other
 same_described start one other same =
     described_by_state start one
-    ∙ ap (λ (s : State). view_of start s (thre_pending start one) (rda_pending start one)) same.state
-    ∙ ap (λ t. view_of start (state_after start other) t (rda_pending start one)) same.thre
-    ∙ ap (view_of start (state_after start other) (thre_pending start other)) same.rda
+    ∙ ap (λ (s : State). view_of start s (is_pending Thre start one) (is_pending Rda start one)) same.state
+    ∙ ap (λ t. view_of start (state_after start other) t (is_pending Rda start one)) same.thre
+    ∙ ap (view_of start (state_after start other) (is_pending Thre start other)) same.rda
     ∙ sym (described_by_state start other)
 
 pub same_reads_law : SameReadsLaw

@@ -29,22 +29,6 @@ abbrev pub raises_rda : (kind : OpKind) (held : List ℕ) (enable : ℕ) → Boo
 raises_rda (IerWrite value) held enable = has_bits value (ier_bit Rda) && not_empty held
 raises_rda kind held enable = not_empty (accepted_by kind held) && has_bits enable (ier_bit Rda)
 
-abbrev pub rda_raised : (start : State) (trace : Trace) (entry : TraceEntry) → Bool
-rda_raised start trace entry =
-    raises_rda (kind_at start trace entry.op) (held_bytes start trace) (interrupt_enable start trace)
-
--- an IIR read acknowledges RDA, and so does an RBR read, also where it takes nothing
-abbrev pub acknowledges_rda : (kind : OpKind) → Bool
-acknowledges_rda kind = is_iir_read kind || is_rbr_read kind
-
-abbrev pub rda_pending : (start : State) (trace : Trace) → Bool
-rda_pending start trace =
-    raised_since start (rda_raised start) acknowledges_rda (has_bits start.interrupt_identification (iir_bit Rda)) trace
-
--- a trigger call is due for RDA where it is raised and was not pending
-abbrev pub rda_call : (start : State) (trace : Trace) (entry : TraceEntry) → Bool
-rda_call start trace entry = rda_raised start trace entry && not (rda_pending start trace)
-
 -- THRE is raised by a THR write while IER has its bit, and by an IER write whose value has the bit, unless the trigger
 -- refused that write's call for RDA
 abbrev pub raises_thre : (kind : OpKind) (enable : ℕ) (refused : Bool) → Bool
@@ -52,24 +36,42 @@ raises_thre (ThrWrite value) enable refused = has_bits enable (ier_bit Thre)
 raises_thre (IerWrite value) enable refused = has_bits value (ier_bit Thre) && not refused
 raises_thre _ enable refused = false
 
-abbrev pub thre_raised : (start : State) (trace : Trace) (entry : TraceEntry) → Bool
-thre_raised start trace entry =
+-- an IIR read acknowledges both; an RBR read acknowledges RDA, also where it takes nothing
+abbrev pub acknowledges : (condition : Condition) (kind : OpKind) → Bool
+acknowledges Rda kind = is_iir_read kind || is_rbr_read kind
+acknowledges Thre kind = is_iir_read kind
+
+-- RDA alone, on which raising THRE depends
+abbrev pub rda_raised : (start : State) (trace : Trace) (entry : TraceEntry) → Bool
+rda_raised start trace entry =
+    raises_rda (kind_at start trace entry.op) (held_bytes start trace) (interrupt_enable start trace)
+
+abbrev pub rda_pending : (start : State) (trace : Trace) → Bool
+rda_pending start trace =
+    raised_since start (rda_raised start) (acknowledges Rda) (has_bits start.interrupt_identification (iir_bit Rda)) trace
+
+-- either condition is raised by this entry, or pending
+abbrev pub is_raised : (condition : Condition) (start : State) (trace : Trace) (entry : TraceEntry) → Bool
+is_raised Rda start trace entry = rda_raised start trace entry
+is_raised Thre start trace entry =
     raises_thre (kind_at start trace entry.op) (interrupt_enable start trace)
-    (rda_call start trace entry && is_refused_once entry.asked)
+    (rda_raised start trace entry && not (rda_pending start trace) && is_refused_once entry.asked)
 
--- only an IIR read acknowledges THRE
-abbrev pub thre_pending : (start : State) (trace : Trace) → Bool
-thre_pending start trace =
-    raised_since start (thre_raised start) is_iir_read (has_bits start.interrupt_identification (iir_bit Thre)) trace
+abbrev pub is_pending : (condition : Condition) (start : State) (trace : Trace) → Bool
+is_pending condition start trace =
+    raised_since start (is_raised condition start) (acknowledges condition)
+    (has_bits start.interrupt_identification (iir_bit condition)) trace
 
-abbrev pub thre_call : (start : State) (trace : Trace) (entry : TraceEntry) → Bool
-thre_call start trace entry = thre_raised start trace entry && not (thre_pending start trace)
+-- a trigger call is due where a condition is raised and was not pending
+abbrev pub is_call_due : (condition : Condition) (start : State) (trace : Trace) (entry : TraceEntry) → Bool
+is_call_due condition start trace entry =
+    is_raised condition start trace entry && not (is_pending condition start trace)
 
 -- ---- trigger calls, and well-formed traces
 
 -- one trigger call for each condition that becomes pending; a restore raises nothing
 abbrev pub trigger_calls : (start : State) (trace : Trace) (entry : TraceEntry) → ℕ
-trigger_calls start trace entry = one_if (rda_call start trace entry) + one_if (thre_call start trace entry)
+trigger_calls start trace entry = one_if (is_call_due Rda start trace entry) + one_if (is_call_due Thre start trace entry)
 
 -- the trigger calls that an operation makes as long as none is refused
 abbrev pub calls_due : (start : State) (trace : Trace) (op : Op) → ℕ
@@ -89,8 +91,8 @@ is_well_formed start (entry ∷ trace) = is_well_formed_entry start trace entry 
 -- a restore calls for each condition that is pending and enabled, as long as no call is refused: THRE first
 abbrev pub restore_calls_due : (start : State) (trace : Trace) → List Condition
 restore_calls_due start trace =
-    thre_then_rda (thre_pending start trace && has_bits (interrupt_enable start trace) (ier_bit Thre))
-    (rda_pending start trace && has_bits (interrupt_enable start trace) (ier_bit Rda))
+    thre_then_rda (is_pending Thre start trace && has_bits (interrupt_enable start trace) (ier_bit Thre))
+    (is_pending Rda start trace && has_bits (interrupt_enable start trace) (ier_bit Rda))
 
 -- ---- what holds of a trace as a whole
 
@@ -122,7 +124,7 @@ abbrev pub WaitingBytesShow : (start : State) (trace : Trace) → Type 0
 WaitingBytesShow start trace =
     (after before : Trace) (entry : TraceEntry) → trace ≡ after ++ entry ∷ before
     → IsTrue (shows_waiting_bytes (kind_at start before entry.op) (held_bytes start before))
-    → NoneAcknowledges start acknowledges_rda after (entry ∷ before)
+    → NoneAcknowledges start (acknowledges Rda) after (entry ∷ before)
     → IsTrue (not_empty (held_bytes start trace))
     → IsTrue (has_bits (interrupt_enable start trace) (ier_bit Rda))
-    → IsTrue (rda_pending start trace)
+    → IsTrue (is_pending Rda start trace)

@@ -5,15 +5,15 @@ use Rattle.vm_superio.specs.declared.run.Asked.{Asked}
 use Rattle.vm_superio.specs.declared.run.Sent.{Sent}
 use Rattle.vm_superio.specs.Port.Bits.{joined, without, lsr_dr_bit}
 use Rattle.vm_superio.specs.Port.State.{State, not_empty}
-use Rattle.vm_superio.specs.Port.Registers.{register_at, identification_of, register_read}
+use Rattle.vm_superio.specs.Port.Registers.{Rda, Thre, register_at, identification_of, register_read}
 use Rattle.vm_superio.specs.Port.Operations.{Op, Read, Write, Enqueue, Restore, TraceEntry, Response, ByteRead, EnqueueOk, TriggerRefused, FifoFull, NoResponse, is_refused_once, is_lost, write_outcome, Trace}
 use Rattle.vm_superio.specs.Port.OpKinds.{sent_by}
 use Rattle.vm_superio.specs.History.Registers.{kind_at, line_control, modem_control, scratch, dlab, loopback, divisor_low, divisor_high, interrupt_enable, accepted_by, held_bytes}
-use Rattle.vm_superio.specs.History.Interrupts.{rda_pending, thre_pending}
+use Rattle.vm_superio.specs.History.Interrupts.{is_pending}
 
 -- IIR: 0x01 where nothing is pending, else 0x02 for THRE and 0x04 for RDA
 abbrev pub interrupt_identification : (start : State) (trace : Trace) → ℕ
-interrupt_identification start trace = identification_of (thre_pending start trace) (rda_pending start trace)
+interrupt_identification start trace = identification_of (is_pending Thre start trace) (is_pending Rda start trace)
 
 -- LSR with data ready set or cleared
 abbrev pub with_data_ready : (line_status : ℕ) (ready : Bool) → ℕ

@@ -1,40 +1,30 @@
 -- The laws that follow from the history alone, from any start.
-use Rattle.std.specs.Prelude.{◌≡◌, ◌↔◌, ◌⊎◌, ℕ, Bool, List, [], ◌∷◌, ◌++◌, IsTrue}
+use Rattle.std.specs.Prelude.{◌≡◌, ◌↔◌, ◌⊎◌, ℕ, List, [], ◌∷◌, ◌++◌, IsTrue}
 use Rattle.vm_superio.specs.declared.run.Asked.{Asked}
 use Rattle.vm_superio.specs.Port.Bits.{has_bits}
 use Rattle.vm_superio.specs.Port.State.{State}
-use Rattle.vm_superio.specs.Port.Registers.{Rda, Thre, iir_bit}
+use Rattle.vm_superio.specs.Port.Registers.{Condition, iir_bit}
 use Rattle.vm_superio.specs.Port.Operations.{Op, Restore, TraceEntry, Trace}
-use Rattle.vm_superio.specs.Port.OpKinds.{OpKind, is_iir_read}
 use Rattle.vm_superio.specs.Port.WriterLink.{bytes_taken_by_writer}
 use Rattle.vm_superio.specs.History.Registers.{accepted_bytes, taken_bytes, held_bytes}
-use Rattle.vm_superio.specs.History.Interrupts.{rda_raised, acknowledges_rda, rda_pending, thre_raised, thre_pending, is_well_formed, NoneAcknowledges, IsWithinBound, WaitingBytesShow}
+use Rattle.vm_superio.specs.History.Interrupts.{acknowledges, is_raised, is_pending, is_well_formed, NoneAcknowledges, IsWithinBound, WaitingBytesShow}
 use Rattle.vm_superio.specs.History.Reads.{guest_read, output, none_lost}
 
 -- ---- pending
 
 -- raised at some point, or pending at the start, and acknowledged at no later point
-abbrev pub PendingByPrefixes :
-    (start : State) (raises : Trace → TraceEntry → Bool) (acknowledges : OpKind → Bool) (first : Bool)
-    (trace : Trace) → Type 0
-PendingByPrefixes start raises acknowledges first trace =
+abbrev pub PendingByPrefixes : (condition : Condition) (start : State) (trace : Trace) → Type 0
+PendingByPrefixes condition start trace =
     ((after before : Trace) × (entry : TraceEntry) × (trace ≡ after ++ entry ∷ before)
-    × IsTrue (raises before entry) × NoneAcknowledges start acknowledges after (entry ∷ before))
-    ⊎ (IsTrue first × NoneAcknowledges start acknowledges trace [])
+    × IsTrue (is_raised condition start before entry)
+    × NoneAcknowledges start (acknowledges condition) after (entry ∷ before))
+    ⊎ (IsTrue (has_bits start.interrupt_identification (iir_bit condition))
+    × NoneAcknowledges start (acknowledges condition) trace [])
 
 -- the backward search finds what the sentence says
-pub record PendingAgrees (start : State) (trace : Trace) : Type 0 where
-  pub rda :
-      IsTrue (rda_pending start trace)
-      ↔ PendingByPrefixes start (rda_raised start) acknowledges_rda
-      (has_bits start.interrupt_identification (iir_bit Rda)) trace
-  pub thre :
-      IsTrue (thre_pending start trace)
-      ↔ PendingByPrefixes start (thre_raised start) is_iir_read
-      (has_bits start.interrupt_identification (iir_bit Thre)) trace
-
 abbrev pub PendingByPrefixesLaw : Type 0
-PendingByPrefixesLaw = (start : State) (trace : Trace) → PendingAgrees start trace
+PendingByPrefixesLaw = (condition : Condition) (start : State) (trace : Trace)
+    → IsTrue (is_pending condition start trace) ↔ PendingByPrefixes condition start trace
 
 -- ---- trigger calls
 
