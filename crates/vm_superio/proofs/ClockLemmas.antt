@@ -10,11 +10,12 @@ use Rattle.std.proofs.lemmas.Nat.Bits.{bit_at_or, bit_at-lt, bit_at-zero}
 use Rattle.vm_superio.specs.declared.rtc_pl031.RtcState.{RtcState}
 use Rattle.vm_superio.specs.declared.rtc_pl031.registers.ClockRegister.{ClockRegister}
 use Rattle.vm_superio.specs.declared.rtc_pl031.registers.ClockRegister.TheVariants.{Dr, Mr, Lr, Cr, Imsc, Ris, Mis, Icr, Id, Reserved}
-use Rattle.vm_superio.specs.Clock.Registers.{without_bits, Access, read, write, clock_register_at, host_time, guest_time, clock_register_read}
+use Rattle.vm_superio.specs.Port.Bits.{without}
+use Rattle.vm_superio.specs.Clock.Registers.{Access, read, write, clock_register_at, host_time, guest_time, clock_register_read}
 use Rattle.vm_superio.specs.Clock.Step.{after_write, clock_step, clock_response, state_after_accesses}
 use Rattle.vm_superio.specs.Clock.History.{clock_of_history, clock_history_response, counter, cleared_bits, cleared_by}
 use Rattle.vm_superio.specs.Clock.Laws.{GoesOnByHistory, is_cleared}
-use Rattle.vm_superio.proofs.ClockBits.{bit_at-without_bits, without_bits_twice}
+use Rattle.vm_superio.proofs.BitLemmas.{bit_at-without, without-twice}
 
 -- a write continues the history, by the register that it names
 goes_on-at : (start : RtcState) (trace : List Access) (offset value now : ℕ) (register : ClockRegister) → clock_register_at offset ≡ register → after_write (clock_of_history start trace) register value (host_time now) ≡ clock_of_history start (write offset value now ∷ trace)
@@ -25,7 +26,7 @@ goes_on-at start trace offset value now Cr at = grind (arith, common_steps)
 goes_on-at start trace offset value now Imsc at = grind (arith, common_steps)
 goes_on-at start trace offset value now Ris at = grind (arith, common_steps)
 goes_on-at start trace offset value now Mis at = grind (arith, common_steps)
-goes_on-at start trace offset value now Icr at = grind (arith, common_steps, without_bits_twice)
+goes_on-at start trace offset value now Icr at = grind (arith, common_steps, without-twice)
 goes_on-at start trace offset value now (Id byte) at = grind (arith, common_steps)
 goes_on-at start trace offset value now Reserved at = grind (arith, common_steps)
 
@@ -54,7 +55,7 @@ answers start trace (write offset value now) = refl
 begins : (start : RtcState) → start ≡ clock_of_history start []
 begins start =
     let no_offset : start.offset ≡ pos 0 +ℤ start.offset = omega (arith, ints) in
-    let none_cleared : start.ris ≡ without_bits start.ris 0 = omega (arith, and_zero_r start.ris) in
+    let none_cleared : start.ris ≡ without start.ris 0 = omega (arith, and_zero_r start.ris) in
     ap (λ offset. record start { offset = offset }) no_offset
     ∙ ap (λ ris. record start { offset = pos 0 +ℤ start.offset; ris = ris }) none_cleared
 
@@ -75,7 +76,7 @@ bit_at-cleared (access ∷ trace) bit =
 -- a raw bit is that of the start, unless an access of the past cleared it
 pub raw_bits : (start : RtcState) (trace : List Access) (bit : ℕ) → bit_at (clock_of_history start trace).ris bit ≡ (if is_cleared trace bit then 0 else bit_at start.ris bit)
 raw_bits start trace bit =
-    let left = bit_at-without_bits start.ris (cleared_bits trace) bit in
+    let left = bit_at-without start.ris (cleared_bits trace) bit in
     let gone = bit_at-cleared trace bit in
     let small = bit_at-lt start.ris bit in
     grind (arith, nat_tests)

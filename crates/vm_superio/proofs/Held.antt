@@ -136,16 +136,16 @@ ready_more s op asked ready =
     ∙ ap (λ bytes. with_data_ready s.line_status (not_empty bytes)) (sym same.in_buffer)
 
 -- the start's line status, with data ready as bytes are held now
-ready_after : (start : State) (trace : List TraceEntry) → start.line_status < 256
+ready_after : (start : State) (trace : List TraceEntry)
     → has_bits start.line_status 0x01 ≡ not_empty start.in_buffer
     → (state_after start trace).line_status
     ≡ with_data_ready start.line_status (not_empty (state_after start trace).in_buffer)
-ready_after start [] below right =
-    sym (data_ready_right start.line_status below) ∙ ap (with_data_ready start.line_status) right
-ready_after start (entry ∷ trace) below right =
+ready_after start [] right =
+    sym (data_ready_right start.line_status) ∙ ap (with_data_ready start.line_status) right
+ready_after start (entry ∷ trace) right =
     let s = state_after start trace in
-    let before = ready_after start trace below right in
-    let again = λ (ready : Bool). data_ready_twice start.line_status (not_empty s.in_buffer) ready below in
+    let before = ready_after start trace right in
+    let again = λ (ready : Bool). data_ready_twice start.line_status (not_empty s.in_buffer) ready in
     let ready : IsReady s =
     before ∙ sym (again (not_empty s.in_buffer))
     ∙ ap (λ byte. with_data_ready byte (not_empty s.in_buffer)) (sym before) in
@@ -153,6 +153,6 @@ ready_after start (entry ∷ trace) below right =
     ready_more s entry.op entry.asked ready ∙ ap (λ byte. with_data_ready byte now) before ∙ again now
 
 pub line_status_law : LineStatusLaw
-line_status_law start trace below right =
-    ready_after start trace below right
+line_status_law start trace right =
+    ready_after start trace right
     ∙ ap (λ bytes. with_data_ready start.line_status (not_empty bytes)) (held_bytes_law start trace)

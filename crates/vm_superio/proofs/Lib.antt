@@ -2,7 +2,7 @@ mod Asks
 mod Bounds
 mod ByKind
 mod Bytes
-pub mod ClockBits
+pub mod BitLemmas
 mod ClockExamples
 pub mod ClockLemmas
 mod Examples

@@ -11,7 +11,7 @@ use Rattle.vm_superio.proofs.Turned.{turned_bits_law}
 -- a step calls the trigger once for each pending bit that it turns on
 pub answer_count-step :
     {T E EV W : Type 0} (links : PortLinks T E EV W) (op : Op) (asked : Asked) (sent : Sent) (answered : Response) (refusal : Option E) (old new : Port T EV W) →
-    old.state.interrupt_identification < 256 → IsPortStep links op asked sent answered refusal old new →
+    IsPortStep links op asked sent answered refusal old new →
     answer_count asked ≡ turned_on_count old.state new.state
-answer_count-step links op asked sent answered refusal old new byte h =
-    turned_bits_law old.state op asked sent byte h.admissible ∙ ap (turned_on_count old.state) (sym h.state)
+answer_count-step links op asked sent answered refusal old new h =
+    turned_bits_law old.state op asked sent h.admissible ∙ ap (turned_on_count old.state) (sym h.state)

@@ -327,12 +327,12 @@ module _ {T E EV W : Type 0} (links : PortLinks T E EV W) where
 
   pub HistoryTheorem-run :
       (start : Port T EV W) (calls : List (Call T EV W)) (records : List (Done T EV W E)) (end : Port T EV W) →
-      start.state.line_status < 256 → IsRun links start.state (first_segment start) calls records end →
+      IsRun links start.state (first_segment start) calls records end →
       Coherent start.state → HistoryTheorem links.trigger links.contents start calls records end
-  HistoryTheorem-run start calls records end below run coherent =
+  HistoryTheorem-run start calls records end run coherent =
       let s = start.state in
       let trace = trace_of records in
-      let agrees = whole_run_law s end.state (entries_of records) coherent below (StepsFollow-run calls records s (first_segment start) end run) in
+      let agrees = whole_run_law s end.state (entries_of records) coherent (StepsFollow-run calls records s (first_segment start) end run) in
       let of = RecordsOf-run calls records s (first_segment start) end run in
       let reads = ReadsAre-run s [] calls records of agrees.responses in
       record {

@@ -119,7 +119,7 @@ coherent_after start (entry ∷ trace) coherent =
 -- ---- the state is described, and the answers are the replies
 
 pub state_law : StateLaw
-state_law start trace coherent below =
+state_law start trace coherent =
     let registers = register_law start trace in
     let interrupts = interrupt_law start trace coherent.thre coherent.rda coherent.identification in
     λ i. record {
@@ -128,7 +128,7 @@ state_law start trace coherent below =
       interrupt_enable = registers.interrupt_enable i;
       interrupt_identification = interrupts.pending i;
       line_control = registers.line_control i;
-      line_status = line_status_law start trace below coherent.data_ready i;
+      line_status = line_status_law start trace coherent.data_ready i;
       modem_control = registers.modem_control i;
       modem_status = registers.modem_status i;
       scratch = registers.scratch i;
@@ -155,32 +155,32 @@ answer_told start trace (Enqueue bytes) asked outcome = enqueue_told (loopback s
 answer_told start trace Restore asked outcome = refl
 
 pub answer_law : ResponseLaw
-answer_law start trace entry coherent below =
-    ap (λ (s : State). step_response s entry.op entry.asked entry.sent) (state_law start trace coherent below)
+answer_law start trace entry coherent =
+    ap (λ (s : State). step_response s entry.op entry.asked entry.sent) (state_law start trace coherent)
     ∙ answer_told start trace entry.op entry.asked entry.sent
 
 -- ---- a whole run
 
 run_from : (start : State) (trace : List TraceEntry) (calls : List (TraceEntry × Response)) (end : State) → Coherent start
-    → start.line_status < 256 → IsTrue (is_well_formed start trace) → StepsFollow (state_after start trace) calls end
+    → IsTrue (is_well_formed start trace) → StepsFollow (state_after start trace) calls end
     → RunAgrees start trace calls end
-run_from start trace [] end coherent below well_formed follow = record {
+run_from start trace [] end coherent well_formed follow = record {
   well_formed = well_formed;
   responses = tt;
-  state = follow ∙ state_law start trace coherent below;
+  state = follow ∙ state_law start trace coherent;
   coherent = subst Coherent (sym follow) (coherent_after start trace coherent);
 }
-run_from start trace (call ∷ later) end coherent below well_formed follow =
+run_from start trace (call ∷ later) end coherent well_formed follow =
     let interrupts = interrupt_law start trace coherent.thre coherent.rda coherent.identification in
     let here = sym (interrupts.calls call.0) ∙ follow.0 in
     let all = both_true here well_formed in
-    let rest = run_from start (call.0 ∷ trace) later end coherent below all follow.2 in
+    let rest = run_from start (call.0 ∷ trace) later end coherent all follow.2 in
     record {
       well_formed = rest.well_formed;
-      responses = (follow.1 ∙ answer_law start trace call.0 coherent below, rest.responses);
+      responses = (follow.1 ∙ answer_law start trace call.0 coherent, rest.responses);
       state = rest.state;
       coherent = rest.coherent;
     }
 
 pub whole_run_law : WholeRunLaw
-whole_run_law start end calls coherent below follow = run_from start [] calls end coherent below refl follow
+whole_run_law start end calls coherent follow = run_from start [] calls end coherent refl follow

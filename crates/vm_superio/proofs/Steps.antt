@@ -122,9 +122,9 @@ calls_at_place start trace op =
 -- ---- the law
 
 pub step_law : StepLaw
-step_law start trace coherent below =
+step_law start trace coherent =
     let interrupts = interrupt_law start trace coherent.thre coherent.rda coherent.identification in
-    let here = state_law start trace coherent below in
+    let here = state_law start trace coherent in
     record {
       calls = calls_at_place start trace;
       restoring = ap restore_calls (sym here) ∙ interrupts.restoring;
@@ -132,10 +132,10 @@ step_law start trace coherent below =
           let outcome_fits = (and_parts (answers_all (step_calls (state_of_history start trace) entry.op) entry.asked)
           (beq (is_sent entry.sent) (sends_byte (state_of_history start trace) entry.op)) fits).1 in
           let goes_on = ap (λ (s : State). step s entry.op entry.asked) (sym here)
-          ∙ state_law start (entry ∷ trace) coherent below in
+          ∙ state_law start (entry ∷ trace) coherent in
           record {
             response = ap (λ (s : State). step_response s entry.op entry.asked entry.sent) (sym here)
-                ∙ answer_law start trace entry coherent below;
+                ∙ answer_law start trace entry coherent;
             state = goes_on;
             events = told_at_place start trace entry.op entry.asked entry.sent goes_on outcome_fits;
             output = λ kept.

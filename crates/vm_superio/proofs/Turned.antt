@@ -16,58 +16,70 @@ use Rattle.vm_superio.specs.Step.Admissible.{kind_in_state, arrival_calls, kind_
 use Rattle.vm_superio.specs.Step.Raising.{bytes_that_fit, becomes_pending, raise, receive_bytes}
 use Rattle.vm_superio.specs.Laws.OneCall.{TurnedBitsLaw}
 use Rattle.vm_superio.proofs.Asks.{answers_counted}
-use Rattle.vm_superio.proofs.Bytes.{all_below, holds_below}
+use Rattle.vm_superio.proofs.BitLemmas.{and-without, and-without-apart}
+use Rattle.std.proofs.lemmas.Nat.{and_or_self, and_or_apart}
 use Rattle.vm_superio.proofs.ByKind.{by_kind, next_by_kind}
 
--- ---- the bits of each identification, computed for all
-
-beq-eq : (one other : Bool) → beq one other ≡ true → one ≡ other
-beq-eq true true e = refl
-beq-eq true false e = absurd (false≢true e)
-beq-eq false true e = absurd (false≢true e)
-beq-eq false false e = refl
+-- ---- the bits of an identification
 
 -- how many of the two bits are turned
 abbrev count : ℕ → ℕ → ℕ
 count old new = one_if (turns_on 0x04 old new) + one_if (turns_on 0x02 old new)
 
-module _ (old : ℕ) (below : old < 256) where
-  -- neither a data read nor a read of the identification turns any
+-- a bit that stays is not turned
+kept : (bit : Bool) → (not bit && bit) ≡ false
+kept true = refl
+kept false = refl
+
+no_turn : (old_rda old_thre new_rda new_thre : Bool) → new_rda ≡ false → new_thre ≡ old_thre
+    → one_if (not old_rda && new_rda) + one_if (not old_thre && new_thre) ≡ 0
+no_turn old_rda old_thre new_rda new_thre rda thre =
+    ap (λ bit. one_if (not old_rda && bit) + one_if (not old_thre && new_thre)) rda
+    ∙ ap (λ bit. one_if (not old_rda && false) + one_if (not old_thre && bit)) thre
+    ∙ ap (λ bit. one_if bit + one_if (not old_thre && old_thre)) (and-false (not old_rda))
+    ∙ ap (λ bit. 0 + one_if bit) (kept old_thre)
+
+module _ (old : ℕ) where
+  without_thre : has_bits (without old 0x01) 0x02 ≡ has_bits old 0x02
+  unfolding has_bits
+  without_thre = ap (λ n. n == 0x02) (and-without-apart old 0x01 0x02 refl)
+
+  without_rda : has_bits (without old 0x01) 0x04 ≡ has_bits old 0x04
+  unfolding has_bits
+  without_rda = ap (λ n. n == 0x04) (and-without-apart old 0x01 0x04 refl)
+
+  -- neither an RBR read nor an IIR read turns any
+  data_read_turns_at : (empty : Bool) → count old (if empty then 1 else without old 0x04) ≡ 0
+  unfolding has_bits
+  data_read_turns_at true =
+      ap (λ bit. one_if bit + one_if (not (has_bits old 0x02) && false)) (and-false (not (has_bits old 0x04)))
+      ∙ ap (λ bit. 0 + one_if bit) (and-false (not (has_bits old 0x02)))
+  data_read_turns_at false =
+      no_turn (has_bits old 0x04) (has_bits old 0x02) _ _ (ap (λ n. n == 0x04) (and-without old 0x04))
+      (ap (λ n. n == 0x02) (and-without-apart old 0x04 0x02 refl))
+
   data_read_turns : count old (let new = without old 0x04 in if new == 0 then 1 else new) ≡ 0
-  unfolding has_bits masked all_below
-  data_read_turns =
-      eqb-true _ _
-      (holds_below 256 (λ n. count n (let new = without n 0x04 in if new == 0 then 1 else new) == 0) refl old below)
+  data_read_turns = data_read_turns_at (without old 0x04 == 0)
 
   identification_read_turns : count old 1 ≡ 0
-  unfolding has_bits all_below
-  identification_read_turns = eqb-true _ _ (holds_below 256 (λ n. count n 1 == 0) refl old below)
+  identification_read_turns = data_read_turns_at true
 
-  -- asking for the receive condition sets its bit and leaves the other
+  -- raising RDA sets its bit and leaves the other
   receive_sets : has_bits (joined (without old 0x01) 0x04) 0x04 ≡ true
-  unfolding has_bits masked joined all_below
-  receive_sets = holds_below 256 (λ n. has_bits (joined (without n 0x01) 0x04) 0x04) refl old below
+  unfolding has_bits joined
+  receive_sets = ap (λ n. n == 0x04) (and_or_self 0x04 (without old 0x01))
 
   receive_leaves : has_bits (joined (without old 0x01) 0x04) 0x02 ≡ has_bits old 0x02
-  unfolding has_bits masked joined all_below
-  receive_leaves =
-      beq-eq _ _ (holds_below 256
-      (λ n. beq (has_bits (joined (without n 0x01) 0x04) 0x02) (has_bits n 0x02)) refl old below)
+  unfolding has_bits joined
+  receive_leaves = ap (λ n. n == 0x02) (and_or_apart 0x02 (without old 0x01) 0x04 refl) ∙ without_thre
 
   transmit_sets : has_bits (joined (without old 0x01) 0x02) 0x02 ≡ true
-  unfolding has_bits masked joined all_below
-  transmit_sets = holds_below 256 (λ n. has_bits (joined (without n 0x01) 0x02) 0x02) refl old below
+  unfolding has_bits joined
+  transmit_sets = ap (λ n. n == 0x02) (and_or_self 0x02 (without old 0x01))
 
   transmit_leaves : has_bits (joined (without old 0x01) 0x02) 0x04 ≡ has_bits old 0x04
-  unfolding has_bits masked joined all_below
-  transmit_leaves =
-      beq-eq _ _ (holds_below 256
-      (λ n. beq (has_bits (joined (without n 0x01) 0x02) 0x04) (has_bits n 0x04)) refl old below)
-
-  -- a byte stays one
-  receive_below : joined (without old 0x01) 0x04 < 256
-  unfolding masked joined all_below
-  receive_below = ltb-true _ _ (holds_below 256 (λ n. nat_lt (joined (without n 0x01) 0x04) 256) refl old below)
+  unfolding has_bits joined
+  transmit_leaves = ap (λ n. n == 0x04) (and_or_apart 0x04 (without old 0x01) 0x02 refl) ∙ without_rda
 
   -- ---- asking, where the identification is any byte
 
@@ -92,17 +104,9 @@ module _ (old : ℕ) (below : old < 256) where
   transmit_other true = transmit_leaves
   transmit_other false = refl
 
-  still_below : (new : Bool) → (if new then joined (without old 0x01) 0x04 else old) < 256
-  still_below true = receive_below
-  still_below false = below
-
 -- ---- counts
 
--- a bit that stays is not turned, and one that is asked for is turned where it was clear
-kept : (bit : Bool) → (not bit && bit) ≡ false
-kept true = refl
-kept false = refl
-
+-- a bit that is raised is turned where it was clear
 set_once : (enabled bit : Bool) → (not bit && (enabled || bit)) ≡ (enabled && not bit)
 set_once true true = refl
 set_once true false = refl
@@ -126,55 +130,50 @@ none_turned old =
     sym (ap (λ turned. one_if turned + one_if (turns_on 0x02 old old)) (kept (has_bits old 0x04))
     ∙ ap (λ turned. 0 + one_if turned) (kept (has_bits old 0x02)))
 
-receive_turned : (enable old : ℕ) → old < 256
+receive_turned : (enable old : ℕ)
     → one_if (becomes_pending Rda enable old) ≡ count old (raise Rda enable old)
-receive_turned enable old below =
+receive_turned enable old =
     let enabled = has_bits enable 0x01 in
     let new = raise Rda enable old in
     let bit = has_bits old 0x04 in
     sym
-    (ap (λ after. one_if (not bit && after) + one_if (turns_on 0x02 old new)) (receive_asked old below enabled bit refl)
+    (ap (λ after. one_if (not bit && after) + one_if (turns_on 0x02 old new)) (receive_asked old enabled bit refl)
     ∙ ap (λ turned. one_if turned + one_if (turns_on 0x02 old new)) (set_once enabled bit)
     ∙ ap (λ after. one_if (enabled && not bit) + one_if (not (has_bits old 0x02) && after))
-    (receive_other old below (enabled && not bit))
+    (receive_other old (enabled && not bit))
     ∙ ap (λ turned. one_if (enabled && not bit) + one_if turned) (kept (has_bits old 0x02))
     ∙ add-zero _)
 
-transmit_turned : (enable old : ℕ) → old < 256
+transmit_turned : (enable old : ℕ)
     → one_if (becomes_pending Thre enable old) ≡ count old (raise Thre enable old)
-transmit_turned enable old below =
+transmit_turned enable old =
     let enabled = has_bits enable 0x02 in
     let new = raise Thre enable old in
     let bit = has_bits old 0x02 in
     sym
     (ap (λ after. one_if (not (has_bits old 0x04) && after) + one_if (turns_on 0x02 old new))
-    (transmit_other old below (enabled && not bit))
+    (transmit_other old (enabled && not bit))
     ∙ ap (λ turned. one_if turned + one_if (turns_on 0x02 old new)) (kept (has_bits old 0x04))
-    ∙ ap (λ after. 0 + one_if (not bit && after)) (transmit_asked old below enabled bit refl)
+    ∙ ap (λ after. 0 + one_if (not bit && after)) (transmit_asked old enabled bit refl)
     ∙ ap (λ turned. 0 + one_if turned) (set_once enabled bit)
     ∙ zero-add _)
 
 -- an interrupt-enable write, first for the receive condition
-module _ (enable old : ℕ) (below : old < 256) where
+module _ (enable old : ℕ) where
   first : Bool → ℕ
   first held = if held then raise Rda enable old else old
-
-  first_below : (held : Bool) → first held < 256
-  unfolding first
-  first_below true = still_below old below (becomes_pending Rda enable old)
-  first_below false = below
 
   first_turns : (held : Bool) → turns_on 0x04 old (first held) ≡ (held && becomes_pending Rda enable old)
   unfolding first
   first_turns true =
       ap (λ after. not (has_bits old 0x04) && after)
-      (receive_asked old below (has_bits enable 0x01) (has_bits old 0x04) refl)
+      (receive_asked old (has_bits enable 0x01) (has_bits old 0x04) refl)
       ∙ set_once (has_bits enable 0x01) (has_bits old 0x04)
   first_turns false = kept (has_bits old 0x04)
 
   first_leaves : (held : Bool) → has_bits (first held) 0x02 ≡ has_bits old 0x02
   unfolding first
-  first_leaves true = receive_other old below (becomes_pending Rda enable old)
+  first_leaves true = receive_other old (becomes_pending Rda enable old)
   first_leaves false = refl
 
   -- and then for the transmitter condition, unless the trigger refused
@@ -185,7 +184,7 @@ module _ (enable old : ℕ) (below : old < 256) where
   unfolding second
   second_leaves held true = refl
   second_leaves held false =
-      transmit_other (first held) (first_below held) (becomes_pending Thre enable (first held))
+      transmit_other (first held) (becomes_pending Thre enable (first held))
 
   second_turns : (held refused : Bool)
       → turns_on 0x02 old (second held refused) ≡ (becomes_pending Thre enable (first held) && not refused)
@@ -196,7 +195,7 @@ module _ (enable old : ℕ) (below : old < 256) where
   second_turns held false =
       let bit = has_bits (first held) 0x02 in
       ap (λ before. not before && has_bits (raise Thre enable (first held)) 0x02) (sym (first_leaves held))
-      ∙ ap (λ after. not bit && after) (transmit_asked (first held) (first_below held) (has_bits enable 0x02) bit refl)
+      ∙ ap (λ after. not bit && after) (transmit_asked (first held) (has_bits enable 0x02) bit refl)
       ∙ set_once (has_bits enable 0x02) bit
       ∙ sym (and-true (becomes_pending Thre enable (first held)))
 
@@ -213,35 +212,35 @@ module _ (enable old : ℕ) (below : old < 256) where
 
 -- ---- one act
 
-received_turned : (new : List ℕ) (s : State) (asked : Asked) → s.interrupt_identification < 256
+received_turned : (new : List ℕ) (s : State) (asked : Asked)
     → IsTrue (answers_all (arrival_calls new s) asked)
     → answer_count asked ≡ count s.interrupt_identification (receive_bytes new s).interrupt_identification
-received_turned [] s asked below fit = no_answers asked fit ∙ none_turned s.interrupt_identification
-received_turned (byte ∷ bytes) s asked below fit =
-    one_answer _ asked fit ∙ receive_turned s.interrupt_enable s.interrupt_identification below
+received_turned [] s asked fit = no_answers asked fit ∙ none_turned s.interrupt_identification
+received_turned (byte ∷ bytes) s asked fit =
+    one_answer _ asked fit ∙ receive_turned s.interrupt_enable s.interrupt_identification
 
-turned_by_kind : (k : OpKind) (asked : Asked) (s : State) → s.interrupt_identification < 256
+turned_by_kind : (k : OpKind) (asked : Asked) (s : State)
     → IsTrue (answers_all (kind_calls k s) asked)
     → answer_count asked ≡ count s.interrupt_identification (by_kind k asked s).interrupt_identification
 unfolding first second
-turned_by_kind RbrRead asked s below fit =
-    no_answers asked fit ∙ sym (data_read_turns s.interrupt_identification below)
-turned_by_kind IirRead asked s below fit =
-    no_answers asked fit ∙ sym (identification_read_turns s.interrupt_identification below)
-turned_by_kind (IerWrite value) asked s below fit =
+turned_by_kind RbrRead asked s fit =
+    no_answers asked fit ∙ sym (data_read_turns s.interrupt_identification)
+turned_by_kind IirRead asked s fit =
+    no_answers asked fit ∙ sym (identification_read_turns s.interrupt_identification)
+turned_by_kind (IerWrite value) asked s fit =
     let enable = masked value 0x0F in
     let old = s.interrupt_identification in
     let held = not_empty s.in_buffer in
     let call = held && becomes_pending Rda enable old in
     eqb-true _ _
-    (sym (answers_counted call (becomes_pending Thre enable (first enable old below held)) asked) ∙ fit)
-    ∙ enable_turned enable old below held (call && is_refused_once asked)
-turned_by_kind (ThrWrite value) asked s below fit =
-    one_answer _ asked fit ∙ transmit_turned s.interrupt_enable s.interrupt_identification below
-turned_by_kind (Arrival bytes) asked s below fit = received_turned (bytes_that_fit s.in_buffer bytes) s asked below fit
-turned_by_kind Other asked s below fit = no_answers asked fit ∙ none_turned s.interrupt_identification
+    (sym (answers_counted call (becomes_pending Thre enable (first enable old held)) asked) ∙ fit)
+    ∙ enable_turned enable old held (call && is_refused_once asked)
+turned_by_kind (ThrWrite value) asked s fit =
+    one_answer _ asked fit ∙ transmit_turned s.interrupt_enable s.interrupt_identification
+turned_by_kind (Arrival bytes) asked s fit = received_turned (bytes_that_fit s.in_buffer bytes) s asked fit
+turned_by_kind Other asked s fit = no_answers asked fit ∙ none_turned s.interrupt_identification
 
 pub turned_bits_law : TurnedBitsLaw
-turned_bits_law s op asked outcome below fit =
-    turned_by_kind (kind_in_state s op) asked s below (and_parts (answers_all (step_calls s op) asked) _ fit).0
+turned_bits_law s op asked outcome fit =
+    turned_by_kind (kind_in_state s op) asked s (and_parts (answers_all (step_calls s op) asked) _ fit).0
     ∙ ap (count s.interrupt_identification) (sym (next_by_kind s op asked).interrupt_identification)

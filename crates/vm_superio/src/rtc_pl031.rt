@@ -108,7 +108,7 @@ impl RtcState {
 
     /// Writes `value` to `register` where the host's time is `time`, and answers whether the register takes a write.
     /// Where it takes none nothing changes.
-    #[tactic(auto, using(crate::proofs::ClockBits::and_not_is_without_bits))]
+    #[tactic(auto, using(crate::proofs::BitLemmas::and_not_is_without))]
     fn store(&mut self, register: ClockRegister, value: u32, time: u32) -> bool
         ensures state { self.new ≡ after_write self.old register value time }
         ensures taken { result ≡ is_writable register }

@@ -128,8 +128,6 @@ pub fn run<T: Trigger + Drop, EV: SerialEvents + Drop, W: Write + Drop>(
         HistoryTheorem T.link W.contents serial.old calls.items done.items serial.new) }
     ensures refused { OnErr result (serial.new ≡ serial.old) }
 {
-    // For the proof alone: the laws start from a line status that is a byte.
-    let _line_status = serial.line_status();
     let mut done = Vec::with_capacity(alloc, calls.len())?;
     let mut calls = VecDeque::from_vec(calls);
     while let Some(call) = calls.pop_front() {

@@ -313,14 +313,6 @@ impl<T: Trigger, EV: SerialEvents, W: Write> Serial<T, EV, W> {
         FIFO_SIZE - self.in_buffer.len()
     }
 
-    /// The line status register, for runs: their laws start from a byte.
-    pub(crate) fn line_status(&self) -> u8
-        ensures value { result ≡ self.now.state.line_status }
-        ensures byte { result < 256 }
-    {
-        self.line_status
-    }
-
     /// Hands bytes to the guest: the first of them, as many as there is room for. Answers how many.
     ///
     /// In loopback nothing is accepted, and the answer is 0.

@@ -78,7 +78,3 @@ clock_register_read Reserved guest state = None
 abbrev pub bytes_left : (response : Option ℕ) (bytes : List ℕ) → List ℕ
 bytes_left (Some number) bytes = to_le_bytes w32 number
 bytes_left None bytes = bytes
-
--- a number's bits without those that another number has: `number & !others`
-abbrev pub without_bits : (number others : ℕ) → ℕ
-without_bits number others = number - bit_and number others

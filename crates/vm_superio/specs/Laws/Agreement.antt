@@ -43,7 +43,7 @@ HeldBytesLaw = (start : State) (trace : Trace) → (state_after start trace).in_
 
 -- its LSR, from a start whose LSR is a byte that shows whether bytes are held
 abbrev pub LineStatusLaw : Type 0
-LineStatusLaw = (start : State) (trace : Trace) → start.line_status < 256
+LineStatusLaw = (start : State) (trace : Trace)
     → has_bits start.line_status lsr_dr_bit ≡ not_empty start.in_buffer
     → (state_after start trace).line_status ≡ line_status start trace
 
@@ -66,12 +66,12 @@ CoherenceLaw = (s : State) (op : Op) (asked : Asked) → Coherent s → Coherent
 
 -- from a coherent start the state is the one of the history
 abbrev pub StateLaw : Type 0
-StateLaw = (start : State) (trace : Trace) → Coherent start → start.line_status < 256
+StateLaw = (start : State) (trace : Trace) → Coherent start
     → state_after start trace ≡ state_of_history start trace
 
 -- and a call responds as the history says: a read with the guest read
 abbrev pub ResponseLaw : Type 0
-ResponseLaw = (start : State) (trace : Trace) (entry : TraceEntry) → Coherent start → start.line_status < 256
+ResponseLaw = (start : State) (trace : Trace) (entry : TraceEntry) → Coherent start
     → step_response (state_after start trace) entry.op entry.asked entry.sent
     ≡ history_response start trace entry.op entry.asked entry.sent
 
@@ -98,7 +98,7 @@ pub record PrefixAgrees (start : State) (trace : Trace) : Type 0 where
       → StepAgrees start trace entry
 
 abbrev pub StepLaw : Type 0
-StepLaw = (start : State) (trace : Trace) → Coherent start → start.line_status < 256
+StepLaw = (start : State) (trace : Trace) → Coherent start
     → PrefixAgrees start trace
 
 -- ---- a whole run
@@ -120,5 +120,5 @@ pub record RunAgrees
   pub coherent : Coherent end
 
 abbrev pub WholeRunLaw : Type 0
-WholeRunLaw = (start end : State) (calls : List (TraceEntry × Response)) → Coherent start → start.line_status < 256
+WholeRunLaw = (start end : State) (calls : List (TraceEntry × Response)) → Coherent start
     → StepsFollow start calls end → RunAgrees start [] calls end

@@ -31,7 +31,7 @@ EventsLaw = (s : State) (op : Op) (asked : Asked) (sent : Sent) → IsTrue (is_a
 
 -- the trigger is called once for each of the two pending bits of IIR that the call turns from clear to set
 abbrev pub TurnedBitsLaw : Type 0
-TurnedBitsLaw = (s : State) (op : Op) (asked : Asked) (sent : Sent) → s.interrupt_identification < 256
+TurnedBitsLaw = (s : State) (op : Op) (asked : Asked) (sent : Sent)
     → IsTrue (is_admissible s op asked sent)
     → answer_count asked ≡ turned_on_count s (step s op asked)
 

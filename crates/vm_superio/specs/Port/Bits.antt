@@ -13,9 +13,9 @@ masked byte bits = bit_and byte bits
 unfoldable pub joined : (byte bits : ℕ) → ℕ
 joined byte bits = bit_or byte bits
 
--- the byte with these bits cleared
+-- the byte, or any number, with these bits cleared: `byte & !bits`
 abbrev pub without : (byte bits : ℕ) → ℕ
-without byte bits = masked byte (0xFF - bits)
+without byte bits = byte - bit_and byte bits
 
 -- LCR: the divisor latch is at offsets 0 and 1
 abbrev pub lcr_dlab_bit : ℕ

@@ -34,10 +34,11 @@ pub(super) fn masked(byte: u8, bits: u8) -> u8
 }
 
 /// The byte with these bits cleared.
+#[tactic(auto, using(crate::proofs::BitLemmas::and_not_is_without_byte))]
 pub(super) fn without(byte: u8, bits: u8) -> u8
     ensures { result ≡ without byte bits }
 {
-    masked(byte, !bits)
+    byte & !bits
 }
 
 /// The modem status as it is read: in loopback its four high bits show the outputs of the modem control, DTR as DSR,

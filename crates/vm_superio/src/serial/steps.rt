@@ -242,12 +242,9 @@ impl<T: Trigger, EV: SerialEvents, W: Write> Serial<T, EV, W> {
 
     /// `write`, with what it asked and sent.
     pub(crate) fn traced_write(&mut self, offset: u8, value: u8) -> Traced<Result<(), Error<T::E>>>
-        ensures step { IsPortStep (port_links T.link EV.link W.contents) (Write offset value) result.asked result.sent (write_response result.reply)
+        ensures { IsPortStep (port_links T.link EV.link W.contents) (Write offset value) result.asked result.sent (write_response result.reply)
             (refusal_in_result result.reply) self.old self.new }
-        ensures byte { self.old.state.interrupt_identification < 256 }
     {
-        // No effect at run time. The proof takes from this read that the identification is a byte.
-        let _identification = self.interrupt_identification;
         let register = Register::at(has_bits(self.line_control, LCR_DLAB_BIT), offset);
         let (answers, fate) = self.write_register(register, value);
         let asked = answers.asked();
@@ -261,12 +258,9 @@ impl<T: Trigger, EV: SerialEvents, W: Write> Serial<T, EV, W> {
 
     /// `enqueue_raw_bytes`, with what it asked and sent.
     pub(crate) fn traced_enqueue(&mut self, input: &[u8]) -> Traced<Result<usize, Error<T::E>>>
-        ensures step { IsPortStep (port_links T.link EV.link W.contents) (Enqueue input.now) result.asked result.sent (enqueue_response result.reply)
+        ensures { IsPortStep (port_links T.link EV.link W.contents) (Enqueue input.now) result.asked result.sent (enqueue_response result.reply)
             (refusal_in_result result.reply) self.old self.new }
-        ensures byte { self.old.state.interrupt_identification < 256 }
     {
-        // No effect at run time. The proof takes from this read that the identification is a byte.
-        let _identification = self.interrupt_identification;
         if has_bits(self.modem_control, MCR_LOOP_BIT) || input.is_empty() {
             return Traced {
                 reply: Ok(0),

@@ -1,5 +1,5 @@
 -- A call that was made goes from the run that is left to the run so far.
-use Rattle.std.proofs.Common.{◌<◌, append_assoc, append-nil, ◌∷◌, [], arith}
+use Rattle.std.proofs.Common.{append_assoc, append-nil, ◌∷◌, [], arith}
 use Rattle.std.proofs.lemmas.List.{nil_from_length}
 use Rattle.vm_superio.specs.Port.WriterLink.{port_links}
 use Rattle.vm_superio.specs.Run.Segments.{first_segment}
@@ -59,6 +59,4 @@ returns-clause-run g c =
 pub returns-clause-history : goal.returns-clause-history
 returns-clause-history g c =
     let links = port_links g.T.Trigger.link g.EV.SerialEvents.link g.W.Write.contents in
-    let status = c.line_status-line_status.ensures in
-    let below : c.args.serial.now.state.line_status < 256 = rw (← status.value) status.byte in
-    HistoryTheorem-run links c.args.serial.now c.args.calls.items c.loop-call.done.items c.loop-call.serial below (returns-clause-run g c)
+    HistoryTheorem-run links c.args.serial.now c.args.calls.items c.loop-call.done.items c.loop-call.serial (returns-clause-run g c)

@@ -12,10 +12,10 @@ returns-clause-step g c =
     record {
       asked = call.result.asked;
       sent = call.result.sent;
-      step = call.ensures.step;
-      calls = answer_count-step links _ _ _ _ _ _ _ call.ensures.byte call.ensures.step;
+      step = call.ensures;
+      calls = answer_count-step links _ _ _ _ _ _ _ call.ensures;
     }
 
 pub returns-clause-coherent : goal.returns-clause-coherent
 returns-clause-coherent g c = λ before.
-    rw c.traced_enqueue.ensures.step.state (coherence_law c.args.self.now.state (Enqueue c.args.input.now) c.traced_enqueue.result.asked before)
+    rw c.traced_enqueue.ensures.state (coherence_law c.args.self.now.state (Enqueue c.args.input.now) c.traced_enqueue.result.asked before)
