@@ -1,9 +1,9 @@
 -- How a worked example is computed: its calls with their answers, once by the call cases and once by the history.
 use Rattle.std.proofs.Common.{◌++◌, ◌≡◌, ℕ, Bool, true, List, [], ◌∷◌, map}
-use Rattle.vm_superio.specs.declared.run.Asked.{Asked}
-use Rattle.vm_superio.specs.declared.run.Asked.TheVariants.{Nothing}
-use Rattle.vm_superio.specs.declared.run.Sent.{Sent}
-use Rattle.vm_superio.specs.declared.run.Sent.TheVariants as sent
+use Rattle.vm_superio.specs.declared.trace.Asked.{Asked}
+use Rattle.vm_superio.specs.declared.trace.Asked.TheVariants.{Nothing}
+use Rattle.vm_superio.specs.declared.trace.Sent.{Sent}
+use Rattle.vm_superio.specs.declared.trace.Sent.TheVariants as sent
 use Rattle.vm_superio.specs.Port.State.{State}
 use Rattle.vm_superio.specs.Port.Registers.{Condition}
 use Rattle.vm_superio.specs.Port.Operations.{Event, Read, Write, Enqueue, Restore, TraceEntry, Response, ByteRead, WriteOk, NoResponse}

@@ -4,7 +4,7 @@ use Rattle.std.specs.Cmp.Derive.{both_true}
 use Rattle.std.proofs.lemmas.Bool.{and_parts, false≢true}
 use Rattle.std.specs.Prelude.{IsTrue, ◌⊎◌}
 use Rattle.std.specs.Bool.{IsFalse}
-use Rattle.vm_superio.specs.declared.run.Asked.{Asked}
+use Rattle.vm_superio.specs.declared.trace.Asked.{Asked}
 use Rattle.vm_superio.specs.Port.State.{State, not_empty}
 use Rattle.vm_superio.specs.Port.Bits.{has_bits}
 use Rattle.vm_superio.specs.Port.Operations.{TraceEntry}

@@ -1,7 +1,7 @@
 -- What a step of a port states of the trigger's calls.
 use Rattle.std.proofs.Common.{◌≡◌, ◌<◌, Option, ap, sym, ◌∙◌}
-use Rattle.vm_superio.specs.declared.run.Asked.{Asked}
-use Rattle.vm_superio.specs.declared.run.Sent.{Sent}
+use Rattle.vm_superio.specs.declared.trace.Asked.{Asked}
+use Rattle.vm_superio.specs.declared.trace.Sent.{Sent}
 use Rattle.vm_superio.specs.Port.Operations.{Op, Response, answer_count}
 use Rattle.vm_superio.specs.Port.WriterLink.{PortLinks}
 use Rattle.vm_superio.specs.Port.Model.{Port}

@@ -3,7 +3,7 @@ use Rattle.std.proofs.Common.{rules, ◌≡◌, ℕ, zero, suc, Bool, true, fals
 use Rattle.std.proofs.lemmas.Bool.Decides.{eqb_tells}
 use Rattle.std.specs.Prelude.{if◌then◌else◌, unwrap_or}
 use Rattle.std.specs.Option.{option_or, option_map_or}
-use Rattle.vm_superio.specs.declared.run.Asked.{Asked}
+use Rattle.vm_superio.specs.declared.trace.Asked.{Asked}
 use Rattle.vm_superio.specs.Port.State.{State}
 use Rattle.vm_superio.specs.Port.Bits.{masked}
 use Rattle.vm_superio.specs.Port.Registers.{Register, RbrThr, Iir, Unassigned, register_at, is_dlab, is_loopback}

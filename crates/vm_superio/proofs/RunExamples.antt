@@ -1,7 +1,7 @@
 -- Worked examples from a fresh serial port: loopback, restores and each trigger call refused in turn.
 use Rattle.std.proofs.Common.{◌≡◌, ℕ, zero, suc, List, [], ◌∷◌, refl}
-use Rattle.vm_superio.specs.declared.run.Asked.TheVariants.{Nothing, Took, Refused}
-use Rattle.vm_superio.specs.declared.run.Sent.TheVariants as sent
+use Rattle.vm_superio.specs.declared.trace.Asked.TheVariants.{Nothing, Took, Refused}
+use Rattle.vm_superio.specs.declared.trace.Sent.TheVariants as sent
 use Rattle.vm_superio.specs.Port.State.{fresh_state}
 use Rattle.vm_superio.specs.Port.Bits.{has_bits, masked, joined}
 use Rattle.vm_superio.specs.Port.Registers.{Rda, Thre}

@@ -6,10 +6,10 @@ use Rattle.std.specs.Cmp.Derive.{both_true}
 use Rattle.std.specs.Prelude.{IsTrue}
 use Rattle.std.specs.List.{list_all}
 use Rattle.std.specs.Io.KnownBytes.{Appends}
-use Rattle.vm_superio.specs.declared.run.Asked.{Asked}
-use Rattle.vm_superio.specs.declared.run.Asked.TheVariants as answers
-use Rattle.vm_superio.specs.declared.run.Sent.{Sent}
-use Rattle.vm_superio.specs.declared.run.Sent.TheVariants as outcome
+use Rattle.vm_superio.specs.declared.trace.Asked.{Asked}
+use Rattle.vm_superio.specs.declared.trace.Asked.TheVariants as answers
+use Rattle.vm_superio.specs.declared.trace.Sent.{Sent}
+use Rattle.vm_superio.specs.declared.trace.Sent.TheVariants as outcome
 use Rattle.vm_superio.specs.declared.run.Act.{Act}
 use Rattle.vm_superio.specs.declared.run.Act.TheVariants as act
 use Rattle.vm_superio.specs.declared.run.Call.{Call}
@@ -227,15 +227,24 @@ module _ {T E EV W : Type 0} (links : PortLinks T E EV W) where
         (asked : Asked) (sent : Sent) (reply : Reply T EV W E) → IsSegmentOf before newest s segment →
         CallFollows links s segment call asked sent reply → Output-next before newest s segment call (act_of call) asked sent reply
     Output-call before newest s segment (Read offset) asked sent (Byte byte) is h = record {
-      next_before = before; next_newest = entry (act.Read offset) asked sent ∷ newest; end = tt; same = refl;
+      next_before = before;
+      next_newest = entry (act.Read offset) asked sent ∷ newest;
+      end = tt;
+      same = refl;
       is = IsSegmentOf-extend before newest s segment _ asked sent (Byte byte) is h.0;
     }
     Output-call before newest s segment (Write offset value) asked sent (Wrote answer) is h = record {
-      next_before = before; next_newest = entry (act.Write offset value) asked sent ∷ newest; end = tt; same = refl;
+      next_before = before;
+      next_newest = entry (act.Write offset value) asked sent ∷ newest;
+      end = tt;
+      same = refl;
       is = IsSegmentOf-extend before newest s segment _ asked sent (Wrote answer) is h.0;
     }
     Output-call before newest s segment (Enqueue bytes) asked sent (Enqueued answer) is h = record {
-      next_before = before; next_newest = entry (act.Enqueue bytes) asked sent ∷ newest; end = tt; same = refl;
+      next_before = before;
+      next_newest = entry (act.Enqueue bytes) asked sent ∷ newest;
+      end = tt;
+      same = refl;
       is = IsSegmentOf-extend before newest s segment _ asked sent (Enqueued answer) is h.0;
     }
     Output-call before newest s segment (Restore trigger events out) asked sent (Restored old) is h = record {
@@ -271,9 +280,11 @@ module _ {T E EV W : Type 0} (links : PortLinks T E EV W) where
     OutputsAre-run [] [] before newest s segment end is run = OutputIs-segment before newest s segment end is run
     OutputsAre-run (call ∷ calls) (done ∷ later) before newest s segment end is run =
         let next = subst (λ made. Output-next before newest s segment call made done.asked done.sent done.reply) (sym run.0)
-        (Output-call before newest s segment call done.asked done.sent done.reply is run.1) in
-        (next.end, subst (λ segment. OutputsAre links.contents start segment calls later end.out) (sym next.same)
-        (OutputsAre-run calls later next.next_before next.next_newest _ _ end next.is run.2))
+        (Output-call before newest s segment call done.asked done.sent done.reply is run.1) in (
+          next.end,
+          subst (λ segment. OutputsAre links.contents start segment calls later end.out) (sym next.same)
+              (OutputsAre-run calls later next.next_before next.next_newest _ _ end next.is run.2),
+        )
     OutputsAre-run [] (done ∷ later) before newest s segment end is run = absurd run
     OutputsAre-run (call ∷ calls) [] before newest s segment end is run = absurd run
 
@@ -317,9 +328,11 @@ module _ {T E EV W : Type 0} (links : PortLinks T E EV W) where
         TriggersAre links.trigger start trace (called segment) calls records end.trigger
     TriggersAre-run [] [] trace s segment end state run = run.trigger
     TriggersAre-run (call ∷ calls) (done ∷ later) trace s segment end state run =
-        let next = Trigger-call trace s segment call done.asked done.sent done.reply state run.1 in
-        (next.at_restore, subst (λ segment. TriggersAre links.trigger start (entry_of done ∷ trace) segment calls later end.trigger) (sym next.same)
-        (TriggersAre-run calls later (entry_of done ∷ trace) _ _ end (ap (λ s. step s (op_of done.act) done.asked) state) run.2))
+        let next = Trigger-call trace s segment call done.asked done.sent done.reply state run.1 in (
+          next.at_restore,
+          subst (λ segment. TriggersAre links.trigger start (entry_of done ∷ trace) segment calls later end.trigger) (sym next.same)
+              (TriggersAre-run calls later (entry_of done ∷ trace) _ _ end (ap (λ s. step s (op_of done.act) done.asked) state) run.2),
+        )
     TriggersAre-run [] (done ∷ later) trace s segment end state run = absurd run
     TriggersAre-run (call ∷ calls) [] trace s segment end state run = absurd run
 

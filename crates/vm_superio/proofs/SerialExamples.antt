@@ -1,7 +1,7 @@
 -- Worked examples from a fresh serial port: registers, conditions and refusals.
 use Rattle.std.proofs.Common.{[], ◌∷◌, refl, replicate}
-use Rattle.vm_superio.specs.declared.run.Asked.TheVariants.{Nothing, Took, Refused, TookTook, TookRefused}
-use Rattle.vm_superio.specs.declared.run.Sent.TheVariants as sent
+use Rattle.vm_superio.specs.declared.trace.Asked.TheVariants.{Nothing, Took, Refused, TookTook, TookRefused}
+use Rattle.vm_superio.specs.declared.trace.Sent.TheVariants as sent
 use Rattle.vm_superio.specs.Port.State.{fresh_state}
 use Rattle.vm_superio.specs.Port.Bits.{has_bits, masked, joined}
 use Rattle.vm_superio.specs.Port.Operations.{EnqueueOk, TriggerRefused, WriterFailed, FifoFull}

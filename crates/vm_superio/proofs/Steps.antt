@@ -4,9 +4,9 @@ use Rattle.std.proofs.Math.Bool.{and-false}
 use Rattle.std.proofs.lemmas.Bool.{and_parts, false≢true}
 use Rattle.std.specs.Prelude.{IsTrue}
 use Rattle.std.specs.Bool.{beq}
-use Rattle.vm_superio.specs.declared.run.Asked.{Asked}
-use Rattle.vm_superio.specs.declared.run.Sent.{Sent}
-use Rattle.vm_superio.specs.declared.run.Sent.TheVariants as sent
+use Rattle.vm_superio.specs.declared.trace.Asked.{Asked}
+use Rattle.vm_superio.specs.declared.trace.Sent.{Sent}
+use Rattle.vm_superio.specs.declared.trace.Sent.TheVariants as sent
 use Rattle.vm_superio.specs.Port.State.{State, not_empty}
 use Rattle.vm_superio.specs.Port.Registers.{Register, RbrThr, Ier, Iir, register_at, Rda, Thre}
 use Rattle.vm_superio.specs.Port.Operations.{Op, Read, Write, Enqueue, Restore, TraceEntry, is_sent, one_if}

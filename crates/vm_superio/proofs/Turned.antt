@@ -4,8 +4,8 @@ use Rattle.std.proofs.lemmas.Bool.{and_parts, false≢true, eqb-true, ltb-true}
 use Rattle.std.proofs.Math.Bool.{and-true, and-false}
 use Rattle.std.specs.Prelude.{if◌then◌else◌, IsTrue, nat_lt}
 use Rattle.std.specs.Bool.{beq}
-use Rattle.vm_superio.specs.declared.run.Asked.{Asked}
-use Rattle.vm_superio.specs.declared.run.Asked.TheVariants.{Nothing, Took, Refused}
+use Rattle.vm_superio.specs.declared.trace.Asked.{Asked}
+use Rattle.vm_superio.specs.declared.trace.Asked.TheVariants.{Nothing, Took, Refused}
 use Rattle.vm_superio.specs.Port.State.{State, not_empty}
 use Rattle.vm_superio.specs.Port.Bits.{has_bits, masked, joined, without}
 use Rattle.vm_superio.specs.Port.Registers.{Rda, Thre}

@@ -1,8 +1,8 @@
 -- Neither the writer nor a restore changes a read: each past is read as one of acts with what they asked alone.
 use Rattle.std.proofs.Common.{◌≡◌, Bool, List, [], ◌∷◌, ◌++◌, refl, ap, sym, ◌∙◌}
-use Rattle.vm_superio.specs.declared.run.Asked.{Asked}
-use Rattle.vm_superio.specs.declared.run.Sent.{Sent}
-use Rattle.vm_superio.specs.declared.run.Sent.TheVariants as sent
+use Rattle.vm_superio.specs.declared.trace.Asked.{Asked}
+use Rattle.vm_superio.specs.declared.trace.Sent.{Sent}
+use Rattle.vm_superio.specs.declared.trace.Sent.TheVariants as sent
 use Rattle.vm_superio.specs.Port.State.{State, not_empty}
 use Rattle.vm_superio.specs.History.Reads.{with_data_ready, state_of_history}
 use Rattle.vm_superio.specs.Port.Registers.{register_read, register_at, is_dlab, identification_of, Rda, Thre}

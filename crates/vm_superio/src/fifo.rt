@@ -1,7 +1,6 @@
 //! The receive FIFO: at most 64 bytes, oldest first.
 ghost use Rattle.std.specs.Prelude.{◌≡◌, ◌-◌, ◌≤◌, ℕ, List, [], ◌++◌, length, take, drop, slice_get, not, IfOk, IsOk};
 ghost use Rattle.vm_superio.specs.Port.State.{not_empty};
-ghost use Rattle.vm_superio.specs.declared.fifo.TheConstants.{FIFO_SIZE};
 
 use arrayvec::ArrayVec;
 use std::alloc::{AllocError, Global};
@@ -37,7 +36,7 @@ impl Fifo {
 
     /// A FIFO that holds these bytes, at most 64.
     pub(crate) fn from_slice(_alloc: Global, bytes: &[u8]) -> Result<Self, AllocError>
-        requires { length bytes.now ≤ FIFO_SIZE }
+        requires { length bytes.now ≤ 64 }
         ensures made { IsOk result }
         ensures bytes { IfOk result (λ fifo. fifo ≡ bytes.now) }
     {
@@ -49,7 +48,7 @@ impl Fifo {
     /// A copy of the bytes.
     pub(crate) fn to_vec(&self, alloc: Global) -> Result<Vec<u8>, AllocError>
         ensures bytes { IfOk result (λ bytes. bytes.items ≡ self.now) }
-        ensures fits { length self.now ≤ FIFO_SIZE }
+        ensures fits { length self.now ≤ 64 }
     {
         self.bytes.as_slice().to_vec(alloc)
     }
@@ -57,7 +56,7 @@ impl Fifo {
     /// How many bytes are held.
     pub(crate) fn len(&self) -> usize
         ensures value { result ≡ length self.now }
-        ensures fits { length self.now ≤ FIFO_SIZE }
+        ensures fits { length self.now ≤ 64 }
     {
         self.bytes.len()
     }
@@ -79,8 +78,8 @@ impl Fifo {
 
     /// Adds the first of these bytes, as many as there is room for, and answers how many.
     pub(crate) fn fill(&mut self, bytes: &[u8]) -> usize
-        ensures count { result ≡ length (take (FIFO_SIZE - length self.old) bytes.now) }
-        ensures added { self.new ≡ self.old ++ take (FIFO_SIZE - length self.old) bytes.now }
+        ensures count { result ≡ length (take (64 - length self.old) bytes.now) }
+        ensures added { self.new ≡ self.old ++ take (64 - length self.old) bytes.now }
     {
         let count = bytes.len().min(FIFO_SIZE - self.bytes.len());
         self.bytes.try_extend_from_slice(&bytes[..count]).unwrap();

@@ -14,6 +14,7 @@ pub mod laws;
 pub mod rtc_pl031;
 pub mod run;
 pub mod serial;
+mod trace;
 
 /// A push button towards the monitor: an interrupt line, or the event that asks for a reset.
 ///

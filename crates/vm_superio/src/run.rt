@@ -9,44 +9,12 @@ ghost use Rattle.vm_superio.specs.Run.HistoryTheorem.{HistoryTheorem};
 
 use crate::Trigger;
 use crate::serial::{Error, Refused, Serial, SerialEvents};
+use crate::trace::Traced;
+pub use crate::trace::{Asked, Sent};
 use std::alloc::{AllocError, Global};
 use std::collections::VecDeque;
 use std::io::Write;
 use std::mem;
-
-/// The answers to the device's trigger calls in one call, in order.
-#[derive(Clone, Copy, Debug, PartialEq, Eq)]
-pub enum Asked {
-    /// The trigger was not called.
-    Nothing,
-    /// One call, which was taken.
-    Took,
-    /// One call, which was refused.
-    Refused,
-    /// Two calls, both taken.
-    TookTook,
-    /// Two calls: the first was taken, the second refused.
-    TookRefused,
-}
-
-/// What became of the byte that a call sent to the writer.
-#[derive(Clone, Copy, Debug, PartialEq, Eq)]
-pub enum Sent {
-    /// The call sent no byte.
-    Nothing,
-    /// The writer took the byte.
-    Out,
-    /// The writer failed.
-    Lost,
-}
-
-/// A reply, with what the call asked of the trigger and sent to the writer.
-#[derive(Drop)]
-pub(crate) struct Traced<R> {
-    pub(crate) reply: R,
-    pub(crate) asked: Asked,
-    pub(crate) sent: Sent,
-}
 
 /// A call of a serial port, with the objects that a restore brings.
 #[derive(Drop)]

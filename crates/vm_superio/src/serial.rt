@@ -8,19 +8,20 @@ ghost use Rattle.vm_superio.specs.Step.Restore.{RefusesRestore};
 ghost use Rattle.vm_superio.specs.Port.SavedState.{state_of};
 
 mod answers;
+mod bits;
 mod errors;
 mod events;
 mod registers;
 mod restoring;
 mod state;
 mod steps;
+mod traced;
 
 use crate::Trigger;
 use crate::fifo::{FIFO_SIZE, Fifo};
-use crate::run::{Asked, Sent};
 pub use errors::{Error, Refused};
 pub use events::{NoEvents, SerialEvents};
-use registers::Condition;
+use registers::{Condition, Registers};
 use restoring::{assert_again, is_asserted};
 pub use state::SerialState;
 use std::alloc::{AllocError, Global};
@@ -33,15 +34,7 @@ use std::marker::Model;
 /// In a contract the port is its state, of ten fields, and the three objects that it owns.
 #[derive(Drop)]
 pub struct Serial<T: Trigger, EV: SerialEvents, W: Write> {
-    baud_divisor_low: u8,
-    baud_divisor_high: u8,
-    interrupt_enable: u8,
-    interrupt_identification: u8,
-    line_control: u8,
-    line_status: u8,
-    modem_control: u8,
-    modem_status: u8,
-    scratch: u8,
+    registers: Registers,
     in_buffer: Fifo,
     interrupt_evt: T,
     events: EV,
@@ -50,22 +43,12 @@ pub struct Serial<T: Trigger, EV: SerialEvents, W: Write> {
 
 impl<T: Trigger, EV: SerialEvents, W: Write> Model for Serial<T, EV, W> {
     ghost use Rattle.vm_superio.specs.Port.Model.{Port};
+    ghost use Rattle.vm_superio.specs.Port.SavedState.{state_with};
 
     ghost Value = { Port T EV W };
 
     ghost view = { λ serial. record {
-      state = record {
-        baud_divisor_low = serial.baud_divisor_low;
-        baud_divisor_high = serial.baud_divisor_high;
-        interrupt_enable = serial.interrupt_enable;
-        interrupt_identification = serial.interrupt_identification;
-        line_control = serial.line_control;
-        line_status = serial.line_status;
-        modem_control = serial.modem_control;
-        modem_status = serial.modem_status;
-        scratch = serial.scratch;
-        in_buffer = serial.in_buffer;
-      };
+      state = state_with serial.registers serial.in_buffer;
       trigger = serial.interrupt_evt;
       events = serial.events;
       out = serial.out;
@@ -128,15 +111,7 @@ impl<T: Trigger, EV: SerialEvents, W: Write> Serial<T, EV, W> {
             });
         };
         Ok(Serial {
-            baud_divisor_low: 0x0C,
-            baud_divisor_high: 0x00,
-            interrupt_enable: 0x00,
-            interrupt_identification: 0x01,
-            line_control: 0x03,
-            line_status: 0x60,
-            modem_control: 0x08,
-            modem_status: 0xB0,
-            scratch: 0x00,
+            registers: Registers::new(),
             in_buffer,
             interrupt_evt: trigger,
             events: serial_evts,
@@ -167,7 +142,7 @@ impl<T: Trigger, EV: SerialEvents, W: Write> Serial<T, EV, W> {
         ensures coherent { IfOk result (λ serial. Coherent (state_of state.now) → Coherent serial.state) }
 
         // Where it is refused: why, and the objects.
-        ensures too_many { FIFO_SIZE < vec_len state.now.in_buffer → IsErr result }
+        ensures too_many { 64 < vec_len state.now.in_buffer → IsErr result }
         ensures refused { IfErr result (λ refused.
             RefusesRestore T.link (state_of state.now) refused.error trigger refused.trigger) }
         ensures events_back { IfErr result (λ refused. refused.events ≡ serial_evts) }
@@ -200,15 +175,7 @@ impl<T: Trigger, EV: SerialEvents, W: Write> Serial<T, EV, W> {
             });
         }
         Ok(Serial {
-            baud_divisor_low: state.baud_divisor_low,
-            baud_divisor_high: state.baud_divisor_high,
-            interrupt_enable: state.interrupt_enable,
-            interrupt_identification: state.interrupt_identification,
-            line_control: state.line_control,
-            line_status: state.line_status,
-            modem_control: state.modem_control,
-            modem_status: state.modem_status,
-            scratch: state.scratch,
+            registers: Registers::of(state),
             in_buffer,
             interrupt_evt: trigger,
             events: serial_evts,
@@ -223,21 +190,10 @@ impl<T: Trigger, EV: SerialEvents, W: Write> Serial<T, EV, W> {
     /// `AllocError` where memory for the received bytes was refused.
     pub fn state(&self, alloc: Global) -> Result<SerialState, AllocError>
         ensures saved { IfOk result (λ saved. state_of saved ≡ self.now.state) }
-        ensures few { length self.now.state.in_buffer ≤ FIFO_SIZE }
+        ensures few { length self.now.state.in_buffer ≤ 64 }
     {
         let in_buffer = self.in_buffer.to_vec(alloc)?;
-        Ok(SerialState {
-            baud_divisor_low: self.baud_divisor_low,
-            baud_divisor_high: self.baud_divisor_high,
-            interrupt_enable: self.interrupt_enable,
-            interrupt_identification: self.interrupt_identification,
-            line_control: self.line_control,
-            line_status: self.line_status,
-            modem_control: self.modem_control,
-            modem_status: self.modem_status,
-            scratch: self.scratch,
-            in_buffer,
-        })
+        Ok(self.registers.saved(in_buffer))
     }
 
     /// The writer.
@@ -307,8 +263,8 @@ impl<T: Trigger, EV: SerialEvents, W: Write> Serial<T, EV, W> {
 
     /// How many bytes may still be enqueued: 64 less the number of bytes that are held.
     pub fn fifo_capacity(&self) -> usize
-        ensures value { result ≡ FIFO_SIZE - length self.now.state.in_buffer }
-        ensures bound { length self.now.state.in_buffer ≤ FIFO_SIZE }
+        ensures value { result ≡ 64 - length self.now.state.in_buffer }
+        ensures bound { length self.now.state.in_buffer ≤ 64 }
     {
         FIFO_SIZE - self.in_buffer.len()
     }

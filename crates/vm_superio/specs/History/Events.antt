@@ -1,7 +1,7 @@
 -- The history of events: what a port reports to its events object at each point of a trace.
 use Rattle.std.specs.Prelude.{ℕ, if◌then◌else◌, List, [], ◌∷◌, ◌++◌}
-use Rattle.vm_superio.specs.declared.run.Sent.{Sent}
-use Rattle.vm_superio.specs.declared.run.Sent.TheVariants as sent
+use Rattle.vm_superio.specs.declared.trace.Sent.{Sent}
+use Rattle.vm_superio.specs.declared.trace.Sent.TheVariants as sent
 use Rattle.vm_superio.specs.Port.State.{State, not_empty}
 use Rattle.vm_superio.specs.Port.Operations.{TraceEntry, Event, buffer_read, out_byte, tx_lost_byte, in_buffer_empty, Trace}
 use Rattle.vm_superio.specs.Port.OpKinds.{OpKind, RbrRead}

@@ -1,6 +1,6 @@
 -- The laws that follow from the history alone, from any start.
 use Rattle.std.specs.Prelude.{◌≡◌, ◌↔◌, ◌⊎◌, ℕ, List, [], ◌∷◌, ◌++◌, IsTrue}
-use Rattle.vm_superio.specs.declared.run.Asked.{Asked}
+use Rattle.vm_superio.specs.declared.trace.Asked.{Asked}
 use Rattle.vm_superio.specs.Port.Bits.{has_bits}
 use Rattle.vm_superio.specs.Port.State.{State}
 use Rattle.vm_superio.specs.Port.Registers.{Condition, iir_bit}

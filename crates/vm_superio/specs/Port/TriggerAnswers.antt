@@ -1,15 +1,15 @@
 -- The trigger's answers in one call, with the refusal itself.
 use Rattle.std.specs.Prelude.{Option, Some, None, Result, Ok, Err}
-use Rattle.vm_superio.specs.declared.run.Asked.{Asked}
-use Rattle.vm_superio.specs.declared.run.Asked.TheVariants as asked
-use Rattle.vm_superio.specs.declared.run.Sent.{Sent}
-use Rattle.vm_superio.specs.declared.run.Sent.TheVariants as sent
-use Rattle.vm_superio.specs.declared.serial.answers.Answers.{Answers}
-use Rattle.vm_superio.specs.declared.serial.answers.Answers.TheVariants.{Nothing, Took, Refused, TookTook, TookRefused}
+use Rattle.vm_superio.specs.declared.trace.Asked.{Asked}
+use Rattle.vm_superio.specs.declared.trace.Asked.TheVariants as asked
+use Rattle.vm_superio.specs.declared.trace.Sent.{Sent}
+use Rattle.vm_superio.specs.declared.trace.Sent.TheVariants as sent
+use Rattle.vm_superio.specs.declared.serial.answers.TriggerAnswers.{TriggerAnswers}
+use Rattle.vm_superio.specs.declared.serial.answers.TriggerAnswers.TheVariants.{Nothing, Took, Refused, TookTook, TookRefused}
 use Rattle.vm_superio.specs.Port.ObjectLinks.{TriggerAnswer}
 
 -- without the refusal
-abbrev pub asked_of : {E : Type 0} → (answers : Answers E) → Asked
+abbrev pub asked_of : {E : Type 0} → (answers : TriggerAnswers E) → Asked
 asked_of Nothing = asked.Nothing
 asked_of Took = asked.Took
 asked_of (Refused refusal) = asked.Refused
@@ -17,13 +17,13 @@ asked_of TookTook = asked.TookTook
 asked_of (TookRefused refusal) = asked.TookRefused
 
 -- the refusal, if there is one
-abbrev pub refusal_in_answers : {E : Type 0} → (answers : Answers E) → Option E
+abbrev pub refusal_in_answers : {E : Type 0} → (answers : TriggerAnswers E) → Option E
 refusal_in_answers (Refused refusal) = Some refusal
 refusal_in_answers (TookRefused refusal) = Some refusal
 refusal_in_answers _ = None
 
 -- the answer to at most one call
-abbrev pub answers_to_one : {E : Type 0} → (answer : Option (TriggerAnswer E)) → Answers E
+abbrev pub answers_to_one : {E : Type 0} → (answer : Option (TriggerAnswer E)) → TriggerAnswers E
 answers_to_one None = Nothing
 answers_to_one (Some (Ok done)) = Took
 answers_to_one (Some (Err refusal)) = Refused refusal

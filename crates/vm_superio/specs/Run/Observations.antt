@@ -1,7 +1,7 @@
 -- What a run from a coherent start shows along its trace, by the history alone: bytes read, output, trigger calls.
 use Rattle.std.specs.Prelude.{◌≡◌, ℕ, List, [], ◌∷◌, ◌++◌, IsTrue, ⊤}
 use Rattle.std.specs.Io.KnownBytes.{Appends}
-use Rattle.vm_superio.specs.declared.run.Asked.{Asked}
+use Rattle.vm_superio.specs.declared.trace.Asked.{Asked}
 use Rattle.vm_superio.specs.declared.run.Act.{Act}
 use Rattle.vm_superio.specs.declared.run.Act.TheVariants.{Read}
 use Rattle.vm_superio.specs.declared.run.Call.{Call}

@@ -1,7 +1,7 @@
 -- A segment of a run: the part of it that the same three objects serve, from the run's start or a successful restore on.
 use Rattle.std.specs.Prelude.{◌≡◌, ℕ, List, [], ◌∷◌, ◌++◌, Option}
-use Rattle.vm_superio.specs.declared.run.Asked.{Asked}
-use Rattle.vm_superio.specs.declared.run.Sent.{Sent}
+use Rattle.vm_superio.specs.declared.trace.Asked.{Asked}
+use Rattle.vm_superio.specs.declared.trace.Sent.{Sent}
 use Rattle.vm_superio.specs.Port.State.{State}
 use Rattle.vm_superio.specs.Port.Registers.{Condition}
 use Rattle.vm_superio.specs.Port.Operations.{Op, Event}

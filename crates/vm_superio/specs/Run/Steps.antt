@@ -1,9 +1,9 @@
 -- A run of calls, with a record of each, by the steps of its calls.
 use Rattle.std.specs.Prelude.{◌≡◌, List, [], ◌∷◌, None, IsTrue}
-use Rattle.vm_superio.specs.declared.run.Asked.{Asked}
-use Rattle.vm_superio.specs.declared.run.Asked.TheVariants as asked
-use Rattle.vm_superio.specs.declared.run.Sent.{Sent}
-use Rattle.vm_superio.specs.declared.run.Sent.TheVariants as sent
+use Rattle.vm_superio.specs.declared.trace.Asked.{Asked}
+use Rattle.vm_superio.specs.declared.trace.Asked.TheVariants as asked
+use Rattle.vm_superio.specs.declared.trace.Sent.{Sent}
+use Rattle.vm_superio.specs.declared.trace.Sent.TheVariants as sent
 use Rattle.vm_superio.specs.declared.run.Call.{Call}
 use Rattle.vm_superio.specs.declared.run.Call.TheVariants as call
 use Rattle.vm_superio.specs.declared.run.Reply.{Reply}

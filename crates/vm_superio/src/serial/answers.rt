@@ -1,11 +1,11 @@
 //! The answers to the trigger calls of one call, with the refusal itself.
 ghost use Rattle.std.specs.Prelude.{◌≡◌, Option, Result};
 
-use crate::run::Asked;
+use crate::trace::Asked;
 
 /// The answers to the device's trigger calls in one call, in order. A refusal ends the call.
 #[derive(Drop)]
-pub(super) enum Answers<E> {
+pub(super) enum TriggerAnswers<E> {
     /// The trigger was not called.
     Nothing,
     /// One call, which was taken.
@@ -18,17 +18,17 @@ pub(super) enum Answers<E> {
     TookRefused(E),
 }
 
-impl<E> Answers<E> {
+impl<E> TriggerAnswers<E> {
     ghost use Rattle.vm_superio.specs.Port.TriggerAnswers.{asked_of, refusal_in_answers, answers_to_one};
 
     /// The answers to the one call that was made, if any.
-    pub(super) fn to_one(answer: Option<Result<(), E>>) -> Answers<E>
+    pub(super) fn to_one(answer: Option<Result<(), E>>) -> TriggerAnswers<E>
         ensures { result ≡ answers_to_one answer }
     {
         match answer {
-            None => Answers::Nothing,
-            Some(Ok(())) => Answers::Took,
-            Some(Err(refusal)) => Answers::Refused(refusal),
+            None => TriggerAnswers::Nothing,
+            Some(Ok(())) => TriggerAnswers::Took,
+            Some(Err(refusal)) => TriggerAnswers::Refused(refusal),
         }
     }
 
@@ -37,11 +37,11 @@ impl<E> Answers<E> {
         ensures { result ≡ asked_of self.now }
     {
         match self {
-            Answers::Nothing => Asked::Nothing,
-            Answers::Took => Asked::Took,
-            Answers::Refused(_) => Asked::Refused,
-            Answers::TookTook => Asked::TookTook,
-            Answers::TookRefused(_) => Asked::TookRefused,
+            TriggerAnswers::Nothing => Asked::Nothing,
+            TriggerAnswers::Took => Asked::Took,
+            TriggerAnswers::Refused(_) => Asked::Refused,
+            TriggerAnswers::TookTook => Asked::TookTook,
+            TriggerAnswers::TookRefused(_) => Asked::TookRefused,
         }
     }
 
@@ -50,8 +50,10 @@ impl<E> Answers<E> {
         ensures { result ≡ refusal_in_answers self }
     {
         match self {
-            Answers::Refused(refusal) | Answers::TookRefused(refusal) => Some(refusal),
-            Answers::Nothing | Answers::Took | Answers::TookTook => None,
+            TriggerAnswers::Refused(refusal) | TriggerAnswers::TookRefused(refusal) => Some(
+                refusal,
+            ),
+            TriggerAnswers::Nothing | TriggerAnswers::Took | TriggerAnswers::TookTook => None,
         }
     }
 }

@@ -1,88 +1,40 @@
-//! The registers of a 16550, and their bits.
-ghost use Rattle.std.specs.Prelude.{◌≡◌, Bool};
-ghost use Rattle.vm_superio.specs.Port.Bits.{has_bits, masked, joined, without};
-ghost use Rattle.vm_superio.specs.Port.Registers.{msr_read};
+//! The registers of a 16550: which one an offset reaches, and the nine bytes that they hold.
+ghost use Rattle.std.specs.Prelude.{◌≡◌, []};
+ghost use Rattle.vm_superio.specs.Port.State.{fresh_state};
+ghost use Rattle.vm_superio.specs.Port.SavedState.{state_of, state_with};
 
-/// Bit 0x80 of the line control: the divisor latch is at offsets 0 and 1.
-pub(super) const LCR_DLAB_BIT: u8 = 0x80;
+use super::SerialState;
+use super::bits::{
+    DATA_OFFSET, DEFAULT_BAUD_DIVISOR_LOW, DEFAULT_LINE_CONTROL, DEFAULT_LINE_STATUS,
+    DEFAULT_MODEM_CONTROL, DEFAULT_MODEM_STATUS, IER_OFFSET, IER_RDA_BIT, IER_THR_EMPTY_BIT,
+    IIR_NONE_BIT, IIR_OFFSET, IIR_RDA_BIT, IIR_THR_EMPTY_BIT, LCR_DLAB_BIT, LCR_OFFSET, LSR_OFFSET,
+    MCR_DTR_BIT, MCR_LOOP_BIT, MCR_OFFSET, MCR_OUT1_BIT, MCR_OUT2_BIT, MCR_RTS_BIT, MSR_CTS_BIT,
+    MSR_DCD_BIT, MSR_DELTA_BITS, MSR_DSR_BIT, MSR_OFFSET, MSR_RI_BIT, SCR_OFFSET, has_bits, joined,
+    masked,
+};
 
-/// Bit 0x10 of the modem control: what is written is received.
-pub(super) const MCR_LOOP_BIT: u8 = 0x10;
-
-/// The byte has all of these bits.
-#[tactic(auto, unfolding(crate::specs::Port::Bits::has_bits))]
-pub(super) fn has_bits(byte: u8, bits: u8) -> bool
-    ensures { result ≡ has_bits byte bits }
-{
-    byte & bits == bits
-}
-
-/// The byte with these bits set.
-#[tactic(auto, unfolding(crate::specs::Port::Bits::joined))]
-pub(super) fn joined(byte: u8, bits: u8) -> u8
-    ensures { result ≡ joined byte bits }
-{
-    byte | bits
-}
-
-/// The byte with no bits but these.
-#[tactic(auto, unfolding(crate::specs::Port::Bits::masked))]
-pub(super) fn masked(byte: u8, bits: u8) -> u8
-    ensures { result ≡ masked byte bits }
-{
-    byte & bits
-}
-
-/// The byte with these bits cleared.
-#[tactic(auto, using(crate::proofs::BitLemmas::and_not_is_without_byte))]
-pub(super) fn without(byte: u8, bits: u8) -> u8
-    ensures { result ≡ without byte bits }
-{
-    byte & !bits
-}
-
-/// The modem status as it is read: in loopback its four high bits show the outputs of the modem control, DTR as DSR,
-/// RTS as CTS, OUT1 as RI and OUT2 as DCD.
-pub(super) fn modem_status_read(modem_control: u8, modem_status: u8) -> u8
-    ensures { result ≡ msr_read modem_control modem_status }
-{
-    if !has_bits(modem_control, MCR_LOOP_BIT) {
-        return modem_status;
-    }
-    let shown = |output: u8, input: u8| if has_bits(modem_control, output) {
-        input
-    } else {
-        0
-    };
-    let status = masked(modem_status, 0x0F);
-    let status = joined(status, shown(0x01, 0x20));
-    let status = joined(status, shown(0x02, 0x10));
-    let status = joined(status, shown(0x04, 0x40));
-    joined(status, shown(0x08, 0x80))
-}
-
-/// What an access reaches.
+/// The register that an access reaches.
 #[derive(Clone, Copy)]
 pub(super) enum Register {
-    /// DLL, the low byte of the divisor latch.
+    /// The low byte of the divisor latch.
     Dll,
-    /// DLH, the high byte of the divisor latch.
+    /// The high byte of the divisor latch.
     Dlm,
-    /// RBR and THR, the receiver's and the transmitter's data.
+    /// The receiver buffer for a read, the transmitter holding register for a write.
     RbrThr,
-    /// IER.
+    /// Interrupt enable.
     Ier,
-    /// IIR.
+    /// Interrupt identification.
     Iir,
-    /// LCR.
+    /// Line control.
     Lcr,
-    /// MCR.
+    /// Modem control.
     Mcr,
-    /// LSR.
+    /// Line status.
     Lsr,
-    /// MSR.
+    /// Modem status.
     Msr,
-    /// SCR.
+    /// Scratch.
     Scr,
     /// Nothing stands at this offset.
     Unassigned,
@@ -91,55 +43,150 @@ pub(super) enum Register {
 /// A condition that may interrupt.
 #[derive(Clone, Copy)]
 pub(super) enum Condition {
-    /// Bytes were received.
+    /// Received data available.
     Rda,
-    /// The transmitter has room.
+    /// Transmitter holding register empty.
     Thre,
-}
-
-impl Register {
-    ghost use Rattle.vm_superio.specs.Port.Registers.{register_at};
-
-    /// The register at an offset, with the divisor latch at offsets 0 and 1 or not.
-    pub(super) fn at(dlab: bool, offset: u8) -> Register
-        ensures { result ≡ register_at dlab offset }
-    {
-        match offset {
-            0 if dlab => Register::Dll,
-            0 => Register::RbrThr,
-            1 if dlab => Register::Dlm,
-            1 => Register::Ier,
-            2 => Register::Iir,
-            3 => Register::Lcr,
-            4 => Register::Mcr,
-            5 => Register::Lsr,
-            6 => Register::Msr,
-            7 => Register::Scr,
-            _ => Register::Unassigned,
-        }
-    }
 }
 
 impl Condition {
     ghost use Rattle.vm_superio.specs.Port.Registers.{ier_bit, iir_bit};
 
-    /// The bit of the interrupt enable register that enables it.
-    pub(super) fn enable_bit(self) -> u8
+    /// The bit of IER that enables it.
+    pub(super) fn ier_bit(self) -> u8
         ensures { result ≡ ier_bit self }
     {
         match self {
-            Condition::Rda => 0x01,
-            Condition::Thre => 0x02,
+            Condition::Rda => IER_RDA_BIT,
+            Condition::Thre => IER_THR_EMPTY_BIT,
         }
     }
 
-    /// The bit of the identification that says that it is pending.
-    pub(super) fn pending_bit(self) -> u8
+    /// The bit of IIR that shows that it is pending.
+    pub(super) fn iir_bit(self) -> u8
         ensures { result ≡ iir_bit self }
     {
         match self {
-            Condition::Rda => 0x04,
-            Condition::Thre => 0x02,
+            Condition::Rda => IIR_RDA_BIT,
+            Condition::Thre => IIR_THR_EMPTY_BIT,
         }
+    }
+}
+
+/// The nine register bytes of a port. The received bytes stand beside them.
+#[repr(C)]
+#[derive(Clone, Copy)]
+pub(super) struct Registers {
+    pub(super) baud_divisor_low: u8,
+    pub(super) baud_divisor_high: u8,
+    pub(super) interrupt_enable: u8,
+    pub(super) interrupt_identification: u8,
+    pub(super) line_control: u8,
+    pub(super) line_status: u8,
+    pub(super) modem_control: u8,
+    pub(super) modem_status: u8,
+    pub(super) scratch: u8,
+}
+
+impl Registers {
+    ghost use Rattle.vm_superio.specs.Port.Registers.{register_at, is_dlab, is_loopback, msr_read};
+
+    /// The registers of a fresh port.
+    pub(super) fn new() -> Registers
+        ensures { state_with result [] ≡ fresh_state }
+    {
+        Registers {
+            baud_divisor_low: DEFAULT_BAUD_DIVISOR_LOW,
+            baud_divisor_high: 0,
+            interrupt_enable: 0,
+            interrupt_identification: IIR_NONE_BIT,
+            line_control: DEFAULT_LINE_CONTROL,
+            line_status: DEFAULT_LINE_STATUS,
+            modem_control: DEFAULT_MODEM_CONTROL,
+            modem_status: DEFAULT_MODEM_STATUS,
+            scratch: 0,
+        }
+    }
+
+    /// The registers of a saved state.
+    pub(super) fn of(state: &SerialState) -> Registers
+        ensures { state_with result state.now.in_buffer.items ≡ state_of state.now }
+    {
+        Registers {
+            baud_divisor_low: state.baud_divisor_low,
+            baud_divisor_high: state.baud_divisor_high,
+            interrupt_enable: state.interrupt_enable,
+            interrupt_identification: state.interrupt_identification,
+            line_control: state.line_control,
+            line_status: state.line_status,
+            modem_control: state.modem_control,
+            modem_status: state.modem_status,
+            scratch: state.scratch,
+        }
+    }
+
+    /// The state of a port with these registers and these received bytes.
+    pub(super) fn saved(&self, in_buffer: Vec<u8>) -> SerialState
+        ensures { state_of result ≡ state_with self.now in_buffer.items }
+    {
+        SerialState {
+            baud_divisor_low: self.baud_divisor_low,
+            baud_divisor_high: self.baud_divisor_high,
+            interrupt_enable: self.interrupt_enable,
+            interrupt_identification: self.interrupt_identification,
+            line_control: self.line_control,
+            line_status: self.line_status,
+            modem_control: self.modem_control,
+            modem_status: self.modem_status,
+            scratch: self.scratch,
+            in_buffer,
+        }
+    }
+
+    /// The register that an offset reaches.
+    pub(super) fn at(&self, offset: u8) -> Register
+        ensures { result ≡ register_at (is_dlab self.now.line_control) offset }
+    {
+        let dlab = has_bits(self.line_control, LCR_DLAB_BIT);
+        match offset {
+            DATA_OFFSET if dlab => Register::Dll,
+            DATA_OFFSET => Register::RbrThr,
+            IER_OFFSET if dlab => Register::Dlm,
+            IER_OFFSET => Register::Ier,
+            IIR_OFFSET => Register::Iir,
+            LCR_OFFSET => Register::Lcr,
+            MCR_OFFSET => Register::Mcr,
+            LSR_OFFSET => Register::Lsr,
+            MSR_OFFSET => Register::Msr,
+            SCR_OFFSET => Register::Scr,
+            _ => Register::Unassigned,
+        }
+    }
+
+    /// What is written is received.
+    pub(super) fn is_loopback(&self) -> bool
+        ensures { result ≡ is_loopback self.now.modem_control }
+    {
+        has_bits(self.modem_control, MCR_LOOP_BIT)
+    }
+
+    /// MSR as it is read: in loopback its high four bits show the outputs of MCR, DTR as DSR, RTS as CTS, OUT1 as RI and
+    /// OUT2 as DCD.
+    pub(super) fn modem_status_read(&self) -> u8
+        ensures { result ≡ msr_read self.now.modem_control self.now.modem_status }
+    {
+        if !self.is_loopback() {
+            return self.modem_status;
+        }
+        let shown = |output: u8, input: u8| if has_bits(self.modem_control, output) {
+            input
+        } else {
+            0
+        };
+        let status = masked(self.modem_status, MSR_DELTA_BITS);
+        let status = joined(status, shown(MCR_DTR_BIT, MSR_DSR_BIT));
+        let status = joined(status, shown(MCR_RTS_BIT, MSR_CTS_BIT));
+        let status = joined(status, shown(MCR_OUT1_BIT, MSR_RI_BIT));
+        joined(status, shown(MCR_OUT2_BIT, MSR_DCD_BIT))
     }
 }

@@ -6,15 +6,16 @@ ghost use Rattle.vm_superio.specs.Port.ObjectLinks.{all_ok, StopsAtRefusal};
 ghost use Rattle.vm_superio.specs.Port.SavedState.{state_of};
 
 use super::SerialState;
-use super::registers::{Condition, has_bits};
+use super::bits::has_bits;
+use super::registers::Condition;
 use crate::Trigger;
 
 /// Whether a condition is pending and enabled.
 pub(super) fn is_asserted(condition: Condition, state: &SerialState) -> bool
     ensures { result ≡ is_asserted condition (state_of state.now) }
 {
-    has_bits(state.interrupt_identification, condition.pending_bit())
-        && has_bits(state.interrupt_enable, condition.enable_bit())
+    has_bits(state.interrupt_identification, condition.iir_bit())
+        && has_bits(state.interrupt_enable, condition.ier_bit())
 }
 
 /// Calls the trigger twice, unless the first call is refused.

@@ -4,7 +4,8 @@ ghost use Rattle.vm_superio.specs.Port.State.{fresh_state};
 ghost use Rattle.vm_superio.specs.Port.Coherent.{Coherent};
 ghost use Rattle.vm_superio.specs.Port.Registers.{identification_of};
 
-use super::registers::has_bits;
+use super::bits::{LSR_DATA_READY_BIT, has_bits};
+use super::registers::Registers;
 use crate::fifo::FIFO_SIZE;
 use std::alloc::{AllocError, Global};
 
@@ -43,18 +44,7 @@ impl SerialState {
     pub fn default(alloc: Global) -> SerialState
         ensures { state_of result ≡ fresh_state }
     {
-        SerialState {
-            baud_divisor_low: 0x0C,
-            baud_divisor_high: 0x00,
-            interrupt_enable: 0x00,
-            interrupt_identification: 0x01,
-            line_control: 0x03,
-            line_status: 0x60,
-            modem_control: 0x08,
-            modem_status: 0xB0,
-            scratch: 0x00,
-            in_buffer: Vec::new(alloc),
-        }
+        Registers::new().saved(Vec::new(alloc))
     }
 
     /// An equal state.
@@ -82,7 +72,7 @@ impl SerialState {
     {
         let holds_bytes = !self.in_buffer.is_empty();
         self.in_buffer.len() <= FIFO_SIZE
-            && has_bits(self.line_status, 0x01) == holds_bytes
+            && has_bits(self.line_status, LSR_DATA_READY_BIT) == holds_bytes
             && tells_conditions(self.interrupt_identification, holds_bytes)
     }
 }

@@ -1,6 +1,8 @@
--- A new port is coherent.
+-- A fresh port is coherent.
+use Rattle.std.proofs.Common.{sym, subst}
+use Rattle.vm_superio.specs.Port.Coherent.{Coherent}
 use Rattle.vm_superio.proofs.Runs.{fresh_coherent}
 use Rattle.vm_superio.proofs.serial.Serial.with_events.Goals as goal
 
 pub returns-clause-coherent : goal.returns-clause-coherent
-returns-clause-coherent g c = rw c.in-Ok.ensures.empty fresh_coherent
+returns-clause-coherent g c = rw c.in-Ok.ensures.empty (subst Coherent (sym c.new-2.ensures) fresh_coherent)

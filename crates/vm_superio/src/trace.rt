@@ -1,0 +1,35 @@
+//! What is recorded of a call of a serial port beside its result.
+
+/// The trigger's answers to the port's own calls in one call, in order.
+#[derive(Clone, Copy, Debug, PartialEq, Eq)]
+pub enum Asked {
+    /// The trigger was not called.
+    Nothing,
+    /// One call, which was taken.
+    Took,
+    /// One call, which was refused.
+    Refused,
+    /// Two calls, both taken.
+    TookTook,
+    /// Two calls: the first was taken, the second refused.
+    TookRefused,
+}
+
+/// The outcome of the byte that a call sent to the writer.
+#[derive(Clone, Copy, Debug, PartialEq, Eq)]
+pub enum Sent {
+    /// The call sent no byte.
+    Nothing,
+    /// The writer took the byte.
+    Out,
+    /// The writer failed.
+    Lost,
+}
+
+/// A reply, with the trigger's answers and the outcome of the byte.
+#[derive(Drop)]
+pub(crate) struct Traced<R> {
+    pub(crate) reply: R,
+    pub(crate) asked: Asked,
+    pub(crate) sent: Sent,
+}
