@@ -2,7 +2,7 @@
 use Rattle.std.proofs.Common.{◌≡◌, ℕ, zero, suc, List, [], ◌∷◌, refl}
 use Rattle.vm_superio.specs.declared.trace.Asked.TheVariants.{Nothing, Took, Refused}
 use Rattle.vm_superio.specs.declared.trace.Sent.TheVariants as sent
-use Rattle.vm_superio.specs.Port.State.{fresh_state}
+use Rattle.vm_superio.specs.Port.SavedState.{fresh_state}
 use Rattle.vm_superio.specs.Port.Bits.{has_bits, masked, joined}
 use Rattle.vm_superio.specs.Port.Registers.{Rda, Thre}
 use Rattle.vm_superio.specs.Port.Operations.{buffer_read, TraceEntry, Response, EnqueueOk, TriggerRefused, WriterFailed}

@@ -2,7 +2,8 @@
 use Rattle.std.proofs.Common.{◌≡◌, [], ◌∷◌, refl}
 use Rattle.vm_superio.specs.declared.trace.Asked.TheVariants.{Took}
 use Rattle.vm_superio.specs.declared.trace.Sent.TheVariants as sent
-use Rattle.vm_superio.specs.Port.State.{State, fresh_state}
+use Rattle.vm_superio.specs.Port.State.{State}
+use Rattle.vm_superio.specs.Port.SavedState.{fresh_state}
 use Rattle.vm_superio.specs.Port.Bits.{has_bits, masked, joined}
 use Rattle.vm_superio.specs.Port.Registers.{Rda, Thre}
 use Rattle.vm_superio.specs.Port.Operations.{buffer_read, in_buffer_empty}

@@ -15,9 +15,9 @@ use Rattle.vm_superio.specs.Step.Transition.{step_response, step, read_step, rea
 use Rattle.vm_superio.specs.Step.Restore.{restore_calls}
 use Rattle.vm_superio.specs.Port.OpKinds.{OpKind, IerWrite, ThrWrite, Arrival, Other, read_kind, write_kind, kind_of, sent_by}
 use Rattle.vm_superio.specs.History.Registers.{kind_at, dlab, loopback, interrupt_enable, held_bytes}
-use Rattle.vm_superio.specs.History.Interrupts.{raises_rda, is_pending, raises_thre, calls_due}
+use Rattle.vm_superio.specs.History.Interrupts.{raises_rda, is_pending, raises_thre}
+use Rattle.vm_superio.specs.History.Calls.{calls_due, kind_events, history_events}
 use Rattle.vm_superio.specs.History.Reads.{state_of_history}
-use Rattle.vm_superio.specs.History.Events.{kind_events, history_events}
 use Rattle.vm_superio.specs.Laws.Agreement.{StepLaw}
 use Rattle.vm_superio.proofs.Pending.{due_is, interrupt_law}
 use Rattle.vm_superio.proofs.Runs.{state_law, answer_law}

@@ -2,4 +2,4 @@
 pub mod Registers
 pub mod Interrupts
 pub mod Reads
-pub mod Events
+pub mod Calls

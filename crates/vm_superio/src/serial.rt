@@ -1,6 +1,6 @@
 //! A serial port with the registers of a 16550.
 ghost use Rattle.std.specs.Prelude.{◌≡◌, ◌<◌, ◌≤◌, ◌-◌, length, vec_len, IsOk, IsErr, IfOk, IfErr};
-ghost use Rattle.vm_superio.specs.Port.State.{fresh_state};
+ghost use Rattle.vm_superio.specs.Port.SavedState.{fresh_state};
 ghost use Rattle.vm_superio.specs.Step.Restore.{restore_calls};
 ghost use Rattle.vm_superio.specs.Port.Coherent.{Coherent};
 ghost use Rattle.vm_superio.specs.Port.ObjectLinks.{all_ok};
@@ -80,7 +80,7 @@ impl<T: Trigger, W: Write> Serial<T, NoEvents, W> {
 impl<T: Trigger, EV: SerialEvents, W: Write> Serial<T, EV, W> {
     ghost use Rattle.std.specs.Borrow.{Lends, sem};
     ghost use Rattle.vm_superio.specs.contracts.serial.Serial.{the_row};
-    ghost use Rattle.vm_superio.specs.Port.Model.{with_writer};
+    ghost use Rattle.vm_superio.specs.Step.PortStep.{with_writer};
     ghost use Rattle.vm_superio.specs.Step.PortStep.{IsReadStep, IsWriteStep, IsEnqueueStep};
 
     /// Makes a serial port as `new` does, which tells its events to `serial_evts`. Neither the trigger nor the events

@@ -2,12 +2,10 @@
 -- are well-formed.
 use Rattle.std.specs.Prelude.{◌≡◌, ℕ, ◌+◌, ◌*◌, ◌≤◌, Bool, true, false, not, ◌==◌, ◌&&◌, ◌||◌, List, [], ◌∷◌, ◌++◌, sum_by, count_by, IsTrue}
 use Rattle.std.specs.Bool.{beq, IsFalse}
-use Rattle.vm_superio.specs.declared.trace.Asked.TheVariants as asked
-use Rattle.vm_superio.specs.declared.trace.Sent.TheVariants as sent
 use Rattle.vm_superio.specs.Port.Bits.{has_bits}
 use Rattle.vm_superio.specs.Port.State.{State, not_empty}
 use Rattle.vm_superio.specs.Port.Registers.{Condition, Rda, Thre, ier_bit, iir_bit, thre_then_rda}
-use Rattle.vm_superio.specs.Port.Operations.{Op, TraceEntry, is_refused_once, is_sent, answer_count, one_if, Trace}
+use Rattle.vm_superio.specs.Port.Operations.{TraceEntry, is_refused_once, is_sent, answer_count, one_if, Trace}
 use Rattle.vm_superio.specs.Port.OpKinds.{OpKind, IerWrite, ThrWrite, sent_by, is_iir_read, is_rbr_read}
 use Rattle.vm_superio.specs.History.Registers.{accepted_by, kind_at, interrupt_enable, held_bytes}
 
@@ -72,11 +70,6 @@ is_call_due condition start trace entry =
 -- one trigger call for each condition that becomes pending; a restore raises nothing
 abbrev pub trigger_calls : (start : State) (trace : Trace) (entry : TraceEntry) → ℕ
 trigger_calls start trace entry = one_if (is_call_due Rda start trace entry) + one_if (is_call_due Thre start trace entry)
-
--- the trigger calls that an operation makes as long as none is refused
-abbrev pub calls_due : (start : State) (trace : Trace) (op : Op) → ℕ
-calls_due start trace op =
-    trigger_calls start trace (record { op = op; asked = asked.Nothing; sent = sent.Nothing })
 
 -- there are as many answers as trigger calls, and an outcome exactly where a byte is sent
 abbrev pub is_well_formed_entry : (start : State) (trace : Trace) (entry : TraceEntry) → Bool

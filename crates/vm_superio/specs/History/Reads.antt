@@ -1,12 +1,10 @@
 -- What the history makes of a port: its state, what a guest reads, what the other calls respond, and the output.
 use Rattle.std.specs.Prelude.{◌≡◌, ⊤, ℕ, Bool, not, ◌==◌, ◌||◌, nat_le, if◌then◌else◌, List, [], ◌∷◌, ◌++◌, length}
 use Rattle.std.specs.List.{list_all}
-use Rattle.vm_superio.specs.declared.trace.Asked.{Asked}
-use Rattle.vm_superio.specs.declared.trace.Sent.{Sent}
 use Rattle.vm_superio.specs.Port.Bits.{joined, without, lsr_dr_bit}
 use Rattle.vm_superio.specs.Port.State.{State, not_empty}
 use Rattle.vm_superio.specs.Port.Registers.{Rda, Thre, register_at, identification_of, register_read}
-use Rattle.vm_superio.specs.Port.Operations.{Op, Read, Write, Enqueue, Restore, TraceEntry, Response, ByteRead, EnqueueOk, TriggerRefused, FifoFull, NoResponse, is_refused_once, is_lost, write_outcome, Trace}
+use Rattle.vm_superio.specs.Port.Operations.{Asked, Sent, Op, Read, Write, Enqueue, Restore, TraceEntry, Response, ByteRead, EnqueueOk, TriggerRefused, FifoFull, NoResponse, is_refused_once, is_lost, write_outcome, Trace}
 use Rattle.vm_superio.specs.Port.OpKinds.{sent_by}
 use Rattle.vm_superio.specs.History.Registers.{kind_at, line_control, modem_control, scratch, dlab, loopback, divisor_low, divisor_high, interrupt_enable, accepted_by, held_bytes}
 use Rattle.vm_superio.specs.History.Interrupts.{is_pending}

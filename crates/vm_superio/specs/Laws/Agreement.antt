@@ -12,9 +12,9 @@ use Rattle.vm_superio.specs.Step.Transition.{step, step_response, step_events}
 use Rattle.vm_superio.specs.Step.Admissible.{step_calls, is_admissible}
 use Rattle.vm_superio.specs.Step.Restore.{restore_calls}
 use Rattle.vm_superio.specs.History.Registers.{kind_at, line_control, modem_control, scratch, divisor_low, divisor_high, interrupt_enable, held_bytes}
-use Rattle.vm_superio.specs.History.Interrupts.{is_well_formed_entry, is_well_formed, calls_due, restore_calls_due}
+use Rattle.vm_superio.specs.History.Interrupts.{is_well_formed_entry, is_well_formed, restore_calls_due}
+use Rattle.vm_superio.specs.History.Calls.{calls_due, history_events}
 use Rattle.vm_superio.specs.History.Reads.{interrupt_identification, line_status, state_of_history, history_response, ResponsesAre}
-use Rattle.vm_superio.specs.History.Events.{history_events}
 use Rattle.vm_superio.specs.Run.Trace.{trace_after}
 
 -- the state that the steps of a trace lead to

@@ -12,10 +12,6 @@ pub record Port (T EV W : Type 0) : Type 0 where
   pub events : EV
   pub out : W
 
--- the port with another writer, and nothing else changed
-abbrev pub with_writer : {T EV W : Type 0} → (port : Port T EV W) (writer : W) → Port T EV W
-with_writer port writer = record port { out = writer }
-
 -- what a write or an enqueue answers, as a response
 abbrev pub failure_response : {E : Type 0} → (error : Error E) → Response
 failure_response (Trigger refusal) = TriggerRefused

@@ -1,8 +1,8 @@
 -- The operations on a serial port, their responses, the events that the port reports, and the entries of a trace.
 use Rattle.std.specs.Prelude.{ℕ, Bool, true, false, if◌then◌else◌, List}
-use Rattle.vm_superio.specs.declared.trace.Asked.{Asked}
+pub use Rattle.vm_superio.specs.declared.trace.Asked.{Asked}
 use Rattle.vm_superio.specs.declared.trace.Asked.TheVariants as asked
-use Rattle.vm_superio.specs.declared.trace.Sent.{Sent}
+pub use Rattle.vm_superio.specs.declared.trace.Sent.{Sent}
 use Rattle.vm_superio.specs.declared.trace.Sent.TheVariants as sent
 
 -- an operation, without the objects that a restore brings

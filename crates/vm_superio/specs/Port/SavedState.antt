@@ -1,8 +1,24 @@
--- The state of a serial port, from a saved state and from the parts that hold it.
-use Rattle.std.specs.Prelude.{ℕ, List}
+-- The states that a serial port starts from and is kept in: a fresh one, a saved one, and that of its parts.
+use Rattle.std.specs.Prelude.{ℕ, List, []}
 use Rattle.vm_superio.specs.declared.serial.registers.Registers.{Registers}
 use Rattle.vm_superio.specs.declared.serial.state.SerialState.{SerialState}
 use Rattle.vm_superio.specs.Port.State.{State}
+
+-- a new port: divisor 12, nothing enabled or pending, 8 data bits, OUT2 set, the transmitter empty, and a peer that is
+-- present, clear to send and ready
+abbrev pub fresh_state : State
+fresh_state = record {
+  baud_divisor_low = 0x0C;
+  baud_divisor_high = 0x00;
+  interrupt_enable = 0x00;
+  interrupt_identification = 0x01;
+  line_control = 0x03;
+  line_status = 0x60;
+  modem_control = 0x08;
+  modem_status = 0xB0;
+  scratch = 0x00;
+  in_buffer = [];
+}
 
 -- the fields of a saved state, with the received bytes as a list
 abbrev pub state_of : (saved : SerialState) → State

@@ -1,14 +1,12 @@
 -- The history theorem: what a run from a coherent start shows, by the history alone.
 use Rattle.std.specs.Prelude.{◌≡◌, List, [], ◌++◌, IsTrue}
-use Rattle.vm_superio.specs.declared.run.Call.{Call}
-use Rattle.vm_superio.specs.declared.run.Done.{Done}
 use Rattle.vm_superio.specs.Port.Coherent.{Coherent}
 use Rattle.vm_superio.specs.Port.ObjectLinks.{Link, TriggerAnswer, Contents}
 use Rattle.vm_superio.specs.Port.Model.{Port}
 use Rattle.vm_superio.specs.History.Registers.{taken_bytes, accepted_bytes}
 use Rattle.vm_superio.specs.History.Interrupts.{is_well_formed, IsWithinBound, WaitingBytesShow}
 use Rattle.vm_superio.specs.History.Reads.{ResponsesAre, state_of_history}
-use Rattle.vm_superio.specs.Run.Trace.{RecordsOf, entries_of, trace_of, without_restores}
+use Rattle.vm_superio.specs.Run.Trace.{Call, Done, RecordsOf, entries_of, trace_of, without_restores}
 use Rattle.vm_superio.specs.Run.Observations.{ReadsAre, OutputsAre, TriggersAre}
 
 -- a run of these calls with these records, from a port to a port

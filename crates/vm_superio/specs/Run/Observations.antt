@@ -1,20 +1,14 @@
 -- What a run from a coherent start shows along its trace, by the history alone: bytes read, output, trigger calls.
 use Rattle.std.specs.Prelude.{◌≡◌, ℕ, List, [], ◌∷◌, ◌++◌, IsTrue, ⊤}
 use Rattle.std.specs.Io.KnownBytes.{Appends}
-use Rattle.vm_superio.specs.declared.trace.Asked.{Asked}
-use Rattle.vm_superio.specs.declared.run.Act.{Act}
 use Rattle.vm_superio.specs.declared.run.Act.TheVariants.{Read}
-use Rattle.vm_superio.specs.declared.run.Call.{Call}
 use Rattle.vm_superio.specs.declared.run.Call.TheVariants.{Restore}
-use Rattle.vm_superio.specs.declared.run.Reply.{Reply}
-use Rattle.vm_superio.specs.declared.run.Reply.TheVariants.{Byte, Restored, NotRestored}
-use Rattle.vm_superio.specs.declared.run.Done.{Done}
 use Rattle.vm_superio.specs.Port.State.{State}
-use Rattle.vm_superio.specs.Port.Operations.{TraceEntry, Trace}
+use Rattle.vm_superio.specs.Port.Operations.{Asked, TraceEntry, Trace}
 use Rattle.vm_superio.specs.Port.ObjectLinks.{Link, TriggerAnswer, Contents, answers_of, all_ok, RefusesOwnState}
 use Rattle.vm_superio.specs.History.Interrupts.{restore_calls_due}
 use Rattle.vm_superio.specs.History.Reads.{guest_read, output, none_lost}
-use Rattle.vm_superio.specs.Run.Trace.{entry_of, refusal_in_reply}
+use Rattle.vm_superio.specs.Run.Trace.{Act, Call, Reply, Byte, Restored, NotRestored, Done, entry_of, refusal_in_reply}
 
 -- ---- bytes read
 

@@ -1,13 +1,13 @@
 -- The records of a run as a trace.
 use Rattle.std.specs.Prelude.{◌≡◌, ⊤, List, [], ◌∷◌, Bool, true, false, not, Option, None}
 use Rattle.std.specs.List.{filter}
-use Rattle.vm_superio.specs.declared.run.Act.{Act}
+pub use Rattle.vm_superio.specs.declared.run.Act.{Act}
 use Rattle.vm_superio.specs.declared.run.Act.TheVariants as act
-use Rattle.vm_superio.specs.declared.run.Reply.{Reply}
-use Rattle.vm_superio.specs.declared.run.Reply.TheVariants.{Byte, Wrote, Enqueued, Restored, NotRestored}
-use Rattle.vm_superio.specs.declared.run.Call.{Call}
+pub use Rattle.vm_superio.specs.declared.run.Reply.{Reply}
+pub use Rattle.vm_superio.specs.declared.run.Reply.TheVariants.{Byte, Wrote, Enqueued, Restored, NotRestored}
+pub use Rattle.vm_superio.specs.declared.run.Call.{Call}
 use Rattle.vm_superio.specs.declared.run.Call.TheVariants as call
-use Rattle.vm_superio.specs.declared.run.Done.{Done}
+pub use Rattle.vm_superio.specs.declared.run.Done.{Done}
 use Rattle.vm_superio.specs.Port.Operations.{Op, Read, Write, Enqueue, Restore, TraceEntry, Response, ByteRead, NoResponse, Trace}
 use Rattle.vm_superio.specs.Port.Model.{write_response, enqueue_response, refusal_in_result}
 

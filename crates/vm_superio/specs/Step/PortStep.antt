@@ -28,6 +28,10 @@ pub record IsPortStep
   pub events : links.events old.events (step_events old.state op outcome) new.events
   pub out : WriterLink links.contents (outcome ∷ []) (bytes_taken_by_writer op outcome) old.out new.out
 
+-- the port with another writer, and nothing else changed
+abbrev pub with_writer : {T EV W : Type 0} → (port : Port T EV W) (writer : W) → Port T EV W
+with_writer port writer = record port { out = writer }
+
 -- ---- trigger calls, by the bits of IIR
 
 -- the bit goes from clear to set

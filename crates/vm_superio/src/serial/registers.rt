@@ -1,6 +1,6 @@
 //! The registers of a 16550: which one an offset reaches, and the nine bytes that they hold.
 ghost use Rattle.std.specs.Prelude.{◌≡◌, []};
-ghost use Rattle.vm_superio.specs.Port.State.{fresh_state};
+ghost use Rattle.vm_superio.specs.Port.SavedState.{fresh_state};
 ghost use Rattle.vm_superio.specs.Port.SavedState.{state_of, state_with};
 
 use super::SerialState;

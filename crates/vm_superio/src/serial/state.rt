@@ -1,6 +1,6 @@
 //! A saved serial port.
 ghost use Rattle.std.specs.Prelude.{◌≡◌, ◌↔◌, Bool, IfOk, IsTrue};
-ghost use Rattle.vm_superio.specs.Port.State.{fresh_state};
+ghost use Rattle.vm_superio.specs.Port.SavedState.{fresh_state};
 ghost use Rattle.vm_superio.specs.Port.Coherent.{Coherent};
 ghost use Rattle.vm_superio.specs.Port.Registers.{identification_of};
 

@@ -1,11 +1,14 @@
--- The history of events: what a port reports to its events object at each point of a trace.
+-- What a call does to the port's objects at each point of a trace: the trigger calls that it makes, and the events that it
+-- reports.
 use Rattle.std.specs.Prelude.{ℕ, if◌then◌else◌, List, [], ◌∷◌, ◌++◌}
+use Rattle.vm_superio.specs.declared.trace.Asked.TheVariants as asked
 use Rattle.vm_superio.specs.declared.trace.Sent.{Sent}
 use Rattle.vm_superio.specs.declared.trace.Sent.TheVariants as sent
 use Rattle.vm_superio.specs.Port.State.{State, not_empty}
-use Rattle.vm_superio.specs.Port.Operations.{TraceEntry, Event, buffer_read, out_byte, tx_lost_byte, in_buffer_empty, Trace}
+use Rattle.vm_superio.specs.Port.Operations.{Op, TraceEntry, Event, buffer_read, out_byte, tx_lost_byte, in_buffer_empty, Trace}
 use Rattle.vm_superio.specs.Port.OpKinds.{OpKind, RbrRead}
 use Rattle.vm_superio.specs.History.Registers.{kind_at, held_bytes}
+use Rattle.vm_superio.specs.History.Interrupts.{trigger_calls}
 
 -- an RBR read reports that no byte is left, where none is, and then that it read; a byte that was sent is reported as
 -- out or as lost
@@ -19,3 +22,8 @@ kind_events kind left sent.Lost = tx_lost_byte ∷ []
 abbrev pub history_events : (start : State) (trace : Trace) (entry : TraceEntry) → List Event
 history_events start trace entry =
     kind_events (kind_at start trace entry.op) (held_bytes start (entry ∷ trace)) entry.sent
+
+-- the trigger calls that an operation makes as long as none is refused
+abbrev pub calls_due : (start : State) (trace : Trace) (op : Op) → ℕ
+calls_due start trace op =
+    trigger_calls start trace (record { op = op; asked = asked.Nothing; sent = sent.Nothing })
