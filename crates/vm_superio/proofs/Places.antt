@@ -11,7 +11,7 @@ use Rattle.vm_superio.specs.Port.Operations.{TraceEntry}
 use Rattle.vm_superio.specs.Step.Raising.{receive_bytes, bytes_that_fit}
 use Rattle.vm_superio.specs.Port.OpKinds.{OpKind, RbrRead, IirRead, IerWrite, ThrWrite, Arrival, Other, is_iir_read}
 use Rattle.vm_superio.specs.History.Registers.{kind_at, held_bytes, interrupt_enable}
-use Rattle.vm_superio.specs.Port.Registers.{Rda, iir_bit}
+use Rattle.vm_superio.specs.Port.Registers.{Condition, Rda, iir_bit}
 use Rattle.vm_superio.specs.History.Interrupts.{raised_since, is_raised, acknowledges, is_pending, NoneAcknowledges, shows_waiting_bytes}
 use Rattle.vm_superio.specs.Laws.Consequences.{PendingByPrefixesLaw, WaitingBytesLaw}
 use Rattle.vm_superio.specs.Laws.Agreement.{state_after}
@@ -58,26 +58,26 @@ not_false false e = refl
 
 -- ---- pending by places
 
-module _ (start : State) (raises : List TraceEntry → TraceEntry → Bool) (acknowledges : OpKind → Bool) (first : Bool) where
+module _ (condition : Condition) (start : State) (raises : List TraceEntry → TraceEntry → Bool) where
   -- raised at some point, or at first, and acknowledged at no later point
   abbrev ByPrefixes : (trace : List TraceEntry) → Type 0
   ByPrefixes trace =
       ((after before : List TraceEntry) × (entry : TraceEntry) × (trace ≡ after ++ entry ∷ before)
-      × IsTrue (raises before entry) × NoneAcknowledges start acknowledges after (entry ∷ before))
-      ⊎ (IsTrue first × NoneAcknowledges start acknowledges trace [])
+      × IsTrue (raises before entry) × NoneAcknowledges start (acknowledges condition) after (entry ∷ before))
+      ⊎ (IsTrue (has_bits start.interrupt_identification (iir_bit condition)) × NoneAcknowledges start (acknowledges condition) trace [])
 
   -- what was raised stays raised while none acknowledges
-  stays : (newest trace : List TraceEntry) → NoneAcknowledges start acknowledges newest trace
-      → IsTrue (raised_since start raises acknowledges first trace)
-      → IsTrue (raised_since start raises acknowledges first (newest ++ trace))
+  stays : (newest trace : List TraceEntry) → NoneAcknowledges start (acknowledges condition) newest trace
+      → IsTrue (raised_since condition start raises trace)
+      → IsTrue (raised_since condition start raises (newest ++ trace))
   stays [] trace none raised = raised
   stays (entry ∷ newest) trace none raised =
-      let rest = stays newest trace (none_fewer start acknowledges newest trace entry none) raised in
+      let rest = stays newest trace (none_fewer start (acknowledges condition) newest trace entry none) raised in
       let not_here = none [] newest entry refl in
       rw (not_here, rest) (or_true (raises (newest ++ trace) entry))
 
   -- a place for the others is one for all, where the newest record does not acknowledge
-  grown : (entry : TraceEntry) (trace : List TraceEntry) → IsFalse (acknowledges (kind_at start trace entry.op))
+  grown : (entry : TraceEntry) (trace : List TraceEntry) → IsFalse (acknowledges condition (kind_at start trace entry.op))
       → ByPrefixes trace
       → ByPrefixes (entry ∷ trace)
   grown entry trace not_here (inl (after, before, x, place, raised, none)) =
@@ -87,51 +87,50 @@ module _ (start : State) (raises : List TraceEntry → TraceEntry → Bool) (ack
         x,
         ap (λ rest. entry ∷ rest) place,
         raised,
-        none_more start acknowledges after (x ∷ before) entry
-            (subst (λ (trace : List TraceEntry). IsFalse (acknowledges (kind_at start trace entry.op))) place not_here) none,
+        none_more start (acknowledges condition) after (x ∷ before) entry
+            (subst (λ (trace : List TraceEntry). IsFalse (acknowledges condition (kind_at start trace entry.op))) place not_here) none,
       )
   grown entry trace not_here (inr (pending, none)) =
       inr (
         pending,
-        none_more start acknowledges trace [] entry
-            (subst (λ (trace : List TraceEntry). IsFalse (acknowledges (kind_at start trace entry.op)))
+        none_more start (acknowledges condition) trace [] entry
+            (subst (λ (trace : List TraceEntry). IsFalse (acknowledges condition (kind_at start trace entry.op)))
             (sym (append-nil trace)) not_here) none,
       )
 
   found : (entry : TraceEntry) (trace : List TraceEntry) (here : Bool) → raises trace entry ≡ here
-      → (IsTrue (raised_since start raises acknowledges first trace)
+      → (IsTrue (raised_since condition start raises trace)
       → ByPrefixes trace)
       → IsTrue (here ||
-      (not (acknowledges (kind_at start trace entry.op)) && raised_since start raises acknowledges first trace))
+      (not (acknowledges condition (kind_at start trace entry.op)) && raised_since condition start raises trace))
       → ByPrefixes (entry ∷ trace)
   found entry trace true raised earlier e =
-      inl ([], trace, entry, refl, raised, nowhere start acknowledges (entry ∷ trace))
+      inl ([], trace, entry, refl, raised, nowhere start (acknowledges condition) (entry ∷ trace))
   found entry trace false raised earlier e =
-      let acknowledged = acknowledges (kind_at start trace entry.op) in
-      let rest = raised_since start raises acknowledges first trace in
+      let acknowledged = acknowledges condition (kind_at start trace entry.op) in
+      let rest = raised_since condition start raises trace in
       grown entry trace (not_false acknowledged (and_parts (not acknowledged) rest e).0)
       (earlier (and_parts (not acknowledged) rest e).1)
 
-  to_places : (trace : List TraceEntry) → IsTrue (raised_since start raises acknowledges first trace)
+  to_places : (trace : List TraceEntry) → IsTrue (raised_since condition start raises trace)
       → ByPrefixes trace
-  to_places [] e = inr (e, nowhere start acknowledges [])
+  to_places [] e = inr (e, nowhere start (acknowledges condition) [])
   to_places (entry ∷ trace) e = found entry trace (raises trace entry) refl (to_places trace) e
 
   from_places : (trace : List TraceEntry) → ByPrefixes trace
-      → IsTrue (raised_since start raises acknowledges first trace)
+      → IsTrue (raised_since condition start raises trace)
   from_places trace (inl (after, before, entry, place, raised, none)) =
-      let there : IsTrue (raised_since start raises acknowledges first (entry ∷ before)) = rw raised refl in
-      subst (λ (trace : List TraceEntry). IsTrue (raised_since start raises acknowledges first trace)) (sym place)
+      let there : IsTrue (raised_since condition start raises (entry ∷ before)) = rw raised refl in
+      subst (λ (trace : List TraceEntry). IsTrue (raised_since condition start raises trace)) (sym place)
       (stays after (entry ∷ before) none there)
   from_places trace (inr (pending, none)) =
-      subst (λ (trace : List TraceEntry). IsTrue (raised_since start raises acknowledges first trace)) (append-nil trace)
+      subst (λ (trace : List TraceEntry). IsTrue (raised_since condition start raises trace)) (append-nil trace)
       (stays trace [] none pending)
 
 pub pending_by_prefixes_law : PendingByPrefixesLaw
 pending_by_prefixes_law condition start trace =
     let raises = is_raised condition start in
-    let first = has_bits start.interrupt_identification (iir_bit condition) in
-    (to_places start raises (acknowledges condition) first trace, from_places start raises (acknowledges condition) first trace)
+    (to_places condition start raises trace, from_places condition start raises trace)
 
 -- ---- waiting bytes
 

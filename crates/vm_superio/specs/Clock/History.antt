@@ -1,5 +1,5 @@
--- The history of a clock: what its registers hold, by a search of its accesses alone. A trace is a list of accesses with
--- their moments, newest first. Nothing is kept from one access to the next.
+-- The history of a clock: what its registers hold, by a search of its accesses alone. A trace is a list of accesses,
+-- newest first. No state is kept along it.
 use Rattle.std.specs.Prelude.{ℕ, ◌+◌, ◌%◌, ℤ, pos, ◌+ℤ◌, ◌-ℤ◌, ◌==◌, ◌&&◌, if◌then◌else◌, List, [], ◌∷◌, Option, Some, None, unwrap_or, bit_or}
 use Rattle.std.specs.Option.{option_or, option_map_or}
 use Rattle.vm_superio.specs.declared.rtc_pl031.RtcState.{RtcState}

@@ -34,7 +34,8 @@ pub record ClockIsHistory : Type 0 where
   pub all_responses :
       (start : RtcState) (trace : List Access) (access : Access)
       → clock_response (state_after_accesses start trace) access ≡ clock_history_response start trace access
-  pub all_states : (start : RtcState) (trace : List Access) → state_after_accesses start trace ≡ clock_of_history start trace
+  pub all_states :
+      (start : RtcState) (trace : List Access) → state_after_accesses start trace ≡ clock_of_history start trace
   pub offset_is :
       (start : RtcState) (trace : List Access) (time : ℕ)
       → pos time +ℤ (clock_of_history start trace).offset ≡ counter start trace time

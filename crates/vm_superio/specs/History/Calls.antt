@@ -1,5 +1,4 @@
--- What a call does to the port's objects at each point of a trace: the trigger calls that it makes, and the events that it
--- reports.
+-- What a call does to the port's objects at each point of a trace: the events reported, and the trigger calls made.
 use Rattle.std.specs.Prelude.{ℕ, if◌then◌else◌, List, [], ◌∷◌, ◌++◌}
 use Rattle.vm_superio.specs.declared.trace.Asked.TheVariants as asked
 use Rattle.vm_superio.specs.declared.trace.Sent.{Sent}

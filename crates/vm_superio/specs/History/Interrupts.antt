@@ -1,5 +1,4 @@
--- The history of interrupts: which conditions were raised and are pending, which trigger calls are due, and which traces
--- are well-formed.
+-- The history of interrupts: conditions raised and pending, trigger calls due, and well-formed traces.
 use Rattle.std.specs.Prelude.{◌≡◌, ℕ, ◌+◌, ◌*◌, ◌≤◌, Bool, true, false, not, ◌==◌, ◌&&◌, ◌||◌, List, [], ◌∷◌, ◌++◌, sum_by, count_by, IsTrue}
 use Rattle.std.specs.Bool.{beq, IsFalse}
 use Rattle.vm_superio.specs.Port.Bits.{has_bits}
@@ -11,42 +10,39 @@ use Rattle.vm_superio.specs.History.Registers.{accepted_by, kind_at, interrupt_e
 
 -- ---- raised, acknowledged and pending
 
--- a condition is pending if the newest entry that raises or acknowledges it raises it; where there is none, if it was
--- pending at the start
-abbrev pub raised_since :
-    (start : State) (raises : Trace → TraceEntry → Bool) (acknowledges : OpKind → Bool) (first : Bool)
-    (trace : Trace) → Bool
-raised_since start raises acknowledges first [] = first
-raised_since start raises acknowledges first (entry ∷ trace) =
-    raises trace entry
-    || (not (acknowledges (kind_at start trace entry.op)) && raised_since start raises acknowledges first trace)
-
--- RDA is raised by an IER write whose value has its bit while bytes are held, and by an operation that accepts at least
--- one byte while IER has the bit
-abbrev pub raises_rda : (kind : OpKind) (held : List ℕ) (enable : ℕ) → Bool
-raises_rda (IerWrite value) held enable = has_bits value (ier_bit Rda) && not_empty held
-raises_rda kind held enable = not_empty (accepted_by kind held) && has_bits enable (ier_bit Rda)
-
--- THRE is raised by a THR write while IER has its bit, and by an IER write whose value has the bit, unless the trigger
--- refused that write's call for RDA
-abbrev pub raises_thre : (kind : OpKind) (enable : ℕ) (refused : Bool) → Bool
-raises_thre (ThrWrite value) enable refused = has_bits enable (ier_bit Thre)
-raises_thre (IerWrite value) enable refused = has_bits value (ier_bit Thre) && not refused
-raises_thre _ enable refused = false
-
 -- an IIR read acknowledges both; an RBR read acknowledges RDA, also where it takes nothing
 abbrev pub acknowledges : (condition : Condition) (kind : OpKind) → Bool
 acknowledges Rda kind = is_iir_read kind || is_rbr_read kind
 acknowledges Thre kind = is_iir_read kind
 
--- RDA alone, on which raising THRE depends
+-- pending: the newest entry that raises or acknowledges the condition raises it, or there is none and it was at the start
+abbrev pub raised_since :
+    (condition : Condition) (start : State) (raises : Trace → TraceEntry → Bool) (trace : Trace) → Bool
+raised_since condition start raises [] = has_bits start.interrupt_identification (iir_bit condition)
+raised_since condition start raises (entry ∷ trace) =
+    raises trace entry
+    || (not (acknowledges condition (kind_at start trace entry.op)) && raised_since condition start raises trace)
+
+-- RDA is raised by an IER write whose value has its bit while bytes are held, and by an operation that accepts a byte
+-- while IER has the bit
+abbrev pub raises_rda : (kind : OpKind) (held : List ℕ) (enable : ℕ) → Bool
+raises_rda (IerWrite value) held enable = has_bits value (ier_bit Rda) && not_empty held
+raises_rda kind held enable = not_empty (accepted_by kind held) && has_bits enable (ier_bit Rda)
+
+-- THRE is raised by a THR write while IER has its bit, and by an IER write whose value has the bit unless the trigger
+-- refused its call for RDA
+abbrev pub raises_thre : (kind : OpKind) (enable : ℕ) (refused : Bool) → Bool
+raises_thre (ThrWrite value) enable refused = has_bits enable (ier_bit Thre)
+raises_thre (IerWrite value) enable refused = has_bits value (ier_bit Thre) && not refused
+raises_thre _ enable refused = false
+
+-- RDA comes first, since raising THRE depends on it
 abbrev pub rda_raised : (start : State) (trace : Trace) (entry : TraceEntry) → Bool
 rda_raised start trace entry =
     raises_rda (kind_at start trace entry.op) (held_bytes start trace) (interrupt_enable start trace)
 
 abbrev pub rda_pending : (start : State) (trace : Trace) → Bool
-rda_pending start trace =
-    raised_since start (rda_raised start) (acknowledges Rda) (has_bits start.interrupt_identification (iir_bit Rda)) trace
+rda_pending start trace = raised_since Rda start (rda_raised start) trace
 
 -- either condition is raised by this entry, or pending
 abbrev pub is_raised : (condition : Condition) (start : State) (trace : Trace) (entry : TraceEntry) → Bool
@@ -56,9 +52,7 @@ is_raised Thre start trace entry =
     (rda_raised start trace entry && not (rda_pending start trace) && is_refused_once entry.asked)
 
 abbrev pub is_pending : (condition : Condition) (start : State) (trace : Trace) → Bool
-is_pending condition start trace =
-    raised_since start (is_raised condition start) (acknowledges condition)
-    (has_bits start.interrupt_identification (iir_bit condition)) trace
+is_pending condition start trace = raised_since condition start (is_raised condition start) trace
 
 -- a trigger call is due where a condition is raised and was not pending
 abbrev pub is_call_due : (condition : Condition) (start : State) (trace : Trace) (entry : TraceEntry) → Bool
@@ -69,7 +63,8 @@ is_call_due condition start trace entry =
 
 -- one trigger call for each condition that becomes pending; a restore raises nothing
 abbrev pub trigger_calls : (start : State) (trace : Trace) (entry : TraceEntry) → ℕ
-trigger_calls start trace entry = one_if (is_call_due Rda start trace entry) + one_if (is_call_due Thre start trace entry)
+trigger_calls start trace entry =
+    one_if (is_call_due Rda start trace entry) + one_if (is_call_due Thre start trace entry)
 
 -- there are as many answers as trigger calls, and an outcome exactly where a byte is sent
 abbrev pub is_well_formed_entry : (start : State) (trace : Trace) (entry : TraceEntry) → Bool
@@ -81,7 +76,7 @@ abbrev pub is_well_formed : (start : State) (trace : Trace) → Bool
 is_well_formed start [] = true
 is_well_formed start (entry ∷ trace) = is_well_formed_entry start trace entry && is_well_formed start trace
 
--- a restore calls for each condition that is pending and enabled, as long as no call is refused: THRE first
+-- a restore calls for each condition that is pending and enabled, THRE first, as long as no call is refused
 abbrev pub restore_calls_due : (start : State) (trace : Trace) → List Condition
 restore_calls_due start trace =
     thre_then_rda (is_pending Thre start trace && has_bits (interrupt_enable start trace) (ier_bit Thre))
@@ -112,7 +107,7 @@ abbrev pub shows_waiting_bytes : (kind : OpKind) (held : List ℕ) → Bool
 shows_waiting_bytes (IerWrite value) held = true
 shows_waiting_bytes kind held = not_empty (accepted_by kind held)
 
--- after such an operation, with no IIR read and no RBR read since, RDA is pending where bytes are held and IER enables it
+-- after such an operation, with no IIR and no RBR read since, RDA is pending where bytes are held and IER enables it
 abbrev pub WaitingBytesShow : (start : State) (trace : Trace) → Type 0
 WaitingBytesShow start trace =
     (after before : Trace) (entry : TraceEntry) → trace ≡ after ++ entry ∷ before

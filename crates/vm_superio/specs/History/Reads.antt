@@ -9,7 +9,6 @@ use Rattle.vm_superio.specs.Port.OpKinds.{sent_by}
 use Rattle.vm_superio.specs.History.Registers.{kind_at, line_control, modem_control, scratch, dlab, loopback, divisor_low, divisor_high, interrupt_enable, accepted_by, held_bytes}
 use Rattle.vm_superio.specs.History.Interrupts.{is_pending}
 
--- IIR: 0x01 where nothing is pending, else 0x02 for THRE and 0x04 for RDA
 abbrev pub interrupt_identification : (start : State) (trace : Trace) → ℕ
 interrupt_identification start trace = identification_of (is_pending Thre start trace) (is_pending Rda start trace)
 

@@ -1,6 +1,5 @@
--- The history of registers and bytes: the last write to each register, and the bytes accepted, taken and held. A trace
--- is a list of entries, newest first; behind an entry stands the trace of its own point. Nothing is kept from one point
--- to the next: each definition searches the start and the trace. Restores change nothing here.
+-- The history of registers and bytes: the last write to each register, and the bytes accepted, taken and held. No state
+-- is kept along a trace: each definition searches the start and the trace. Restores change nothing.
 use Rattle.std.specs.Prelude.{ℕ, ◌-◌, Bool, ◌==◌, if◌then◌else◌, List, [], ◌∷◌, ◌++◌, length, take, drop, Option, Some, None, unwrap_or}
 use Rattle.std.specs.Option.{option_or, option_map_or}
 use Rattle.vm_superio.specs.Port.Bits.{masked, ier_bits}

@@ -58,9 +58,6 @@ lsr_dr_bit = 0x01
 abbrev pub ier_bits : ℕ
 ier_bits = 0x0F
 
--- IIR: nothing is pending; the FIFOs are enabled
-abbrev pub iir_none_bit : ℕ
-iir_none_bit = 0x01
-
+-- IIR: the FIFOs are enabled
 abbrev pub iir_fifo_bits : ℕ
 iir_fifo_bits = 0xC0

@@ -12,7 +12,7 @@ pub record Port (T EV W : Type 0) : Type 0 where
   pub events : EV
   pub out : W
 
--- what a write or an enqueue answers, as a response
+-- what a write or an enqueue answers, as a response, and the refusal that it carries
 abbrev pub failure_response : {E : Type 0} → (error : Error E) → Response
 failure_response (Trigger refusal) = TriggerRefused
 failure_response (IOError fault) = WriterFailed
@@ -27,7 +27,6 @@ abbrev pub enqueue_response : {E : Type 0} → (answer : Result ℕ (Error E)) �
 enqueue_response (Ok count) = EnqueueOk count
 enqueue_response (Err error) = failure_response error
 
--- the refusal that it carries
 abbrev pub refusal_in_error : {E : Type 0} → (error : Error E) → Option E
 refusal_in_error (Trigger refusal) = Some refusal
 refusal_in_error _ = None

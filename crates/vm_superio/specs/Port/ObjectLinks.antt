@@ -28,15 +28,13 @@ answers_of asked.Refused refusal = option_to_list (option_map Err refusal)
 answers_of asked.TookTook refusal = Ok tt ∷ Ok tt ∷ []
 answers_of asked.TookRefused refusal = Ok tt ∷ option_to_list (option_map Err refusal)
 
--- ---- the trigger calls of a restore, by the conditions for which they are due
-
 module _ {E : Type 0} where
-  -- one call for each condition, none of them refused
+  -- a restore calls the trigger once for each condition that is due, and none of these calls is refused
   abbrev pub all_ok : (due : List Condition) → List (TriggerAnswer E)
   all_ok [] = []
   all_ok (condition ∷ due) = Ok tt ∷ all_ok due
 
-  -- one call for each of the first conditions, of which the last one alone is refused, and ends the calls
+  -- or once for each of the first conditions, where the last of these calls alone is refused, and ends the restore
   abbrev pub StopsAtRefusal : (due : List Condition) (refusal : E) (answers : List (TriggerAnswer E)) → Type 0
   StopsAtRefusal [] refusal answers = ⊥
   StopsAtRefusal (condition ∷ due) refusal [] = ⊥

@@ -22,7 +22,7 @@ pub record TraceEntry : Type 0 where
 abbrev pub Trace : Type 0
 Trace = List TraceEntry
 
--- what a call responds
+-- what a call responds; nothing is stated of a restore's response
 pub data Response : Type 0 where
   ByteRead : (byte : ℕ) → Response
   WriteOk : Response
@@ -31,7 +31,6 @@ pub data Response : Type 0 where
   WriterFailed : Response
   FifoFull : Response
   OutOfMemory : Response
-  -- nothing is stated of what a restore responds
   NoResponse : Response
 
 -- the events that a port reports to its events object
@@ -43,7 +42,7 @@ pub data Event : Type 0 where
 
 -- ---- the trigger's answers
 
--- there was one call, and it was refused
+-- there was one call, which was refused
 abbrev pub is_refused_once : (answers : Asked) → Bool
 is_refused_once asked.Refused = true
 is_refused_once _ = false

@@ -28,4 +28,5 @@ bytes_taken_by_writer _ _ = []
 pub record WriterLink
     {W : Type 0} (contents : Contents W) (outcomes : List Sent) (bytes : List ℕ) (old new : W) : Type 0 where
   pub unchanged : IsTrue (list_all (λ outcome. not (is_sent outcome)) outcomes) → new ≡ old
-  pub grown : IsTrue (list_all (λ outcome. not (is_lost outcome)) outcomes) → Appends (contents old) (contents new) bytes
+  pub grown :
+      IsTrue (list_all (λ outcome. not (is_lost outcome)) outcomes) → Appends (contents old) (contents new) bytes

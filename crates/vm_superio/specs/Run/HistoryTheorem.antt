@@ -23,8 +23,8 @@ pub record HistoryTheorem
   pub kept :
       taken_bytes start.state (trace_of records) ++ end.state.in_buffer
       ≡ start.state.in_buffer ++ accepted_bytes start.state (trace_of records)
-  -- each trigger call outside restores is one condition that becomes pending; their number is bounded; and waiting bytes
-  -- keep RDA pending
+  -- each trigger call outside restores is one condition that becomes pending; their number is bounded; and RDA stays
+  -- pending while bytes wait
   pub trigger_calls : IsTrue (is_well_formed start.state (trace_of records))
   pub bound : IsWithinBound start.state (trace_of records)
   pub waiting : WaitingBytesShow start.state (trace_of records)

@@ -1,4 +1,4 @@
--- What a run from a coherent start shows along its trace, by the history alone: bytes read, output, trigger calls.
+-- What a run from a coherent start shows, by the history alone: bytes read, output, trigger calls.
 use Rattle.std.specs.Prelude.{◌≡◌, ℕ, List, [], ◌∷◌, ◌++◌, IsTrue, ⊤}
 use Rattle.std.specs.Io.KnownBytes.{Appends}
 use Rattle.vm_superio.specs.declared.run.Act.TheVariants.{Read}
@@ -10,10 +10,8 @@ use Rattle.vm_superio.specs.History.Interrupts.{restore_calls_due}
 use Rattle.vm_superio.specs.History.Reads.{guest_read, output, none_lost}
 use Rattle.vm_superio.specs.Run.Trace.{Act, Call, Reply, Byte, Restored, NotRestored, Done, entry_of, refusal_in_reply}
 
--- ---- bytes read
-
 module _ {T E EV W : Type 0} where
-  -- each read replied the guest read at its point
+  -- each read replied the guest read at its point of the trace
   abbrev pub ReadIs : (start : State) (trace : Trace) (act : Act) (reply : Reply T EV W E) → Type 0
   ReadIs start trace (Read offset) reply = reply ≡ Byte (guest_read start trace offset)
   ReadIs start trace _ reply = ⊤

@@ -1,4 +1,5 @@
--- A segment of a run: the part of it that the same three objects serve, from the run's start or a successful restore on.
+-- A segment of a run: the part of it that the same three objects serve, from the run's start or from a successful
+-- restore.
 use Rattle.std.specs.Prelude.{◌≡◌, ℕ, List, [], ◌∷◌, ◌++◌, Option}
 use Rattle.vm_superio.specs.declared.trace.Asked.{Asked}
 use Rattle.vm_superio.specs.declared.trace.Sent.{Sent}
@@ -10,8 +11,8 @@ use Rattle.vm_superio.specs.Port.WriterLink.{PortLinks, bytes_taken_by_writer, W
 use Rattle.vm_superio.specs.Port.Model.{Port}
 use Rattle.vm_superio.specs.Step.Transition.{step_events}
 
--- the objects as they were at its start; then the trigger's answers since, the events reported, the outcomes of the bytes
--- that were sent, and the bytes that the writer took, each in order
+-- the objects as they were at its start; and since then the trigger's answers, the events reported, the outcomes of the
+-- bytes sent, and the bytes that the writer took, each in order
 pub record Segment (T E EV W : Type 0) : Type 0 where
   pub trigger : T
   pub events : EV

@@ -78,7 +78,8 @@ module _ {T E EV W : Type 0} (links : PortLinks T E EV W) where
   IsCallStep (call.Write offset value) answers outcome (Wrote answer) old new =
       IsPortStep links (Write offset value) answers outcome (write_response answer) (refusal_in_result answer) old new
   IsCallStep (call.Enqueue bytes) answers outcome (Enqueued answer) old new =
-      IsPortStep links (Enqueue bytes.items) answers outcome (enqueue_response answer) (refusal_in_result answer) old new
+      IsPortStep links (Enqueue bytes.items) answers outcome
+      (enqueue_response answer) (refusal_in_result answer) old new
   IsCallStep (call.Restore trigger events out) answers outcome (Restored before) old new =
       (answers ≡ asked.Nothing) × (outcome ≡ sent.Nothing) × (before ≡ old) × (new.state ≡ old.state)
       × links.trigger trigger (all_ok (restore_calls old.state)) new.trigger

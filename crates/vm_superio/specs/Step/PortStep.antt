@@ -50,7 +50,8 @@ module _ {T E EV W : Type 0} (trigger : Link T (TriggerAnswer E)) (events : Link
   -- a read calls no trigger and sends no byte
   abbrev pub IsReadStep : (offset byte : ℕ) (old new : Port T EV W) → Type 0
   IsReadStep offset byte old new =
-      IsPortStep (port_links trigger events contents) (Read offset) asked.Nothing sent.Nothing (ByteRead byte) None old new
+      IsPortStep (port_links trigger events contents) (Read offset) asked.Nothing sent.Nothing
+      (ByteRead byte) None old new
 
   -- a write, with the trigger's answers and the outcome of its byte. The trigger is called once for each pending bit of
   -- IIR that the write turns on

@@ -1,8 +1,12 @@
 -- Raising a condition, and receiving bytes: the small parts of a step.
 use Rattle.std.specs.Prelude.{ℕ, ◌-◌, Bool, not, ◌&&◌, if◌then◌else◌, List, [], ◌∷◌, ◌++◌, length, take}
-use Rattle.vm_superio.specs.Port.Bits.{has_bits, joined, without, lsr_dr_bit, iir_none_bit}
+use Rattle.vm_superio.specs.Port.Bits.{has_bits, joined, without, lsr_dr_bit}
 use Rattle.vm_superio.specs.Port.State.{State, not_empty}
 use Rattle.vm_superio.specs.Port.Registers.{is_loopback, Condition, Rda, ier_bit, iir_bit}
+
+-- IIR: nothing is pending
+abbrev pub iir_none_bit : ℕ
+iir_none_bit = 0x01
 
 -- ---- raising a condition
 
