@@ -15,7 +15,7 @@ abbrev pub acknowledges : (condition : Condition) (kind : OpKind) → Bool
 acknowledges Rda kind = is_iir_read kind || is_rbr_read kind
 acknowledges Thre kind = is_iir_read kind
 
--- pending: the newest entry that raises or acknowledges the condition raises it, or there is none and it was at the start
+-- pending: the newest entry that raises or acknowledges the condition raises it; or there is none, and it was at first
 abbrev pub raised_since :
     (condition : Condition) (start : State) (raises : Trace → TraceEntry → Bool) (trace : Trace) → Bool
 raised_since condition start raises [] = has_bits start.interrupt_identification (iir_bit condition)
