@@ -1,11 +1,9 @@
-//! The clock, at moments that are handed in.
-ghost use Rattle.std.specs.Prelude.{◌+◌, ◌-◌, ◌^◌, min};
-ghost use Rattle.vm_superio.specs.RtcEvents.{invalid_read, invalid_write};
-ghost use Rattle.superio_tests.specs.Counting.{StepsBy, StepsBy-none, StepsBy-joined};
-
+//! The clock, at times that the tests pass to it.
 mod carried;
 
+use crate::scaffold::{EventCounts, event_counts};
 use std::process::Abort;
+use superio_script::Counts;
 use vm_superio::rtc_pl031::{NoEvents, RtcEvents};
 use vm_superio::{Rtc, RtcState, laws};
 
@@ -25,32 +23,6 @@ const RTCMIS: u16 = 0x018;
 
 const RTCICR: u16 = 0x01C;
 
-/// How often each event was told.
-#[derive(Clone, Copy, Debug, Default, Eq, PartialEq)]
-struct Counts {
-    invalid_reads: u64,
-    invalid_writes: u64,
-}
-
-impl RtcEvents for Counts {
-    ghost link = { StepsBy (λ counts event. elim event [
-      | invalid_read ↦ record counts { invalid_reads = min (counts.invalid_reads + 1) (2 ^ 64 - 1) }
-      | invalid_write ↦ record counts { invalid_writes = min (counts.invalid_writes + 1) (2 ^ 64 - 1) }
-    ]) };
-
-    ghost no_event = { StepsBy-none };
-
-    ghost joined = { StepsBy-joined };
-
-    fn invalid_read(&mut self) {
-        self.invalid_reads = self.invalid_reads.saturating_add(1);
-    }
-
-    fn invalid_write(&mut self) {
-        self.invalid_writes = self.invalid_writes.saturating_add(1);
-    }
-}
-
 /// An access, and what it must show.
 #[derive(Clone, Copy, Debug)]
 enum Access {
@@ -64,7 +36,7 @@ enum Access {
 
 use Access::{Invalid, Read, Write};
 
-/// Makes the accesses at one moment, and asserts what the reads show.
+/// Makes the accesses at one time, and asserts what the reads show.
 fn follow<EV: RtcEvents>(rt: &impl Abort, clock: &mut Rtc<EV>, now: u64, accesses: &[Access]) {
     const BEFORE: u32 = 0xA5A5_A5A5;
     for access in accesses {
@@ -82,14 +54,14 @@ fn follow<EV: RtcEvents>(rt: &impl Abort, clock: &mut Rtc<EV>, now: u64, accesse
     }
 }
 
-/// A clock with these interrupt registers, and zeros else, that counts its events.
+/// A clock that counts its events, with these interrupt registers and zeros elsewhere.
 fn with_interrupts(ris: u32, imsc: u32) -> Rtc<Counts> {
     let state = RtcState {
         ris,
         imsc,
         ..RtcState::default()
     };
-    Rtc::from_state(&state, Counts::default())
+    Rtc::from_state(&state, Counts::new())
 }
 
 #[test]
@@ -103,7 +75,7 @@ fn a_fresh_clock_has_zeros(rt: HostRuntime) {
     };
     assert_eq!(rt; RtcState::default(), zeros);
     assert_eq!(rt; Rtc::new().state(), zeros);
-    assert_eq!(rt; Rtc::with_events(Counts::default()).state(), zeros);
+    assert_eq!(rt; Rtc::with_events(Counts::new()).state(), zeros);
 }
 
 #[test]
@@ -115,7 +87,7 @@ fn a_load_sets_guest_time(rt: HostRuntime) {
 
 #[test]
 fn only_a_control_write_of_1_resets(rt: HostRuntime) {
-    let mut clock = Rtc::with_events(Counts::default());
+    let mut clock = Rtc::with_events(Counts::new());
     follow(&rt, &mut clock, 1000, &[Write(RTCLR, 100)]);
     follow(&rt, &mut clock, 1001, &[Write(RTCCR, 2)]);
     follow(&rt, &mut clock, 1007, &[Read(RTCDR, 107)]);
@@ -126,7 +98,7 @@ fn only_a_control_write_of_1_resets(rt: HostRuntime) {
         1009,
         &[Read(RTCDR, 1009), Read(RTCLR, 0), Read(RTCCR, 1)],
     );
-    assert_eq!(rt; *clock.events(), Counts::default());
+    assert_eq!(rt; event_counts(clock.events()), EventCounts::default());
 }
 
 #[test]
@@ -162,7 +134,7 @@ fn any_offset_may_be_restored(rt: HostRuntime) {
 }
 
 #[test]
-fn the_low_32_bits_of_a_moment_count(rt: HostRuntime) {
+fn only_the_low_32_bits_of_a_time_are_used(rt: HostRuntime) {
     let mut clock = Rtc::new();
     follow(&rt, &mut clock, 4_294_967_297, &[Write(RTCLR, 5)]);
     follow(&rt, &mut clock, 3, &[Read(RTCDR, 7)]);
@@ -183,7 +155,7 @@ fn the_mask_is_one_bit(rt: HostRuntime) {
 }
 
 #[test]
-fn a_clear_takes_its_bits_alone(rt: HostRuntime) {
+fn a_clear_removes_its_bits_alone(rt: HostRuntime) {
     let mut clock = with_interrupts(0xFFFF_FFFF, 0xFFFF_FFFF);
     follow(
         &rt,
@@ -201,7 +173,7 @@ fn a_clear_takes_its_bits_alone(rt: HostRuntime) {
 
 #[test]
 fn an_identification_byte_stands_at_four_offsets(rt: HostRuntime) {
-    let mut clock = Rtc::with_events(Counts::default());
+    let mut clock = Rtc::with_events(Counts::new());
     let mut offset = 0xFE0;
     for byte in [0x31, 0x10, 0x04, 0x00, 0x0D, 0xF0, 0x05, 0xB1] {
         for _ in 0..4 {
@@ -210,12 +182,12 @@ fn an_identification_byte_stands_at_four_offsets(rt: HostRuntime) {
         }
     }
     assert_eq!(rt; offset, 0x1000);
-    assert_eq!(rt; *clock.events(), Counts::default());
+    assert_eq!(rt; event_counts(clock.events()), EventCounts::default());
 }
 
 #[test]
 fn an_invalid_read_leaves_the_bytes(rt: HostRuntime) {
-    let mut clock = Rtc::with_events(Counts::default());
+    let mut clock = Rtc::with_events(Counts::new());
     let mut bytes = 123u32.to_le_bytes();
     for (offset, want, invalid_reads) in [
         (RTCICR, [0x7B, 0x00, 0x00, 0x00], 1),
@@ -225,26 +197,31 @@ fn an_invalid_read_leaves_the_bytes(rt: HostRuntime) {
     ] {
         clock.read(offset, &mut bytes, 1000);
         assert_eq!(rt; bytes, want, "{offset}");
-        assert_eq!(rt; clock.events().invalid_reads, invalid_reads, "{offset}");
+        assert_eq!(rt;
+            clock.events().invalid_read_count(),
+            invalid_reads,
+            "{offset}"
+        );
     }
 }
 
 #[test]
 fn offsets_between_the_registers_are_invalid(rt: HostRuntime) {
-    let mut clock = Rtc::with_events(Counts::default());
+    let mut clock = Rtc::with_events(Counts::new());
     for offset in [0x001, 0x002, 0x01D, 0x020, 0xFDC, 0xFDF, 0x1000, 0xFFFF] {
         follow(&rt, &mut clock, 1000, &[Invalid(offset), Write(offset, 7)]);
     }
-    let eight = Counts {
+    let eight = EventCounts {
         invalid_reads: 8,
         invalid_writes: 8,
+        ..EventCounts::default()
     };
-    assert_eq!(rt; *clock.events(), eight);
+    assert_eq!(rt; event_counts(clock.events()), eight);
     assert_eq!(rt; clock.state(), RtcState::default());
 }
 
 #[test]
-fn no_events_hears_every_event(rt: HostRuntime) {
+fn no_events_accepts_every_event(rt: HostRuntime) {
     let mut clock = Rtc::new();
     follow(
         &rt,

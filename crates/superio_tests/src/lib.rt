@@ -15,8 +15,8 @@ mod runs;
 #[cfg(test)]
 mod sample;
 #[cfg(test)]
+mod scaffold;
+#[cfg(test)]
 mod scripts;
 #[cfg(test)]
 mod serial;
-#[cfg(test)]
-mod streams;

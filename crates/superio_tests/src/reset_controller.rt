@@ -32,7 +32,7 @@ fn one_of_all_writes_resets(rt: HostRuntime) {
 }
 
 #[test]
-fn a_refused_reset_is_answered(rt: HostRuntime) {
+fn a_refused_reset_is_returned(rt: HostRuntime) {
     let mut controller = I8042Device::new(Line::new(1));
     assert_eq!(rt; controller.write(4, 0xFE), Err(LineRefused));
     assert_eq!(rt; controller.write(4, 0xFE), Ok(()));

@@ -1,6 +1,6 @@
 //! Whole scripts: what they print, and how they end.
-use crate::streams::{Source, Target};
-use std::alloc::{AllocError, Global};
+use crate::scaffold::{Source, Target, WriteOutcome};
+use std::alloc::Global;
 use std::io::ErrorKind;
 use std::process::Abort;
 use std::test::Fail;
@@ -198,32 +198,19 @@ fn lines_without_a_form_are_bad(rt: HostRuntime) -> Result<(), Fail> {
     ];
     let alloc = rt.alloc();
     for line in lines {
-        let mut script = Vec::new(alloc);
-        script.extend_from_slice(line)?;
-        script.extend_from_slice(b"\nkr 00\n")?;
+        let script = [line, b"\nkr 00\n"].concat(alloc)?;
         expect_run(&rt, alloc, &script, b"", Err(ScriptFault::Bad(1)));
-        let mut script = Vec::new(alloc);
-        script.extend_from_slice(b"kr 00\n")?;
-        script.extend_from_slice(line)?;
+        let script = [b"kr 00\n".as_slice(), line].concat(alloc)?;
         expect_run(&rt, alloc, &script, b"00\n", Err(ScriptFault::Bad(2)));
     }
     Ok(())
 }
 
-/// A line, written over and over.
-fn repeated(alloc: Global, line: &[u8], times: u32) -> Result<Vec<u8>, AllocError> {
-    let mut script = Vec::new(alloc);
-    for _ in 0..times {
-        script.extend_from_slice(line)?;
-    }
-    Ok(script)
-}
-
 #[test]
 fn a_script_ends_at_its_limit(rt: HostRuntime) -> Result<(), Fail> {
     let alloc = rt.alloc();
-    let mut script = repeated(alloc, b"kr 04\n", 10_922)?;
-    let replies = repeated(alloc, b"00\n", 10_922)?;
+    let mut script = b"kr 04\n".repeat(alloc, 10_922)?;
+    let replies = b"00\n".repeat(alloc, 10_922)?;
     assert_eq!(rt; script.len(), 65_532);
     expect_run(&rt, alloc, &script, &replies, Ok(()));
 
@@ -238,9 +225,8 @@ fn a_script_ends_at_its_limit(rt: HostRuntime) -> Result<(), Fail> {
 #[test]
 fn an_enqueue_line_has_at_most_128_bytes(rt: HostRuntime) -> Result<(), Fail> {
     let alloc = rt.alloc();
-    let mut script = Vec::new(alloc);
-    script.extend_from_slice(b"sr 00\nsq ")?;
-    script.extend_from_slice(&repeated(alloc, b"01", 128)?)?;
+    let digits = b"01".repeat(alloc, 128)?;
+    let mut script = [b"sr 00\nsq ".as_slice(), &digits].concat(alloc)?;
     expect_run(&rt, alloc, &script, b"00\n40\n", Ok(()));
     script.extend_from_slice(b"01")?;
     expect_run(&rt, alloc, &script, b"00\n", Err(ScriptFault::Bad(2)));
@@ -250,17 +236,20 @@ fn an_enqueue_line_has_at_most_128_bytes(rt: HostRuntime) -> Result<(), Fail> {
 #[test]
 fn enqueues_stop_at_sixty_four(rt: HostRuntime) -> Result<(), Fail> {
     let alloc = rt.alloc();
-    let mut script = Vec::new(alloc);
-    script.extend_from_slice(b"sq ")?;
-    script.extend_from_slice(&repeated(alloc, b"01", 65)?)?;
-    script.extend_from_slice(b"\nsq\nsq 01\nsr 00\nsq 0101\nsc\n")?;
+    let digits = b"01".repeat(alloc, 65)?;
+    let script = [
+        b"sq ".as_slice(),
+        &digits,
+        b"\nsq\nsq 01\nsr 00\nsq 0101\nsc\n",
+    ]
+    .concat(alloc)?;
     expect_run(&rt, alloc, &script, b"40\n00\nfull\n01\n01\n00\n", Ok(()));
 
     // A script of the greatest length.
-    let mut script = repeated(alloc, b"sq 6162\n", 8_192)?;
+    let mut script = b"sq 6162\n".repeat(alloc, 8_192)?;
     assert_eq!(rt; script.len(), 65_536);
-    let mut replies = repeated(alloc, b"02\n", 32)?;
-    replies.extend_from_slice(&repeated(alloc, b"full\n", 8_160)?)?;
+    let mut replies = b"02\n".repeat(alloc, 32)?;
+    replies.extend_from_slice(&b"full\n".repeat(alloc, 8_160)?)?;
     expect_run(&rt, alloc, &script, &replies, Ok(()));
     script.extend_from_slice(b"s")?;
     expect_run(&rt, alloc, &script, b"", Err(ScriptFault::TooLong));
@@ -270,16 +259,18 @@ fn enqueues_stop_at_sixty_four(rt: HostRuntime) -> Result<(), Fail> {
 #[test]
 fn the_output_takes_256_bytes(rt: HostRuntime) -> Result<(), Fail> {
     let alloc = rt.alloc();
-    let mut script = repeated(alloc, b"sw 00 41\n", 257)?;
+    let mut script = b"sw 00 41\n".repeat(alloc, 257)?;
     script.extend_from_slice(b"so\nsr 02\nse\nss\nso\n")?;
-    let mut replies = repeated(alloc, b"ok\n", 256)?;
-    replies.extend_from_slice(b"io\n")?;
-    replies.extend_from_slice(&repeated(alloc, b"41", 256)?)?;
-    replies.extend_from_slice(
+    let written = b"41".repeat(alloc, 256)?;
+    let replies = [
+        b"ok\n".repeat(alloc, 256)?.as_slice(),
+        b"io\n",
+        &written,
         b"\nc1\n0000000000000000 0000000000000100 0000000000000001 0000000000000000\nok\n",
-    )?;
-    replies.extend_from_slice(&repeated(alloc, b"41", 256)?)?;
-    replies.extend_from_slice(b"\n")?;
+        &written,
+        b"\n",
+    ]
+    .concat(alloc)?;
     expect_run(&rt, alloc, &script, &replies, Ok(()));
     Ok(())
 }
@@ -291,11 +282,11 @@ const REPLIES: &[u8] = b"reset\n00\nok\n";
 
 #[test]
 fn streams_may_move_bytes_in_pieces_of_any_size(rt: HostRuntime) -> Result<(), Fail> {
-    for step in 1..=32 {
-        let mut reader = Source::of(SCRIPT, step);
-        let mut writer = Target::new(Vec::new(rt.alloc()), step);
+    for piece in 1..=32 {
+        let mut reader = Source::in_pieces(SCRIPT, piece);
+        let mut writer = Target::in_pieces(rt.alloc(), piece);
         assert_eq!(rt; run_script(rt.alloc(), &mut reader, &mut writer), Ok(()));
-        assert_eq!(rt; writer.bytes.as_slice(), REPLIES, "in pieces of {step}");
+        assert_eq!(rt; writer.bytes.as_slice(), REPLIES, "in pieces of {piece}");
     }
     Ok(())
 }
@@ -348,29 +339,27 @@ const KINDS: [ErrorKind; 42] = [
 
 #[test]
 fn a_read_that_fails_leaves_nothing_written(rt: HostRuntime) -> Result<(), Fail> {
-    for fault in KINDS {
+    for kind in KINDS {
         // The script comes in six pieces, and a seventh read finds the end.
         for calls in 0..7 {
             let mut reader = Source {
-                calls_to_fault: Some(calls),
-                fault,
-                ..Source::of(SCRIPT, 4)
+                fault: Some((calls, kind)),
+                ..Source::in_pieces(SCRIPT, 4)
             };
-            let mut writer = Target::new(Vec::new(rt.alloc()), 32);
+            let mut writer = Target::in_pieces(rt.alloc(), 32);
             assert_eq!(rt;
                 run_script(rt.alloc(), &mut reader, &mut writer),
                 Err(ScriptFault::Io),
-                "{fault:?} at {calls}"
+                "{kind:?} at {calls}"
             );
             assert_eq!(rt; writer.writes, 0);
             assert_eq!(rt; writer.flushes, 0);
         }
         let mut reader = Source {
-            calls_to_fault: Some(7),
-            fault,
-            ..Source::of(SCRIPT, 4)
+            fault: Some((7, kind)),
+            ..Source::in_pieces(SCRIPT, 4)
         };
-        let mut writer = Target::new(Vec::new(rt.alloc()), 32);
+        let mut writer = Target::in_pieces(rt.alloc(), 32);
         assert_eq!(rt; run_script(rt.alloc(), &mut reader, &mut writer), Ok(()));
     }
     Ok(())
@@ -379,11 +368,13 @@ fn a_read_that_fails_leaves_nothing_written(rt: HostRuntime) -> Result<(), Fail>
 #[test]
 fn a_write_that_fails_ends_the_run(rt: HostRuntime) -> Result<(), Fail> {
     // The three replies go out in three pieces, two and two.
+    let mut outcomes = [WriteOutcome::Taken; 7];
+    outcomes[6] = WriteOutcome::WriteFails(ErrorKind::Other);
     for calls in 0..7 {
         let mut reader = SCRIPT;
         let mut writer = Target {
-            writes_to_fault: Some(calls),
-            ..Target::new(Vec::new(rt.alloc()), 2)
+            piece: 2,
+            ..Target::with_outcomes(rt.alloc(), &outcomes[6 - calls..])?
         };
         assert_eq!(rt;
             run_script(rt.alloc(), &mut reader, &mut writer),
@@ -398,12 +389,12 @@ fn a_write_that_fails_ends_the_run(rt: HostRuntime) -> Result<(), Fail> {
 #[test]
 fn a_good_script_is_flushed_once(rt: HostRuntime) -> Result<(), Fail> {
     let mut reader = SCRIPT;
-    let mut writer = Target::new(Vec::new(rt.alloc()), 32);
+    let mut writer = Target::in_pieces(rt.alloc(), 32);
     assert_eq!(rt; run_script(rt.alloc(), &mut reader, &mut writer), Ok(()));
     assert_eq!(rt; writer.flushes, 1);
 
     let mut reader: &[u8] = b"kr 04\nkr 5\n";
-    let mut writer = Target::new(Vec::new(rt.alloc()), 32);
+    let mut writer = Target::in_pieces(rt.alloc(), 32);
     assert_eq!(rt;
         run_script(rt.alloc(), &mut reader, &mut writer),
         Err(ScriptFault::Bad(2))
@@ -413,8 +404,8 @@ fn a_good_script_is_flushed_once(rt: HostRuntime) -> Result<(), Fail> {
 
     let mut reader = SCRIPT;
     let mut writer = Target {
-        flush_fails: true,
-        ..Target::new(Vec::new(rt.alloc()), 32)
+        piece: 32,
+        ..Target::with_outcomes(rt.alloc(), &[WriteOutcome::FlushFails])?
     };
     assert_eq!(rt;
         run_script(rt.alloc(), &mut reader, &mut writer),

@@ -2,18 +2,17 @@
 //!
 //! A private field that they read is read in the saved state. The interrupt was raised where the trigger was called.
 
-use super::writers::Slots;
 use super::*;
 use std::io::sink;
 use std::test::Fail;
 
 #[test]
 fn test_serial_output(rt: HostRuntime) -> Result<(), Fail> {
-    let mut serial = silent(rt.alloc(), Vec::new(rt.alloc()))?;
+    let mut serial = silent_port(rt.alloc(), 0, Vec::new(rt.alloc()))?;
     follow(
         &rt,
         &mut serial,
-        &[Put(DATA, b'a'), Put(DATA, b'b'), Put(DATA, b'c'), Calls(0)],
+        &[Put(THR, b'a'), Put(THR, b'b'), Put(THR, b'c'), Calls(0)],
     );
     assert_eq!(rt; serial.writer().as_slice(), b"abc".as_slice());
     Ok(())
@@ -21,7 +20,7 @@ fn test_serial_output(rt: HostRuntime) -> Result<(), Fail> {
 
 #[test]
 fn test_serial_raw_input(rt: HostRuntime) -> Result<(), Fail> {
-    let mut serial = silent(rt.alloc(), sink())?;
+    let mut serial = silent_port(rt.alloc(), 0, sink())?;
     follow(
         &rt,
         &mut serial,
@@ -35,7 +34,7 @@ fn test_serial_raw_input(rt: HostRuntime) -> Result<(), Fail> {
         ],
     );
     for byte in b"abc" {
-        follow(&rt, &mut serial, &[Get(LSR, 0x61), Get(DATA, *byte)]);
+        follow(&rt, &mut serial, &[Get(LSR, 0x61), Get(RBR, *byte)]);
         assert_eq!(rt; identification(rt.alloc(), &serial)?, 0x01);
     }
     follow(&rt, &mut serial, &[Get(LSR, 0x60)]);
@@ -44,7 +43,7 @@ fn test_serial_raw_input(rt: HostRuntime) -> Result<(), Fail> {
 
 #[test]
 fn test_rda_interrupt_reasserted_on_ier_write(rt: HostRuntime) -> Result<(), Fail> {
-    let mut serial = silent(rt.alloc(), sink())?;
+    let mut serial = silent_port(rt.alloc(), 0, sink())?;
     follow(
         &rt,
         &mut serial,
@@ -74,9 +73,9 @@ fn test_rda_interrupt_reasserted_on_ier_write(rt: HostRuntime) -> Result<(), Fai
         &rt,
         &mut serial,
         &[
-            Get(DATA, b'a'),
-            Get(DATA, b'b'),
-            Get(DATA, b'c'),
+            Get(RBR, b'a'),
+            Get(RBR, b'b'),
+            Get(RBR, b'c'),
             Put(IER, 0x01),
             Calls(2),
         ],
@@ -87,7 +86,7 @@ fn test_rda_interrupt_reasserted_on_ier_write(rt: HostRuntime) -> Result<(), Fai
 
 #[test]
 fn test_thr_interrupt_asserted_on_ier_write(rt: HostRuntime) -> Result<(), Fail> {
-    let mut serial = silent(rt.alloc(), sink())?;
+    let mut serial = silent_port(rt.alloc(), 0, sink())?;
     follow(
         &rt,
         &mut serial,
@@ -105,13 +104,13 @@ fn test_thr_interrupt_asserted_on_ier_write(rt: HostRuntime) -> Result<(), Fail>
 
 #[test]
 fn test_serial_thr(rt: HostRuntime) -> Result<(), Fail> {
-    let mut serial = silent(rt.alloc(), sink())?;
+    let mut serial = silent_port(rt.alloc(), 0, sink())?;
     follow(
         &rt,
         &mut serial,
         &[
             Put(IER, 0x02),
-            Put(DATA, b'a'),
+            Put(THR, b'a'),
             Calls(1),
             Get(IER, 0x02),
             Get(IIR, 0xC2),
@@ -123,25 +122,25 @@ fn test_serial_thr(rt: HostRuntime) -> Result<(), Fail> {
 
 #[test]
 fn test_serial_loop_mode(rt: HostRuntime) -> Result<(), Fail> {
-    let mut serial = silent(rt.alloc(), sink())?;
+    let mut serial = silent_port(rt.alloc(), 0, sink())?;
     follow(&rt, &mut serial, &[Put(MCR, 0x10), Put(IER, 0x01)]);
     for byte in 0..64 {
         let calls = u64::from(byte) + 1;
         follow(
             &rt,
             &mut serial,
-            &[Put(DATA, byte), Calls(calls), Room(63), Get(DATA, byte)],
+            &[Put(THR, byte), Calls(calls), Room(63), Get(RBR, byte)],
         );
     }
     follow(&rt, &mut serial, &[Get(LSR, 0x60)]);
 
     for byte in 0..64 {
-        follow(&rt, &mut serial, &[Put(DATA, byte)]);
+        follow(&rt, &mut serial, &[Put(THR, byte)]);
     }
     follow(&rt, &mut serial, &[Calls(65), Room(0)]);
     assert_eq!(rt; serial.state(rt.alloc())?.in_buffer.len(), 64);
     for byte in 0..64 {
-        follow(&rt, &mut serial, &[Get(LSR, 0x61), Get(DATA, byte)]);
+        follow(&rt, &mut serial, &[Get(LSR, 0x61), Get(RBR, byte)]);
     }
     follow(&rt, &mut serial, &[Get(LSR, 0x60)]);
     Ok(())
@@ -149,7 +148,7 @@ fn test_serial_loop_mode(rt: HostRuntime) -> Result<(), Fail> {
 
 #[test]
 fn test_serial_dlab(rt: HostRuntime) -> Result<(), Fail> {
-    let mut serial = silent(rt.alloc(), sink())?;
+    let mut serial = silent_port(rt.alloc(), 0, sink())?;
     follow(
         &rt,
         &mut serial,
@@ -163,7 +162,7 @@ fn test_serial_dlab(rt: HostRuntime) -> Result<(), Fail> {
             Get(1, 0x12),
             Put(LCR, 0x00),
             Get(IER, 0x00),
-            Get(DATA, 0x00),
+            Get(RBR, 0x00),
         ],
     );
     Ok(())
@@ -171,7 +170,7 @@ fn test_serial_dlab(rt: HostRuntime) -> Result<(), Fail> {
 
 #[test]
 fn test_basic_register_accesses(rt: HostRuntime) -> Result<(), Fail> {
-    let mut serial = silent(rt.alloc(), sink())?;
+    let mut serial = silent_port(rt.alloc(), 0, sink())?;
     for offset in [LCR, MCR, SCR] {
         follow(&rt, &mut serial, &[Put(offset, 0x12), Get(offset, 0x12)]);
     }
@@ -180,14 +179,14 @@ fn test_basic_register_accesses(rt: HostRuntime) -> Result<(), Fail> {
 
 #[test]
 fn test_invalid_access(rt: HostRuntime) -> Result<(), Fail> {
-    let mut serial = silent(rt.alloc(), sink())?;
+    let mut serial = silent_port(rt.alloc(), 0, sink())?;
     follow(&rt, &mut serial, &[Put(8, 0x05), Get(8, 0x00)]);
     Ok(())
 }
 
 #[test]
 fn test_serial_msr(rt: HostRuntime) -> Result<(), Fail> {
-    let mut serial = silent(rt.alloc(), sink())?;
+    let mut serial = silent_port(rt.alloc(), 0, sink())?;
     follow(&rt, &mut serial, &[Get(MSR, 0xB0)]);
     for (control, status) in [(0x10, 0x00), (0x18, 0x80), (0x14, 0x40), (0x13, 0x30)] {
         follow(&rt, &mut serial, &[Put(MCR, control), Get(MSR, status)]);
@@ -197,7 +196,7 @@ fn test_serial_msr(rt: HostRuntime) -> Result<(), Fail> {
 
 #[test]
 fn test_fifo_max_size(rt: HostRuntime) -> Result<(), Fail> {
-    let mut serial = silent(rt.alloc(), sink())?;
+    let mut serial = silent_port(rt.alloc(), 0, sink())?;
     follow(
         &rt,
         &mut serial,
@@ -211,7 +210,7 @@ fn test_fifo_max_size(rt: HostRuntime) -> Result<(), Fail> {
     follow(
         &rt,
         &mut serial,
-        &[Get(DATA, 0x01), Enqueue(&[0x01, 0x01], 1), Room(0)],
+        &[Get(RBR, 0x01), Enqueue(&[0x01, 0x01], 1), Room(0)],
     );
     assert_eq!(rt; serial.state(rt.alloc())?.in_buffer.len(), 64);
     Ok(())
@@ -219,71 +218,59 @@ fn test_fifo_max_size(rt: HostRuntime) -> Result<(), Fail> {
 
 #[test]
 fn test_serial_events(rt: HostRuntime) -> Result<(), Fail> {
-    let one_slot = Slots {
-        bytes: Vec::new(rt.alloc()),
-        slots: 1,
-    };
-    let mut serial = fresh(rt.alloc(), 0, one_slot)?;
-    let mut want = Counts::default();
-    assert_eq!(rt; *serial.events(), want);
+    let mut serial = fresh_port(rt.alloc(), 0, Target::with_room(rt.alloc(), 1))?;
+    let mut want = EventCounts::default();
+    assert_eq!(rt; event_counts(serial.events()), want);
 
-    follow(&rt, &mut serial, &[Get(DATA, 0x00)]);
+    follow(&rt, &mut serial, &[Get(RBR, 0x00)]);
     want.buffer_reads = 1;
     want.empties = 1;
-    assert_eq!(rt; *serial.events(), want);
+    assert_eq!(rt; event_counts(serial.events()), want);
 
-    follow(&rt, &mut serial, &[Put(DATA, 0x01)]);
+    follow(&rt, &mut serial, &[Put(THR, 0x01)]);
     want.out_bytes = 1;
-    assert_eq!(rt; *serial.events(), want);
+    assert_eq!(rt; event_counts(serial.events()), want);
 
-    let lost = PutFails(DATA, 0x01, Failure::Io(ErrorKind::WriteZero));
+    let lost = PutFails(THR, 0x01, Failure::Io(ErrorKind::WriteZero));
     follow(&rt, &mut serial, &[lost]);
     want.lost_bytes = 1;
-    assert_eq!(rt; *serial.events(), want);
+    assert_eq!(rt; event_counts(serial.events()), want);
 
-    follow(&rt, &mut serial, &[Get(DATA, 0x00)]);
+    follow(&rt, &mut serial, &[Get(RBR, 0x00)]);
     want.buffer_reads = 2;
     want.empties = 2;
-    assert_eq!(rt; *serial.events(), want);
+    assert_eq!(rt; event_counts(serial.events()), want);
 
     follow(
         &rt,
         &mut serial,
-        &[Enqueue(&[0x01, 0x02], 2), Get(DATA, 0x01)],
+        &[Enqueue(&[0x01, 0x02], 2), Get(RBR, 0x01)],
     );
     want.buffer_reads = 3;
-    assert_eq!(rt; *serial.events(), want);
+    assert_eq!(rt; event_counts(serial.events()), want);
     Ok(())
 }
 
 #[test]
 fn test_out_descrp_full_thre_sent(rt: HostRuntime) -> Result<(), Fail> {
-    let no_room = Slots {
-        bytes: Vec::new(rt.alloc()),
-        slots: 0,
-    };
-    let mut serial = fresh(rt.alloc(), 0, no_room)?;
+    let mut serial = fresh_port(rt.alloc(), 0, Target::with_room(rt.alloc(), 0))?;
     follow(
         &rt,
         &mut serial,
         &[
             Put(IER, 0x02),
             Calls(1),
-            PutFails(DATA, 0x05, Failure::Io(ErrorKind::WriteZero)),
+            PutFails(THR, 0x05, Failure::Io(ErrorKind::WriteZero)),
             Get(IIR, 0xC2),
         ],
     );
-    let one_lost = Counts {
-        lost_bytes: 1,
-        ..Counts::default()
-    };
-    assert_eq!(rt; *serial.events(), one_lost);
+    assert_eq!(rt; event_counts(serial.events()), one_lost());
     Ok(())
 }
 
 #[test]
 fn test_serial_state_default(rt: HostRuntime) -> Result<(), Fail> {
-    let serial = silent(rt.alloc(), Vec::new(rt.alloc()))?;
+    let serial = silent_port(rt.alloc(), 0, Vec::new(rt.alloc()))?;
     assert_eq!(rt; serial.state(rt.alloc())?, SerialState::default(rt.alloc()));
     Ok(())
 }
@@ -303,20 +290,20 @@ fn test_from_state_with_too_many_bytes(rt: HostRuntime) -> Result<(), Fail> {
 
 #[test]
 fn test_from_state_with_pending_thre_interrupt(rt: HostRuntime) -> Result<(), Fail> {
-    let mut serial = silent(rt.alloc(), sink())?;
-    follow(&rt, &mut serial, &[Put(IER, 0x02), Put(DATA, b'a')]);
+    let mut serial = silent_port(rt.alloc(), 0, sink())?;
+    follow(&rt, &mut serial, &[Put(IER, 0x02), Put(THR, b'a')]);
     let state = serial.state(rt.alloc())?;
-    let mut after = restored(rt.alloc(), &state, 0, sink())?;
+    let mut after = restored_port(rt.alloc(), &state, 0, sink())?;
     follow(&rt, &mut after, &[Calls(1), Get(IER, 0x02), Get(IIR, 0xC2)]);
     Ok(())
 }
 
 #[test]
 fn test_from_state_with_pending_rda_interrupt(rt: HostRuntime) -> Result<(), Fail> {
-    let mut serial = silent(rt.alloc(), sink())?;
+    let mut serial = silent_port(rt.alloc(), 0, sink())?;
     follow(&rt, &mut serial, &[Put(IER, 0x01), Enqueue(b"abc", 3)]);
     let state = serial.state(rt.alloc())?;
-    let mut after = restored(rt.alloc(), &state, 0, sink())?;
+    let mut after = restored_port(rt.alloc(), &state, 0, sink())?;
     follow(&rt, &mut after, &[Calls(1), Get(IER, 0x01), Get(IIR, 0xC4)]);
     Ok(())
 }

@@ -1,10 +1,9 @@
-//! What a failed call says, and events that nobody hears.
+//! What a failed call prints, and an events object that does nothing.
 
-use super::writers::Slots;
 use super::*;
 use std::test::Fail;
 
-/// What an error prints, as a program does that knows it as an error of std alone.
+/// What an error prints, to a caller that knows it as an error of std alone.
 fn text<E: std::error::Error>(alloc: Global, error: &E) -> Result<String, AllocError> {
     error.to_string(alloc)
 }
@@ -12,12 +11,8 @@ fn text<E: std::error::Error>(alloc: Global, error: &E) -> Result<String, AllocE
 #[test]
 fn errors_print_what_failed_and_why(rt: HostRuntime) -> Result<(), Fail> {
     let alloc = rt.alloc();
-    let no_room = Slots {
-        bytes: Vec::new(alloc),
-        slots: 0,
-    };
-    let mut serial = fresh(alloc, 1 << 0, no_room)?;
-    let lost = serial.write(DATA, b'A').err().expect(&rt, "a lost byte");
+    let mut serial = fresh_port(alloc, 1 << 0, Target::with_room(alloc, 0))?;
+    let lost = serial.write(THR, b'A').err().expect(&rt, "a lost byte");
     let refused = serial.write(IER, 0x02).err().expect(&rt, "a refused call");
     for (error, printed) in [
         (
@@ -34,19 +29,15 @@ fn errors_print_what_failed_and_why(rt: HostRuntime) -> Result<(), Fail> {
 }
 
 #[test]
-fn no_events_hears_every_event(rt: HostRuntime) -> Result<(), Fail> {
-    let one_slot = Slots {
-        bytes: Vec::new(rt.alloc()),
-        slots: 1,
-    };
-    let mut serial = silent(rt.alloc(), one_slot)?;
+fn no_events_accepts_every_event(rt: HostRuntime) -> Result<(), Fail> {
+    let mut serial = silent_port(rt.alloc(), 0, Target::with_room(rt.alloc(), 1))?;
     follow(
         &rt,
         &mut serial,
         &[
-            Put(DATA, b'A'),
-            PutFails(DATA, b'B', Failure::Io(ErrorKind::WriteZero)),
-            Get(DATA, 0x00),
+            Put(THR, b'A'),
+            PutFails(THR, b'B', Failure::Io(ErrorKind::WriteZero)),
+            Get(RBR, 0x00),
         ],
     );
     let mut events = *serial.events();

@@ -1,6 +1,5 @@
-//! What each rule shows, worked out by hand.
+//! Each rule of the port by examples that were worked out by hand.
 
-use super::writers::{Fate, Fated, InterruptedOnce, Slots};
 use super::*;
 use std::io::sink;
 use std::test::Fail;
@@ -13,7 +12,7 @@ fn follow_each(
     rows: &[&[Step<'_>]],
 ) -> Result<(), Error<LineRefused>> {
     for row in rows {
-        let mut serial = fresh(alloc, mask, sink())?;
+        let mut serial = fresh_port(alloc, mask, sink())?;
         follow(rt, &mut serial, row);
     }
     Ok(())
@@ -26,7 +25,7 @@ fn a_fresh_port_shows_the_registers_of_a_reset(rt: HostRuntime) -> Result<(), Fa
         rt.alloc(),
         0,
         &[&[
-            Get(DATA, 0x00),
+            Get(RBR, 0x00),
             Get(IER, 0x00),
             Get(IIR, 0xC1),
             Get(LCR, 0x03),
@@ -60,7 +59,7 @@ fn the_divisor_latch_is_at_offsets_0_and_1(rt: HostRuntime) -> Result<(), Fail> 
             Get(0, 0x0C),
             Get(LSR, 0x61),
             Put(LCR, 0x03),
-            Get(DATA, b'a'),
+            Get(RBR, b'a'),
             Get(LSR, 0x60),
         ],
         &[
@@ -77,28 +76,23 @@ fn the_divisor_latch_is_at_offsets_0_and_1(rt: HostRuntime) -> Result<(), Fail> 
 }
 
 #[test]
-fn an_enqueue_takes_what_fits(rt: HostRuntime) -> Result<(), Fail> {
+fn an_enqueue_accepts_what_fits(rt: HostRuntime) -> Result<(), Fail> {
     follow_each(
         &rt,
         rt.alloc(),
         0,
-        &[&[
-            Get(DATA, 0x00),
-            Room(64),
-            Enqueue(&[0x01; 128], 64),
-            Room(0),
-        ]],
+        &[&[Get(RBR, 0x00), Room(64), Enqueue(&[0x01; 128], 64), Room(0)]],
     )?;
     Ok(())
 }
 
 #[test]
-fn the_transmitter_condition_is_told_once_until_it_is_read(rt: HostRuntime) -> Result<(), Fail> {
+fn thre_calls_the_trigger_once_until_iir_is_read(rt: HostRuntime) -> Result<(), Fail> {
     let rows: [&[Step<'_>]; 3] = [
         &[
             Put(IER, 0x02),
             Calls(1),
-            Put(DATA, b'a'),
+            Put(THR, b'a'),
             Calls(1),
             Get(IIR, 0xC2),
             Get(IIR, 0xC1),
@@ -126,9 +120,9 @@ fn the_transmitter_condition_is_told_once_until_it_is_read(rt: HostRuntime) -> R
 }
 
 #[test]
-fn the_receive_condition_is_told_once_until_it_is_read(rt: HostRuntime) -> Result<(), Fail> {
+fn rda_calls_the_trigger_once_until_it_is_acknowledged(rt: HostRuntime) -> Result<(), Fail> {
     let rows: [&[Step<'_>]; 2] = [
-        // An interrupt-enable write asks for it while bytes are held.
+        // An IER write raises it while bytes are held.
         &[
             Put(IER, 0x01),
             Put(IER, 0x00),
@@ -142,12 +136,12 @@ fn the_receive_condition_is_told_once_until_it_is_read(rt: HostRuntime) -> Resul
             Calls(2),
             Get(IIR, 0xC4),
         ],
-        // A data read acknowledges it, though a byte is left.
+        // An RBR read acknowledges it, though a byte is left.
         &[
             Put(IER, 0x01),
             Enqueue(b"ab", 2),
             Calls(1),
-            Get(DATA, b'a'),
+            Get(RBR, b'a'),
             Get(IIR, 0xC1),
             Enqueue(b"c", 1),
             Calls(2),
@@ -171,7 +165,7 @@ fn a_refused_first_call_is_not_made_again(rt: HostRuntime) -> Result<(), Fail> {
             Calls(2),
             Get(IIR, 0xC6),
         ],
-        // Once it was acknowledged it is.
+        // It is once the condition was acknowledged.
         &[
             Enqueue(b"a", 1),
             Calls(0),
@@ -188,8 +182,8 @@ fn a_refused_first_call_is_not_made_again(rt: HostRuntime) -> Result<(), Fail> {
             EnqueueFails(b"a", Failure::Trigger),
             Enqueue(b"b", 1),
             Calls(1),
-            Get(DATA, b'a'),
-            Get(DATA, b'b'),
+            Get(RBR, b'a'),
+            Get(RBR, b'b'),
             Get(LSR, 0x60),
             Calls(1),
         ],
@@ -217,32 +211,32 @@ fn a_refused_second_call_leaves_both_conditions_pending(rt: HostRuntime) -> Resu
 #[test]
 fn loopback_receives_what_is_written(rt: HostRuntime) -> Result<(), Fail> {
     let alloc = rt.alloc();
-    let one_read = Counts {
+    let one_read = EventCounts {
         buffer_reads: 1,
-        ..Counts::default()
+        ..EventCounts::default()
     };
 
-    let mut serial = fresh(alloc, 0, Vec::new(alloc))?;
+    let mut serial = fresh_port(alloc, 0, Vec::new(alloc))?;
     follow(&rt, &mut serial, &[Put(MCR, 0x10)]);
     for byte in 0..64 {
-        follow(&rt, &mut serial, &[Put(DATA, byte)]);
+        follow(&rt, &mut serial, &[Put(THR, byte)]);
     }
     // A byte without room is dropped, and an enqueue accepts none.
     follow(
         &rt,
         &mut serial,
         &[
-            Put(DATA, 0xAA),
+            Put(THR, 0xAA),
             Enqueue(&[0xFF], 0),
             Room(0),
             Get(LSR, 0x61),
-            Get(DATA, 0x00),
+            Get(RBR, 0x00),
         ],
     );
-    assert_eq!(rt; *serial.events(), one_read);
+    assert_eq!(rt; event_counts(serial.events()), one_read);
     assert_eq!(rt; serial.writer().len(), 0);
 
-    let mut serial = fresh(alloc, 0, Vec::new(alloc))?;
+    let mut serial = fresh_port(alloc, 0, Vec::new(alloc))?;
     follow(
         &rt,
         &mut serial,
@@ -250,104 +244,89 @@ fn loopback_receives_what_is_written(rt: HostRuntime) -> Result<(), Fail> {
             Put(MCR, 0x10),
             Put(IER, 0x01),
             Calls(0),
-            Put(DATA, b'a'),
+            Put(THR, b'a'),
             Calls(1),
-            Put(DATA, b'b'),
+            Put(THR, b'b'),
             Calls(1),
-            Get(DATA, b'a'),
-            Put(DATA, b'c'),
+            Get(RBR, b'a'),
+            Put(THR, b'c'),
             Calls(2),
         ],
     );
-    assert_eq!(rt; *serial.events(), one_read);
+    assert_eq!(rt; event_counts(serial.events()), one_read);
     assert_eq!(rt; serial.writer().len(), 0);
     Ok(())
 }
 
 #[test]
-fn a_refusal_is_answered_before_a_fault_of_the_writer(rt: HostRuntime) -> Result<(), Fail> {
-    let no_room = Slots {
-        bytes: Vec::new(rt.alloc()),
-        slots: 0,
-    };
-    let mut serial = fresh(rt.alloc(), 1 << 1, no_room)?;
+fn a_refusal_is_returned_in_place_of_a_fault_of_the_writer(rt: HostRuntime) -> Result<(), Fail> {
+    let mut serial = fresh_port(rt.alloc(), 1 << 1, Target::with_room(rt.alloc(), 0))?;
     follow(
         &rt,
         &mut serial,
         &[
             Put(IER, 0x02),
             Get(IIR, 0xC2),
-            PutFails(DATA, 0x05, Failure::Trigger),
+            PutFails(THR, 0x05, Failure::Trigger),
             Get(IIR, 0xC2),
         ],
     );
-    let one_lost = Counts {
-        lost_bytes: 1,
-        ..Counts::default()
-    };
-    assert_eq!(rt; *serial.events(), one_lost);
+    assert_eq!(rt; event_counts(serial.events()), one_lost());
     Ok(())
 }
 
 #[test]
 fn a_flush_that_fails_loses_the_byte(rt: HostRuntime) -> Result<(), Fail> {
-    let writer = Fated::new([Fate::FlushFails, Fate::Taken, Fate::Taken]);
-    let mut serial = fresh(rt.alloc(), 0, writer)?;
+    let writer = Target::with_outcomes(rt.alloc(), &[WriteOutcome::FlushFails])?;
+    let mut serial = fresh_port(rt.alloc(), 0, writer)?;
     follow(
         &rt,
         &mut serial,
         &[
-            PutFails(DATA, b'A', Failure::Io(ErrorKind::Other)),
+            PutFails(THR, b'A', Failure::Io(ErrorKind::Other)),
             Get(IIR, 0xC1),
         ],
     );
-    let one_lost = Counts {
-        lost_bytes: 1,
-        ..Counts::default()
-    };
-    assert_eq!(rt; *serial.events(), one_lost);
+    assert_eq!(rt; event_counts(serial.events()), one_lost());
     assert_eq!(rt; (serial.writer().writes, serial.writer().flushes), (1, 1));
     Ok(())
 }
 
 #[test]
 fn each_byte_goes_out_or_is_lost(rt: HostRuntime) -> Result<(), Fail> {
-    let one_slot = Slots {
-        bytes: Vec::new(rt.alloc()),
-        slots: 1,
-    };
-    let mut serial = fresh(rt.alloc(), 0, one_slot)?;
+    let mut serial = fresh_port(rt.alloc(), 0, Target::with_room(rt.alloc(), 1))?;
     follow(
         &rt,
         &mut serial,
         &[
-            Put(DATA, b'A'),
-            PutFails(DATA, b'B', Failure::Io(ErrorKind::WriteZero)),
+            Put(THR, b'A'),
+            PutFails(THR, b'B', Failure::Io(ErrorKind::WriteZero)),
         ],
     );
-    let one_each = Counts {
+    let one_each = EventCounts {
         out_bytes: 1,
         lost_bytes: 1,
-        ..Counts::default()
+        ..EventCounts::default()
     };
-    assert_eq!(rt; *serial.events(), one_each);
+    assert_eq!(rt; event_counts(serial.events()), one_each);
     assert_eq!(rt; serial.writer().bytes.as_slice(), b"A".as_slice());
     Ok(())
 }
 
 #[test]
 fn an_interrupted_write_is_made_again(rt: HostRuntime) -> Result<(), Fail> {
-    let writer = InterruptedOnce {
-        bytes: Vec::new(rt.alloc()),
-        writes: 0,
-    };
-    let mut serial = fresh(rt.alloc(), 0, writer)?;
-    follow(&rt, &mut serial, &[Put(DATA, b'A')]);
-    let one_out = Counts {
+    const INTERRUPTED_ONCE: [WriteOutcome; 2] = [
+        WriteOutcome::WriteFails(ErrorKind::Interrupted),
+        WriteOutcome::Taken,
+    ];
+    let writer = Target::with_outcomes(rt.alloc(), &INTERRUPTED_ONCE)?;
+    let mut serial = fresh_port(rt.alloc(), 0, writer)?;
+    follow(&rt, &mut serial, &[Put(THR, b'A')]);
+    let one_out = EventCounts {
         out_bytes: 1,
-        ..Counts::default()
+        ..EventCounts::default()
     };
-    assert_eq!(rt; *serial.events(), one_out);
+    assert_eq!(rt; event_counts(serial.events()), one_out);
     assert_eq!(rt; serial.writer().writes, 2);
     assert_eq!(rt; serial.writer().bytes.as_slice(), b"A".as_slice());
     Ok(())

@@ -1,15 +1,15 @@
-//! Saved states, and ports that are made of them: states that no port can get into, too.
+//! Saved states, and ports that are made of them, also of states that no port can reach.
 
 use super::*;
-use crate::memory::all_memory;
+use crate::scaffold::all_memory;
 use std::io::sink;
 use std::test::Fail;
 
 #[test]
 fn states_that_are_not_coherent_show_what_they_hold(rt: HostRuntime) -> Result<(), Fail> {
     let alloc = rt.alloc();
-    // An identification of no bits, which says neither that a condition is pending nor that none is.
-    let mut serial = restored(alloc, &state_with(alloc, 0x00, 0x00, 0x60, &[])?, 0, sink())?;
+    // An identification of no bits: neither that of a pending condition nor that of none.
+    let mut serial = restored_port(alloc, &state_with(alloc, 0x00, 0x00, 0x60, &[])?, 0, sink())?;
     follow(
         &rt,
         &mut serial,
@@ -17,21 +17,21 @@ fn states_that_are_not_coherent_show_what_they_hold(rt: HostRuntime) -> Result<(
     );
 
     // Data ready, and no byte.
-    let mut serial = restored(alloc, &state_with(alloc, 0x01, 0x00, 0x61, &[])?, 0, sink())?;
+    let mut serial = restored_port(alloc, &state_with(alloc, 0x01, 0x00, 0x61, &[])?, 0, sink())?;
     follow(
         &rt,
         &mut serial,
-        &[Get(LSR, 0x61), Get(DATA, 0x00), Get(LSR, 0x60)],
+        &[Get(LSR, 0x61), Get(RBR, 0x00), Get(LSR, 0x60)],
     );
-    let read_and_empty = Counts {
+    let read_and_empty = EventCounts {
         buffer_reads: 1,
         empties: 1,
-        ..Counts::default()
+        ..EventCounts::default()
     };
-    assert_eq!(rt; *serial.events(), read_and_empty);
+    assert_eq!(rt; event_counts(serial.events()), read_and_empty);
 
     // Four more bits of the interrupt enable, until the next write.
-    let mut serial = restored(alloc, &state_with(alloc, 0x02, 0xFF, 0x60, &[])?, 0, sink())?;
+    let mut serial = restored_port(alloc, &state_with(alloc, 0x02, 0xFF, 0x60, &[])?, 0, sink())?;
     follow(
         &rt,
         &mut serial,
@@ -55,7 +55,7 @@ fn each_field_is_restored_to_its_own_register(rt: HostRuntime) -> Result<(), Fai
         scratch: 0xC3,
         in_buffer: b"xyz".to_vec(alloc)?,
     };
-    let mut serial = restored(alloc, &state, 0, sink())?;
+    let mut serial = restored_port(alloc, &state, 0, sink())?;
     assert_eq!(rt; serial.state(alloc)?, state);
     follow(
         &rt,
@@ -71,9 +71,9 @@ fn each_field_is_restored_to_its_own_register(rt: HostRuntime) -> Result<(), Fai
             Get(SCR, 0xC3),
             Put(LCR, 0x03),
             Get(IER, 0x50),
-            Get(DATA, b'x'),
-            Get(DATA, b'y'),
-            Get(DATA, b'z'),
+            Get(RBR, b'x'),
+            Get(RBR, b'y'),
+            Get(RBR, b'z'),
             Room(64),
             Calls(0),
         ],
@@ -82,10 +82,12 @@ fn each_field_is_restored_to_its_own_register(rt: HostRuntime) -> Result<(), Fai
 }
 
 #[test]
-fn a_restore_tells_what_is_pending_and_enabled(rt: HostRuntime) -> Result<(), Fail> {
+fn a_restore_calls_the_trigger_for_what_is_pending_and_enabled(
+    rt: HostRuntime,
+) -> Result<(), Fail> {
     let alloc = rt.alloc();
     let state = state_with(alloc, 0x06, 0x03, 0x61, b"a")?;
-    let mut serial = restored(alloc, &state, 0, sink())?;
+    let mut serial = restored_port(alloc, &state, 0, sink())?;
     assert_eq!(rt; serial.state(alloc)?, state);
     follow(&rt, &mut serial, &[Calls(2), Get(IIR, 0xC6)]);
 
@@ -98,14 +100,14 @@ fn a_restore_tells_what_is_pending_and_enabled(rt: HostRuntime) -> Result<(), Fa
         (0x01, 0x03, 0),
     ] {
         let state = state_with(alloc, identification, enable, 0x61, b"a")?;
-        let serial = restored(alloc, &state, 0, sink())?;
+        let serial = restored_port(alloc, &state, 0, sink())?;
         assert_eq!(rt; serial.interrupt_evt().calls(), calls, "{state:?}");
     }
     Ok(())
 }
 
 #[test]
-fn a_refused_restore_hands_its_objects_back(rt: HostRuntime) -> Result<(), Fail> {
+fn a_refused_restore_returns_its_objects(rt: HostRuntime) -> Result<(), Fail> {
     let alloc = rt.alloc();
     for (mask, count, error, calls) in [
         (0b10, 1, Failure::Trigger, 2),
@@ -118,17 +120,21 @@ fn a_refused_restore_hands_its_objects_back(rt: HostRuntime) -> Result<(), Fail>
         for _ in 0..count {
             state.in_buffer.push(0x01)?;
         }
-        let told = Counts {
+        let mut events = Counts::new();
+        for _ in 0..3 {
+            events.buffer_read();
+        }
+        let three_reads = EventCounts {
             buffer_reads: 3,
-            ..Counts::default()
+            ..EventCounts::default()
         };
         let writer = b"kept".to_vec(alloc)?;
-        let refused = Serial::from_state(alloc, &state, Line::new(mask), told, writer)
+        let refused = Serial::from_state(alloc, &state, Line::new(mask), events, writer)
             .err()
             .expect(&rt, "a refusal");
         assert_eq!(rt; refused.trigger.calls(), calls, "{state:?}");
         assert_eq!(rt; refused.trigger.mask(), mask);
-        assert_eq!(rt; refused.events, told);
+        assert_eq!(rt; event_counts(&refused.events), three_reads);
         assert_eq!(rt; refused.out.as_slice(), b"kept".as_slice());
         assert_eq!(rt; failure_of(&refused.into_error()), error, "{state:?}");
     }
@@ -139,7 +145,7 @@ fn a_refused_restore_hands_its_objects_back(rt: HostRuntime) -> Result<(), Fail>
 fn a_full_state_is_restored(rt: HostRuntime) -> Result<(), Fail> {
     let alloc = rt.alloc();
     let state = state_with(alloc, 0x01, 0x00, 0x61, &[0x01; 64])?;
-    let serial = restored(alloc, &state, 0, sink())?;
+    let serial = restored_port(alloc, &state, 0, sink())?;
     assert_eq!(rt; serial.fifo_capacity(), 0);
     assert_eq!(rt; serial.state(alloc)?, state);
     assert_eq!(rt; state.clone(alloc)?, state);
@@ -149,22 +155,22 @@ fn a_full_state_is_restored(rt: HostRuntime) -> Result<(), Fail> {
 #[test]
 fn a_writer_may_be_changed_and_goes_on_to_another_port(rt: HostRuntime) -> Result<(), Fail> {
     let alloc = rt.alloc();
-    let mut serial = fresh(alloc, 0, Vec::new(alloc))?;
-    follow(&rt, &mut serial, &[Put(DATA, b'f')]);
+    let mut serial = fresh_port(alloc, 0, Vec::new(alloc))?;
+    follow(&rt, &mut serial, &[Put(THR, b'f')]);
     assert_eq!(rt; serial.writer().as_slice(), b"f".as_slice());
     serial.writer_mut().clear();
     assert_eq!(rt; serial.writer().len(), 0);
     assert_eq!(rt; serial.state(alloc)?, SerialState::default(alloc));
 
-    follow(&rt, &mut serial, &[Put(DATA, b'f')]);
+    follow(&rt, &mut serial, &[Put(THR, b'f')]);
     let state = serial.state(alloc)?;
-    let serial = restored(alloc, &state, 0, serial.into_writer())?;
+    let serial = restored_port(alloc, &state, 0, serial.into_writer())?;
     assert_eq!(rt; serial.writer().as_slice(), b"f".as_slice());
     Ok(())
 }
 
 #[test]
-fn coherent_states_are_told_from_others(rt: HostRuntime) -> Result<(), Fail> {
+fn coherent_states_are_distinguished_from_others(rt: HostRuntime) -> Result<(), Fail> {
     let alloc = rt.alloc();
     assert!(rt; SerialState::default(alloc).is_coherent());
     for (identification, line_status, count, is_coherent) in [
@@ -204,9 +210,9 @@ fn coherent_states_are_told_from_others(rt: HostRuntime) -> Result<(), Fail> {
 fn copies_without_memory_are_refused(rt: HostRuntime) -> Result<(), Fail> {
     let alloc = rt.alloc();
     let state = state_with(alloc, 0x01, 0x00, 0x61, &[0x01; 64])?;
-    let mut serial = restored(alloc, &state, 0, sink())?;
+    let mut serial = restored_port(alloc, &state, 0, sink())?;
     let mut copies = Vec::with_capacity(alloc, 4096)?;
-    let blocks = all_memory(alloc)?;
+    let blocks = all_memory(alloc, 1024)?;
     // What is left are small pieces.
     let mut is_refused = false;
     for _ in 0..4096 {
@@ -226,6 +232,6 @@ fn copies_without_memory_are_refused(rt: HostRuntime) -> Result<(), Fail> {
 
     // The port goes on.
     assert_eq!(rt; serial.state(alloc)?, state);
-    follow(&rt, &mut serial, &[Get(DATA, 0x01), Room(1)]);
+    follow(&rt, &mut serial, &[Get(RBR, 0x01), Room(1)]);
     Ok(())
 }

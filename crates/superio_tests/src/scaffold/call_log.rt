@@ -1,0 +1,85 @@
+//! One log of the calls of several objects.
+ghost use Rattle.std.specs.Prelude.{◌≡◌};
+ghost use Rattle.std.proofs.Common.{◌∙◌};
+
+use std::cell::Cell;
+use std::io;
+use std::io::Write;
+use superio_script::LineRefused;
+use vm_superio::Trigger;
+use vm_superio::serial::SerialEvents;
+
+const TRIGGER: u64 = 1;
+
+const WRITE: u64 = 2;
+
+const FLUSH: u64 = 3;
+
+const OUT_BYTE: u64 = 4;
+
+const OTHER_EVENT: u64 = 5;
+
+/// A trigger, an events object or a writer, whose calls add their digits to a number that the test shares with it: 1 for
+/// `trigger`, 2 for `write`, 3 for `flush`, 4 for `out_byte`, 5 for another event.
+#[derive(Clone, Copy)]
+pub struct CallLog<'a> {
+    pub calls: &'a Cell<u64>,
+}
+
+impl CallLog<'_> {
+    fn add(&self, call: u64) {
+        self.calls
+            .set(self.calls.get().wrapping_mul(10).wrapping_add(call));
+    }
+}
+
+impl Trigger for CallLog<'_> {
+    type E = LineRefused;
+
+    ghost link = { λ old _ new. old ≡ new };
+
+    ghost no_call = { λ _ _. (λ same. same, λ same. same) };
+
+    ghost joined = { λ _ _ _ _ _ first second. first ∙ second };
+
+    fn trigger(&mut self) -> Result<(), LineRefused> {
+        self.add(TRIGGER);
+        Ok(())
+    }
+}
+
+impl SerialEvents for CallLog<'_> {
+    ghost link = { λ old _ new. old ≡ new };
+
+    ghost no_event = { λ _ _. (λ same. same, λ same. same) };
+
+    ghost joined = { λ _ _ _ _ _ first second. first ∙ second };
+
+    fn buffer_read(&mut self) {
+        self.add(OTHER_EVENT);
+    }
+
+    fn out_byte(&mut self) {
+        self.add(OUT_BYTE);
+    }
+
+    fn tx_lost_byte(&mut self) {
+        self.add(OTHER_EVENT);
+    }
+
+    fn in_buffer_empty(&mut self) {
+        self.add(OTHER_EVENT);
+    }
+}
+
+impl Write for CallLog<'_> {
+    fn write(&mut self, buf: &[u8]) -> io::Result<usize> {
+        self.add(WRITE);
+        Ok(buf.len())
+    }
+
+    fn flush(&mut self) -> io::Result<()> {
+        self.add(FLUSH);
+        Ok(())
+    }
+}

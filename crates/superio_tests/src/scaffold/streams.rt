@@ -1,0 +1,135 @@
+//! A reader and a writer that move their bytes in small pieces, and fail at calls of one's choice.
+use std::alloc::{AllocError, Global};
+use std::io;
+use std::io::{ErrorKind, Read, Write};
+
+/// Gives its bytes in pieces of at most `piece`, and fails from one call on.
+#[derive(Drop)]
+pub struct Source<'a> {
+    pub bytes: &'a [u8],
+    pub piece: usize,
+    /// The number of the first call that fails, from 0, and how it fails. `None`: no call fails.
+    pub fault: Option<(u32, ErrorKind)>,
+    pub reads: u32,
+}
+
+impl Source<'_> {
+    /// A source that does not fail.
+    pub fn in_pieces(bytes: &[u8], piece: usize) -> Source<'_> {
+        Source {
+            bytes,
+            piece,
+            fault: None,
+            reads: 0,
+        }
+    }
+}
+
+impl Read for Source<'_> {
+    fn read(&mut self, buf: &mut [u8]) -> io::Result<usize> {
+        let number = self.reads;
+        self.reads = number.saturating_add(1);
+        if let Some((first, kind)) = self.fault
+            && number >= first
+        {
+            return Err(io::Error::from(kind));
+        }
+        let count = self.piece.min(buf.len()).min(self.bytes.len());
+        buf[..count].copy_from_slice(&self.bytes[..count]);
+        self.bytes = &self.bytes[count..];
+        Ok(count)
+    }
+}
+
+/// The outcome of a call of `write`, and of a flush that follows it.
+#[derive(Clone, Copy, Debug, Eq, PartialEq)]
+pub enum WriteOutcome {
+    Taken,
+    WriteFails(ErrorKind),
+    FlushFails,
+}
+
+/// Keeps the bytes that it takes, and counts its calls.
+#[derive(Drop)]
+pub struct Target {
+    pub bytes: Vec<u8>,
+    /// How many bytes it takes in one call of `write`, at most.
+    pub piece: usize,
+    /// How many bytes it takes in all, at most.
+    pub room: usize,
+    /// The outcomes of its calls of `write`, in turn. Each later call has the last outcome, or `Taken` if there is none.
+    pub outcomes: Vec<WriteOutcome>,
+    pub writes: usize,
+    pub flushes: usize,
+}
+
+impl Target {
+    /// A target that takes every byte.
+    pub fn new(alloc: Global) -> Target {
+        Target {
+            bytes: Vec::new(alloc),
+            piece: usize::MAX,
+            room: usize::MAX,
+            outcomes: Vec::new(alloc),
+            writes: 0,
+            flushes: 0,
+        }
+    }
+
+    /// A target that takes every byte, in pieces.
+    pub fn in_pieces(alloc: Global, piece: usize) -> Target {
+        Target {
+            piece,
+            ..Target::new(alloc)
+        }
+    }
+
+    /// A target that takes so many bytes, and none after them.
+    pub fn with_room(alloc: Global, room: usize) -> Target {
+        Target {
+            room,
+            ..Target::new(alloc)
+        }
+    }
+
+    /// A target whose calls of `write` have these outcomes.
+    pub fn with_outcomes(alloc: Global, outcomes: &[WriteOutcome]) -> Result<Target, AllocError> {
+        Ok(Target {
+            outcomes: outcomes.to_vec(alloc)?,
+            ..Target::new(alloc)
+        })
+    }
+
+    /// The outcome of the last call of `write`.
+    fn outcome(&self) -> WriteOutcome {
+        match self
+            .outcomes
+            .get(self.writes.saturating_sub(1))
+            .or(self.outcomes.last())
+        {
+            Some(outcome) => *outcome,
+            None => WriteOutcome::Taken,
+        }
+    }
+}
+
+impl Write for Target {
+    fn write(&mut self, buf: &[u8]) -> io::Result<usize> {
+        self.writes = self.writes.saturating_add(1);
+        if let WriteOutcome::WriteFails(kind) = self.outcome() {
+            return Err(io::Error::from(kind));
+        }
+        let room = self.room.saturating_sub(self.bytes.len());
+        let count = self.piece.min(room).min(buf.len());
+        self.bytes.extend_from_slice(&buf[..count])?;
+        Ok(count)
+    }
+
+    fn flush(&mut self) -> io::Result<()> {
+        self.flushes = self.flushes.saturating_add(1);
+        if self.outcome() == WriteOutcome::FlushFails {
+            return Err(io::Error::from(ErrorKind::Other));
+        }
+        Ok(())
+    }
+}
