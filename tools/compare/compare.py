@@ -23,9 +23,10 @@ import scripts
 
 CHUNK = 2_000
 
-# The scripts of the sample are no longer than this, and so many stand in one test.
+# The scripts of the sample are no longer than this.
 SHORT = 200
-TEST_ROWS = 30
+
+ESCAPES = {9: r"\t", 10: r"\n", 13: r"\r", 34: r'\"', 92: r"\\"}
 
 
 def by_original(original, chunk):
@@ -123,38 +124,54 @@ WANTED = {b"sr": 1, b"sw": 2, b"sq": 1, b"sc": 0, b"ss": 0, b"so": 0, b"st": 0, 
           b"kw": 2, b"refuse": 1}
 
 
-def literal(text):
-    """A byte string of Rust."""
-    escaped = (r"\n" if byte == 10 else r"\r" if byte == 13 else r"\t" if byte == 9 else chr(byte) if 32 <= byte < 127
-               else rf"\x{byte:02X}" for byte in text)
-    return 'b"' + "".join(escaped) + '"'
+def field(text):
+    """A field of the sample, which a byte FF ends. A space at its head is escaped: Rust skips it there in a line."""
+    if 0xFF in text:
+        raise ValueError(f"a byte FF in {text!r}")
+    shown = "".join(ESCAPES.get(byte) or (chr(byte) if 32 <= byte < 127 else rf"\x{byte:02X}") for byte in text)
+    return (r"\x20" + shown[1:] if shown.startswith(" ") else shown) + r"\xFF"
 
 
 def write_sample(path, seed, rows):
-    """Tests that replay these scripts, thirty in each."""
+    """A test that replays these scripts."""
     with open(path, "w", encoding="ascii") as file:
         file.write(f"""//! Scripts with what the original Rust crate, vm-superio 0.8.2, replies to them.
 //!
 //! Written by `tools/compare/compare.py --seed {seed} --sample`: the first {len(rows)} scripts of that seed that have at most
 //! {SHORT} bytes, with the replies of the original's own sources.
 use crate::scripts::expect_run;
+use std::str;
+use std::test::Fail;
 use superio_script::ScriptFault;
+
+/// A line for each script: the script, its replies and the number of its bad line, 0 if it has none. A byte FF ends each
+/// of them. One literal is proved many times faster than an array of rows.
+const SAMPLE: &[u8] = b"\\
 """)
-        for number, start in enumerate(range(0, len(rows), TEST_ROWS), 1):
-            part = rows[start:start + TEST_ROWS]
-            file.write(f"""
+        lines = []
+        for script, (status, out, err) in rows:
+            bad_line = "0" if status == 0 else str(int(err.split()[2]))
+            lines.append(field(script) + field(out) + field(bad_line.encode()))
+        file.write("\\\n".join(lines))
+        file.write(f"""";
+
 #[test]
-fn replies_as_the_original_{number}(rt: HostRuntime) {{
-    let rows: [(&[u8], &[u8], Result<(), ScriptFault>); {len(part)}] = [
-""")
-            for script, (status, out, err) in part:
-                end = "Ok(())" if status == 0 else f"Err(ScriptFault::Bad({int(err.split()[2])}))"
-                file.write(f"        ({literal(script)}, {literal(out)}, {end}),\n")
-            file.write("""    ];
-    for (script, printed, end) in rows {
-        expect_run(&rt, rt.alloc(), script, printed, end);
-    }
-}
+fn replies_as_the_original(rt: HostRuntime) -> Result<(), Fail> {{
+    let mut fields = SAMPLE.split(|byte| *byte == 0xFF);
+    for _ in 0..{len(rows)} {{
+        let script = fields.next().ok_or("no script")?;
+        let replies = fields.next().ok_or("no replies")?;
+        let bad_line = fields.next().ok_or("no bad line")?;
+        let end = match str::from_utf8(bad_line)?.parse()? {{
+            0 => Ok(()),
+            line => Err(ScriptFault::Bad(line)),
+        }};
+        expect_run(&rt, rt.alloc(), script, replies, end);
+    }}
+    assert_eq!(rt; fields.next(), Some(b"".as_slice()));
+    assert_eq!(rt; fields.next(), None);
+    Ok(())
+}}
 """)
 
 
