@@ -16,9 +16,9 @@ pub mod run;
 pub mod serial;
 mod trace;
 
-/// A push button towards the monitor: an interrupt line, or the event that asks for a reset.
+/// A push button towards the monitor: an interrupt line, or the event that requests a reset.
 ///
-/// A device is handed a trigger when it is made, and owns it. It calls `trigger` for nothing but what its
+/// A device takes a trigger when it is made, and owns it. It calls `trigger` for nothing but what its
 /// documentation says.
 ///
 /// An implementation states its `link`: how a value before some calls, the answers to these calls in order, and the
@@ -30,7 +30,7 @@ pub trait Trigger {
     /// The first value becomes the second by calls with these answers.
     ghost link: { Self → List (Result (Unit {0}) Self.E) → Self → Type 0 };
 
-    /// Pushes the button once. An `Err` says that nobody was told.
+    /// Pushes the button once. An `Err` says that the other side was not notified.
     fn trigger(&mut self) -> Result<(), Self::E>
         ensures { link self.old (result ∷ []) self.new };
 

@@ -1,6 +1,6 @@
 //! A real-time clock with the registers of an ARM PL031. It counts seconds.
 //!
-//! The clock reads no clock of the host: each access is handed its moment, in seconds since the start of 1970. The low
+//! The clock does not read the host's clock: the monitor passes each access its moment, in seconds since 1970. The low
 //! 32 bits of a moment are the host's time. Guest time is the host's time and the clock's offset together where 32
 //! bits hold the sum, and the host's time elsewhere; it does not wrap.
 ghost use Rattle.std.specs.Prelude.{◌≡◌, ◌↔◌, List, [], ◌∷◌, ◌++◌, pos, ◌+ℤ◌};
@@ -20,7 +20,7 @@ use std::marker::Model;
 
 /// Hears of the accesses that a clock cannot serve.
 ///
-/// A clock is handed an events object when it is made, and owns it. It calls the object for nothing but what its
+/// A clock takes an events object when it is made, and owns it. It calls the object for nothing but what its
 /// documentation says.
 ///
 /// An implementation states its `link`: how a value before some events, the names of these events in order, and the
@@ -133,7 +133,7 @@ impl RtcState {
     }
 }
 
-/// A PL031 real-time clock, which tells its events to an `EV`.
+/// A PL031 real-time clock, which reports to an events object.
 ///
 /// An access is four bytes, lowest byte first. In a contract the clock is its state and its events object.
 #[derive(Drop)]
@@ -158,7 +158,7 @@ impl Default for Rtc<NoEvents> {
 }
 
 impl Rtc<NoEvents> {
-    /// Makes a clock of the default state, which tells its events to nobody.
+    /// Makes a clock of the default state, which reports to nobody.
     pub fn new() -> Rtc<NoEvents>
         ensures { result.state ≡ fresh_clock }
     {
@@ -245,9 +245,9 @@ impl<EV: RtcEvents> Rtc<EV> {
     /// A read at any other offset, RTCICR (0x01C) among them, leaves `bytes` as they were and calls `invalid_read` of
     /// the events object once.
     pub fn read(&mut self, offset: u16, bytes: &mut [u8; 4], now: u64)
-        ensures clock_response { bytes.new ≡ bytes_left (clock_response self.old.state (read offset now)) bytes.old }
+        ensures response { bytes.new ≡ bytes_left (clock_response self.old.state (read offset now)) bytes.old }
         ensures invalid { OnFalse (is_readable (clock_register_at offset)) (bytes.new ≡ bytes.old) }
-        ensures answer_by_history { ReadsByHistory self.old.state offset now bytes.old bytes.new }
+        ensures response_by_history { ReadsByHistory self.old.state offset now bytes.old bytes.new }
 
         ensures unchanged { self.new.state ≡ self.old.state }
         ensures history { GoesOnByHistory self.old.state (read offset now) self.new.state }

@@ -64,7 +64,7 @@ pub struct Done<T: Trigger, EV: SerialEvents, W: Write> {
     pub act: Act,
     /// The answers to the port's own trigger calls in it; `Nothing` for a restore.
     pub asked: Asked,
-    /// What became of the byte that it sent.
+    /// The outcome of the byte that it sent.
     pub sent: Sent,
     /// What it answered.
     pub reply: Reply<T, EV, W>,
@@ -72,12 +72,12 @@ pub struct Done<T: Trigger, EV: SerialEvents, W: Write> {
 
 /// Makes the calls in order, and answers a record of each.
 ///
-/// Nothing stops a run early: a refusal of the trigger, a failure of the writer or a restore that is refused stands in
-/// the record of its call, and the next call is made. A restore takes the port's state and makes a port of it with the
-/// objects that it brings, which then takes the old port's place. Where it is refused the old port stays.
+/// Nothing stops a run early: a refusal of the trigger, a failure of the writer or a refused restore is in the record of
+/// its call, and the next call is made. A restore takes the port's state and makes a port of it with the objects that it
+/// brings, which then takes the old port's place. Where it is refused the old port stays.
 ///
-/// From a coherent start the records are a history: each byte that was read follows from the start, the earlier calls
-/// and the trigger's answers. So do the state at the end, and each other answer with what became of the byte that its
+/// From a coherent start the records are a trace: each byte that was read follows from the start, the earlier calls and
+/// the trigger's answers. So do the state at the end, and every other response, given the outcome of the byte that a
 /// call sent.
 ///
 /// # Errors
@@ -111,7 +111,8 @@ fn make<T: Trigger, EV: SerialEvents, W: Write>(
     call: Call<T, EV, W>,
 ) -> Done<T, EV, W>
     ensures act { result.act ≡ act_of call }
-    ensures made { IsCallStep (port_links T.link EV.link W.contents) call result.asked result.sent result.reply serial.old serial.new }
+    ensures made { IsCallStep (port_links T.link EV.link W.contents) call result.asked result.sent result.reply
+        serial.old serial.new }
 {
     match call {
         Call::Read(offset) => {
@@ -158,8 +159,8 @@ fn restore<T: Trigger, EV: SerialEvents, W: Write>(
     events: EV,
     out: W,
 ) -> Reply<T, EV, W>
-    ensures { IsCallStep (port_links T.link EV.link W.contents) (Call.Restore trigger events out) Asked.Nothing Sent.Nothing result serial.old
-        serial.new }
+    ensures { IsCallStep (port_links T.link EV.link W.contents) (Call.Restore trigger events out)
+        Asked.Nothing Sent.Nothing result serial.old serial.new }
 {
     let Ok(state) = serial.state(alloc) else {
         return Reply::NotRestored(Refused {

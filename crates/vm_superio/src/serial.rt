@@ -56,7 +56,7 @@ impl<T: Trigger, EV: SerialEvents, W: Write> Model for Serial<T, EV, W> {
 }
 
 impl<T: Trigger, W: Write> Serial<T, NoEvents, W> {
-    /// Makes a fresh serial port, which owns the trigger and the writer and tells its events to nobody: divisor 12,
+    /// Makes a fresh serial port, which owns the trigger and the writer and reports events to nobody: divisor 12,
     /// 8 bits a character, OUT2 set, and nothing enabled, pending or held. The trigger is not called.
     ///
     /// # Errors
@@ -83,7 +83,7 @@ impl<T: Trigger, EV: SerialEvents, W: Write> Serial<T, EV, W> {
     ghost use Rattle.vm_superio.specs.Step.PortStep.{with_writer};
     ghost use Rattle.vm_superio.specs.Step.PortStep.{IsReadStep, IsWriteStep, IsEnqueueStep};
 
-    /// Makes a serial port as `new` does, which tells its events to `serial_evts`. Neither the trigger nor the events
+    /// Makes a serial port as `new` does, which reports its events to `serial_evts`. Neither the trigger nor the events
     /// object is called.
     ///
     /// # Errors
@@ -120,12 +120,12 @@ impl<T: Trigger, EV: SerialEvents, W: Write> Serial<T, EV, W> {
     }
 
     /// Makes a serial port of a saved state, which it takes as it stands, and of new objects. The trigger is called once
-    /// for each condition that is both pending and enabled, the transmitter condition first, so that the interrupts
-    /// that the guest has not taken reach the new trigger. The events object is not called, and the writer not used.
+    /// for each condition that is both pending and enabled, so that the interrupts that the guest has not
+    /// taken reach the new trigger. The events object is not called, and the writer not used.
     ///
     /// # Errors
     ///
-    /// In each case the objects are handed back. [`Error::FullFifo`] where the state holds more than 64 bytes: the
+    /// In each case the objects are returned. [`Error::FullFifo`] where the state holds more than 64 bytes: the
     /// trigger was not called then. [`Error::Trigger`] at the first call that the trigger refused. [`Error::Memory`]
     /// never: no memory is taken.
     pub fn from_state(
@@ -136,7 +136,8 @@ impl<T: Trigger, EV: SerialEvents, W: Write> Serial<T, EV, W> {
         out: W,
     ) -> Result<Self, Refused<T, EV, W>>
         ensures state { IfOk result (λ serial. serial.state ≡ state_of state.now) }
-        ensures called { IfOk result (λ serial. T.link trigger (all_ok (restore_calls (state_of state.now))) serial.trigger) }
+        ensures called { IfOk result (λ serial.
+            T.link trigger (all_ok (restore_calls (state_of state.now))) serial.trigger) }
         ensures events { IfOk result (λ serial. serial.events ≡ serial_evts) }
         ensures out { IfOk result (λ serial. serial.out ≡ out) }
         ensures coherent { IfOk result (λ serial. Coherent (state_of state.now) → Coherent serial.state) }
@@ -205,8 +206,9 @@ impl<T: Trigger, EV: SerialEvents, W: Write> Serial<T, EV, W> {
 
     /// The writer, for writing. Nothing else of the port changes.
     pub fn writer_mut(&mut self) -> &mut W
-        ensures* lends { sem 𝓛 (Lends (the_row T.row EV.row W.row T.E.row T.Trigger T.E.Debug EV.SerialEvents W.Write) W.row self.entry
-            result (with_writer self.old)) }
+        ensures* lends { sem 𝓛 (Lends
+            (the_row T.row EV.row W.row T.E.row T.Trigger T.E.Debug EV.SerialEvents W.Write) W.row
+            self.entry result (with_writer self.old)) }
         ensures value { result.now ≡ self.old.out }
     {
         &mut self.out
@@ -242,8 +244,8 @@ impl<T: Trigger, EV: SerialEvents, W: Write> Serial<T, EV, W> {
     ///
     /// [`Error::Trigger`] where the trigger refused a call, also where the writer failed too; else [`Error::IOError`]
     /// where the writer failed to take the byte or to flush. The registers are the same after a failure of the writer
-    /// as after its success, and a refused condition stays pending: its trigger is not called again until the guest has
-    /// acknowledged it.
+    /// as after its success, and a refused condition stays pending: the trigger is not called for it again until the guest
+    /// has acknowledged it.
     pub fn write(&mut self, offset: u8, value: u8) -> Result<(), Error<T::E>>
         ensures step { IsWriteStep T.link EV.link W.contents offset value result self.old self.new }
         ensures coherent { Coherent self.old.state → Coherent self.new.state }
@@ -269,7 +271,7 @@ impl<T: Trigger, EV: SerialEvents, W: Write> Serial<T, EV, W> {
         FIFO_SIZE - self.in_buffer.len()
     }
 
-    /// Hands bytes to the guest: the first of them, as many as there is room for. Answers how many.
+    /// Receives bytes for the guest: the first of them, as many as there is room for. Answers how many.
     ///
     /// In loopback nothing is accepted, and the answer is 0.
     ///

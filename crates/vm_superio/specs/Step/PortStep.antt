@@ -1,5 +1,5 @@
 -- One call of a port, as its contract states it.
-use Rattle.std.specs.Prelude.{◌≡◌, ℕ, ◌+◌, Bool, not, ◌&&◌, List, [], ◌∷◌, IsTrue, Option, None, Result, is_some}
+use Rattle.std.specs.Prelude.{◌≡◌, ℕ, ◌+◌, Bool, not, ◌&&◌, length, List, [], ◌∷◌, IsTrue, Option, None, Result, is_some}
 use Rattle.vm_superio.specs.declared.trace.Asked.{Asked}
 use Rattle.vm_superio.specs.declared.trace.Asked.TheVariants as asked
 use Rattle.vm_superio.specs.declared.trace.Sent.{Sent}
@@ -8,7 +8,7 @@ use Rattle.vm_superio.specs.declared.serial.errors.Error.{Error}
 use Rattle.vm_superio.specs.Port.Bits.{has_bits}
 use Rattle.vm_superio.specs.Port.State.{State}
 use Rattle.vm_superio.specs.Port.Registers.{Rda, Thre, iir_bit}
-use Rattle.vm_superio.specs.Port.Operations.{Op, Read, Write, Enqueue, Response, ByteRead, Event, ends_in_refusal, answer_count, one_if}
+use Rattle.vm_superio.specs.Port.Operations.{Op, Read, Write, Enqueue, Response, ByteRead, Event, ends_in_refusal, one_if}
 use Rattle.vm_superio.specs.Port.ObjectLinks.{Link, TriggerAnswer, Contents, answers_of}
 use Rattle.vm_superio.specs.Port.WriterLink.{PortLinks, port_links, bytes_taken_by_writer, WriterLink}
 use Rattle.vm_superio.specs.Port.Model.{Port, write_response, enqueue_response, refusal_in_result}
@@ -53,8 +53,8 @@ module _ {T E EV W : Type 0} (trigger : Link T (TriggerAnswer E)) (events : Link
       IsPortStep (port_links trigger events contents) (Read offset) asked.Nothing sent.Nothing
       (ByteRead byte) None old new
 
-  -- a write, with the trigger's answers and the outcome of its byte. The trigger is called once for each pending bit of
-  -- IIR that the write turns on
+  -- a write, with the trigger's answers and the outcome of its byte. There is one answer for each pending bit of IIR that
+  -- the write turns on
   pub record IsWriteStep
       (offset value : ℕ) (result : Result (Unit {0}) (Error E)) (old new : Port T EV W) : Type 0 where
     pub asked : Asked
@@ -62,7 +62,7 @@ module _ {T E EV W : Type 0} (trigger : Link T (TriggerAnswer E)) (events : Link
     pub step :
         IsPortStep (port_links trigger events contents) (Write offset value) asked sent
         (write_response result) (refusal_in_result result) old new
-    pub calls : answer_count asked ≡ turned_on_count old.state new.state
+    pub calls : length (answers_of asked (refusal_in_result result)) ≡ turned_on_count old.state new.state
 
   -- an enqueue, likewise
   pub record IsEnqueueStep
@@ -72,4 +72,4 @@ module _ {T E EV W : Type 0} (trigger : Link T (TriggerAnswer E)) (events : Link
     pub step :
         IsPortStep (port_links trigger events contents) (Enqueue bytes) asked sent
         (enqueue_response result) (refusal_in_result result) old new
-    pub calls : answer_count asked ≡ turned_on_count old.state new.state
+    pub calls : length (answers_of asked (refusal_in_result result)) ≡ turned_on_count old.state new.state

@@ -2,12 +2,12 @@
 ghost use Rattle.vm_superio.specs.Clock.Laws.{ClockIsHistory, RawBitsByHistory};
 
 /// The clock is its history: over any accesses from any state, the states and the answers are those that a search of
-/// the past accesses gives.
+/// the accesses so far gives.
 pub fn clock_is_history()
     ensures { ClockIsHistory }
 {}
 
-/// A raw interrupt bit is set exactly where the start has it and no access of the past cleared it.
+/// A raw interrupt bit is set exactly where the start has it and no access so far cleared it.
 #[tactic(auto, using(crate::proofs::ClockLemmas::raw_bits))]
 pub fn raw_bits_by_history()
     ensures { RawBitsByHistory }

@@ -38,16 +38,16 @@ impl<E: fmt::Display> fmt::Display for Error<E> {
 
 impl<E: StdError> StdError for Error<E> {}
 
-/// A serial port that was not made: why, and the objects that were handed in for it.
+/// A serial port that was not made: why, and the objects that were passed in for it.
 #[derive(Drop)]
 pub struct Refused<T: Trigger, EV, W> {
     /// Why the port was not made.
     pub error: Error<T::E>,
     /// The trigger, as the calls that were made left it.
     pub trigger: T,
-    /// The events object, as it was handed in.
+    /// The events object, as it was passed in.
     pub events: EV,
-    /// The writer, as it was handed in.
+    /// The writer, as it was passed in.
     pub out: W,
 }
 

@@ -1,11 +1,11 @@
-//! What a serial port tells of what it does.
+//! The events that a serial port reports.
 ghost use Rattle.std.specs.Prelude.{◌≡◌, ◌↔◌, List, [], ◌∷◌, ◌++◌};
 ghost use Rattle.std.proofs.Common.{◌∙◌};
 ghost use Rattle.vm_superio.specs.Port.Operations.{Event, buffer_read, out_byte, tx_lost_byte, in_buffer_empty};
 
 /// Hears of what a serial port does: to count it, to log it, or to feed more input once the port ran empty.
 ///
-/// A serial port is handed an events object when it is made, and owns it. It calls the object for nothing but what its
+/// A serial port takes an events object when it is made, and owns it. It calls the object for nothing but what its
 /// documentation says.
 ///
 /// An implementation states its `link`: how a value before some events, the names of these events in order, and the

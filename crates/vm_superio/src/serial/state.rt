@@ -18,10 +18,9 @@ pub struct SerialState {
     pub baud_divisor_low: u8,
     /// DLH, the high byte of the divisor latch.
     pub baud_divisor_high: u8,
-    /// IER: bit 0x01 enables the receive condition, bit 0x02 the transmitter condition.
+    /// IER: bit 0x01 enables RDA (received data available), bit 0x02 THRE (transmitter holding register empty).
     pub interrupt_enable: u8,
-    /// IIR without bits 0xC0: bit 0x04 says that the receive condition is pending, bit 0x02 that the transmitter
-    /// condition is, and bit 0x01 that nothing is.
+    /// IIR without bits 0xC0: bit 0x04 shows that RDA is pending, bit 0x02 that THRE is, and bit 0x01 that neither is.
     pub interrupt_identification: u8,
     /// LCR: bit 0x80 is DLAB.
     pub line_control: u8,
@@ -61,25 +60,23 @@ impl SerialState {
         })
     }
 
-    /// Whether the state's parts agree as those of each port that `new` made do: at most 64 bytes are held, data ready
-    /// shows whether any is, the identification is 1, 2, 4 or 6, and the receive condition is pending only while a byte
-    /// is held. The other fields are free.
+    /// Whether the state is coherent, as that of each port that `new` made is: at most 64 bytes are held, data ready shows
+    /// whether any is, IIR is 1, 2, 4 or 6, and RDA is pending only while a byte is held. The other fields are free.
     ///
-    /// A port that was made of a coherent state stays coherent. Of another state each call still does what its contract
-    /// says, but the laws that tell a guest's reads from the history do not speak of it.
+    /// A port that was made of a coherent state stays coherent. With another state each call still meets its contract, but
+    /// the laws that derive a guest's reads from the history do not apply.
     pub fn is_coherent(&self) -> bool
         ensures { IsTrue result ↔ Coherent (state_of self.now) }
     {
         let holds_bytes = !self.in_buffer.is_empty();
         self.in_buffer.len() <= FIFO_SIZE
             && has_bits(self.line_status, LSR_DATA_READY_BIT) == holds_bytes
-            && tells_conditions(self.interrupt_identification, holds_bytes)
+            && shows_conditions(self.interrupt_identification, holds_bytes)
     }
 }
 
-/// Whether the identification is that of two conditions, of which the receive condition is pending only while bytes are
-/// held.
-fn tells_conditions(identification: u8, holds_bytes: bool) -> bool
+/// Whether IIR shows the two conditions, of which RDA is pending only while bytes are held.
+fn shows_conditions(identification: u8, holds_bytes: bool) -> bool
     ensures { IsTrue result
         ↔ ((transmit receive : Bool) × (identification ≡ identification_of transmit receive)
         × (IsTrue receive → IsTrue holds_bytes)) }

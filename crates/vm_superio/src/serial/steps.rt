@@ -1,4 +1,4 @@
-//! The steps that the calls of a serial port are made of: methods of the registers, which are handed the received bytes
+//! The steps that the calls of a serial port are made of: methods of the registers, which take the received bytes
 //! and the port's objects only where they use them.
 ghost use Rattle.std.specs.Prelude.{◌≡◌, length, [], ◌∷◌, ◌++◌, if◌then◌else◌, slice_index, is_some, is_ok, IsTrue, OnOk};
 ghost use Rattle.std.specs.Io.KnownBytes.{Appends};
@@ -152,7 +152,8 @@ impl Registers {
         ensures sent { let kind = write_kind Register.RbrThr (is_loopback self.old.modem_control) value in
             IsTrue (beq (is_sent (sent_of result.1)) (not_empty (sent_by kind))) }
         ensures state { state_with self.new fifo.new ≡ thr_write value (state_with self.old fifo.old) }
-        ensures trigger { T.link trigger.old (answers_of (asked_of result.0) (refusal_in_answers result.0)) trigger.new }
+        ensures trigger { let answers = answers_of (asked_of result.0) (refusal_in_answers result.0) in
+            T.link trigger.old answers trigger.new }
         ensures events { EV.link events.old (sent_events (sent_of result.1)) events.new }
         ensures out { let outcome = sent_of result.1 in
             WriterLink W.contents (outcome ∷ []) (bytes_taken_by_writer (Write 0 value) outcome) out.old out.new }
@@ -212,7 +213,8 @@ impl Registers {
             IsTrue (beq (is_sent (sent_of result.1)) (not_empty (sent_by kind))) }
         ensures state { state_with self.new fifo.new
             ≡ write_step register value (asked_of result.0) (state_with self.old fifo.old) }
-        ensures trigger { T.link trigger.old (answers_of (asked_of result.0) (refusal_in_answers result.0)) trigger.new }
+        ensures trigger { let answers = answers_of (asked_of result.0) (refusal_in_answers result.0) in
+            T.link trigger.old answers trigger.new }
         ensures events { EV.link events.old (sent_events (sent_of result.1)) events.new }
         ensures out { let outcome = sent_of result.1 in
             WriterLink W.contents (outcome ∷ []) (bytes_taken_by_writer (Write 0 value) outcome) out.old out.new }

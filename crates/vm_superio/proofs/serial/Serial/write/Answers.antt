@@ -1,7 +1,7 @@
 -- A step calls the trigger once for each bit that it turns on, and keeps a coherent state coherent.
 use Rattle.vm_superio.specs.Port.Operations.{Write}
 use Rattle.vm_superio.specs.Port.WriterLink.{port_links}
-use Rattle.vm_superio.proofs.PortLemmas.{answer_count-step}
+use Rattle.vm_superio.proofs.PortLemmas.{length-answers_of-step}
 use Rattle.vm_superio.proofs.Runs.{coherence_law}
 use Rattle.vm_superio.proofs.serial.Serial.write.Goals as goal
 
@@ -13,7 +13,7 @@ returns-clause-step g c =
       asked = call.result.asked;
       sent = call.result.sent;
       step = call.ensures;
-      calls = answer_count-step links _ _ _ _ _ _ _ call.ensures;
+      calls = length-answers_of-step links _ _ _ _ _ _ _ call.ensures;
     }
 
 pub returns-clause-coherent : goal.returns-clause-coherent

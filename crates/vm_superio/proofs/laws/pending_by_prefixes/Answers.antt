@@ -1,5 +1,5 @@
 use Rattle.vm_superio.proofs.Places.{pending_by_prefixes_law}
-use Rattle.vm_superio.proofs.laws.pending_by_places.Goals as goal
+use Rattle.vm_superio.proofs.laws.pending_by_prefixes.Goals as goal
 
 pub returns : goal.returns
 returns c = pending_by_prefixes_law

@@ -1,5 +1,5 @@
 use Rattle.vm_superio.proofs.OneCall.{exact_test_law}
-use Rattle.vm_superio.proofs.laws.exact_test.Goals as goal
+use Rattle.vm_superio.proofs.laws.admissibility.Goals as goal
 
 pub returns : goal.returns
 returns c = exact_test_law

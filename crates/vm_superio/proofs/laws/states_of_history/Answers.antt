@@ -1,0 +1,5 @@
+use Rattle.vm_superio.proofs.Runs.{state_law, answer_law}
+use Rattle.vm_superio.proofs.laws.states_of_history.Goals as goal
+
+pub returns : goal.returns
+returns c = record { state = state_law; response = answer_law }
