@@ -24,7 +24,7 @@ one_condition false true false = omega arith
 one_condition false false true = omega arith
 one_condition false false false = omega arith
 
--- a read of the identification acknowledges two conditions, a data read one
+-- an IIR read acknowledges two conditions, an RBR read one
 acknowledged_by : (k : OpKind)
     → one_if (acknowledges Rda k) + one_if (is_iir_read k)
     ≤ 2 * one_if (is_iir_read k) + one_if (is_rbr_read k)

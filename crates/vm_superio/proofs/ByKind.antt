@@ -1,4 +1,4 @@
--- A call by what its act is: the call cases go by registers, the history by kinds.
+-- A call by what its operation is: the steps go by registers, the history by kinds.
 use Rattle.std.proofs.Common.{◌≡◌, ℕ, Bool, true, false, List, refl, ap, subst, ◌∙◌, ◌∷◌}
 use Rattle.vm_superio.specs.declared.trace.Asked.{Asked}
 use Rattle.vm_superio.specs.Port.State.{State}
@@ -15,7 +15,7 @@ use Rattle.vm_superio.proofs.RegisterSteps.{register_law}
 
 -- ---- the state
 
--- what an act of this kind leaves of interrupt enable, the identification, the line status and the bytes
+-- what an operation of this kind leaves of IER, IIR, LSR and the bytes
 abbrev pub by_kind : OpKind → Asked → State → State
 by_kind RbrRead asked s = rbr_read s
 by_kind IirRead asked s = record s { interrupt_identification = 1 }
@@ -63,9 +63,9 @@ next_by_kind s (Enqueue bytes) asked =
     enqueue_by_kind (is_loopback s.modem_control) (is_dlab s.line_control) bytes asked s refl
 next_by_kind s Restore asked = same_bytes _
 
--- ---- the place
+-- ---- the point
 
--- the state after a past tells what an act is at that place
+-- the state after a trace tells what an operation is at that point
 pub same_kind : (start : State) (trace : List TraceEntry) (op : Op)
     → kind_in_state (state_after start trace) op ≡ kind_at start trace op
 same_kind start trace op =
@@ -74,11 +74,11 @@ same_kind start trace op =
     ap (λ byte. kind_of (is_dlab byte) (is_loopback s.modem_control) op) registers.line_control
     ∙ ap (λ byte. kind_of (dlab start trace) (is_loopback byte) op) registers.modem_control
 
--- so the state after one more record is that by its kind there
-pub next_at_place : (start : State) (trace : List TraceEntry) (entry : TraceEntry)
+-- so the state after one more entry is that by its kind there
+pub next_at_point : (start : State) (trace : List TraceEntry) (entry : TraceEntry)
     → SameBytes (state_after start (entry ∷ trace))
     (by_kind (kind_at start trace entry.op) entry.asked (state_after start trace))
-next_at_place start trace entry =
+next_at_point start trace entry =
     let s = state_after start trace in
     subst (λ (k : OpKind). SameBytes (step s entry.op entry.asked) (by_kind k entry.asked s))
     (same_kind start trace entry.op)

@@ -46,12 +46,12 @@ data_ready_twice byte true false = without-or byte 0x01
 data_ready_twice byte false true = or-without byte 0x01
 data_ready_twice byte false false = without-twice byte 0x01 0x01
 
--- ---- interrupt enable
+-- ---- IER
 
-pub enables_receive : (value : ℕ) → has_bits (masked value 0x0F) 0x01 ≡ has_bits value 0x01
+pub enables_rda : (value : ℕ) → has_bits (masked value 0x0F) 0x01 ≡ has_bits value 0x01
 unfolding has_bits masked
-enables_receive value = ap (λ n. n == 0x01) (and_assoc 0x01 value 0x0F)
+enables_rda value = ap (λ n. n == 0x01) (and_assoc 0x01 value 0x0F)
 
-pub enables_transmit : (value : ℕ) → has_bits (masked value 0x0F) 0x02 ≡ has_bits value 0x02
+pub enables_thre : (value : ℕ) → has_bits (masked value 0x0F) 0x02 ≡ has_bits value 0x02
 unfolding has_bits masked
-enables_transmit value = ap (λ n. n == 0x02) (and_assoc 0x02 value 0x0F)
+enables_thre value = ap (λ n. n == 0x02) (and_assoc 0x02 value 0x0F)

@@ -1,4 +1,4 @@
--- Worked examples of the clock, each computed by the cases of the accesses and by the history.
+-- Worked examples of the clock, each computed by the steps of the accesses and by the history.
 use Rattle.std.specs.Prelude.{◌≡◌, ℕ, pos, List, [], ◌∷◌, ◌++◌, Option, Some, None, refl}
 use Rattle.vm_superio.specs.declared.rtc_pl031.RtcState.{RtcState}
 use Rattle.vm_superio.specs.Clock.Events.{RtcEvent, invalid_read, invalid_write}
@@ -6,7 +6,7 @@ use Rattle.vm_superio.specs.Clock.Registers.{Access, read, write, bytes_left, fr
 use Rattle.vm_superio.specs.Clock.Step.{clock_response, clock_step, clock_events, state_after_accesses}
 use Rattle.vm_superio.specs.Clock.History.{clock_of_history, clock_history_response}
 
--- the answers of some accesses, oldest first, by the cases
+-- the answers of some accesses, oldest first, by the steps
 abbrev by_cases : RtcState → List Access → List (Option ℕ)
 by_cases state [] = []
 by_cases state (access ∷ rest) = clock_response state access ∷ by_cases (clock_step state access) rest
@@ -17,16 +17,16 @@ by_history start trace [] = []
 by_history start trace (access ∷ rest) =
     clock_history_response start trace access ∷ by_history start (access ∷ trace) rest
 
--- what some accesses tell the events object
-abbrev told : List Access → List RtcEvent
-told [] = []
-told (access ∷ rest) = clock_events access ++ told rest
+-- what some accesses report to the events object
+abbrev reported : List Access → List RtcEvent
+reported [] = []
+reported (access ∷ rest) = clock_events access ++ reported rest
 
--- the accesses have these answers, by the cases and by the history, and tell these events
+-- the accesses have these answers, by the steps and by the history, and report these events
 record Gives (start : RtcState) (accesses : List Access) (answers : List (Option ℕ)) (events : List RtcEvent) : Type 0 where
   cases : by_cases start accesses ≡ answers
   history : by_history start [] accesses ≡ answers
-  tells : told accesses ≡ events
+  tells : reported accesses ≡ events
 
 load_sets_guest_time : Gives fresh_clock
     (write 0x008 100 1000 ∷ read 0x000 1007 ∷ [])
@@ -91,17 +91,17 @@ the_match_register_shows_what_was_written : Gives fresh_clock
     []
 the_match_register_shows_what_was_written = record { cases = refl; history = refl; tells = refl }
 
-an_invalid_read_answers_nothing_and_is_told : Gives fresh_clock
+an_invalid_read_answers_nothing_and_is_reported : Gives fresh_clock
     (read 0x01C 1000 ∷ read 0xFE5 1000 ∷ read 0xFFF 1000 ∷ read 0x1003 1000 ∷ [])
     (None ∷ Some 0x10 ∷ Some 0xB1 ∷ None ∷ [])
     (invalid_read ∷ invalid_read ∷ [])
-an_invalid_read_answers_nothing_and_is_told = record { cases = refl; history = refl; tells = refl }
+an_invalid_read_answers_nothing_and_is_reported = record { cases = refl; history = refl; tells = refl }
 
-an_invalid_write_changes_nothing_and_is_told : Gives raised
+an_invalid_write_changes_nothing_and_is_reported : Gives raised
     (write 0x000 7 1000 ∷ write 0x014 0 1000 ∷ write 0x018 0 1000 ∷ write 0xFE0 7 1000 ∷ write 0x009 7 1000 ∷ read 0x018 1000 ∷ read 0x000 1000 ∷ [])
     (None ∷ None ∷ None ∷ None ∷ None ∷ Some 1 ∷ Some 1000 ∷ [])
     (invalid_write ∷ invalid_write ∷ invalid_write ∷ invalid_write ∷ invalid_write ∷ [])
-an_invalid_write_changes_nothing_and_is_told = record { cases = refl; history = refl; tells = refl }
+an_invalid_write_changes_nothing_and_is_reported = record { cases = refl; history = refl; tells = refl }
 
 -- the four bytes of each kind of read, into the bytes of 123
 abbrev bytes_of_123 : List ℕ

@@ -73,7 +73,7 @@ bit_at-cleared (access ∷ trace) bit =
     let small = bit_at-lt (cleared_by access) bit in
     grind (arith, nat_tests)
 
--- a raw bit is that of the start, unless an access of the past cleared it
+-- a raw bit is that of the start, unless an access of the trace cleared it
 pub raw_bits : (start : RtcState) (trace : List Access) (bit : ℕ) → bit_at (clock_of_history start trace).ris bit ≡ (if is_cleared trace bit then 0 else bit_at start.ris bit)
 raw_bits start trace bit =
     let left = bit_at-without start.ris (cleared_bits trace) bit in

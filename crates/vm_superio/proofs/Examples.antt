@@ -1,4 +1,4 @@
--- How a worked example is computed: its calls with their answers, once by the call cases and once by the history.
+-- How a worked example is computed: its calls with their answers, once by the steps and once by the history.
 use Rattle.std.proofs.Common.{◌++◌, ◌≡◌, ℕ, Bool, true, List, [], ◌∷◌, map}
 use Rattle.vm_superio.specs.declared.trace.Asked.{Asked}
 use Rattle.vm_superio.specs.declared.trace.Asked.TheVariants.{Nothing}
@@ -20,7 +20,7 @@ use Rattle.vm_superio.specs.History.Reads.{history_response}
 abbrev pub read : ℕ → ℕ → TraceEntry × Response
 read offset byte = (record { op = Read offset; asked = Nothing; sent = sent.Nothing }, ByteRead byte)
 
--- a write at an offset that is accepted, with what it asked and sent
+-- a write at an offset that is accepted, with its answers and outcome
 abbrev pub write : ℕ → ℕ → Asked → Sent → TraceEntry × Response
 write offset value asked outcome = (record { op = Write offset value; asked = asked; sent = outcome }, WriteOk)
 
@@ -41,7 +41,7 @@ restore = (record { op = Restore; asked = Nothing; sent = sent.Nothing }, NoResp
 
 -- ---- both computations
 
--- of each call, whether it passes the test and what it answers, by the call cases
+-- of each call, whether it is admissible and what it responds, by the steps
 abbrev pub by_cases : State → List (TraceEntry × Response) → List (Bool × Response)
 by_cases s [] = []
 by_cases s (call ∷ later) =
@@ -55,11 +55,11 @@ by_history start trace (call ∷ later) =
     (is_well_formed_entry start trace call.0, history_response start trace call.0.op call.0.asked call.0.sent)
     ∷ by_history start (call.0 ∷ trace) later
 
--- each call passes, with its answer
-abbrev pub told : List (TraceEntry × Response) → List (Bool × Response)
-told calls = map (λ (call : TraceEntry × Response). (true, call.1)) calls
+-- each call is admissible, with its response
+abbrev pub reported : List (TraceEntry × Response) → List (Bool × Response)
+reported calls = map (λ (call : TraceEntry × Response). (true, call.1)) calls
 
--- the state in which the calls end, by the call cases
+-- the state in which the calls end, by the steps
 abbrev pub end_of : State → List (TraceEntry × Response) → State
 end_of s [] = s
 end_of s (call ∷ later) = end_of (step s call.0.op call.0.asked) later
@@ -69,13 +69,13 @@ abbrev pub RestoresWith : State → List (TraceEntry × Response) → List Condi
 RestoresWith start calls conditions =
     (restore_calls (end_of start calls) ≡ conditions) × (restore_calls_due start (trace_after [] calls) ≡ conditions)
 
--- the events that the calls tell
-abbrev pub told_events : State → List (TraceEntry × Response) → List Event
-told_events s [] = []
-told_events s (call ∷ later) = step_events s call.0.op call.0.sent ++ told_events (step s call.0.op call.0.asked) later
+-- the events that the calls report
+abbrev pub reported_events : State → List (TraceEntry × Response) → List Event
+reported_events s [] = []
+reported_events s (call ∷ later) = step_events s call.0.op call.0.sent ++ reported_events (step s call.0.op call.0.asked) later
 
 abbrev pub GivenByCases : State → List (TraceEntry × Response) → Type 0
-GivenByCases start calls = by_cases start calls ≡ told calls
+GivenByCases start calls = by_cases start calls ≡ reported calls
 
 abbrev pub GivenByBoth : State → List (TraceEntry × Response) → Type 0
-GivenByBoth start calls = (by_cases start calls ≡ told calls) × (by_history start [] calls ≡ told calls)
+GivenByBoth start calls = (by_cases start calls ≡ reported calls) × (by_history start [] calls ≡ reported calls)

@@ -1,4 +1,4 @@
-mod Asks
+mod Raising
 mod Bounds
 mod ByKind
 mod Bytes
@@ -6,20 +6,20 @@ pub mod BitLemmas
 mod ClockExamples
 pub mod ClockLemmas
 mod Examples
-mod Held
+mod HeldBytes
 mod OneCall
-mod Pending
-mod Places
+mod Interrupts
+mod PendingByPrefixes
 mod PortLemmas
 mod RegisterSteps
 mod RunExamples
 mod RunHistory
-mod Runs
+mod WholeRuns
 mod RunSteps
 mod SerialExamples
 mod StateExamples
-mod Steps
+mod StepLaw
 mod TriggerCalls
-mod Turned
-mod Views
-mod Writing
+mod TurnedBits
+mod SameReads
+mod Output

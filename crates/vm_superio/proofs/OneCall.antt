@@ -1,4 +1,4 @@
--- One call, in any state: the events that it tells, and the pairs that the test passes.
+-- One call, in any state: the events that it reports, and the admissible pairs.
 use Rattle.std.proofs.Common.{◌≡◌, ℕ, zero, suc, ◌≤◌, Bool, true, false, ◌==◌, List, [], ◌∷◌, ◌++◌, length, refl, sym, subst, arith}
 use Rattle.std.proofs.lemmas.Bool.{and_parts, false≢true, eqb-true}
 use Rattle.std.specs.Prelude.{if◌then◌else◌, nat_le, IsTrue, count_by}
@@ -19,7 +19,7 @@ use Rattle.vm_superio.specs.Step.Transition.{read_events, sent_events, step_even
 use Rattle.vm_superio.specs.Laws.OneCall.{EventsLaw, ExactTestLaw, reports_outcome, asked_when, sent_when}
 use Rattle.vm_superio.proofs.Bounds.{one_at_most}
 
--- what is told of a byte, where one is sent or not
+-- what is reported of a byte, where one is sent or not
 abbrev sent_fits : Bool → Sent → Bool
 sent_fits sends_byte outcome = beq (is_sent outcome) sends_byte
 
@@ -29,10 +29,10 @@ read_tells : (last : Bool) → count_by reports_outcome ((if last then [] else i
 read_tells true = refl
 read_tells false = refl
 
-read_told : (r : Register) (held : List ℕ) → count_by reports_outcome (read_events r held) ≡ length (sent_by (read_kind r))
-read_told RbrThr held = read_tells _
-read_told Iir held = refl
-read_told _ held = refl
+read_reported : (r : Register) (held : List ℕ) → count_by reports_outcome (read_events r held) ≡ length (sent_by (read_kind r))
+read_reported RbrThr held = read_tells _
+read_reported Iir held = refl
+read_reported _ held = refl
 
 sent_once : (outcome : Sent) → IsTrue (sent_fits true outcome) → count_by reports_outcome (sent_events outcome) ≡ 1
 sent_once sent.Nothing fit = absurd (false≢true fit)
@@ -44,28 +44,28 @@ not_sent sent.Nothing fit = refl
 not_sent sent.Out fit = absurd (false≢true fit)
 not_sent sent.Lost fit = absurd (false≢true fit)
 
-sent_told : (k : OpKind) (outcome : Sent) → IsTrue (sent_fits (not_empty (sent_by k)) outcome)
+sent_reported : (k : OpKind) (outcome : Sent) → IsTrue (sent_fits (not_empty (sent_by k)) outcome)
     → count_by reports_outcome (sent_events outcome) ≡ length (sent_by k)
-sent_told (ThrWrite value) outcome fit = sent_once outcome fit
-sent_told _ outcome fit = not_sent outcome fit
+sent_reported (ThrWrite value) outcome fit = sent_once outcome fit
+sent_reported _ outcome fit = not_sent outcome fit
 
-enqueue_told : (loopback dlab : Bool) (bytes : List ℕ) → 0 ≡ length (sent_by (kind_of dlab loopback (Enqueue bytes)))
-enqueue_told true dlab bytes = refl
-enqueue_told false dlab bytes = refl
+enqueue_reported : (loopback dlab : Bool) (bytes : List ℕ) → 0 ≡ length (sent_by (kind_of dlab loopback (Enqueue bytes)))
+enqueue_reported true dlab bytes = refl
+enqueue_reported false dlab bytes = refl
 
-told : (s : State) (op : Op) (outcome : Sent) → IsTrue (sent_fits (sends_byte s op) outcome)
+reported : (s : State) (op : Op) (outcome : Sent) → IsTrue (sent_fits (sends_byte s op) outcome)
     → count_by reports_outcome (step_events s op outcome) ≡ length (sent_by (kind_in_state s op))
-told s (Read offset) outcome fit = read_told (register_at (is_dlab s.line_control) offset) s.in_buffer
-told s (Write offset value) outcome fit =
-    sent_told (kind_in_state s (Write offset value)) outcome fit
-told s (Enqueue bytes) outcome fit = enqueue_told (is_loopback s.modem_control) (is_dlab s.line_control) bytes
-told s Restore outcome fit = refl
+reported s (Read offset) outcome fit = read_reported (register_at (is_dlab s.line_control) offset) s.in_buffer
+reported s (Write offset value) outcome fit =
+    sent_reported (kind_in_state s (Write offset value)) outcome fit
+reported s (Enqueue bytes) outcome fit = enqueue_reported (is_loopback s.modem_control) (is_dlab s.line_control) bytes
+reported s Restore outcome fit = refl
 
 pub events_law : EventsLaw
 events_law s op asked outcome fit =
-    told s op outcome (and_parts (answers_all (step_calls s op) asked) (sent_fits (sends_byte s op) outcome) fit).1
+    reported s op outcome (and_parts (answers_all (step_calls s op) asked) (sent_fits (sends_byte s op) outcome) fit).1
 
--- ---- the test is neither too narrow nor too wide
+-- ---- admissible is neither too narrow nor too wide
 
 received_at_most : (new : List ℕ) (s : State) → arrival_calls new s ≤ 2
 received_at_most [] s = omega arith

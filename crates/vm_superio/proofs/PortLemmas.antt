@@ -9,7 +9,7 @@ use Rattle.vm_superio.specs.Port.ObjectLinks.{answers_of}
 use Rattle.vm_superio.specs.Port.WriterLink.{PortLinks}
 use Rattle.vm_superio.specs.Port.Model.{Port}
 use Rattle.vm_superio.specs.Step.PortStep.{turned_on_count, IsPortStep}
-use Rattle.vm_superio.proofs.Turned.{turned_bits_law}
+use Rattle.vm_superio.proofs.TurnedBits.{turned_bits_law}
 
 -- a record stands for as many answers as it counts, where it has the refusal that it ends in
 length-answers_of : {E : Type 0} (asked : Asked) (refusal : Option E) → is_some refusal ≡ ends_in_refusal asked → length (answers_of asked refusal) ≡ answer_count asked

@@ -15,7 +15,7 @@ use Rattle.vm_superio.specs.Laws.Agreement.{RegisterLaw, state_after}
 
 -- ---- one call
 
--- the call leaves in each register what the act wrote there, under this DLAB
+-- the call leaves in each register what the operation wrote there, under this DLAB
 pub record Steps (dlab : Bool) (op : Op) (s new : State) : Type 0 where
   pub divisor_low : new.baud_divisor_low ≡ unwrap_or (if dlab then value_written_at 0 op else None) s.baud_divisor_low
   pub divisor_high : new.baud_divisor_high ≡ unwrap_or (if dlab then value_written_at 1 op else None) s.baud_divisor_high
@@ -34,7 +34,7 @@ SameRegisters s new = new ≡ record s {
   in_buffer = new.in_buffer;
 }
 
--- the act writes nothing that a register keeps
+-- the operation writes nothing that a register keeps
 WritesNothing : Bool → Op → Type 0
 WritesNothing dlab op =
     ((if dlab then value_written_at 0 op else None) ≡ None)
@@ -158,7 +158,7 @@ call_done s (Enqueue bytes) asked =
     kept _ (Enqueue bytes) s _ (enqueues_nothing _ bytes) (received (enqueued_bytes s bytes) s)
 call_done s Restore asked = kept _ Restore s s (restores_nothing _) (all_kept s)
 
--- ---- any past
+-- ---- any trace
 
 unwrap_or-or : (one other : Option ℕ) (byte : ℕ)
     → unwrap_or (option_or one other) byte ≡ unwrap_or one (unwrap_or other byte)
@@ -170,7 +170,7 @@ option_map_or-or : (f : ℕ → ℕ) (one other : Option ℕ) (byte : ℕ)
 option_map_or-or f None other byte = refl
 option_map_or-or f (Some value) other byte = refl
 
--- what the newest record left of what the others left is what the whole past tells
+-- what the newest entry left of what the others left is what the whole trace tells
 more : (found : List TraceEntry → Op → Option ℕ) (entry : TraceEntry) (trace : List TraceEntry) (byte old new : ℕ)
     → old ≡ unwrap_or (last_found found trace) byte → new ≡ unwrap_or (found trace entry.op) old
     → new ≡ unwrap_or (last_found found (entry ∷ trace)) byte

@@ -6,7 +6,7 @@ use Rattle.vm_superio.specs.Port.SavedState.{fresh_state}
 use Rattle.vm_superio.specs.Port.Bits.{has_bits, masked, joined}
 use Rattle.vm_superio.specs.Port.Registers.{Rda, Thre}
 use Rattle.vm_superio.specs.Port.Operations.{buffer_read, TraceEntry, Response, EnqueueOk, TriggerRefused, WriterFailed}
-use Rattle.vm_superio.proofs.Examples.{read, write, store, write_fails, enqueue, restore, told_events, GivenByBoth, RestoresWith}
+use Rattle.vm_superio.proofs.Examples.{read, write, store, write_fails, enqueue, restore, reported_events, GivenByBoth, RestoresWith}
 
 loopback_receives : GivenByBoth fresh_state (
     store 4 0x10 ∷ store 1 0x01 ∷ write 0 0x61 Took sent.Nothing ∷ write 0 0x62 Nothing sent.Nothing ∷
@@ -14,14 +14,14 @@ loopback_receives : GivenByBoth fresh_state (
 unfolding has_bits masked joined
 loopback_receives = (refl, refl)
 
-loopback_tells_reads_alone : told_events fresh_state (
+loopback_tells_reads_alone : reported_events fresh_state (
     store 4 0x10 ∷ store 1 0x01 ∷ write 0 0x61 Took sent.Nothing ∷ write 0 0x62 Nothing sent.Nothing ∷ read 0 0x61
     ∷ write 0 0x63 Took sent.Nothing ∷ [])
     ≡ buffer_read ∷ []
 unfolding has_bits masked joined
 loopback_tells_reads_alone = refl
 
--- data writes of n bytes below 64 and the rest behind them
+-- THR writes of n bytes below 64 and the rest behind them
 loopback_writes : ℕ → List (TraceEntry × Response) → List (TraceEntry × Response)
 loopback_writes zero later = later
 loopback_writes (suc n) later = loopback_writes n (store 0 n ∷ later)
@@ -36,7 +36,7 @@ loopback_drops_when_full : GivenByBoth fresh_state full_loopback
 unfolding has_bits masked joined full_loopback loopback_writes
 loopback_drops_when_full = (refl, refl)
 
-loopback_full_events : told_events fresh_state full_loopback ≡ buffer_read ∷ []
+loopback_full_events : reported_events fresh_state full_loopback ≡ buffer_read ∷ []
 unfolding has_bits masked joined full_loopback loopback_writes
 loopback_full_events = refl
 
@@ -54,7 +54,7 @@ lost_and_restored : GivenByBoth fresh_state (
 unfolding has_bits masked joined
 lost_and_restored = (refl, refl)
 
--- the restore calls for the transmitter condition first
+-- the restore calls for THRE first
 restore_calls_for_both : RestoresWith fresh_state (
     write 1 0x03 Took sent.Nothing ∷ write_fails 0 0x41 Nothing sent.Lost WriterFailed ∷
     enqueue (0x61 ∷ 0x62 ∷ []) Took (EnqueueOk 2) ∷ []) (Thre ∷ Rda ∷ [])

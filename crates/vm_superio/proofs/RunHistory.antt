@@ -37,13 +37,13 @@ use Rattle.vm_superio.specs.Run.Observations.{ReadIs, ReadsAre, WriterSegment, O
 use Rattle.vm_superio.specs.Run.HistoryTheorem.{HistoryTheorem}
 use Rattle.vm_superio.specs.Laws.Agreement.{state_after, StepsFollow}
 use Rattle.vm_superio.specs.Laws.Consequences.{op_and_asked, ops_and_asked, recorded_output}
-use Rattle.vm_superio.proofs.Runs.{whole_run_law}
+use Rattle.vm_superio.proofs.WholeRuns.{whole_run_law}
 use Rattle.vm_superio.proofs.Bounds.{trigger_bound_law}
-use Rattle.vm_superio.proofs.Held.{taken_then_held}
-use Rattle.vm_superio.proofs.Pending.{interrupt_law}
-use Rattle.vm_superio.proofs.Places.{waiting_bytes_law}
-use Rattle.vm_superio.proofs.Views.{same_reads_law}
-use Rattle.vm_superio.proofs.Writing.{output_law}
+use Rattle.vm_superio.proofs.HeldBytes.{taken_then_held}
+use Rattle.vm_superio.proofs.Interrupts.{interrupt_law}
+use Rattle.vm_superio.proofs.PendingByPrefixes.{waiting_bytes_law}
+use Rattle.vm_superio.proofs.SameReads.{same_reads_law}
+use Rattle.vm_superio.proofs.Output.{output_law}
 
 -- a restore asks and sends nothing of its own
 restore_admissible : (s : State) (asked : Asked) (sent : Sent) → asked ≡ answers.Nothing → sent ≡ outcome.Nothing → IsTrue (is_admissible s operation.Restore asked sent)

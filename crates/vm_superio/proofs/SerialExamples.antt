@@ -49,24 +49,24 @@ enqueue_stops_at_sixty_four : GivenByBoth fresh_state (
 unfolding has_bits masked joined
 enqueue_stops_at_sixty_four = (refl, refl)
 
-one_call_for_the_transmitter : GivenByBoth fresh_state (
+one_call_for_thre : GivenByBoth fresh_state (
     write 1 0x02 Took sent.Nothing ∷ write 0 0x61 Nothing sent.Out ∷ read 2 0xC2 ∷ read 2 0xC1 ∷ [])
 unfolding has_bits masked joined
-one_call_for_the_transmitter = (refl, refl)
+one_call_for_thre = (refl, refl)
 
--- an interrupt-enable write raises the receive condition again after the identification was read
-enable_write_raises_again : GivenByBoth fresh_state (
+-- an IER write raises RDA again after IIR was read
+ier_write_raises_again : GivenByBoth fresh_state (
     store 1 0x01 ∷ store 1 0x00 ∷ enqueue (0x61 ∷ 0x62 ∷ 0x63 ∷ []) Nothing (EnqueueOk 3) ∷ read 5 0x61 ∷
     write 1 0x01 Took sent.Nothing ∷ read 2 0xC4 ∷ write 1 0x01 Took sent.Nothing ∷ read 2 0xC4 ∷ [])
 unfolding has_bits masked joined
-enable_write_raises_again = (refl, refl)
+ier_write_raises_again = (refl, refl)
 
 disabling_keeps_pending : GivenByBoth fresh_state (
     write 1 0x02 Took sent.Nothing ∷ store 1 0x00 ∷ read 2 0xC2 ∷ read 2 0xC1 ∷ [])
 unfolding has_bits masked joined
 disabling_keeps_pending = (refl, refl)
 
--- a refusal for the receive condition ends the write; the next write calls for the transmitter condition alone
+-- a refusal for RDA ends the write; the next write calls for THRE alone
 first_call_refused : GivenByBoth fresh_state (
     enqueue (0x61 ∷ []) Nothing (EnqueueOk 1) ∷ write_fails 1 0x03 Refused sent.Nothing TriggerRefused ∷
     read 1 0x03 ∷ write 1 0x03 Took sent.Nothing ∷ read 2 0xC6 ∷ [])
@@ -79,7 +79,7 @@ second_call_refused : GivenByBoth fresh_state (
 unfolding has_bits masked joined
 second_call_refused = (refl, refl)
 
--- after the identification was read both conditions are called for again
+-- after IIR was read both conditions are called for again
 refused_and_read : GivenByBoth fresh_state (
     enqueue (0x61 ∷ []) Nothing (EnqueueOk 1) ∷ write_fails 1 0x03 Refused sent.Nothing TriggerRefused ∷
     read 2 0xC4 ∷ write 1 0x03 TookTook sent.Nothing ∷ read 2 0xC6 ∷ [])
@@ -92,21 +92,21 @@ refused_arrival_is_kept : GivenByBoth fresh_state (
 unfolding has_bits masked joined
 refused_arrival_is_kept = (refl, refl)
 
-data_read_acknowledges : GivenByBoth fresh_state (
+rbr_read_acknowledges : GivenByBoth fresh_state (
     store 1 0x01 ∷ enqueue (0x61 ∷ 0x62 ∷ []) Took (EnqueueOk 2) ∷ read 0 0x61 ∷ read 2 0xC1 ∷
     enqueue (0x63 ∷ []) Took (EnqueueOk 1) ∷ read 2 0xC4 ∷ [])
 unfolding has_bits masked joined
-data_read_acknowledges = (refl, refl)
+rbr_read_acknowledges = (refl, refl)
 
 other_enable_bits_are_kept : GivenByBoth fresh_state (
     write 1 0x03 Took sent.Nothing ∷ read 2 0xC2 ∷ store 1 0x0C ∷ read 1 0x0C ∷ read 2 0xC1 ∷ [])
 unfolding has_bits masked joined
 other_enable_bits_are_kept = (refl, refl)
 
-lost_byte_still_asks : GivenByBoth fresh_state (
+lost_byte_still_raises : GivenByBoth fresh_state (
     write 1 0x02 Took sent.Nothing ∷ write_fails 0 0x05 Nothing sent.Lost WriterFailed ∷ read 2 0xC2 ∷ [])
 unfolding has_bits masked joined
-lost_byte_still_asks = (refl, refl)
+lost_byte_still_raises = (refl, refl)
 
 refusal_before_fault : GivenByBoth fresh_state (
     write 1 0x02 Took sent.Nothing ∷ read 2 0xC2 ∷ write_fails 0 0x05 Refused sent.Lost TriggerRefused ∷

@@ -8,7 +8,7 @@ use Rattle.vm_superio.specs.Port.Bits.{has_bits, masked, joined}
 use Rattle.vm_superio.specs.Port.Registers.{Rda, Thre}
 use Rattle.vm_superio.specs.Port.Operations.{buffer_read, in_buffer_empty}
 use Rattle.vm_superio.specs.Step.Restore.{restore_calls}
-use Rattle.vm_superio.proofs.Examples.{read, write, store, restore, told_events, GivenByCases, GivenByBoth, RestoresWith}
+use Rattle.vm_superio.proofs.Examples.{read, write, store, restore, reported_events, GivenByCases, GivenByBoth, RestoresWith}
 
 -- both conditions are pending and enabled, and a byte is held
 both_pending : State
@@ -23,7 +23,7 @@ both_still_pending : GivenByBoth both_pending (restore ∷ read 2 0xC6 ∷ [])
 unfolding has_bits masked joined both_pending
 both_still_pending = (refl, refl)
 
--- any bits of interrupt enable may stand in a state; the next write cuts them
+-- any bits of IER may stand in a state; the next write cuts them
 all_enabled : State
 all_enabled = record fresh_state { interrupt_identification = 0x02; interrupt_enable = 0xFF }
 
@@ -31,11 +31,11 @@ enabled_bits_are_cut : GivenByBoth all_enabled (read 1 0xFF ∷ store 1 0xFF ∷
 unfolding has_bits masked joined all_enabled
 enabled_bits_are_cut = (refl, refl)
 
-transmitter_called_for : RestoresWith all_enabled [] (Thre ∷ [])
+thre_called_for : RestoresWith all_enabled [] (Thre ∷ [])
 unfolding has_bits all_enabled
-transmitter_called_for = (refl, refl)
+thre_called_for = (refl, refl)
 
--- ---- states that are not coherent, by the call cases alone
+-- ---- states that are not coherent, by the steps alone
 
 identification_zero : State
 identification_zero = record fresh_state { interrupt_identification = 0x00 }
@@ -60,11 +60,11 @@ nothing_is_read : GivenByCases ready_for_nothing (read 5 0x61 ∷ read 0 0x00 �
 unfolding has_bits masked joined ready_for_nothing
 nothing_is_read = refl
 
-nothing_is_told : told_events ready_for_nothing (read 0 0x00 ∷ []) ≡ in_buffer_empty ∷ buffer_read ∷ []
+nothing_is_reported : reported_events ready_for_nothing (read 0 0x00 ∷ []) ≡ in_buffer_empty ∷ buffer_read ∷ []
 unfolding has_bits masked joined ready_for_nothing
-nothing_is_told = refl
+nothing_is_reported = refl
 
--- every bit of the identification
+-- every bit of IIR
 all_bits : State
 all_bits = record fresh_state { interrupt_identification = 0xFF; interrupt_enable = 0x03; line_status = 0x00 }
 
@@ -76,25 +76,25 @@ all_bits_call_for_both : restore_calls all_bits ≡ Thre ∷ Rda ∷ []
 unfolding has_bits all_bits
 all_bits_call_for_both = refl
 
-data_read_clears_one_bit : GivenByCases all_bits (read 0 0x00 ∷ read 2 0xFB ∷ [])
+rbr_read_clears_one_bit : GivenByCases all_bits (read 0 0x00 ∷ read 2 0xFB ∷ [])
 unfolding has_bits masked joined all_bits
-data_read_clears_one_bit = refl
+rbr_read_clears_one_bit = refl
 
--- the receive condition with no byte, and a bit that means nothing
-receive_alone : State
-receive_alone = record fresh_state { interrupt_identification = 0x04 }
+-- RDA with no byte, and a bit that means nothing
+rda_alone : State
+rda_alone = record fresh_state { interrupt_identification = 0x04 }
 
-data_read_leaves_none : GivenByCases receive_alone (read 0 0x00 ∷ read 2 0xC1 ∷ [])
-unfolding has_bits masked joined receive_alone
-data_read_leaves_none = refl
+rbr_read_leaves_none : GivenByCases rda_alone (read 0 0x00 ∷ read 2 0xC1 ∷ [])
+unfolding has_bits masked joined rda_alone
+rbr_read_leaves_none = refl
 
-data_read_tells_both : told_events receive_alone (read 0 0x00 ∷ []) ≡ in_buffer_empty ∷ buffer_read ∷ []
-unfolding has_bits masked joined receive_alone
-data_read_tells_both = refl
+rbr_read_tells_both : reported_events rda_alone (read 0 0x00 ∷ []) ≡ in_buffer_empty ∷ buffer_read ∷ []
+unfolding has_bits masked joined rda_alone
+rbr_read_tells_both = refl
 
 other_bit : State
 other_bit = record fresh_state { interrupt_identification = 0x08 }
 
-data_read_keeps_it : GivenByCases other_bit (read 0 0x00 ∷ read 2 0xC8 ∷ [])
+rbr_read_keeps_it : GivenByCases other_bit (read 0 0x00 ∷ read 2 0xC8 ∷ [])
 unfolding has_bits masked joined other_bit
-data_read_keeps_it = refl
+rbr_read_keeps_it = refl

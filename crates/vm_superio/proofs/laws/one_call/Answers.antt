@@ -1,4 +1,4 @@
-use Rattle.vm_superio.proofs.Held.{one_call}
+use Rattle.vm_superio.proofs.HeldBytes.{one_call}
 use Rattle.vm_superio.proofs.laws.one_call.Goals as goal
 
 pub returns : goal.returns

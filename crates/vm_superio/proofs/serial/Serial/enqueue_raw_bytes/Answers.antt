@@ -2,7 +2,7 @@
 use Rattle.vm_superio.specs.Port.Operations.{Enqueue}
 use Rattle.vm_superio.specs.Port.WriterLink.{port_links}
 use Rattle.vm_superio.proofs.PortLemmas.{length-answers_of-step}
-use Rattle.vm_superio.proofs.Runs.{coherence_law}
+use Rattle.vm_superio.proofs.WholeRuns.{coherence_law}
 use Rattle.vm_superio.proofs.serial.Serial.enqueue_raw_bytes.Goals as goal
 
 pub returns-clause-step : goal.returns-clause-step

@@ -1,6 +1,6 @@
--- A call case keeps a coherent state coherent.
+-- A step keeps a coherent state coherent.
 use Rattle.vm_superio.specs.Port.Operations.{Read}
-use Rattle.vm_superio.proofs.Runs.{coherence_law}
+use Rattle.vm_superio.proofs.WholeRuns.{coherence_law}
 use Rattle.vm_superio.proofs.serial.Serial.read.Goals as goal
 
 pub returns-clause-coherent : goal.returns-clause-coherent

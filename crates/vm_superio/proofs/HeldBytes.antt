@@ -16,9 +16,9 @@ use Rattle.vm_superio.specs.Laws.Agreement.{state_after, HeldBytesLaw, LineStatu
 use Rattle.vm_superio.specs.Laws.Consequences.{TakenThenHeldLaw}
 use Rattle.vm_superio.specs.Laws.OneCall.{OneCallLaw}
 use Rattle.vm_superio.proofs.Bytes.{data_ready_right, data_ready_twice}
-use Rattle.vm_superio.proofs.ByKind.{by_kind, next_by_kind, next_at_place}
+use Rattle.vm_superio.proofs.ByKind.{by_kind, next_by_kind, next_at_point}
 
--- ---- one act
+-- ---- one operation
 
 -- what is taken is the front of what is there
 taken_first : (k : OpKind) (bytes new : List ℕ)
@@ -36,7 +36,7 @@ first_gone : (bytes : List ℕ) → drop 1 bytes ≡ drop (length (taken_by RbrR
 first_gone [] = refl
 first_gone (byte ∷ bytes) = sym (append-nil bytes)
 
--- the call cases take and accept what the history says
+-- the steps take and accept what the history says
 left_by_kind : (k : OpKind) (asked : Asked) (s : State)
     → (by_kind k asked s).in_buffer ≡ drop (length (taken_by k s.in_buffer)) (s.in_buffer ++ accepted_by k s.in_buffer)
 left_by_kind RbrRead asked s = first_gone s.in_buffer
@@ -50,7 +50,7 @@ one_call s op asked =
     ((next_by_kind s op asked).in_buffer ∙ left_by_kind (kind_in_state s op) asked s)
     ∙ taken_first (kind_in_state s op) s.in_buffer (accepted_by (kind_in_state s op) s.in_buffer)
 
--- ---- any past
+-- ---- any trace
 
 -- what is left of all bytes and the new ones, after those taken and then some more
 drop_more : (all taken_bytes remaining_bytes more new : List ℕ) → taken_bytes ++ remaining_bytes ≡ all
@@ -61,7 +61,7 @@ drop_more all taken_bytes remaining_bytes more new parts =
     ∙ ap (λ n. drop n (taken_bytes ++ (remaining_bytes ++ new))) (length-append taken_bytes more)
     ∙ drop-append-add taken_bytes (remaining_bytes ++ new) (length more)
 
--- the held bytes after one more record, where those taken and those held are all bytes
+-- the held bytes after one more entry, where those taken and those held are all bytes
 held_more : (start : State) (trace : List TraceEntry) (entry : TraceEntry)
     → taken_bytes start trace ++ held_bytes start trace ≡ start.in_buffer ++ accepted_bytes start trace
     → let k = kind_at start trace entry.op in
@@ -93,7 +93,7 @@ held_bytes_law start [] = sym (append-nil start.in_buffer)
 held_bytes_law start (entry ∷ trace) =
     let s = state_after start trace in
     let k = kind_at start trace entry.op in
-    (next_at_place start trace entry).in_buffer
+    (next_at_point start trace entry).in_buffer
     ∙ left_by_kind k entry.asked s
     ∙ ap (λ bytes. drop (length (taken_by k bytes)) (bytes ++ accepted_by k bytes)) (held_bytes_law start trace)
     ∙ sym (held_more start trace entry (taken_then_held start trace))
@@ -104,7 +104,7 @@ pub not_empty-append : (old : List ℕ) (byte : ℕ) (bytes : List ℕ) → not_
 not_empty-append [] byte bytes = refl
 not_empty-append (first ∷ old) byte bytes = refl
 
--- the line status of a state shows whether bytes are held
+-- LSR of a state shows whether bytes are held
 abbrev IsReady : State → Type 0
 IsReady s = s.line_status ≡ with_data_ready s.line_status (not_empty s.in_buffer)
 
@@ -127,7 +127,7 @@ ready_by_kind (Arrival bytes) asked s ready = received_ready (bytes_that_fit s.i
 ready_by_kind IirRead asked s ready = ready
 ready_by_kind _ asked s ready = ready
 
--- the line status that a call leaves, from one that shows whether bytes are held
+-- LSR that a call leaves, from one that shows whether bytes are held
 ready_more : (s : State) (op : Op) (asked : Asked) → IsReady s
     → (step s op asked).line_status ≡ with_data_ready s.line_status (not_empty (step s op asked).in_buffer)
 ready_more s op asked ready =
@@ -135,7 +135,7 @@ ready_more s op asked ready =
     same.line_status ∙ ready_by_kind (kind_in_state s op) asked s ready
     ∙ ap (λ bytes. with_data_ready s.line_status (not_empty bytes)) (sym same.in_buffer)
 
--- the start's line status, with data ready as bytes are held now
+-- the start's LSR, with data ready as bytes are held now
 ready_after : (start : State) (trace : List TraceEntry)
     → has_bits start.line_status 0x01 ≡ not_empty start.in_buffer
     → (state_after start trace).line_status

@@ -1,4 +1,4 @@
--- A call in the state that a past describes is a step of the history.
+-- A call in the state that a trace describes is a step of the history.
 use Rattle.std.proofs.Common.{◌≡◌, ℕ, ◌+◌, Bool, true, false, not, ◌&&◌, List, [], ◌∷◌, refl, ap, sym, ◌∙◌, subst}
 use Rattle.std.proofs.Math.Bool.{and-false}
 use Rattle.std.proofs.lemmas.Bool.{and_parts, false≢true}
@@ -19,60 +19,60 @@ use Rattle.vm_superio.specs.History.Interrupts.{raises_rda, is_pending, raises_t
 use Rattle.vm_superio.specs.History.Calls.{calls_due, kind_events, history_events}
 use Rattle.vm_superio.specs.History.Reads.{state_of_history}
 use Rattle.vm_superio.specs.Laws.Agreement.{StepLaw}
-use Rattle.vm_superio.proofs.Pending.{due_is, interrupt_law}
-use Rattle.vm_superio.proofs.Runs.{state_law, answer_law}
-use Rattle.vm_superio.proofs.Writing.{call_written}
+use Rattle.vm_superio.proofs.Interrupts.{due_is, interrupt_law}
+use Rattle.vm_superio.proofs.WholeRuns.{state_law, answer_law}
+use Rattle.vm_superio.proofs.Output.{call_written}
 
 -- ---- events
 
--- where nothing is sent, no fate is told
+-- where nothing is sent, no outcome is reported
 not_sent : (outcome : Sent) → IsTrue (beq (is_sent outcome) false) → outcome ≡ sent.Nothing
 not_sent sent.Nothing outcome_fits = refl
 not_sent sent.Out outcome_fits = absurd (false≢true outcome_fits)
 not_sent sent.Lost outcome_fits = absurd (false≢true outcome_fits)
 
-read_told : (r : Register) (s : State) (after : List ℕ) → (read_step r s).in_buffer ≡ after
+read_reported : (r : Register) (s : State) (after : List ℕ) → (read_step r s).in_buffer ≡ after
     → read_events r s.in_buffer ≡ kind_events (read_kind r) after sent.Nothing
-read_told RbrThr s after same = ap (λ bytes. kind_events (read_kind RbrThr) bytes sent.Nothing) same
-read_told Iir s after same = refl
-read_told _ s after same = refl
+read_reported RbrThr s after same = ap (λ bytes. kind_events (read_kind RbrThr) bytes sent.Nothing) same
+read_reported Iir s after same = refl
+read_reported _ s after same = refl
 
--- no write is a data read
+-- no write is an RBR read
 abbrev TellsFate : OpKind → Type 0
 TellsFate k = (after : List ℕ) (outcome : Sent) → sent_events outcome ≡ kind_events k after outcome
 
-other_told : TellsFate Other
-other_told after sent.Nothing = refl
-other_told after sent.Out = refl
-other_told after sent.Lost = refl
+other_reported : TellsFate Other
+other_reported after sent.Nothing = refl
+other_reported after sent.Out = refl
+other_reported after sent.Lost = refl
 
-arrival_told : (bytes : List ℕ) → TellsFate (Arrival bytes)
-arrival_told bytes after sent.Nothing = refl
-arrival_told bytes after sent.Out = refl
-arrival_told bytes after sent.Lost = refl
+arrival_reported : (bytes : List ℕ) → TellsFate (Arrival bytes)
+arrival_reported bytes after sent.Nothing = refl
+arrival_reported bytes after sent.Out = refl
+arrival_reported bytes after sent.Lost = refl
 
-data_told : (value : ℕ) → TellsFate (ThrWrite value)
-data_told value after sent.Nothing = refl
-data_told value after sent.Out = refl
-data_told value after sent.Lost = refl
+data_reported : (value : ℕ) → TellsFate (ThrWrite value)
+data_reported value after sent.Nothing = refl
+data_reported value after sent.Out = refl
+data_reported value after sent.Lost = refl
 
-enable_told : (value : ℕ) → TellsFate (IerWrite value)
-enable_told value after sent.Nothing = refl
-enable_told value after sent.Out = refl
-enable_told value after sent.Lost = refl
+ier_write_reported : (value : ℕ) → TellsFate (IerWrite value)
+ier_write_reported value after sent.Nothing = refl
+ier_write_reported value after sent.Out = refl
+ier_write_reported value after sent.Lost = refl
 
-write_told : (r : Register) (loopback : Bool) (value : ℕ) → TellsFate (write_kind r loopback value)
-write_told RbrThr true value = arrival_told (value ∷ [])
-write_told RbrThr false value = data_told value
-write_told Ier loopback value = enable_told value
-write_told _ loopback value = other_told
+write_reported : (r : Register) (loopback : Bool) (value : ℕ) → TellsFate (write_kind r loopback value)
+write_reported RbrThr true value = arrival_reported (value ∷ [])
+write_reported RbrThr false value = data_reported value
+write_reported Ier loopback value = ier_write_reported value
+write_reported _ loopback value = other_reported
 
-enqueue_told : (loopback dlab : Bool) (bytes after : List ℕ) (outcome : Sent)
+enqueue_reported : (loopback dlab : Bool) (bytes after : List ℕ) (outcome : Sent)
     → IsTrue (beq (is_sent outcome) (not_empty (sent_by (kind_of dlab loopback (Enqueue bytes)))))
     → [] ≡ kind_events (kind_of dlab loopback (Enqueue bytes)) after outcome
-enqueue_told true dlab bytes after outcome outcome_fits =
+enqueue_reported true dlab bytes after outcome outcome_fits =
     ap (λ (outcome : Sent). kind_events Other after outcome) (sym (not_sent outcome outcome_fits))
-enqueue_told false dlab bytes after outcome outcome_fits =
+enqueue_reported false dlab bytes after outcome outcome_fits =
     ap (λ (outcome : Sent). kind_events (Arrival bytes) after outcome) (sym (not_sent outcome outcome_fits))
 
 read_sends : (r : Register) → not_empty (sent_by (read_kind r)) ≡ false
@@ -80,38 +80,38 @@ read_sends RbrThr = refl
 read_sends Iir = refl
 read_sends _ = refl
 
--- the events of a call are those of its place
-told_at_place : (start : State) (trace : List TraceEntry) (op : Op) (asked : Asked) (outcome : Sent)
+-- the events of a call are those of its point
+reported_at_point : (start : State) (trace : List TraceEntry) (op : Op) (asked : Asked) (outcome : Sent)
     → (let entry : TraceEntry = record { op = op; asked = asked; sent = outcome } in
     step (state_of_history start trace) op asked ≡ state_of_history start (entry ∷ trace)
     → IsTrue (beq (is_sent outcome) (sends_byte (state_of_history start trace) op))
     → step_events (state_of_history start trace) op outcome ≡ history_events start trace entry)
-told_at_place start trace (Read offset) asked outcome goes_on outcome_fits =
+reported_at_point start trace (Read offset) asked outcome goes_on outcome_fits =
     let entry : TraceEntry = record { op = Read offset; asked = asked; sent = outcome } in
     let after = held_bytes start (entry ∷ trace) in
     let r = register_at (dlab start trace) offset in
     let none = not_sent outcome (subst (λ (b : Bool). IsTrue (beq (is_sent outcome) b)) (read_sends r) outcome_fits) in
-    read_told r (state_of_history start trace) after (ap (λ (s : State). s.in_buffer) goes_on)
+    read_reported r (state_of_history start trace) after (ap (λ (s : State). s.in_buffer) goes_on)
     ∙ ap (λ (outcome_fits : Sent). kind_events (read_kind r) after outcome_fits) (sym none)
-told_at_place start trace (Write offset value) asked outcome goes_on outcome_fits =
-    write_told (register_at (dlab start trace) offset) (loopback start trace) value _ outcome
-told_at_place start trace (Enqueue bytes) asked outcome goes_on outcome_fits =
-    enqueue_told (loopback start trace) (dlab start trace) bytes _ outcome outcome_fits
-told_at_place start trace Restore asked outcome goes_on outcome_fits =
+reported_at_point start trace (Write offset value) asked outcome goes_on outcome_fits =
+    write_reported (register_at (dlab start trace) offset) (loopback start trace) value _ outcome
+reported_at_point start trace (Enqueue bytes) asked outcome goes_on outcome_fits =
+    enqueue_reported (loopback start trace) (dlab start trace) bytes _ outcome outcome_fits
+reported_at_point start trace Restore asked outcome goes_on outcome_fits =
     ap (λ (outcome_fits : Sent). kind_events Other [] outcome_fits) (sym (not_sent outcome outcome_fits))
 
 -- ---- trigger calls
 
--- as long as none is refused, the transmitter condition is raised as if no call was made for the other one
+-- as long as none is refused, THRE is raised as if no call was made for the other one
 none_refused : (k : OpKind) (enable : ℕ) (called pending : Bool)
     → (raises_thre k enable false && not pending)
     ≡ (raises_thre k enable (called && false) && not pending)
 none_refused k enable called pending =
     ap (λ refused. raises_thre k enable refused && not pending) (sym (and-false called))
 
-calls_at_place : (start : State) (trace : List TraceEntry) (op : Op)
+calls_at_point : (start : State) (trace : List TraceEntry) (op : Op)
     → step_calls (state_of_history start trace) op ≡ calls_due start trace op
-calls_at_place start trace op =
+calls_at_point start trace op =
     let k = kind_at start trace op in
     let raised = raises_rda k (held_bytes start trace) (interrupt_enable start trace) in
     let called = raised && not (is_pending Rda start trace) in
@@ -126,7 +126,7 @@ step_law start trace coherent =
     let interrupts = interrupt_law start trace coherent.thre coherent.rda coherent.identification in
     let here = state_law start trace coherent in
     record {
-      calls = calls_at_place start trace;
+      calls = calls_at_point start trace;
       restoring = ap restore_calls (sym here) ∙ interrupts.restoring;
       steps = λ entry fits.
           let outcome_fits = (and_parts (answers_all (step_calls (state_of_history start trace) entry.op) entry.asked)
@@ -137,7 +137,7 @@ step_law start trace coherent =
             response = ap (λ (s : State). step_response s entry.op entry.asked entry.sent) (sym here)
                 ∙ answer_law start trace entry coherent;
             state = goes_on;
-            events = told_at_place start trace entry.op entry.asked entry.sent goes_on outcome_fits;
+            events = reported_at_point start trace entry.op entry.asked entry.sent goes_on outcome_fits;
             output = λ kept.
                 call_written (dlab start trace) (loopback start trace) entry.op entry.sent kept outcome_fits;
           };

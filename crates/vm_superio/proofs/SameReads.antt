@@ -1,4 +1,4 @@
--- Neither the writer nor a restore changes a read: each past is read as one of acts with what they asked alone.
+-- Neither the writer nor a restore changes a read: each trace is read as one of operations with what they asked alone.
 use Rattle.std.proofs.Common.{◌≡◌, Bool, List, [], ◌∷◌, ◌++◌, refl, ap, sym, ◌∙◌}
 use Rattle.vm_superio.specs.declared.trace.Asked.{Asked}
 use Rattle.vm_superio.specs.declared.trace.Sent.{Sent}
@@ -16,10 +16,10 @@ use Rattle.vm_superio.specs.Laws.Agreement.{state_after}
 use Rattle.vm_superio.specs.Laws.Consequences.{SameReadsLaw, op_and_asked, ops_and_asked}
 use Rattle.vm_superio.proofs.ByKind.{same_kind}
 use Rattle.vm_superio.proofs.RegisterSteps.{register_law}
-use Rattle.vm_superio.proofs.Held.{held_bytes_law}
-use Rattle.vm_superio.proofs.Pending.{transmit_next, receive_next}
+use Rattle.vm_superio.proofs.HeldBytes.{held_bytes_law}
+use Rattle.vm_superio.proofs.Interrupts.{thre_next, rda_next}
 
--- the past of these acts, in which nothing is sent
+-- the trace of these operations, in which nothing is sent
 unsent : List (Op × Asked) → List TraceEntry
 unsent [] = []
 unsent (call ∷ calls) = record { op = call.0; asked = call.1; sent = sent.Nothing } ∷ unsent calls
@@ -31,56 +31,56 @@ record SameView (start : State) (one other : List TraceEntry) : Type 0 where
   thre : (is_pending Thre) start one ≡ is_pending Thre start other
 
 -- the conditions that are pending after one more act, by the state before it
-receive_by_state : (start : State) (trace : List TraceEntry) (entry : TraceEntry) → let s = state_after start trace in
+rda_by_state : (start : State) (trace : List TraceEntry) (entry : TraceEntry) → let s = state_after start trace in
     is_pending Rda start (entry ∷ trace)
-    ≡ receive_next (kind_in_state s entry.op) s.in_buffer s.interrupt_enable (is_pending Rda start trace)
-receive_by_state start trace entry =
+    ≡ rda_next (kind_in_state s entry.op) s.in_buffer s.interrupt_enable (is_pending Rda start trace)
+rda_by_state start trace entry =
     let s = state_after start trace in
     let r = is_pending Rda start trace in
-    ap (λ (k : OpKind). receive_next k (held_bytes start trace) (interrupt_enable start trace) r)
+    ap (λ (k : OpKind). rda_next k (held_bytes start trace) (interrupt_enable start trace) r)
     (sym (same_kind start trace entry.op))
-    ∙ ap (λ bytes. receive_next (kind_in_state s entry.op) bytes (interrupt_enable start trace) r)
+    ∙ ap (λ bytes. rda_next (kind_in_state s entry.op) bytes (interrupt_enable start trace) r)
     (sym (held_bytes_law start trace))
-    ∙ ap (λ enable. receive_next (kind_in_state s entry.op) s.in_buffer enable r)
+    ∙ ap (λ enable. rda_next (kind_in_state s entry.op) s.in_buffer enable r)
     (sym (register_law start trace).interrupt_enable)
 
-transmit_by_state : (start : State) (trace : List TraceEntry) (entry : TraceEntry) → let s = state_after start trace in
+thre_by_state : (start : State) (trace : List TraceEntry) (entry : TraceEntry) → let s = state_after start trace in
     is_pending Thre start (entry ∷ trace)
-    ≡ transmit_next (kind_in_state s entry.op) s.in_buffer s.interrupt_enable entry.asked (is_pending Thre start trace)
+    ≡ thre_next (kind_in_state s entry.op) s.in_buffer s.interrupt_enable entry.asked (is_pending Thre start trace)
     (is_pending Rda start trace)
-transmit_by_state start trace entry =
+thre_by_state start trace entry =
     let s = state_after start trace in
     let r = is_pending Rda start trace in
     let t = is_pending Thre start trace in
-    ap (λ (k : OpKind). transmit_next k (held_bytes start trace) (interrupt_enable start trace) entry.asked t r)
+    ap (λ (k : OpKind). thre_next k (held_bytes start trace) (interrupt_enable start trace) entry.asked t r)
     (sym (same_kind start trace entry.op))
-    ∙ ap (λ bytes. transmit_next (kind_in_state s entry.op) bytes (interrupt_enable start trace) entry.asked t r)
+    ∙ ap (λ bytes. thre_next (kind_in_state s entry.op) bytes (interrupt_enable start trace) entry.asked t r)
     (sym (held_bytes_law start trace))
-    ∙ ap (λ enable. transmit_next (kind_in_state s entry.op) s.in_buffer enable entry.asked t r)
+    ∙ ap (λ enable. thre_next (kind_in_state s entry.op) s.in_buffer enable entry.asked t r)
     (sym (register_law start trace).interrupt_enable)
 
--- one more call in both pasts
+-- one more call in both traces
 more : (start : State) (one other : List TraceEntry) (op : Op) (asked : Asked) (first second : Sent)
     → SameView start one other
     → SameView start (record { op = op; asked = asked; sent = first } ∷ one)
     (record { op = op; asked = asked; sent = second } ∷ other)
 more start one other op asked first second same =
-    let receive_of = λ (s : State) (r : Bool). receive_next (kind_in_state s op) s.in_buffer s.interrupt_enable r in
+    let receive_of = λ (s : State) (r : Bool). rda_next (kind_in_state s op) s.in_buffer s.interrupt_enable r in
     let transmit_of =
-    λ (s : State) (t r : Bool). transmit_next (kind_in_state s op) s.in_buffer s.interrupt_enable asked t r in
+    λ (s : State) (t r : Bool). thre_next (kind_in_state s op) s.in_buffer s.interrupt_enable asked t r in
     let s = state_after start other in
     record {
       state = ap (λ (s : State). step s op asked) same.state;
       rda =
-          receive_by_state start one (record { op = op; asked = asked; sent = first })
+          rda_by_state start one (record { op = op; asked = asked; sent = first })
           ∙ ap (λ (s : State). receive_of s (is_pending Rda start one)) same.state ∙ ap (receive_of s) same.rda
-          ∙ sym (receive_by_state start other (record { op = op; asked = asked; sent = second }));
+          ∙ sym (rda_by_state start other (record { op = op; asked = asked; sent = second }));
       thre =
-          transmit_by_state start one (record { op = op; asked = asked; sent = first })
+          thre_by_state start one (record { op = op; asked = asked; sent = first })
           ∙ ap (λ (s : State). transmit_of s (is_pending Thre start one) (is_pending Rda start one)) same.state
           ∙ ap (λ t. transmit_of s t (is_pending Rda start one)) same.thre
           ∙ ap (transmit_of s (is_pending Thre start other)) same.rda
-          ∙ sym (transmit_by_state start other (record { op = op; asked = asked; sent = second }));
+          ∙ sym (thre_by_state start other (record { op = op; asked = asked; sent = second }));
     }
 
 -- a restore in one of them
@@ -103,14 +103,14 @@ one_unsent start trace calls (Enqueue bytes) asked outcome same =
     more start trace (unsent calls) (Enqueue bytes) asked outcome sent.Nothing same
 one_unsent start trace calls Restore asked outcome same = restored start trace (unsent calls) asked outcome same
 
--- every past shows what its acts and what they asked show
+-- every trace shows what its operations and what they asked show
 as_unsent : (start : State) (trace : List TraceEntry) → SameView start trace (unsent (ops_and_asked trace))
 unfolding unsent
 as_unsent start [] = record { state = refl; rda = refl; thre = refl }
 as_unsent start (entry ∷ trace) =
     one_unsent start trace (ops_and_asked trace) entry.op entry.asked entry.sent (as_unsent start trace)
 
--- the state that a past describes, by the state after it and the conditions that are pending
+-- the state that a trace describes, by the state after it and the conditions that are pending
 view_of : State → State → Bool → Bool → State
 view_of start s thre rda = record s {
   interrupt_identification = identification_of thre rda;

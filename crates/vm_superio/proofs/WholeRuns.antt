@@ -1,5 +1,5 @@
--- A coherent state stays coherent, is the one that the past describes, and answers what the history replies; so whole
--- runs by the call cases are well_formed histories.
+-- A coherent state stays coherent, is the one that the trace describes, and answers what the history replies; so whole
+-- runs by the steps are well_formed histories.
 use Rattle.std.proofs.Common.{◌≡◌, ℕ, ◌+◌, ◌<◌, ◌≤◌, Bool, true, false, ◌==◌, ◌&&◌, ◌||◌, List, [], ◌∷◌, length, drop, refl, ap, sym, ◌∙◌, subst, length-append, length-take, length-drop, arith}
 use Rattle.std.specs.Cmp.Derive.{both_true}
 use Rattle.std.proofs.lemmas.Bool.{false≢true}
@@ -22,8 +22,8 @@ use Rattle.vm_superio.specs.Laws.Agreement.{state_after, CoherenceLaw, StateLaw,
 use Rattle.vm_superio.proofs.Bytes.{data_ready_set, data_ready_cleared}
 use Rattle.vm_superio.proofs.ByKind.{by_kind, next_by_kind}
 use Rattle.vm_superio.proofs.RegisterSteps.{register_law}
-use Rattle.vm_superio.proofs.Held.{held_bytes_law, line_status_law, not_empty-append}
-use Rattle.vm_superio.proofs.Pending.{interrupt_law, pending_by_kind, transmit_next, receive_next}
+use Rattle.vm_superio.proofs.HeldBytes.{held_bytes_law, line_status_law, not_empty-append}
+use Rattle.vm_superio.proofs.Interrupts.{interrupt_law, pending_by_kind, thre_next, rda_next}
 
 -- ---- a new port is coherent: nothing is pending, and no byte is held
 
@@ -40,7 +40,7 @@ fresh_coherent = record {
 
 -- ---- a coherent state stays coherent
 
--- the receive condition is pending only while a byte is held
+-- RDA is pending only while a byte is held
 received_kept : (new : List ℕ) (s : State) (bit before : Bool) → (IsTrue before → IsTrue (not_empty s.in_buffer))
     → IsTrue ((not_empty new && bit) || before) → IsTrue (not_empty (receive_bytes new s).in_buffer)
 received_kept [] s bit before kept now = kept now
@@ -53,7 +53,7 @@ enabled_held false false before kept now = kept now
 
 received_by_kind : (k : OpKind) (asked : Asked) (s : State) (before : Bool)
     → (IsTrue before → IsTrue (not_empty s.in_buffer))
-    → IsTrue (receive_next k s.in_buffer s.interrupt_enable before) → IsTrue (not_empty (by_kind k asked s).in_buffer)
+    → IsTrue (rda_next k s.in_buffer s.interrupt_enable before) → IsTrue (not_empty (by_kind k asked s).in_buffer)
 received_by_kind RbrRead asked s before kept now = absurd (false≢true now)
 received_by_kind IirRead asked s before kept now = absurd (false≢true now)
 received_by_kind (IerWrite value) asked s before kept now =
@@ -100,8 +100,8 @@ coherence_law s op asked coherent =
     let k = kind_in_state s op in
     let same = next_by_kind s op asked in
     record {
-      thre = transmit_next k s.in_buffer s.interrupt_enable asked coherent.thre coherent.rda;
-      rda = receive_next k s.in_buffer s.interrupt_enable coherent.rda;
+      thre = thre_next k s.in_buffer s.interrupt_enable asked coherent.thre coherent.rda;
+      rda = rda_next k s.in_buffer s.interrupt_enable coherent.rda;
       identification =
           same.interrupt_identification
           ∙ pending_by_kind k asked s coherent.thre coherent.rda coherent.identification;
@@ -136,7 +136,7 @@ state_law start trace coherent =
       in_buffer = held_bytes_law start trace i;
     }
 
-enqueue_told : (loopback : Bool) (bytes held_bytes : List ℕ) (asked : Asked)
+enqueue_reported : (loopback : Bool) (bytes held_bytes : List ℕ) (asked : Asked)
     → (if loopback || (length bytes == 0) then EnqueueOk 0
     else (if nat_le 64 (length held_bytes) then FifoFull
     else (if is_refused_once asked then TriggerRefused
@@ -145,20 +145,20 @@ enqueue_told : (loopback : Bool) (bytes held_bytes : List ℕ) (asked : Asked)
     else (if nat_le 64 (length held_bytes) then FifoFull
     else (if is_refused_once asked then TriggerRefused
     else EnqueueOk (length (accepted_by (if loopback then Other else Arrival bytes) held_bytes)))))
-enqueue_told true bytes held_bytes asked = refl
-enqueue_told false bytes held_bytes asked = refl
+enqueue_reported true bytes held_bytes asked = refl
+enqueue_reported false bytes held_bytes asked = refl
 
-answer_told : (start : State) (trace : List TraceEntry) (op : Op) (asked : Asked) (outcome : Sent)
+answer_reported : (start : State) (trace : List TraceEntry) (op : Op) (asked : Asked) (outcome : Sent)
     → step_response (state_of_history start trace) op asked outcome ≡ history_response start trace op asked outcome
-answer_told start trace (Read offset) asked outcome = refl
-answer_told start trace (Write offset value) asked outcome = refl
-answer_told start trace (Enqueue bytes) asked outcome = enqueue_told (loopback start trace) bytes (held_bytes start trace) asked
-answer_told start trace Restore asked outcome = refl
+answer_reported start trace (Read offset) asked outcome = refl
+answer_reported start trace (Write offset value) asked outcome = refl
+answer_reported start trace (Enqueue bytes) asked outcome = enqueue_reported (loopback start trace) bytes (held_bytes start trace) asked
+answer_reported start trace Restore asked outcome = refl
 
 pub answer_law : ResponseLaw
 answer_law start trace entry coherent =
     ap (λ (s : State). step_response s entry.op entry.asked entry.sent) (state_law start trace coherent)
-    ∙ answer_told start trace entry.op entry.asked entry.sent
+    ∙ answer_reported start trace entry.op entry.asked entry.sent
 
 -- ---- a whole run
 

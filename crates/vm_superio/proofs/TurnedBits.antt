@@ -15,12 +15,12 @@ use Rattle.vm_superio.specs.Port.OpKinds.{OpKind, RbrRead, IirRead, IerWrite, Th
 use Rattle.vm_superio.specs.Step.Admissible.{kind_in_state, arrival_calls, kind_calls, step_calls, answers_all}
 use Rattle.vm_superio.specs.Step.Raising.{bytes_that_fit, becomes_pending, raise, receive_bytes}
 use Rattle.vm_superio.specs.Laws.OneCall.{TurnedBitsLaw}
-use Rattle.vm_superio.proofs.Asks.{answers_counted}
+use Rattle.vm_superio.proofs.Raising.{answers_counted}
 use Rattle.vm_superio.proofs.BitLemmas.{and-without, and-without-apart}
 use Rattle.std.proofs.lemmas.Nat.{and_or_self, and_or_apart}
 use Rattle.vm_superio.proofs.ByKind.{by_kind, next_by_kind}
 
--- ---- the bits of an identification
+-- ---- the bits of an IIR
 
 -- how many of the two bits are turned
 abbrev count : ℕ → ℕ → ℕ
@@ -49,60 +49,60 @@ module _ (old : ℕ) where
   without_rda = ap (λ n. n == 0x04) (and-without-apart old 0x01 0x04 refl)
 
   -- neither an RBR read nor an IIR read turns any
-  data_read_turns_at : (empty : Bool) → count old (if empty then 1 else without old 0x04) ≡ 0
+  rbr_read_turns_at : (empty : Bool) → count old (if empty then 1 else without old 0x04) ≡ 0
   unfolding has_bits
-  data_read_turns_at true =
+  rbr_read_turns_at true =
       ap (λ bit. one_if bit + one_if (not (has_bits old 0x02) && false)) (and-false (not (has_bits old 0x04)))
       ∙ ap (λ bit. 0 + one_if bit) (and-false (not (has_bits old 0x02)))
-  data_read_turns_at false =
+  rbr_read_turns_at false =
       no_turn (has_bits old 0x04) (has_bits old 0x02) _ _ (ap (λ n. n == 0x04) (and-without old 0x04))
       (ap (λ n. n == 0x02) (and-without-apart old 0x04 0x02 refl))
 
-  data_read_turns : count old (let new = without old 0x04 in if new == 0 then 1 else new) ≡ 0
-  data_read_turns = data_read_turns_at (without old 0x04 == 0)
+  rbr_read_turns : count old (let new = without old 0x04 in if new == 0 then 1 else new) ≡ 0
+  rbr_read_turns = rbr_read_turns_at (without old 0x04 == 0)
 
-  identification_read_turns : count old 1 ≡ 0
-  identification_read_turns = data_read_turns_at true
+  iir_read_turns : count old 1 ≡ 0
+  iir_read_turns = rbr_read_turns_at true
 
   -- raising RDA sets its bit and leaves the other
-  receive_sets : has_bits (joined (without old 0x01) 0x04) 0x04 ≡ true
+  rda_sets : has_bits (joined (without old 0x01) 0x04) 0x04 ≡ true
   unfolding has_bits joined
-  receive_sets = ap (λ n. n == 0x04) (and_or_self 0x04 (without old 0x01))
+  rda_sets = ap (λ n. n == 0x04) (and_or_self 0x04 (without old 0x01))
 
-  receive_leaves : has_bits (joined (without old 0x01) 0x04) 0x02 ≡ has_bits old 0x02
+  rda_leaves : has_bits (joined (without old 0x01) 0x04) 0x02 ≡ has_bits old 0x02
   unfolding has_bits joined
-  receive_leaves = ap (λ n. n == 0x02) (and_or_apart 0x02 (without old 0x01) 0x04 refl) ∙ without_thre
+  rda_leaves = ap (λ n. n == 0x02) (and_or_apart 0x02 (without old 0x01) 0x04 refl) ∙ without_thre
 
-  transmit_sets : has_bits (joined (without old 0x01) 0x02) 0x02 ≡ true
+  thre_sets : has_bits (joined (without old 0x01) 0x02) 0x02 ≡ true
   unfolding has_bits joined
-  transmit_sets = ap (λ n. n == 0x02) (and_or_self 0x02 (without old 0x01))
+  thre_sets = ap (λ n. n == 0x02) (and_or_self 0x02 (without old 0x01))
 
-  transmit_leaves : has_bits (joined (without old 0x01) 0x02) 0x04 ≡ has_bits old 0x04
+  thre_leaves : has_bits (joined (without old 0x01) 0x02) 0x04 ≡ has_bits old 0x04
   unfolding has_bits joined
-  transmit_leaves = ap (λ n. n == 0x04) (and_or_apart 0x04 (without old 0x01) 0x02 refl) ∙ without_rda
+  thre_leaves = ap (λ n. n == 0x04) (and_or_apart 0x04 (without old 0x01) 0x02 refl) ∙ without_rda
 
-  -- ---- asking, where the identification is any byte
+  -- ---- raising, where IIR is any byte
 
-  receive_asked : (enabled pending : Bool) → has_bits old 0x04 ≡ pending
+  rda_asked : (enabled pending : Bool) → has_bits old 0x04 ≡ pending
       → has_bits (if enabled && not pending then joined (without old 0x01) 0x04 else old) 0x04 ≡ (enabled || pending)
-  receive_asked true true e = e
-  receive_asked true false e = receive_sets
-  receive_asked false pending e = e
+  rda_asked true true e = e
+  rda_asked true false e = rda_sets
+  rda_asked false pending e = e
 
-  receive_other : (new : Bool) → has_bits (if new then joined (without old 0x01) 0x04 else old) 0x02 ≡ has_bits old 0x02
-  receive_other true = receive_leaves
-  receive_other false = refl
+  rda_other : (new : Bool) → has_bits (if new then joined (without old 0x01) 0x04 else old) 0x02 ≡ has_bits old 0x02
+  rda_other true = rda_leaves
+  rda_other false = refl
 
-  transmit_asked : (enabled pending : Bool) → has_bits old 0x02 ≡ pending
+  thre_asked : (enabled pending : Bool) → has_bits old 0x02 ≡ pending
       → has_bits (if enabled && not pending then joined (without old 0x01) 0x02 else old) 0x02 ≡ (enabled || pending)
-  transmit_asked true true e = e
-  transmit_asked true false e = transmit_sets
-  transmit_asked false pending e = e
+  thre_asked true true e = e
+  thre_asked true false e = thre_sets
+  thre_asked false pending e = e
 
-  transmit_other : (new : Bool)
+  thre_other : (new : Bool)
       → has_bits (if new then joined (without old 0x01) 0x02 else old) 0x04 ≡ has_bits old 0x04
-  transmit_other true = transmit_leaves
-  transmit_other false = refl
+  thre_other true = thre_leaves
+  thre_other false = refl
 
 -- ---- counts
 
@@ -130,35 +130,35 @@ none_turned old =
     sym (ap (λ turned. one_if turned + one_if (turns_on 0x02 old old)) (kept (has_bits old 0x04))
     ∙ ap (λ turned. 0 + one_if turned) (kept (has_bits old 0x02)))
 
-receive_turned : (enable old : ℕ)
+rda_turned : (enable old : ℕ)
     → one_if (becomes_pending Rda enable old) ≡ count old (raise Rda enable old)
-receive_turned enable old =
+rda_turned enable old =
     let enabled = has_bits enable 0x01 in
     let new = raise Rda enable old in
     let bit = has_bits old 0x04 in
     sym
-    (ap (λ after. one_if (not bit && after) + one_if (turns_on 0x02 old new)) (receive_asked old enabled bit refl)
+    (ap (λ after. one_if (not bit && after) + one_if (turns_on 0x02 old new)) (rda_asked old enabled bit refl)
     ∙ ap (λ turned. one_if turned + one_if (turns_on 0x02 old new)) (set_once enabled bit)
     ∙ ap (λ after. one_if (enabled && not bit) + one_if (not (has_bits old 0x02) && after))
-    (receive_other old (enabled && not bit))
+    (rda_other old (enabled && not bit))
     ∙ ap (λ turned. one_if (enabled && not bit) + one_if turned) (kept (has_bits old 0x02))
     ∙ add-zero _)
 
-transmit_turned : (enable old : ℕ)
+thre_turned : (enable old : ℕ)
     → one_if (becomes_pending Thre enable old) ≡ count old (raise Thre enable old)
-transmit_turned enable old =
+thre_turned enable old =
     let enabled = has_bits enable 0x02 in
     let new = raise Thre enable old in
     let bit = has_bits old 0x02 in
     sym
     (ap (λ after. one_if (not (has_bits old 0x04) && after) + one_if (turns_on 0x02 old new))
-    (transmit_other old (enabled && not bit))
+    (thre_other old (enabled && not bit))
     ∙ ap (λ turned. one_if turned + one_if (turns_on 0x02 old new)) (kept (has_bits old 0x04))
-    ∙ ap (λ after. 0 + one_if (not bit && after)) (transmit_asked old enabled bit refl)
+    ∙ ap (λ after. 0 + one_if (not bit && after)) (thre_asked old enabled bit refl)
     ∙ ap (λ turned. 0 + one_if turned) (set_once enabled bit)
     ∙ zero-add _)
 
--- an interrupt-enable write, first for the receive condition
+-- an IER write, first for RDA
 module _ (enable old : ℕ) where
   first : Bool → ℕ
   first held = if held then raise Rda enable old else old
@@ -167,16 +167,16 @@ module _ (enable old : ℕ) where
   unfolding first
   first_turns true =
       ap (λ after. not (has_bits old 0x04) && after)
-      (receive_asked old (has_bits enable 0x01) (has_bits old 0x04) refl)
+      (rda_asked old (has_bits enable 0x01) (has_bits old 0x04) refl)
       ∙ set_once (has_bits enable 0x01) (has_bits old 0x04)
   first_turns false = kept (has_bits old 0x04)
 
   first_leaves : (held : Bool) → has_bits (first held) 0x02 ≡ has_bits old 0x02
   unfolding first
-  first_leaves true = receive_other old (becomes_pending Rda enable old)
+  first_leaves true = rda_other old (becomes_pending Rda enable old)
   first_leaves false = refl
 
-  -- and then for the transmitter condition, unless the trigger refused
+  -- and then for THRE, unless the trigger refused
   second : Bool → Bool → ℕ
   second held refused = if refused then first held else raise Thre enable (first held)
 
@@ -184,7 +184,7 @@ module _ (enable old : ℕ) where
   unfolding second
   second_leaves held true = refl
   second_leaves held false =
-      transmit_other (first held) (becomes_pending Thre enable (first held))
+      thre_other (first held) (becomes_pending Thre enable (first held))
 
   second_turns : (held refused : Bool)
       → turns_on 0x02 old (second held refused) ≡ (becomes_pending Thre enable (first held) && not refused)
@@ -195,38 +195,38 @@ module _ (enable old : ℕ) where
   second_turns held false =
       let bit = has_bits (first held) 0x02 in
       ap (λ before. not before && has_bits (raise Thre enable (first held)) 0x02) (sym (first_leaves held))
-      ∙ ap (λ after. not bit && after) (transmit_asked (first held) (has_bits enable 0x02) bit refl)
+      ∙ ap (λ after. not bit && after) (thre_asked (first held) (has_bits enable 0x02) bit refl)
       ∙ set_once (has_bits enable 0x02) bit
       ∙ sym (and-true (becomes_pending Thre enable (first held)))
 
-  enable_turned : (held refused : Bool)
+  ier_write_turned : (held refused : Bool)
       → one_if (held && becomes_pending Rda enable old)
       + one_if (becomes_pending Thre enable (first held) && not refused)
       ≡ count old (second held refused)
-  enable_turned held refused =
+  ier_write_turned held refused =
       sym
       (ap (λ after. one_if (not (has_bits old 0x04) && after) + one_if (turns_on 0x02 old (second held refused)))
       (second_leaves held refused)
       ∙ ap (λ turned. one_if turned + one_if (turns_on 0x02 old (second held refused))) (first_turns held)
       ∙ ap (λ turned. one_if (held && becomes_pending Rda enable old) + one_if turned) (second_turns held refused))
 
--- ---- one act
+-- ---- one operation
 
 received_turned : (new : List ℕ) (s : State) (asked : Asked)
     → IsTrue (answers_all (arrival_calls new s) asked)
     → answer_count asked ≡ count s.interrupt_identification (receive_bytes new s).interrupt_identification
 received_turned [] s asked fit = no_answers asked fit ∙ none_turned s.interrupt_identification
 received_turned (byte ∷ bytes) s asked fit =
-    one_answer _ asked fit ∙ receive_turned s.interrupt_enable s.interrupt_identification
+    one_answer _ asked fit ∙ rda_turned s.interrupt_enable s.interrupt_identification
 
 turned_by_kind : (k : OpKind) (asked : Asked) (s : State)
     → IsTrue (answers_all (kind_calls k s) asked)
     → answer_count asked ≡ count s.interrupt_identification (by_kind k asked s).interrupt_identification
 unfolding first second
 turned_by_kind RbrRead asked s fit =
-    no_answers asked fit ∙ sym (data_read_turns s.interrupt_identification)
+    no_answers asked fit ∙ sym (rbr_read_turns s.interrupt_identification)
 turned_by_kind IirRead asked s fit =
-    no_answers asked fit ∙ sym (identification_read_turns s.interrupt_identification)
+    no_answers asked fit ∙ sym (iir_read_turns s.interrupt_identification)
 turned_by_kind (IerWrite value) asked s fit =
     let enable = masked value 0x0F in
     let old = s.interrupt_identification in
@@ -234,9 +234,9 @@ turned_by_kind (IerWrite value) asked s fit =
     let call = held && becomes_pending Rda enable old in
     eqb-true _ _
     (sym (answers_counted call (becomes_pending Thre enable (first enable old held)) asked) ∙ fit)
-    ∙ enable_turned enable old held (call && is_refused_once asked)
+    ∙ ier_write_turned enable old held (call && is_refused_once asked)
 turned_by_kind (ThrWrite value) asked s fit =
-    one_answer _ asked fit ∙ transmit_turned s.interrupt_enable s.interrupt_identification
+    one_answer _ asked fit ∙ thre_turned s.interrupt_enable s.interrupt_identification
 turned_by_kind (Arrival bytes) asked s fit = received_turned (bytes_that_fit s.in_buffer bytes) s asked fit
 turned_by_kind Other asked s fit = no_answers asked fit ∙ none_turned s.interrupt_identification
 

@@ -1,4 +1,4 @@
--- Pending by places, and waiting bytes.
+-- Pending by trace prefixes, and waiting bytes.
 use Rattle.std.proofs.Common.{◌≡◌, inl, inr, ℕ, Bool, true, false, not, ◌&&◌, ◌||◌, List, [], ◌∷◌, ◌++◌, refl, ap, sym, ◌∙◌, subst, append-nil}
 use Rattle.std.specs.Cmp.Derive.{both_true}
 use Rattle.std.proofs.lemmas.Bool.{and_parts, false≢true}
@@ -15,19 +15,19 @@ use Rattle.vm_superio.specs.Port.Registers.{Condition, Rda, iir_bit}
 use Rattle.vm_superio.specs.History.Interrupts.{raised_since, is_raised, acknowledges, is_pending, NoneAcknowledges, shows_waiting_bytes}
 use Rattle.vm_superio.specs.Laws.Consequences.{PendingByPrefixesLaw, WaitingBytesLaw}
 use Rattle.vm_superio.specs.Laws.Agreement.{state_after}
-use Rattle.vm_superio.proofs.Bytes.{enables_receive}
-use Rattle.vm_superio.proofs.ByKind.{by_kind, next_at_place}
+use Rattle.vm_superio.proofs.Bytes.{enables_rda}
+use Rattle.vm_superio.proofs.ByKind.{by_kind, next_at_point}
 use Rattle.vm_superio.proofs.RegisterSteps.{register_law}
-use Rattle.vm_superio.proofs.Held.{held_bytes_law}
-use Rattle.vm_superio.proofs.Pending.{receive_next}
+use Rattle.vm_superio.proofs.HeldBytes.{held_bytes_law}
+use Rattle.vm_superio.proofs.Interrupts.{rda_next}
 
--- ---- the newest record, and the others
+-- ---- the newest entry, and the others
 
 nothing_there : {A : Type 0} (after before : List A) (x : A) → [] ≡ after ++ x ∷ before → ⊥
 nothing_there [] before x e = cc
 nothing_there (y ∷ after) before x e = cc
 
--- one more record that does not acknowledge
+-- one more entry that does not acknowledge
 none_more : (start : State) (acknowledges : OpKind → Bool) (newest trace : List TraceEntry) (entry : TraceEntry)
     → IsFalse (acknowledges (kind_at start (newest ++ trace) entry.op)) → NoneAcknowledges start acknowledges newest trace
     → NoneAcknowledges start acknowledges (entry ∷ newest) trace
@@ -56,7 +56,7 @@ not_false : (b : Bool) → IsTrue (not b) → IsFalse b
 not_false true e = absurd (false≢true e)
 not_false false e = refl
 
--- ---- pending by places
+-- ---- pending by trace prefixes
 
 module _ (condition : Condition) (start : State) (raises : List TraceEntry → TraceEntry → Bool) where
   -- raised at some point, or at first, and acknowledged at no later point
@@ -76,7 +76,7 @@ module _ (condition : Condition) (start : State) (raises : List TraceEntry → T
       let not_here = none [] newest entry refl in
       rw (not_here, rest) (or_true (raises (newest ++ trace) entry))
 
-  -- a place for the others is one for all, where the newest record does not acknowledge
+  -- a point for the others is one for all, where the newest entry does not acknowledge
   grown : (entry : TraceEntry) (trace : List TraceEntry) → IsFalse (acknowledges condition (kind_at start trace entry.op))
       → ByPrefixes trace
       → ByPrefixes (entry ∷ trace)
@@ -134,7 +134,7 @@ pending_by_prefixes_law condition start trace =
 
 -- ---- waiting bytes
 
--- where bytes are held and the receive condition is enabled it is pending
+-- where bytes are held and RDA is enabled it is pending
 abbrev IsTold : State → Bool → Type 0
 IsTold s pending = IsTrue (not_empty s.in_buffer) → IsTrue (has_bits s.interrupt_enable 0x01) → IsTrue pending
 
@@ -142,24 +142,24 @@ or_left : (a b : Bool) → IsTrue a → IsTrue (a || b)
 or_left true b here = refl
 or_left false b here = absurd (false≢true here)
 
-received_told : (new : List ℕ) (s : State) (pending : Bool) → IsTold s pending
+received_reported : (new : List ℕ) (s : State) (pending : Bool) → IsTold s pending
     → IsTold (receive_bytes new s) ((not_empty new && has_bits s.interrupt_enable 0x01) || pending)
-received_told [] s pending before held_bytes enabled = before held_bytes enabled
-received_told (byte ∷ bytes) s pending before held_bytes enabled = or_left (has_bits s.interrupt_enable 0x01) pending enabled
+received_reported [] s pending before held_bytes enabled = before held_bytes enabled
+received_reported (byte ∷ bytes) s pending before held_bytes enabled = or_left (has_bits s.interrupt_enable 0x01) pending enabled
 
--- an act that does not acknowledge leaves it so
-told_by_kind : (k : OpKind) (asked : Asked) (s : State) (pending : Bool) → IsFalse (acknowledges Rda k)
+-- an operation that does not acknowledge leaves it so
+reported_by_kind : (k : OpKind) (asked : Asked) (s : State) (pending : Bool) → IsFalse (acknowledges Rda k)
     → IsTold s pending
-    → IsTold (by_kind k asked s) (receive_next k s.in_buffer s.interrupt_enable pending)
-told_by_kind RbrRead asked s pending not_here before some enabled = absurd (false≢true (sym not_here))
-told_by_kind IirRead asked s pending not_here before some enabled = absurd (false≢true (sym not_here))
-told_by_kind (IerWrite value) asked s pending not_here before some enabled =
+    → IsTold (by_kind k asked s) (rda_next k s.in_buffer s.interrupt_enable pending)
+reported_by_kind RbrRead asked s pending not_here before some enabled = absurd (false≢true (sym not_here))
+reported_by_kind IirRead asked s pending not_here before some enabled = absurd (false≢true (sym not_here))
+reported_by_kind (IerWrite value) asked s pending not_here before some enabled =
     or_left (has_bits value 0x01 && not_empty s.in_buffer) pending
-    (both_true (sym (enables_receive value) ∙ enabled) some)
-told_by_kind (ThrWrite value) asked s pending not_here before some enabled = before some enabled
-told_by_kind (Arrival bytes) asked s pending not_here before some enabled =
-    received_told (bytes_that_fit s.in_buffer bytes) s pending before some enabled
-told_by_kind Other asked s pending not_here before some enabled = before some enabled
+    (both_true (sym (enables_rda value) ∙ enabled) some)
+reported_by_kind (ThrWrite value) asked s pending not_here before some enabled = before some enabled
+reported_by_kind (Arrival bytes) asked s pending not_here before some enabled =
+    received_reported (bytes_that_fit s.in_buffer bytes) s pending before some enabled
+reported_by_kind Other asked s pending not_here before some enabled = before some enabled
 
 received_first : (new : List ℕ) (s : State) (pending : Bool) → IsTrue (not_empty new)
     → IsTold (receive_bytes new s) ((not_empty new && has_bits s.interrupt_enable 0x01) || pending)
@@ -167,49 +167,49 @@ received_first [] s pending arrived some enabled = absurd (false≢true arrived)
 received_first (byte ∷ bytes) s pending arrived some enabled =
     or_left (has_bits s.interrupt_enable 0x01) pending enabled
 
--- and a place that tells of bytes makes it so
-first_told : (k : OpKind) (asked : Asked) (s : State) (pending : Bool) → IsTrue (shows_waiting_bytes k s.in_buffer)
-    → IsTold (by_kind k asked s) (receive_next k s.in_buffer s.interrupt_enable pending)
-first_told (IerWrite value) asked s pending tells some enabled =
+-- and a point that shows waiting bytes makes it so
+first_reported : (k : OpKind) (asked : Asked) (s : State) (pending : Bool) → IsTrue (shows_waiting_bytes k s.in_buffer)
+    → IsTold (by_kind k asked s) (rda_next k s.in_buffer s.interrupt_enable pending)
+first_reported (IerWrite value) asked s pending tells some enabled =
     or_left (has_bits value 0x01 && not_empty s.in_buffer) pending
-    (both_true (sym (enables_receive value) ∙ enabled) some)
-first_told (Arrival bytes) asked s pending tells some enabled =
+    (both_true (sym (enables_rda value) ∙ enabled) some)
+first_reported (Arrival bytes) asked s pending tells some enabled =
     received_first (bytes_that_fit s.in_buffer bytes) s pending tells some enabled
-first_told RbrRead asked s pending tells some enabled = absurd (false≢true tells)
-first_told _ asked s pending tells some enabled = absurd (false≢true tells)
+first_reported RbrRead asked s pending tells some enabled = absurd (false≢true tells)
+first_reported _ asked s pending tells some enabled = absurd (false≢true tells)
 
--- the same at a place of a past
+-- the same at a point of a trace
 abbrev IsToldAt : State → List TraceEntry → Type 0
 IsToldAt start trace =
     IsTrue (not_empty (held_bytes start trace)) → IsTrue (has_bits (interrupt_enable start trace) 0x01)
     → IsTrue (is_pending Rda start trace)
 
-at_place : (start : State) (trace : List TraceEntry) (entry : TraceEntry)
+at_point : (start : State) (trace : List TraceEntry) (entry : TraceEntry)
     → let s = state_after start trace in let k = kind_at start trace entry.op in
-    IsTold (by_kind k entry.asked s) (receive_next k s.in_buffer s.interrupt_enable (is_pending Rda start trace))
+    IsTold (by_kind k entry.asked s) (rda_next k s.in_buffer s.interrupt_enable (is_pending Rda start trace))
     → IsToldAt start (entry ∷ trace)
-at_place start trace entry told some enabled =
+at_point start trace entry reported some enabled =
     let s = state_after start trace in
     let k = kind_at start trace entry.op in
     let now = register_law start (entry ∷ trace) in
     let registers = register_law start trace in
-    let same = next_at_place start trace entry in
+    let same = next_at_point start trace entry in
     let pending = is_pending Rda start trace in
-    ap (λ bytes. receive_next k bytes (interrupt_enable start trace) pending) (sym (held_bytes_law start trace))
-    ∙ ap (λ enable. receive_next k s.in_buffer enable pending) (sym registers.interrupt_enable)
-    ∙ told (ap not_empty (sym same.in_buffer ∙ held_bytes_law start (entry ∷ trace)) ∙ some)
+    ap (λ bytes. rda_next k bytes (interrupt_enable start trace) pending) (sym (held_bytes_law start trace))
+    ∙ ap (λ enable. rda_next k s.in_buffer enable pending) (sym registers.interrupt_enable)
+    ∙ reported (ap not_empty (sym same.in_buffer ∙ held_bytes_law start (entry ∷ trace)) ∙ some)
     (ap (λ enable. has_bits enable 0x01) (sym same.interrupt_enable ∙ now.interrupt_enable) ∙ enabled)
 
--- and at each later place, while none acknowledges
-stays_told : (start : State) (newest trace : List TraceEntry) → NoneAcknowledges start (acknowledges Rda) newest trace
+-- and at each later point, while none acknowledges
+stays_reported : (start : State) (newest trace : List TraceEntry) → NoneAcknowledges start (acknowledges Rda) newest trace
     → IsToldAt start trace → IsToldAt start (newest ++ trace)
-stays_told start [] trace none before = before
-stays_told start (entry ∷ newest) trace none before =
+stays_reported start [] trace none before = before
+stays_reported start (entry ∷ newest) trace none before =
     let place = newest ++ trace in
     let s = state_after start place in
-    let rest = stays_told start newest trace (none_fewer start (acknowledges Rda) newest trace entry none) before in
-    at_place start place entry
-    (told_by_kind (kind_at start place entry.op) entry.asked s (is_pending Rda start place) (none [] newest entry refl)
+    let rest = stays_reported start newest trace (none_fewer start (acknowledges Rda) newest trace entry none) before in
+    at_point start place entry
+    (reported_by_kind (kind_at start place entry.op) entry.asked s (is_pending Rda start place) (none [] newest entry refl)
     (λ some enabled. rest (ap not_empty (sym (held_bytes_law start place)) ∙ some)
     (ap (λ enable. has_bits enable 0x01) (sym (register_law start place).interrupt_enable) ∙ enabled)))
 
@@ -218,7 +218,7 @@ waiting_bytes_law start trace after before entry same tells none =
     let k = kind_at start before entry.op in
     let s = state_after start before in
     subst (IsToldAt start) (sym same)
-    (stays_told start after (entry ∷ before) none
-    (at_place start before entry
-    (first_told k entry.asked s (is_pending Rda start before)
+    (stays_reported start after (entry ∷ before) none
+    (at_point start before entry
+    (first_reported k entry.asked s (is_pending Rda start before)
     (ap (shows_waiting_bytes k) (held_bytes_law start before) ∙ tells))))

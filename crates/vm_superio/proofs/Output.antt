@@ -49,7 +49,7 @@ enqueue_sends : (dlab loopback : Bool) (bytes : List ℕ) → [] ≡ sent_by (ki
 enqueue_sends dlab true bytes = refl
 enqueue_sends dlab false bytes = refl
 
--- what the writer took is what the act sends
+-- what the writer took is what the operation sends
 pub call_written : (dlab loopback : Bool) (op : Op) (outcome : Sent) → IsTrue (not (is_lost outcome))
     → Fate (sent_by (kind_of dlab loopback op)) outcome → bytes_taken_by_writer op outcome ≡ sent_by (kind_of dlab loopback op)
 call_written dlab loopback (Read offset) outcome kept outcome_fits = read_sends (register_at dlab offset)
@@ -58,7 +58,7 @@ call_written dlab loopback (Write offset value) outcome kept outcome_fits =
 call_written dlab loopback (Enqueue bytes) outcome kept outcome_fits = enqueue_sends dlab loopback bytes
 call_written dlab loopback Restore outcome kept outcome_fits = refl
 
--- ---- the newest records
+-- ---- the newest entrys
 
 pub output_law : OutputLaw
 output_law start trace [] fitting kept = refl

@@ -1,4 +1,4 @@
--- The interrupt law: the identification tells the conditions that are pending, and the test passes what fits.
+-- The interrupt law: IIR shows the conditions that are pending, and an entry is admissible exactly where it is well-formed.
 use Rattle.std.proofs.Common.{◌≡◌, ℕ, ◌+◌, zero-add, add-zero, Bool, true, false, not, ◌==◌, ◌&&◌, ◌||◌, List, [], ◌∷◌, refl, ap, sym, ◌∙◌}
 use Rattle.std.specs.Prelude.{if◌then◌else◌}
 use Rattle.std.specs.Bool.{beq}
@@ -16,25 +16,25 @@ use Rattle.vm_superio.specs.History.Interrupts.{raises_rda, acknowledges, is_pen
 use Rattle.vm_superio.specs.History.Reads.{interrupt_identification}
 use Rattle.vm_superio.specs.Step.Restore.{restore_calls}
 use Rattle.vm_superio.specs.Laws.Agreement.{state_after, InterruptLaw}
-use Rattle.vm_superio.proofs.Asks.{receive_bit, transmit_bit, read_clears, ask_receive, ask_transmit, receive_new, transmit_new, enable_receives, enable_leaves, enable_transmits, answers_counted}
-use Rattle.vm_superio.proofs.ByKind.{by_kind, next_at_place, same_kind}
+use Rattle.vm_superio.proofs.Raising.{rda_bit, thre_bit, read_clears, raise_rda, raise_thre, rda_new, thre_new, ier_write_raises_rda, ier_write_leaves, ier_write_raises_thre, answers_counted}
+use Rattle.vm_superio.proofs.ByKind.{by_kind, next_at_point, same_kind}
 use Rattle.vm_superio.proofs.RegisterSteps.{register_law}
-use Rattle.vm_superio.proofs.Held.{held_bytes_law}
+use Rattle.vm_superio.proofs.HeldBytes.{held_bytes_law}
 
--- ---- one act
+-- ---- one operation
 
--- a trigger call is due for the receive condition
-abbrev receive_called : OpKind → List ℕ → ℕ → Bool → Bool
-receive_called k held_bytes enable receive_bytes = raises_rda k held_bytes enable && not receive_bytes
+-- a trigger call is due for RDA
+abbrev rda_called : OpKind → List ℕ → ℕ → Bool → Bool
+rda_called k held_bytes enable receive_bytes = raises_rda k held_bytes enable && not receive_bytes
 
 -- the conditions that are pending afterwards
-abbrev pub transmit_next : OpKind → List ℕ → ℕ → Asked → Bool → Bool → Bool
-transmit_next k held_bytes enable asked thre receive_bytes =
-    raises_thre k enable (receive_called k held_bytes enable receive_bytes && is_refused_once asked) ||
+abbrev pub thre_next : OpKind → List ℕ → ℕ → Asked → Bool → Bool → Bool
+thre_next k held_bytes enable asked thre receive_bytes =
+    raises_thre k enable (rda_called k held_bytes enable receive_bytes && is_refused_once asked) ||
     (not (is_iir_read k) && thre)
 
-abbrev pub receive_next : OpKind → List ℕ → ℕ → Bool → Bool
-receive_next k held_bytes enable receive_bytes = raises_rda k held_bytes enable || (not (acknowledges Rda k) && receive_bytes)
+abbrev pub rda_next : OpKind → List ℕ → ℕ → Bool → Bool
+rda_next k held_bytes enable receive_bytes = raises_rda k held_bytes enable || (not (acknowledges Rda k) && receive_bytes)
 
 received_pending : (new : List ℕ) (s : State) (thre receive_before : Bool)
     → s.interrupt_identification ≡ identification_of thre receive_before
@@ -42,9 +42,9 @@ received_pending : (new : List ℕ) (s : State) (thre receive_before : Bool)
     ≡ identification_of thre ((not_empty new && has_bits s.interrupt_enable 0x01) || receive_before)
 received_pending [] s thre before e = e
 received_pending (byte ∷ bytes) s thre before e =
-    ap (raise Rda s.interrupt_enable) e ∙ ask_receive s.interrupt_enable thre before
+    ap (raise Rda s.interrupt_enable) e ∙ raise_rda s.interrupt_enable thre before
 
--- what an interrupt-enable write leaves of an identification, if the trigger refuses for the receive condition or not
+-- what an IER write leaves of an IIR, if the trigger refuses for RDA or not
 abbrev enabled_if : Bool → List ℕ → ℕ → ℕ → ℕ
 enabled_if refused held_bytes value old =
     let new = raise_rda_while_held held_bytes (masked value 0x0F) old in
@@ -54,24 +54,24 @@ abbrev enabled : List ℕ → ℕ → Asked → ℕ → ℕ
 enabled held_bytes value asked old =
     enabled_if (rda_becomes_pending held_bytes (masked value 0x0F) old && is_refused_once asked) held_bytes value old
 
--- from the identification of two conditions to that of the next two
+-- from IIR of two conditions to that of the next two
 pub pending_by_kind : (k : OpKind) (asked : Asked) (s : State) (thre receive_bytes : Bool)
     → s.interrupt_identification ≡ identification_of thre receive_bytes
     → (by_kind k asked s).interrupt_identification
-    ≡ identification_of (transmit_next k s.in_buffer s.interrupt_enable asked thre receive_bytes)
-    (receive_next k s.in_buffer s.interrupt_enable receive_bytes)
+    ≡ identification_of (thre_next k s.in_buffer s.interrupt_enable asked thre receive_bytes)
+    (rda_next k s.in_buffer s.interrupt_enable receive_bytes)
 pending_by_kind RbrRead asked s thre receive_bytes e =
     ap (λ old. let new = without old 0x04 in if new == 0 then 1 else new) e ∙ read_clears thre receive_bytes
 pending_by_kind IirRead asked s thre receive_bytes e = refl
 pending_by_kind (IerWrite value) asked s thre receive_bytes e =
     ap (λ old. enabled s.in_buffer value asked old) e
     ∙ ap (λ new. enabled_if (new && is_refused_once asked) s.in_buffer value (identification_of thre receive_bytes))
-    (enable_receives s.in_buffer value thre receive_bytes)
-    ∙ enable_leaves
-    (receive_called (IerWrite value) s.in_buffer s.interrupt_enable receive_bytes
+    (ier_write_raises_rda s.in_buffer value thre receive_bytes)
+    ∙ ier_write_leaves
+    (rda_called (IerWrite value) s.in_buffer s.interrupt_enable receive_bytes
     && is_refused_once asked) s.in_buffer value thre receive_bytes
 pending_by_kind (ThrWrite value) asked s thre receive_bytes e =
-    ap (raise Thre s.interrupt_enable) e ∙ ask_transmit s.interrupt_enable thre receive_bytes
+    ap (raise Thre s.interrupt_enable) e ∙ raise_thre s.interrupt_enable thre receive_bytes
 pending_by_kind (Arrival bytes) asked s thre receive_bytes e =
     received_pending (bytes_that_fit s.in_buffer bytes) s thre receive_bytes e
 pending_by_kind Other asked s thre receive_bytes e = e
@@ -82,13 +82,13 @@ received_due : (new : List ℕ) (s : State) (thre receive_bytes : Bool)
 received_due [] s thre receive_bytes e = refl
 received_due (byte ∷ bytes) s thre receive_bytes e =
     ap (λ old. one_if (becomes_pending Rda s.interrupt_enable old)) e
-    ∙ ap one_if (receive_new s.interrupt_enable thre receive_bytes) ∙ sym (add-zero _)
+    ∙ ap one_if (rda_new s.interrupt_enable thre receive_bytes) ∙ sym (add-zero _)
 
 -- the calls that are due are those of the conditions that become pending, the second if the first is not refused
 pub due_is : (k : OpKind) (s : State) (thre receive_bytes : Bool)
     → s.interrupt_identification ≡ identification_of thre receive_bytes
     → kind_calls k s
-    ≡ one_if (receive_called k s.in_buffer s.interrupt_enable receive_bytes)
+    ≡ one_if (rda_called k s.in_buffer s.interrupt_enable receive_bytes)
     + one_if (raises_thre k s.interrupt_enable false && not thre)
 due_is (IerWrite value) s thre receive_bytes e =
     let enable = masked value 0x0F in
@@ -97,23 +97,23 @@ due_is (IerWrite value) s thre receive_bytes e =
     ∙ ap (λ new. one_if new
     + one_if (becomes_pending Thre enable
     (raise_rda_while_held s.in_buffer enable (identification_of thre receive_bytes))))
-    (enable_receives s.in_buffer value thre receive_bytes)
-    ∙ ap (λ new. one_if (receive_called (IerWrite value) s.in_buffer s.interrupt_enable receive_bytes) + one_if new)
-    (enable_transmits s.in_buffer value thre receive_bytes
+    (ier_write_raises_rda s.in_buffer value thre receive_bytes)
+    ∙ ap (λ new. one_if (rda_called (IerWrite value) s.in_buffer s.interrupt_enable receive_bytes) + one_if new)
+    (ier_write_raises_thre s.in_buffer value thre receive_bytes
     ∙ ap (λ bit. bit && not thre) (sym (and-true (has_bits value 0x02))))
 due_is (ThrWrite value) s thre receive_bytes e =
     ap (λ old. one_if (becomes_pending Thre s.interrupt_enable old)) e
-    ∙ ap one_if (transmit_new s.interrupt_enable thre receive_bytes) ∙ sym (zero-add _)
+    ∙ ap one_if (thre_new s.interrupt_enable thre receive_bytes) ∙ sym (zero-add _)
 due_is (Arrival bytes) s thre receive_bytes e = received_due (bytes_that_fit s.in_buffer bytes) s thre receive_bytes e
 due_is RbrRead s thre receive_bytes e = refl
 due_is _ s thre receive_bytes e = refl
 
--- only an interrupt-enable write may end before the transmitter condition
+-- only an IER write may end before THRE
 ends_early : (k : OpKind) (held_bytes : List ℕ) (enable : ℕ) (receive_bytes refused : Bool)
-    → (raises_thre k enable false && not (receive_called k held_bytes enable receive_bytes && refused))
-    ≡ raises_thre k enable (receive_called k held_bytes enable receive_bytes && refused)
+    → (raises_thre k enable false && not (rda_called k held_bytes enable receive_bytes && refused))
+    ≡ raises_thre k enable (rda_called k held_bytes enable receive_bytes && refused)
 ends_early (IerWrite value) held_bytes enable receive_bytes refused =
-    ap (λ raised. raised && not (receive_called (IerWrite value) held_bytes enable receive_bytes && refused))
+    ap (λ raised. raised && not (rda_called (IerWrite value) held_bytes enable receive_bytes && refused))
     (and-true (has_bits value 0x02))
 ends_early (ThrWrite value) held_bytes enable receive_bytes refused = and-true (has_bits enable 0x02)
 ends_early _ held_bytes enable receive_bytes refused = refl
@@ -128,12 +128,12 @@ and_swap false _ _ = refl
 -- as many answers as the conditions that become pending
 test_by_kind : (k : OpKind) (asked : Asked) (s : State) (thre receive_bytes : Bool)
     → s.interrupt_identification ≡ identification_of thre receive_bytes
-    → let first = receive_called k s.in_buffer s.interrupt_enable receive_bytes in
+    → let first = rda_called k s.in_buffer s.interrupt_enable receive_bytes in
     answers_all (kind_calls k s) asked
     ≡ (answer_count asked == one_if first
     + one_if (raises_thre k s.interrupt_enable (first && is_refused_once asked) && not thre))
 test_by_kind k asked s thre receive_bytes e =
-    let first = receive_called k s.in_buffer s.interrupt_enable receive_bytes in
+    let first = rda_called k s.in_buffer s.interrupt_enable receive_bytes in
     let second = raises_thre k s.interrupt_enable false in
     ap (λ calls. answers_all calls asked) (due_is k s thre receive_bytes e)
     ∙ answers_counted first (second && not thre) asked
@@ -141,17 +141,17 @@ test_by_kind k asked s thre receive_bytes e =
     (and_swap second (not thre) (not (first && is_refused_once asked))
     ∙ ap (λ raised. raised && not thre) (ends_early k s.in_buffer s.interrupt_enable receive_bytes (is_refused_once asked)))
 
--- ---- any past
+-- ---- any trace
 
--- the identification tells what is pending
+-- IIR shows what is pending
 pending_law : (start : State) (trace : List TraceEntry) (thre receive_bytes : Bool)
     → start.interrupt_identification ≡ identification_of thre receive_bytes
     → (state_after start trace).interrupt_identification ≡ interrupt_identification start trace
 pending_law start [] thre receive_bytes e =
     e ∙ ap (λ bit. identification_of bit receive_bytes)
-    (sym (transmit_bit thre receive_bytes) ∙ ap (λ byte. has_bits byte 0x02) (sym e))
+    (sym (thre_bit thre receive_bytes) ∙ ap (λ byte. has_bits byte 0x02) (sym e))
     ∙ ap (identification_of (has_bits start.interrupt_identification 0x02))
-    (sym (receive_bit thre receive_bytes) ∙ ap (λ byte. has_bits byte 0x04) (sym e))
+    (sym (rda_bit thre receive_bytes) ∙ ap (λ byte. has_bits byte 0x04) (sym e))
 pending_law start (entry ∷ trace) thre receive_bytes e =
     let s = state_after start trace in
     let k = kind_at start trace entry.op in
@@ -159,18 +159,18 @@ pending_law start (entry ∷ trace) thre receive_bytes e =
     let t = is_pending Thre start trace in
     let r = is_pending Rda start trace in
     let next_of =
-    λ (bytes : List ℕ) (enable : ℕ). identification_of (transmit_next k bytes enable entry.asked t r)
-    (receive_next k bytes enable r) in
-    (next_at_place start trace entry).interrupt_identification
+    λ (bytes : List ℕ) (enable : ℕ). identification_of (thre_next k bytes enable entry.asked t r)
+    (rda_next k bytes enable r) in
+    (next_at_point start trace entry).interrupt_identification
     ∙ pending_by_kind k entry.asked s t r (pending_law start trace thre receive_bytes e)
     ∙ ap (λ bytes. next_of bytes s.interrupt_enable) (held_bytes_law start trace)
     ∙ ap (next_of (held_bytes start trace)) registers.interrupt_enable
 
--- a record passes the test exactly where it fits
-fits_law : (start : State) (trace : List TraceEntry) (thre receive_bytes : Bool) (entry : TraceEntry)
+-- an entry is admissible exactly where it is well-formed
+well_formed_law : (start : State) (trace : List TraceEntry) (thre receive_bytes : Bool) (entry : TraceEntry)
     → start.interrupt_identification ≡ identification_of thre receive_bytes
     → is_admissible (state_after start trace) entry.op entry.asked entry.sent ≡ is_well_formed_entry start trace entry
-fits_law start trace thre receive_bytes entry e =
+well_formed_law start trace thre receive_bytes entry e =
     let s = state_after start trace in
     let k = kind_at start trace entry.op in
     let registers = register_law start trace in
@@ -179,8 +179,8 @@ fits_law start trace thre receive_bytes entry e =
     let r = is_pending Rda start trace in
     let outcome_fits = beq (is_sent entry.sent) (not_empty (sent_by k)) in
     let calls_of = λ (bytes : List ℕ) (enable : ℕ).
-    one_if (receive_called k bytes enable r)
-    + one_if (raises_thre k enable (receive_called k bytes enable r && is_refused_once entry.asked) && not t) in
+    one_if (rda_called k bytes enable r)
+    + one_if (raises_thre k enable (rda_called k bytes enable r && is_refused_once entry.asked) && not t) in
     ap (λ test. answers_all (step_calls s entry.op) entry.asked && test)
     (ap (λ (k : OpKind). beq (is_sent entry.sent) (not_empty (sent_by k))) same)
     ∙ ap (λ calls. answers_all calls entry.asked && outcome_fits) (ap (λ (k : OpKind). kind_calls k s) same)
@@ -201,13 +201,13 @@ restoring_law start trace thre receive_bytes e =
     let s = state_after start trace in
     ap (λ old. calls_of (has_bits old 0x02) (has_bits old 0x04) s.interrupt_enable)
     (pending_law start trace thre receive_bytes e)
-    ∙ ap (λ bit. calls_of bit (has_bits (identification_of t r) 0x04) s.interrupt_enable) (transmit_bit t r)
-    ∙ ap (λ bit. calls_of t bit s.interrupt_enable) (receive_bit t r)
+    ∙ ap (λ bit. calls_of bit (has_bits (identification_of t r) 0x04) s.interrupt_enable) (thre_bit t r)
+    ∙ ap (λ bit. calls_of t bit s.interrupt_enable) (rda_bit t r)
     ∙ ap (calls_of t r) (register_law start trace).interrupt_enable
 
 pub interrupt_law : InterruptLaw
 interrupt_law start trace thre receive_bytes e = record {
   pending = pending_law start trace thre receive_bytes e;
-  calls = λ entry. fits_law start trace thre receive_bytes entry e;
+  calls = λ entry. well_formed_law start trace thre receive_bytes entry e;
   restoring = restoring_law start trace thre receive_bytes e;
 }
