@@ -33,7 +33,7 @@ pub RunsUpTo-kept :
     (bad : Option ℕ) (script : List ℕ) (left before middle after : Option (List ℕ)) →
     RunsUpTo bad script left before middle → Keeps middle after → RunsUpTo bad script left before after
 RunsUpTo-kept bad script left before middle after run kept = record {
-  fits = run.fits;
+  within_limit = run.within_limit;
   none_left = run.none_left;
   first_bad = run.first_bad;
   text = PrintsLines-kept (body_of script).mask (body_of script).lines before middle after run.text kept;

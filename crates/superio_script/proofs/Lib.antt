@@ -1,4 +1,4 @@
-pub mod PiecesLemmas
+pub mod SplittingLemmas
 pub mod ReadLemmas
-pub mod SessionLemmas
+pub mod SerialScriptLemmas
 pub mod ScriptLemmas

@@ -1,4 +1,4 @@
--- The form of a line: its fields, as a command.
+-- The form of a line: what its fields ask for.
 use Rattle.std.specs.Prelude.{◌≡◌, ℕ, ◌/◌, ◌&&◌, nat_le, List, [], ◌∷◌, length, if◌then◌else◌, codes, Option, Some, None, Result, Ok}
 use Rattle.std.specs.Option.{option_map, option_and_then}
 use Rattle.std.specs.Result.{result_ok}
@@ -6,7 +6,7 @@ use Rattle.std.specs.Str.{bytes_eq}
 use Rattle.std.specs.Int.{w16, w32, w64, from_be_bytes}
 use Rattle.hex.specs.Hex.{decode_of, decode_sized}
 use Rattle.hex.specs.declared.error.FromHexError.{FromHexError}
-use Rattle.superio_script.specs.Pieces.{fields_of}
+use Rattle.superio_script.specs.Splitting.{fields_of}
 use Rattle.superio_script.specs.declared.command.Command.{Command}
 use Rattle.superio_script.specs.declared.command.Command.TheVariants.{Serial, Clock, Controller}
 use Rattle.superio_script.specs.declared.command.SerialLine.{SerialLine}
@@ -14,83 +14,83 @@ use Rattle.superio_script.specs.declared.command.SerialLine.TheVariants as seria
 use Rattle.superio_script.specs.declared.command.ClockLine.TheVariants as clock
 use Rattle.superio_script.specs.declared.command.ControllerLine.TheVariants as controller
 
--- ---- a field
+-- ---- one field
 
--- so many bytes, of two hexadecimal digits each, of either case
-abbrev pub bytes_of : ℕ → List ℕ → Option (List ℕ)
+-- exactly so many bytes, each of two hexadecimal digits of either case
+abbrev pub bytes_of : (count : ℕ) (field : List ℕ) → Option (List ℕ)
 bytes_of count field = result_ok (decode_sized field count)
 
--- the one byte of a list that has one
-abbrev pub only_byte : Result (List ℕ) FromHexError → Option ℕ
+-- the byte of a list of one
+abbrev pub only_byte : (decoded : Result (List ℕ) FromHexError) → Option ℕ
 only_byte (Ok (byte ∷ [])) = Some byte
 only_byte _ = None
 
 -- a byte of two digits
-abbrev pub byte_of : List ℕ → Option ℕ
+abbrev pub byte_of : (field : List ℕ) → Option ℕ
 byte_of field = only_byte (decode_sized field 1)
 
--- numbers of sixteen, four and eight digits, the highest digit first
-abbrev pub number64_of : List ℕ → Option ℕ
+-- numbers of sixteen, four and eight digits, the most significant digit first
+abbrev pub number64_of : (field : List ℕ) → Option ℕ
 number64_of field = option_map (from_be_bytes w64) (bytes_of 8 field)
 
-abbrev pub number16_of : List ℕ → Option ℕ
+abbrev pub number16_of : (field : List ℕ) → Option ℕ
 number16_of field = option_map (from_be_bytes w16) (bytes_of 2 field)
 
-abbrev pub number32_of : List ℕ → Option ℕ
+abbrev pub number32_of : (field : List ℕ) → Option ℕ
 number32_of field = option_map (from_be_bytes w32) (bytes_of 4 field)
 
 -- 1 to 128 bytes, of two digits each
-abbrev pub arrival_of : List ℕ → Option (List ℕ)
+abbrev pub arrival_of : (field : List ℕ) → Option (List ℕ)
 arrival_of field =
     let count = length field / 2 in
     if nat_le 1 count && nat_le count 128 then result_ok (decode_of field) else None
 
--- ---- the fields behind a line's name
+-- ---- the fields after a line's name
 
-abbrev pub no_field : List (List ℕ) → Option (Unit {0})
+abbrev pub no_field : (fields : List (List ℕ)) → Option (Unit {0})
 no_field [] = Some tt
 no_field _ = None
 
 -- OO
-abbrev pub one_byte : List (List ℕ) → Option ℕ
+abbrev pub one_byte : (fields : List (List ℕ)) → Option ℕ
 one_byte (field ∷ []) = byte_of field
 one_byte _ = None
 
 -- OO VV
-abbrev pub two_bytes : List (List ℕ) → Option (ℕ × ℕ)
+abbrev pub two_bytes : (fields : List (List ℕ)) → Option (ℕ × ℕ)
 two_bytes (first ∷ second ∷ []) =
     option_and_then (λ a. option_map (λ b. (a, b)) (byte_of second)) (byte_of first)
 two_bytes _ = None
 
 -- nothing, or HH..
-abbrev pub bytes_or_none : List (List ℕ) → Option (List ℕ)
+abbrev pub bytes_or_none : (fields : List (List ℕ)) → Option (List ℕ)
 bytes_or_none [] = Some []
 bytes_or_none (field ∷ []) = arrival_of field
 bytes_or_none _ = None
 
 -- NNNNNNNNNNNNNNNN OOOO
-abbrev pub moment_and_offset : List (List ℕ) → Option (ℕ × ℕ)
+abbrev pub moment_and_offset : (fields : List (List ℕ)) → Option (ℕ × ℕ)
 moment_and_offset (first ∷ second ∷ []) =
     option_and_then (λ moment. option_map (λ offset. (moment, offset)) (number16_of second)) (number64_of first)
 moment_and_offset _ = None
 
 -- NNNNNNNNNNNNNNNN OOOO VVVVVVVV
-abbrev pub moment_offset_and_value : List (List ℕ) → Option (ℕ × ℕ × ℕ)
+abbrev pub moment_offset_and_value : (fields : List (List ℕ)) → Option (ℕ × ℕ × ℕ)
 moment_offset_and_value (first ∷ second ∷ third ∷ []) =
     option_and_then (λ moment. option_and_then (λ offset. option_map (λ value. (moment, offset, value))
     (number32_of third)) (number16_of second)) (number64_of first)
 moment_offset_and_value _ = None
 
 -- MMMMMMMMMMMMMMMM
-abbrev pub one_number64 : List (List ℕ) → Option ℕ
+abbrev pub one_number64 : (fields : List (List ℕ)) → Option ℕ
 one_number64 (field ∷ []) = number64_of field
 one_number64 _ = None
 
 -- ---- the forms
 
--- `sc`, `ss`, `so`, `st` and `se`
-abbrev pub bare_from : List ℕ → Option SerialLine
-bare_from name =
+-- `sc`, `ss`, `so`, `st` and `se`, which take no field
+abbrev pub line_of_name : (name : List ℕ) → Option SerialLine
+line_of_name name =
     if bytes_eq name (codes "sc") then Some serial.Capacity
     else (if bytes_eq name (codes "ss") then Some serial.Restore
     else (if bytes_eq name (codes "so") then Some serial.Output
@@ -99,42 +99,42 @@ bare_from name =
     else None))))
 
 -- `sr OO`, `sw OO VV`, `sq`, `sq HH..`, `cr NNNNNNNNNNNNNNNN OOOO`, `cw NNNNNNNNNNNNNNNN OOOO VVVVVVVV`, `kr OO`,
--- `kw OO VV`, and a name alone
-abbrev pub command_from : List ℕ → List (List ℕ) → Option Command
-command_from name fields =
+-- `kw OO VV`, and the names that take no field
+abbrev pub command_of_name : (name : List ℕ) (fields : List (List ℕ)) → Option Command
+command_of_name name fields =
     if bytes_eq name (codes "sr") then
     option_map (λ offset. Serial (serial.Read offset)) (one_byte fields)
     else (if bytes_eq name (codes "sw") then
-    option_map (λ written. Serial (serial.Write written.0 written.1)) (two_bytes fields)
+    option_map (λ bytes. Serial (serial.Write bytes.0 bytes.1)) (two_bytes fields)
     else (if bytes_eq name (codes "sq") then
     option_map (λ bytes. Serial (serial.Enqueue bytes)) (bytes_or_none fields)
     else (if bytes_eq name (codes "cr") then
-    option_map (λ read. Clock (clock.Read read.0 read.1)) (moment_and_offset fields)
+    option_map (λ numbers. Clock (clock.Read numbers.0 numbers.1)) (moment_and_offset fields)
     else (if bytes_eq name (codes "cw") then
-    option_map (λ written. Clock (clock.Write written.0 written.1 written.2)) (moment_offset_and_value fields)
+    option_map (λ numbers. Clock (clock.Write numbers.0 numbers.1 numbers.2)) (moment_offset_and_value fields)
     else (if bytes_eq name (codes "kr") then
     option_map (λ offset. Controller (controller.Read offset)) (one_byte fields)
     else (if bytes_eq name (codes "kw") then
-    option_map (λ written. Controller (controller.Write written.0 written.1)) (two_bytes fields)
+    option_map (λ bytes. Controller (controller.Write bytes.0 bytes.1)) (two_bytes fields)
     else
-    option_and_then (λ _. option_map (λ line. Serial line) (bare_from name)) (no_field fields)))))))
+    option_and_then (λ _. option_map (λ line. Serial line) (line_of_name name)) (no_field fields)))))))
 
-abbrev pub command_of_fields : List (List ℕ) → Option Command
+abbrev pub command_of_fields : (fields : List (List ℕ)) → Option Command
 command_of_fields [] = None
-command_of_fields (name ∷ fields) = command_from name fields
+command_of_fields (name ∷ fields) = command_of_name name fields
 
 -- what a line asks for, or `None` where it has no form
-abbrev pub command_of : List ℕ → Option Command
+abbrev pub command_of : (line : List ℕ) → Option Command
 command_of line = command_of_fields (fields_of line)
 
 -- a line is `ss`
-abbrev pub AsksForRestore : List ℕ → Type 0
+abbrev pub AsksForRestore : (line : List ℕ) → Type 0
 AsksForRestore line = command_of line ≡ Some (Serial serial.Restore)
 
--- the mask of a line `refuse MMMMMMMMMMMMMMMM`, which may be the first line alone, and asks for nothing elsewhere
-abbrev pub mask_of_fields : List (List ℕ) → Option ℕ
+-- the mask of a line `refuse MMMMMMMMMMMMMMMM`, which has a meaning only as the first line
+abbrev pub mask_of_fields : (fields : List (List ℕ)) → Option ℕ
 mask_of_fields [] = None
 mask_of_fields (name ∷ fields) = if bytes_eq name (codes "refuse") then one_number64 fields else None
 
-abbrev pub mask_of : List ℕ → Option ℕ
+abbrev pub mask_of : (line : List ℕ) → Option ℕ
 mask_of line = mask_of_fields (fields_of line)

@@ -1,11 +1,11 @@
--- Counts of what devices tell.
+-- Counts of the events that devices report.
 use Rattle.std.specs.Prelude.{◌≡◌, ℕ, List, [], ◌∷◌, ◌++◌}
 use Rattle.std.proofs.Common.{ap, ◌∙◌}
 use Rattle.vm_superio.specs.Events.{Event, buffer_read, out_byte, tx_lost_byte, in_buffer_empty}
 use Rattle.vm_superio.specs.RtcEvents.{RtcEvent, invalid_read, invalid_write}
-use Rattle.superio_script.specs.Line.{counted}
+use Rattle.superio_script.specs.InterruptLine.{saturating_increment}
 
--- how often each event of a serial port and of a clock was told
+-- how often each event of a serial port and of a clock was reported
 pub record EventCounts : Type 0 where
   pub buffer_reads : ℕ
   pub out_bytes : ℕ
@@ -14,7 +14,7 @@ pub record EventCounts : Type 0 where
   pub invalid_reads : ℕ
   pub invalid_writes : ℕ
 
--- no event was told
+-- no event was reported
 abbrev pub no_counts : EventCounts
 no_counts = record {
   buffer_reads = 0;
@@ -29,10 +29,10 @@ no_counts = record {
 
 -- the counts after an event of a serial port
 abbrev pub after_event : Event → EventCounts → EventCounts
-after_event buffer_read counts = record counts { buffer_reads = counted counts.buffer_reads }
-after_event out_byte counts = record counts { out_bytes = counted counts.out_bytes }
-after_event tx_lost_byte counts = record counts { tx_lost_bytes = counted counts.tx_lost_bytes }
-after_event in_buffer_empty counts = record counts { in_buffer_empties = counted counts.in_buffer_empties }
+after_event buffer_read counts = record counts { buffer_reads = saturating_increment counts.buffer_reads }
+after_event out_byte counts = record counts { out_bytes = saturating_increment counts.out_bytes }
+after_event tx_lost_byte counts = record counts { tx_lost_bytes = saturating_increment counts.tx_lost_bytes }
+after_event in_buffer_empty counts = record counts { in_buffer_empties = saturating_increment counts.in_buffer_empties }
 
 -- the counts after these events, in order
 abbrev pub after_events : List Event → EventCounts → EventCounts
@@ -57,8 +57,8 @@ CountsLink-append x y z first second l h = after_events-append first second x �
 
 -- the counts after an event of a clock
 abbrev pub after_clock_event : RtcEvent → EventCounts → EventCounts
-after_clock_event invalid_read counts = record counts { invalid_reads = counted counts.invalid_reads }
-after_clock_event invalid_write counts = record counts { invalid_writes = counted counts.invalid_writes }
+after_clock_event invalid_read counts = record counts { invalid_reads = saturating_increment counts.invalid_reads }
+after_clock_event invalid_write counts = record counts { invalid_writes = saturating_increment counts.invalid_writes }
 
 -- the counts after these events, in order
 abbrev pub after_clock_events : List RtcEvent → EventCounts → EventCounts

@@ -1,10 +1,10 @@
-pub mod Pieces
+pub mod Splitting
 pub mod Command
-pub mod Line
+pub mod InterruptLine
 pub mod Counts
 pub mod Output
 pub mod Reply
-pub mod Session
+pub mod SerialScript
 pub mod Board
 pub mod Script
-pub mod Fault
+pub mod ScriptFault

@@ -2,6 +2,6 @@
 use Rattle.std.specs.Prelude.{ℕ, List}
 use Rattle.superio_script.specs.declared.output.Output.{Output}
 
--- the bytes that were written
-abbrev pub bytes_of : Output → List ℕ
-bytes_of output = output.bytes.items
+-- the bytes that it has taken, oldest first
+abbrev pub written_bytes : (output : Output) → List ℕ
+written_bytes output = output.bytes.items

@@ -1,4 +1,4 @@
--- What a line is replied.
+-- The reply to a line.
 use Rattle.std.specs.Prelude.{ℕ, List, [], ◌∷◌, ◌++◌, if◌then◌else◌, codes, Option, Some, None}
 use Rattle.std.specs.Int.{w32, w64, to_be_bytes}
 use Rattle.hex.specs.Hex.{encode_lower}
@@ -15,67 +15,67 @@ use Rattle.superio_script.specs.declared.command.ControllerLine.TheVariants as c
 
 -- ---- the text of a reply
 
--- a text, ended by LF
-abbrev pub ended : List ℕ → List ℕ
-ended text = text ++ 10 ∷ []
+-- a text and LF
+abbrev pub with_lf : (text : List ℕ) → List ℕ
+with_lf text = text ++ 10 ∷ []
 
--- two lower-case digits for each byte
-abbrev pub digits_reply : List ℕ → List ℕ
-digits_reply bytes = ended (encode_lower bytes)
+-- two lower-case digits for each byte, and LF
+abbrev pub digits_reply : (bytes : List ℕ) → List ℕ
+digits_reply bytes = with_lf (encode_lower bytes)
 
--- sixteen digits of a count
-abbrev pub count_digits : ℕ → List ℕ
+-- a count as sixteen digits
+abbrev pub count_digits : (count : ℕ) → List ℕ
 count_digits count = encode_lower (to_be_bytes w64 count)
 
 -- ---- the serial port
 
--- the reply to a call of the serial port, by what the port answered
-abbrev pub answer_reply : Answer → List ℕ
-answer_reply (Given byte) = digits_reply (byte ∷ [])
-answer_reply Written = ended (codes "ok")
-answer_reply (Added count) = digits_reply (count ∷ [])
-answer_reply TriggerRefused = ended (codes "trigger")
-answer_reply WriterFailed = ended (codes "io")
-answer_reply FifoFull = ended (codes "full")
--- no call that a line makes goes without an answer
-answer_reply NoAnswer = []
+-- the reply to a call of the serial port with this response
+abbrev pub response_reply : (response : Answer) → List ℕ
+response_reply (Given byte) = digits_reply (byte ∷ [])
+response_reply Written = with_lf (codes "ok")
+response_reply (Added count) = digits_reply (count ∷ [])
+response_reply TriggerRefused = with_lf (codes "trigger")
+response_reply WriterFailed = with_lf (codes "io")
+response_reply FifoFull = with_lf (codes "full")
+-- no call that a line makes goes without a response
+response_reply NoAnswer = []
 
--- the four counts of a serial port's events, with a space between two
-abbrev pub counts_reply : EventCounts → List ℕ
+-- the four counts of a serial port's events, with one space between two
+abbrev pub counts_reply : (counts : EventCounts) → List ℕ
 counts_reply counts =
-    ended (count_digits counts.buffer_reads ++ 32 ∷ count_digits counts.out_bytes
+    with_lf (count_digits counts.buffer_reads ++ 32 ∷ count_digits counts.out_bytes
     ++ 32 ∷ count_digits counts.tx_lost_bytes ++ 32 ∷ count_digits counts.in_buffer_empties)
 
 -- ---- the clock
 
--- what a line does to the clock
-abbrev pub access_of : ClockLine → Access
+-- the access of the clock that a line makes
+abbrev pub access_of : (line : ClockLine) → Access
 access_of (clock.Read moment offset) = read offset moment
 access_of (clock.Write moment offset value) = write offset value moment
 
--- eight digits of the number that a read shows
-abbrev pub shown_reply : Option ℕ → List ℕ
-shown_reply (Some number) = digits_reply (to_be_bytes w32 number)
-shown_reply None = ended (codes "invalid")
+-- the eight digits of the value that a read gives, or `invalid` where it gives none
+abbrev pub value_reply : (value : Option ℕ) → List ℕ
+value_reply (Some number) = digits_reply (to_be_bytes w32 number)
+value_reply None = with_lf (codes "invalid")
 
--- the reply to a line of a clock that was fresh at first, after these accesses, newest first
-abbrev pub clock_reply : List Access → ClockLine → List ℕ
-clock_reply past (clock.Read moment offset) = shown_reply (answer_by_history fresh past (read offset moment))
-clock_reply past (clock.Write moment offset value) =
-    ended (if is_writable (register_at offset) then codes "ok" else codes "invalid")
+-- the reply to a line of a clock that started fresh, after these accesses, newest first
+abbrev pub clock_reply : (trace : List Access) (line : ClockLine) → List ℕ
+clock_reply trace (clock.Read moment offset) = value_reply (answer_by_history fresh trace (read offset moment))
+clock_reply trace (clock.Write moment offset value) =
+    with_lf (if is_writable (register_at offset) then codes "ok" else codes "invalid")
 
--- the replies to the lines of a clock, in order
-abbrev pub clock_replies : List Access → List ClockLine → List (List ℕ)
-clock_replies past [] = []
-clock_replies past (line ∷ lines) = clock_reply past line ∷ clock_replies (access_of line ∷ past) lines
+-- the replies to lines of the clock, in order
+abbrev pub clock_replies : (trace : List Access) (lines : List ClockLine) → List (List ℕ)
+clock_replies trace [] = []
+clock_replies trace (line ∷ lines) = clock_reply trace line ∷ clock_replies (access_of line ∷ trace) lines
 
 -- ---- the i8042
 
--- the reply to a line of the i8042. A fresh controller takes the place of one that was reset, and an access changes
--- nothing else, so no line's reply depends on another's
-abbrev pub controller_reply : ControllerLine → List ℕ
+-- the reply to a line of the i8042. A fresh controller replaces one that was reset, and an access changes nothing else,
+-- so the reply depends on no other line
+abbrev pub controller_reply : (line : ControllerLine) → List ℕ
 -- each offset reads 0
 controller_reply (controller.Read offset) = digits_reply (0 ∷ [])
 -- the reset command, and nothing else, calls the reset line
 controller_reply (controller.Write offset value) =
-    ended (if is_reset_command offset value then codes "reset" else codes "ok")
+    with_lf (if is_reset_command offset value then codes "reset" else codes "ok")

@@ -1,5 +1,5 @@
 //! What a line does to the clock of a board, and what it is replied.
-ghost use Rattle.superio_script.specs.Board.{IsClockStep};
+ghost use Rattle.superio_script.specs.Board.{IsClockLineStep};
 
 use crate::command::ClockLine;
 use crate::counts::Counts;
@@ -8,7 +8,7 @@ use vm_superio::Rtc;
 
 /// Carries out a line of the clock.
 pub(crate) fn clock_line(clock: &mut Rtc<Counts>, line: ClockLine) -> Reply
-    ensures step { IsClockStep line result.items clock.old.state clock.new.state }
+    ensures step { IsClockLineStep line result.items clock.old.state clock.new.state }
 {
     // With fresh counts, what is counted afterwards is this access's event.
     *clock = Rtc::from_state(&clock.state(), Counts::new());

@@ -2,10 +2,10 @@
 ghost use Rattle.std.specs.Prelude.{◌≡◌};
 ghost use Rattle.std.specs.Option.{option_map};
 ghost use Rattle.std.specs.Int.{from_be_bytes, w16, w32, w64};
-ghost use Rattle.superio_script.specs.Pieces.{fields_left};
-ghost use Rattle.superio_script.specs.Command.{bytes_of, byte_of, number64_of, number16_of, number32_of, arrival_of, no_field, one_byte, two_bytes, bytes_or_none, moment_and_offset, moment_offset_and_value, one_number64, bare_from, command_from, command_of, mask_of};
+ghost use Rattle.superio_script.specs.Splitting.{remaining_fields};
+ghost use Rattle.superio_script.specs.Command.{bytes_of, byte_of, number64_of, number16_of, number32_of, arrival_of, no_field, one_byte, two_bytes, bytes_or_none, moment_and_offset, moment_offset_and_value, one_number64, line_of_name, command_of_name, command_of, mask_of};
 
-use crate::pieces::Fields;
+use crate::splitting::Fields;
 use arrayvec::ArrayVec;
 use std::marker::Model;
 
@@ -168,7 +168,7 @@ fn arriving(field: &[u8]) -> Option<Arrival>
 
 /// That no field is left.
 fn end(mut fields: Fields) -> Option<()>
-    ensures { result ≡ no_field (fields_left fields.entry.rest) }
+    ensures { result ≡ no_field (remaining_fields fields.entry.rest) }
 {
     match fields.next_field() {
         None => Some(()),
@@ -178,7 +178,7 @@ fn end(mut fields: Fields) -> Option<()>
 
 /// The byte of the one field that is left.
 fn one_byte(mut fields: Fields) -> Option<u8>
-    ensures { result ≡ one_byte (fields_left fields.entry.rest) }
+    ensures { result ≡ one_byte (remaining_fields fields.entry.rest) }
 {
     let first = byte(fields.next_field()?)?;
     end(fields)?;
@@ -187,7 +187,7 @@ fn one_byte(mut fields: Fields) -> Option<u8>
 
 /// The bytes of the two fields that are left.
 fn two_bytes(mut fields: Fields) -> Option<(u8, u8)>
-    ensures { result ≡ two_bytes (fields_left fields.entry.rest) }
+    ensures { result ≡ two_bytes (remaining_fields fields.entry.rest) }
 {
     let first = byte(fields.next_field()?)?;
     let second = one_byte(fields)?;
@@ -196,7 +196,7 @@ fn two_bytes(mut fields: Fields) -> Option<(u8, u8)>
 
 /// The bytes of the one field that is left, or none where no field is.
 fn bytes_or_none(mut fields: Fields) -> Option<Arrival>
-    ensures { result ≡ bytes_or_none (fields_left fields.entry.rest) }
+    ensures { result ≡ bytes_or_none (remaining_fields fields.entry.rest) }
 {
     let Some(field) = fields.next_field() else {
         return Some(Arrival::none());
@@ -208,7 +208,7 @@ fn bytes_or_none(mut fields: Fields) -> Option<Arrival>
 
 /// The moment and the offset of the two fields that are left.
 fn moment_and_offset(mut fields: Fields) -> Option<(u64, u16)>
-    ensures { result ≡ moment_and_offset (fields_left fields.entry.rest) }
+    ensures { result ≡ moment_and_offset (remaining_fields fields.entry.rest) }
 {
     let moment = number64(fields.next_field()?)?;
     let offset = number16(fields.next_field()?)?;
@@ -218,7 +218,7 @@ fn moment_and_offset(mut fields: Fields) -> Option<(u64, u16)>
 
 /// The moment, the offset and the value of the three fields that are left.
 fn moment_offset_and_value(mut fields: Fields) -> Option<(u64, u16, u32)>
-    ensures { result ≡ moment_offset_and_value (fields_left fields.entry.rest) }
+    ensures { result ≡ moment_offset_and_value (remaining_fields fields.entry.rest) }
 {
     let moment = number64(fields.next_field()?)?;
     let offset = number16(fields.next_field()?)?;
@@ -229,7 +229,7 @@ fn moment_offset_and_value(mut fields: Fields) -> Option<(u64, u16, u32)>
 
 /// What a line with this name and these other fields asks for.
 fn named(name: &[u8], fields: Fields) -> Option<Command>
-    ensures { result ≡ command_from name.now (fields_left fields.entry.rest) }
+    ensures { result ≡ command_of_name name.now (remaining_fields fields.entry.rest) }
 {
     Some(match name {
         b"sr" => Command::Serial(SerialLine::Read {
@@ -270,7 +270,7 @@ fn named(name: &[u8], fields: Fields) -> Option<Command>
 
 /// What a line of this name alone asks for.
 fn bare(name: &[u8]) -> Option<SerialLine>
-    ensures { result ≡ bare_from name.now }
+    ensures { result ≡ line_of_name name.now }
 {
     match name {
         b"sc" => Some(SerialLine::Capacity),
@@ -293,7 +293,7 @@ pub(crate) fn parse(line: &[u8]) -> Option<Command>
 
 /// The number of the one field that is left.
 fn one_number64(mut fields: Fields) -> Option<u64>
-    ensures { result ≡ one_number64 (fields_left fields.entry.rest) }
+    ensures { result ≡ one_number64 (remaining_fields fields.entry.rest) }
 {
     let number = number64(fields.next_field()?)?;
     end(fields)?;

@@ -1,6 +1,6 @@
 //! Counts of what the devices of a board tell.
 ghost use Rattle.std.specs.Prelude.{◌≡◌};
-ghost use Rattle.superio_script.specs.Line.{counted};
+ghost use Rattle.superio_script.specs.InterruptLine.{saturating_increment};
 
 use std::marker::Model;
 use vm_superio::rtc_pl031::RtcEvents;
@@ -148,7 +148,7 @@ impl RtcEvents for Counts {
 
 /// One more, which stays at 2^64 - 1.
 fn count(count: &mut u64)
-    ensures { count.new ≡ counted count.old }
+    ensures { count.new ≡ saturating_increment count.old }
 {
     *count = count.saturating_add(1);
 }

@@ -1,6 +1,6 @@
 //! A board of devices, and what a line does on it.
 ghost use Rattle.std.specs.Prelude.{◌≡◌, ◌↔◌, IfOk, IsSomeAnd, IsErrOf, IsOk, OnErr};
-ghost use Rattle.superio_script.specs.Line.{fresh_line};
+ghost use Rattle.superio_script.specs.InterruptLine.{fresh_interrupt_line};
 ghost use Rattle.superio_script.specs.Command.{command_of, AsksForRestore};
 ghost use Rattle.superio_script.specs.Reply.{controller_reply};
 ghost use Rattle.superio_script.specs.declared.devices.LineFault.TheVariants.{Bad, Memory};
@@ -46,7 +46,7 @@ impl Model for Board {
 }
 
 impl Board {
-    ghost use Rattle.superio_script.specs.Board.{IsFresh, IsStep};
+    ghost use Rattle.superio_script.specs.Board.{IsFresh, IsLineStep};
 
     /// A board of fresh devices. The mask names the calls that the serial port's line refuses.
     pub fn new(alloc: Global, mask: u64) -> Result<Board, ScriptFault>
@@ -70,7 +70,7 @@ impl Board {
     pub fn line(&mut self, alloc: Global, line: &[u8]) -> Result<Reply, LineFault>
         ensures bad { IsErrOf result LineFault.Bad ↔ (command_of line.now ≡ None) }
         ensures memory { result ≡ Err LineFault.Memory → AsksForRestore line.now }
-        ensures step { IfOk result (λ reply. IsSomeAnd (command_of line.now) (λ command. IsStep command reply.items self.old self.new)) }
+        ensures step { IfOk result (λ reply. IsSomeAnd (command_of line.now) (λ command. IsLineStep command reply.items self.old self.new)) }
         ensures unchanged { OnErr result (self.new ≡ self.old) }
     {
         Ok(match parse(line).ok_or(LineFault::Bad)? {

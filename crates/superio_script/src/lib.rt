@@ -6,7 +6,7 @@ mod command;
 mod counts;
 mod devices;
 mod output;
-mod pieces;
+mod splitting;
 mod replies;
 mod script;
 mod serial_lines;

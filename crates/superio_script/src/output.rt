@@ -15,11 +15,11 @@ pub struct Output {
 }
 
 impl Output {
-    ghost use Rattle.superio_script.specs.Output.{bytes_of};
+    ghost use Rattle.superio_script.specs.Output.{written_bytes};
 
     /// An output to which nothing was written.
     pub fn new() -> Output
-        ensures { bytes_of result ≡ [] }
+        ensures { written_bytes result ≡ [] }
     {
         Output {
             bytes: ArrayVec::new(),
@@ -28,27 +28,27 @@ impl Output {
 
     /// The bytes that were written, at most 256.
     pub fn bytes(&self) -> &[u8]
-        ensures { result.now ≡ bytes_of self.now }
+        ensures { result.now ≡ written_bytes self.now }
     {
         self.bytes.as_slice()
     }
 }
 
 impl Write for Output {
-    ghost use Rattle.superio_script.specs.Output.{bytes_of};
+    ghost use Rattle.superio_script.specs.Output.{written_bytes};
 
-    ghost contents = { λ output. Some (bytes_of output) };
+    ghost contents = { λ output. Some (written_bytes output) };
 
     fn write(&mut self, buf: &[u8]) -> io::Result<usize>
         ensures bound { WritesAtMost result buf.now }
-        ensures bytes { WriteAppends (Some (bytes_of self.old)) (Some (bytes_of self.new)) result buf.now }
-        ensures count { result ≡ Ok (min (256 - length (bytes_of self.old)) (length buf.now)) }
+        ensures bytes { WriteAppends (Some (written_bytes self.old)) (Some (written_bytes self.new)) result buf.now }
+        ensures count { result ≡ Ok (min (256 - length (written_bytes self.old)) (length buf.now)) }
     {
         self.bytes.write(buf)
     }
 
     fn flush(&mut self) -> io::Result<()>
-        ensures bytes { Keeps (Some (bytes_of self.old)) (Some (bytes_of self.new)) }
+        ensures bytes { Keeps (Some (written_bytes self.old)) (Some (written_bytes self.new)) }
         ensures done { result ≡ Ok tt }
     {
         Ok(())

@@ -1,6 +1,6 @@
 //! What a line is replied, with its LF.
 ghost use Rattle.std.specs.Prelude.{◌≡◌, ◌<◌, ◌≤◌, [], ◌∷◌, length};
-ghost use Rattle.superio_script.specs.Reply.{ended, digits_reply, count_digits, counts_reply};
+ghost use Rattle.superio_script.specs.Reply.{with_lf, digits_reply, count_digits, counts_reply};
 
 use crate::counts::Counts;
 use arrayvec::ArrayVec;
@@ -11,7 +11,7 @@ pub type Reply = ArrayVec<u8, 513>;
 /// The text and LF.
 pub(crate) fn word(text: &[u8]) -> Reply
     requires { length text.now < 513 }
-    ensures { result.items ≡ ended text.now }
+    ensures { result.items ≡ with_lf text.now }
 {
     let mut reply = Reply::new();
     reply.try_extend_from_slice(text).unwrap();
@@ -48,7 +48,7 @@ fn sixteen(count: u64) -> [u8; 16]
 
 /// A count as sixteen digits, and LF.
 pub(crate) fn number(count: u64) -> Reply
-    ensures { result.items ≡ ended (count_digits count) }
+    ensures { result.items ≡ with_lf (count_digits count) }
 {
     word(&sixteen(count))
 }

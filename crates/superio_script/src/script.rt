@@ -1,12 +1,12 @@
 //! A whole script, from a reader to a writer.
 ghost use Rattle.std.specs.Prelude.{◌≡◌, ◌≢◌, ◌⊎◌, ℕ, ◌+◌, ◌^◌, ◌<◌, ◌≤◌, length, IfOk, IfErr, IfSome, OnOk, vec_len, take, Some, None};
 ghost use Rattle.std.specs.Io.KnownBytes.{Keeps, Appends, Consumes, IsAtEnd};
-ghost use Rattle.superio_script.specs.Pieces.{lines_of};
-ghost use Rattle.superio_script.specs.Script.{body_of, first_bad, PrintsLines, StopsAtRestore, RunsUpTo, EndsAtRestore};
+ghost use Rattle.superio_script.specs.Splitting.{lines_of};
+ghost use Rattle.superio_script.specs.Script.{body_of, first_bad_line, PrintsLines, StopsAtRestore, RunsUpTo, EndsAtRestore};
 
 use crate::command::refused_mask;
 use crate::devices::{Board, LineFault};
-use crate::pieces::Lines;
+use crate::splitting::Lines;
 use crate::replies::Reply;
 use std::alloc::Global;
 use std::error::Error;
@@ -30,7 +30,7 @@ pub enum ScriptFault {
 }
 
 impl ScriptFault {
-    ghost use Rattle.superio_script.specs.Fault.{status_of};
+    ghost use Rattle.superio_script.specs.ScriptFault.{status_of};
 
     /// The exit status of a program that ends by this fault, from 1 to 4.
     pub fn status(&self) -> u8
@@ -46,7 +46,7 @@ impl ScriptFault {
 }
 
 impl fmt::Display for ScriptFault {
-    ghost use Rattle.superio_script.specs.Fault.{message_of};
+    ghost use Rattle.superio_script.specs.ScriptFault.{message_of};
     ghost use Rattle.std.specs.Prelude.{Some};
 
     ghost output = { λ fault. Some (message_of fault) };
@@ -137,10 +137,10 @@ fn write_replies<W: Write>(
     writer: &mut W,
 ) -> Result<(), ScriptFault>
     requires { skipped + length (lines_of lines.rest.now) < 2 ^ 64 }
-    ensures ok { OnOk result ((first_bad (skipped + 1) (lines_of lines.entry.rest.now) ≡ None)
+    ensures ok { OnOk result ((first_bad_line (skipped + 1) (lines_of lines.entry.rest.now) ≡ None)
         × PrintsLines mask (lines_of lines.entry.rest.now) (W.contents writer.old) (W.contents writer.new)) }
     ensures bad { (number : ℕ) → result ≡ Err (ScriptFault.Bad number)
-        → (first_bad (skipped + 1) (lines_of lines.entry.rest.now) ≡ Some number)
+        → (first_bad_line (skipped + 1) (lines_of lines.entry.rest.now) ≡ Some number)
         × PrintsLines mask (lines_of lines.entry.rest.now) (W.contents writer.old) (W.contents writer.new) }
     ensures memory { result ≡ Err ScriptFault.Memory → (writer.new ≡ writer.old)
         ⊎ StopsAtRestore mask (lines_of lines.entry.rest.now) (W.contents writer.old) (W.contents writer.new) }

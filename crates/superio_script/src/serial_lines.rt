@@ -1,8 +1,8 @@
 //! What a line does to the serial port of a board, and what it is replied.
 ghost use Rattle.std.specs.Prelude.{◌≡◌, ◌<◌, IfOk, IfErr, OnErr};
 ghost use Rattle.vm_superio.specs.Port.{write_reply, enqueue_reply, failure as failure_answer};
-ghost use Rattle.superio_script.specs.Reply.{answer_reply};
-ghost use Rattle.superio_script.specs.Board.{IsSerialStep};
+ghost use Rattle.superio_script.specs.Reply.{response_reply};
+ghost use Rattle.superio_script.specs.Board.{IsSerialLineStep};
 ghost use Rattle.superio_script.specs.declared.command.SerialLine.TheVariants.{Restore};
 
 use crate::command::SerialLine;
@@ -25,7 +25,7 @@ pub(crate) fn serial_line(
     serial: &mut Port,
     line: SerialLine,
 ) -> Result<Reply, LineFault>
-    ensures step { IfOk result (λ reply. IsSerialStep line reply.items serial.old serial.new) }
+    ensures step { IfOk result (λ reply. IsSerialLineStep line reply.items serial.old serial.new) }
     ensures unchanged { OnErr result (serial.new ≡ serial.old) }
     ensures only_memory { IfErr result (λ fault. fault ≡ LineFault.Memory) }
     ensures only_restore { OnErr result (line ≡ Restore) }
@@ -48,7 +48,7 @@ pub(crate) fn serial_line(
 
 /// Makes the port anew from its own state, with copies of its line and its counts, and with its output.
 fn restore(alloc: Global, serial: &mut Port) -> Result<Reply, LineFault>
-    ensures step { IfOk result (λ reply. IsSerialStep Restore reply.items serial.old serial.new) }
+    ensures step { IfOk result (λ reply. IsSerialLineStep Restore reply.items serial.old serial.new) }
     ensures unchanged { OnErr result (serial.new ≡ serial.old) }
     ensures only_memory { IfErr result (λ fault. fault ≡ LineFault.Memory) }
 {
@@ -73,7 +73,7 @@ fn restore(alloc: Global, serial: &mut Port) -> Result<Reply, LineFault>
 
 /// The reply to a write.
 fn written(answer: Result<(), Error<LineRefused>>) -> Reply
-    ensures { result.items ≡ answer_reply (write_reply answer) }
+    ensures { result.items ≡ response_reply (write_reply answer) }
 {
     match answer {
         Ok(()) => word(b"ok"),
@@ -84,7 +84,7 @@ fn written(answer: Result<(), Error<LineRefused>>) -> Reply
 /// The reply to an enqueue.
 fn enqueued(answer: Result<usize, Error<LineRefused>>) -> Reply
     requires { IfOk answer (λ count. count < 256) }
-    ensures { result.items ≡ answer_reply (enqueue_reply answer) }
+    ensures { result.items ≡ response_reply (enqueue_reply answer) }
 {
     match answer {
         Ok(count) => byte(count as u8),
@@ -94,7 +94,7 @@ fn enqueued(answer: Result<usize, Error<LineRefused>>) -> Reply
 
 /// The reply to a call that failed.
 fn failed(error: Error<LineRefused>) -> Reply
-    ensures { result.items ≡ answer_reply (failure_answer error) }
+    ensures { result.items ≡ response_reply (failure_answer error) }
 {
     match error {
         Error::Trigger(LineRefused) => word(b"trigger"),

@@ -31,9 +31,9 @@ pub struct Line {
 }
 
 impl Model for Line {
-    ghost use Rattle.superio_script.specs.Line.{LineCalls};
+    ghost use Rattle.superio_script.specs.InterruptLine.{InterruptLine};
 
-    ghost Value = { LineCalls };
+    ghost Value = { InterruptLine };
 
     ghost view = { λ line. record { calls = line.calls; mask = line.mask } };
 
@@ -41,11 +41,11 @@ impl Model for Line {
 }
 
 impl Line {
-    ghost use Rattle.superio_script.specs.Line.{fresh_line};
+    ghost use Rattle.superio_script.specs.InterruptLine.{fresh_interrupt_line};
 
     /// A line that was not called, with this mask.
     pub fn new(mask: u64) -> Line
-        ensures { result ≡ fresh_line mask }
+        ensures { result ≡ fresh_interrupt_line mask }
     {
         Line { calls: 0, mask }
     }
@@ -68,13 +68,13 @@ impl Line {
 impl Trigger for Line {
     type E = LineRefused;
 
-    ghost use Rattle.superio_script.specs.Line.{LineLink, LineLink-append};
+    ghost use Rattle.superio_script.specs.InterruptLine.{InterruptLineLink, InterruptLineLink-append};
 
-    ghost link = { LineLink };
+    ghost link = { InterruptLineLink };
 
     ghost no_call = { λ x y. (λ same. same, λ same. same) };
 
-    ghost joined = { LineLink-append };
+    ghost joined = { InterruptLineLink-append };
 
     fn trigger(&mut self) -> Result<(), LineRefused> {
         let number = self.calls;

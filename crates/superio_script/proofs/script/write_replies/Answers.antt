@@ -1,7 +1,7 @@
 -- Each reply that is written goes from what is still to come to what was carried out.
 use Rattle.std.proofs.Common.{◌≡◌, ap, ◌∙◌, Err, Some, inr, arith, length, length-append, ◌++◌, ◌+◌}
-use Rattle.superio_script.specs.Pieces.{lines_of}
-use Rattle.superio_script.proofs.ScriptLemmas.{Carried-at_start, Carried-after_line, first_bad-here, Prints-before_bad, Stops-here, none-bad, Prints-all}
+use Rattle.superio_script.specs.Splitting.{lines_of}
+use Rattle.superio_script.proofs.ScriptLemmas.{Carried-at_start, Carried-after_line, first_bad_line-here, Prints-before_bad, Stops-here, none-bad, Prints-all}
 use Rattle.superio_script.proofs.script.write_replies.Goals as goal
 
 pub loop-line-init : goal.loop-line-init
@@ -23,7 +23,7 @@ returns-in-Err-Bad-clause-bad g c = λ number e.
     let more = lines_of c.next_line.new.self.rest.now in
     let carried = c.loop-line.invariant.carried in
     let none = c.in-Err-Bad.ensures.bad.0 (ap Err c.in-Err-Bad.field-0-is) in
-    let is = first_bad-here c.args.mask (g.W.Write.contents c.args.writer.now) (lines_of c.args.lines.rest.now) rest (g.W.Write.contents c.loop-line.writer) c.loop-line.board c.loop-line.invariant.count carried c.in-Some.line.now more c.in-Some.ensures (c.args.skipped + 1) none in
+    let is = first_bad_line-here c.args.mask (g.W.Write.contents c.args.writer.now) (lines_of c.args.lines.rest.now) rest (g.W.Write.contents c.loop-line.writer) c.loop-line.board c.loop-line.invariant.count carried c.in-Some.line.now more c.in-Some.ensures (c.args.skipped + 1) none in
     let same : c.args.skipped + 1 + c.loop-line.invariant.count ≡ c.loop-line.number + 1 = omega (arith, c.loop-line.invariant.number) in
     let counted : c.loop-line.number + 1 ≡ number = cc e in (
       is ∙ ap Some (same ∙ counted),

@@ -4,10 +4,10 @@ use Rattle.vm_superio.specs.State.{State}
 use Rattle.vm_superio.specs.Calls.{restore_calls}
 use Rattle.vm_superio.specs.Port.{Port}
 use Rattle.vm_superio.specs.Restoring.{all_taken, RefusesRestore}
-use Rattle.superio_script.specs.Line.{LineCalls, LineLink}
+use Rattle.superio_script.specs.InterruptLine.{InterruptLine, InterruptLineLink}
 use Rattle.superio_script.specs.Counts.{EventCounts}
 use Rattle.superio_script.specs.declared.output.Output.{Output}
-use Rattle.superio_script.proofs.SessionLemmas.{restore-step, refused-restore-step}
+use Rattle.superio_script.proofs.SerialScriptLemmas.{restore-step, refused-restore-step}
 use Rattle.superio_script.proofs.serial_lines.restore.Goals as goal
 
 pub returns-in-Ok-from_state-clause-step : goal.returns-in-Ok-from_state-clause-step
@@ -17,20 +17,20 @@ returns-in-Ok-from_state-clause-step c =
     let after = c.replace-old.ensures.after in
     let state = made.state ∙ c.in-Ok.ensures.saved in
     let line = c.interrupt_evt-line.ensures in
-    let called = subst (λ (s : State). LineLink c.interrupt_evt-line.result.now (all_taken (restore_calls s)) c.in-Ok-from_state.anew.trigger) c.in-Ok.ensures.saved made.called in
-    let link = subst (λ (new : LineCalls). LineLink old.trigger (all_taken (restore_calls old.state)) new) (ap (λ (port : Port LineCalls EventCounts Output). port.trigger) (sym after))
-    (subst (λ (l : LineCalls). LineLink l (all_taken (restore_calls old.state)) c.in-Ok-from_state.anew.trigger) line called) in
+    let called = subst (λ (s : State). InterruptLineLink c.interrupt_evt-line.result.now (all_taken (restore_calls s)) c.in-Ok-from_state.anew.trigger) c.in-Ok.ensures.saved made.called in
+    let link = subst (λ (new : InterruptLine). InterruptLineLink old.trigger (all_taken (restore_calls old.state)) new) (ap (λ (port : Port InterruptLine EventCounts Output). port.trigger) (sym after))
+    (subst (λ (l : InterruptLine). InterruptLineLink l (all_taken (restore_calls old.state)) c.in-Ok-from_state.anew.trigger) line called) in
     rw c.word.ensures (restore-step c.steps_of_history.ensures old _
-    (ap (λ (port : Port LineCalls EventCounts Output). port.state) after ∙ state)
+    (ap (λ (port : Port InterruptLine EventCounts Output). port.state) after ∙ state)
     link
-    (ap (λ (port : Port LineCalls EventCounts Output). port.events) after ∙ made.events ∙ c.events-counts.ensures)
-    (c.into_writer.ensures ∙ ap (λ (port : Port LineCalls EventCounts Output). port.out) c.replace-old.ensures.value))
+    (ap (λ (port : Port InterruptLine EventCounts Output). port.events) after ∙ made.events ∙ c.events-counts.ensures)
+    (c.into_writer.ensures ∙ ap (λ (port : Port InterruptLine EventCounts Output). port.out) c.replace-old.ensures.value))
 
 pub returns : goal.returns
 returns c =
     let old = c.args.serial.now in
     let refused = c.in-Err.ensures.refused in
-    let by_state = subst (λ (s : State). RefusesRestore LineLink s c.in-Err.refused.error c.interrupt_evt-line.result.now c.in-Err.refused.trigger) c.in-Ok.ensures.saved refused in
-    let by_line = subst (λ (l : LineCalls). RefusesRestore LineLink old.state c.in-Err.refused.error l c.in-Err.refused.trigger) c.interrupt_evt-line.ensures by_state in
+    let by_state = subst (λ (s : State). RefusesRestore InterruptLineLink s c.in-Err.refused.error c.interrupt_evt-line.result.now c.in-Err.refused.trigger) c.in-Ok.ensures.saved refused in
+    let by_line = subst (λ (l : InterruptLine). RefusesRestore InterruptLineLink old.state c.in-Err.refused.error l c.in-Err.refused.trigger) c.interrupt_evt-line.ensures by_state in
     let step = refused-restore-step c.steps_of_history.ensures old c.in-Err.refused.trigger c.in-Err.refused.error c.state.ensures.few by_line in
     record { step = rw (c.failed.ensures, c.into_error.ensures) step; unchanged = tt; only_memory = tt }

@@ -2,7 +2,7 @@
 use Rattle.std.proofs.Common.{None}
 use Rattle.vm_superio.specs.Port.{write_reply, enqueue_reply, refusal_of}
 use Rattle.vm_superio.specs.Acts.{Given}
-use Rattle.superio_script.proofs.SessionLemmas.{read-step, write-step, enqueue-step, capacity-step, output-step, calls-step, events-step}
+use Rattle.superio_script.proofs.SerialScriptLemmas.{read-step, write-step, enqueue-step, capacity-step, output-step, calls-step, events-step}
 use Rattle.superio_script.proofs.serial_lines.serial_line.Goals as goal
 
 pub returns-in-Read-clause-step : goal.returns-in-Read-clause-step

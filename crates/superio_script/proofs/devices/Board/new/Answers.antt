@@ -1,7 +1,7 @@
 -- No call and no access led to fresh devices.
 use Rattle.std.proofs.Common.{rules, []}
-use Rattle.superio_script.specs.Session.{fresh_session}
-use Rattle.superio_script.proofs.SessionLemmas.{at-start}
+use Rattle.superio_script.specs.SerialScript.{fresh_session}
+use Rattle.superio_script.proofs.SerialScriptLemmas.{at-start}
 use Rattle.superio_script.proofs.devices.Board.new.Goals as goal
 
 pub invariant_of-result : goal.invariant_of-result

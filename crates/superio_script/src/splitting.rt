@@ -1,6 +1,6 @@
 //! Bytes cut at a separator: a script into lines, and a line into fields.
 ghost use Rattle.std.specs.Prelude.{◌≡◌, ◌≢◌, List, ℕ, [], ◌∷◌, ◌==◌, position, IfSome, IfNone, MatchOption};
-ghost use Rattle.superio_script.specs.Pieces.{pieces_of, fields_of, fields_left, lines_of};
+ghost use Rattle.superio_script.specs.Splitting.{pieces_of, fields_of, remaining_fields, lines_of};
 
 const SPACE: u8 = b' ';
 
@@ -14,7 +14,7 @@ fn find(bytes: &[u8], separator: u8) -> Option<usize>
 }
 
 /// The bytes before the first separator, and those after it where there is one.
-fn cut(bytes: &[u8], separator: u8) -> (&[u8], Option<&[u8]>)
+fn first_piece(bytes: &[u8], separator: u8) -> (&[u8], Option<&[u8]>)
     ensures found { IfSome result.1 (λ rest. (end : List (List ℕ)) →
         pieces_of separator end bytes.now ≡ result.0.now ∷ pieces_of separator end rest.now) }
     ensures last_field { IfNone result.1 (pieces_of separator ([] ∷ []) bytes.now ≡ result.0.now ∷ []) }
@@ -35,17 +35,17 @@ pub(crate) struct Fields<'a> {
 impl<'a> Fields<'a> {
     /// All fields of the line.
     pub(crate) fn of(line: &'a [u8]) -> Self
-        ensures { fields_left result.rest ≡ fields_of line.now }
+        ensures { remaining_fields result.rest ≡ fields_of line.now }
     {
         Fields { rest: Some(line) }
     }
 
     /// Takes the first field.
     pub(crate) fn next_field(&mut self) -> Option<&'a [u8]>
-        ensures { MatchOption result (fields_left self.old.rest ≡ [])
-            (λ field. fields_left self.old.rest ≡ field.now ∷ fields_left self.new.rest) }
+        ensures { MatchOption result (remaining_fields self.old.rest ≡ [])
+            (λ field. remaining_fields self.old.rest ≡ field.now ∷ remaining_fields self.new.rest) }
     {
-        let (field, rest) = cut(self.rest?, SPACE);
+        let (field, rest) = first_piece(self.rest?, SPACE);
         self.rest = rest;
         Some(field)
     }
@@ -73,7 +73,7 @@ impl<'a> Lines<'a> {
         if self.rest.is_empty() {
             return None;
         }
-        let (line, rest) = cut(self.rest, LF);
+        let (line, rest) = first_piece(self.rest, LF);
         self.rest = rest.unwrap_or(&[]);
         Some(line)
     }

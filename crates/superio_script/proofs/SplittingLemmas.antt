@@ -4,11 +4,11 @@ use Rattle.std.specs.Prelude.{not, if◌then◌else◌, Some, None, nat_lt}
 use Rattle.std.specs.List.{position, position_or_len}
 use Rattle.std.proofs.lemmas.Bool.Decides.{nat_tests}
 use Rattle.std.proofs.lemmas.List.{take_rest}
-use Rattle.superio_script.specs.Pieces.{onto_first, pieces_of, lines_of}
+use Rattle.superio_script.specs.Splitting.{prepend_to_first, pieces_of, lines_of}
 
 module _ (separator : ℕ) (end : List (List ℕ)) where
   -- the first separator of a list, or its length
-  abbrev pub first_separator : List ℕ → ℕ
+  abbrev pub first_separator : (xs : List ℕ) → ℕ
   first_separator xs = position_or_len (λ b. b == separator) xs
 
   -- where `position` finds the first separator
@@ -28,8 +28,8 @@ module _ (separator : ℕ) (end : List (List ℕ)) where
       ] refl h
 
   -- the step of `pieces_of` at a first byte, by whether it is a separator
-  abbrev first_step : Bool → ℕ → List ℕ → List (List ℕ)
-  first_step found x xs = if found then [] ∷ pieces_of separator end xs else onto_first x (pieces_of separator end xs)
+  abbrev first_step : (found : Bool) (x : ℕ) (xs : List ℕ) → List (List ℕ)
+  first_step found x xs = if found then [] ∷ pieces_of separator end xs else prepend_to_first x (pieces_of separator end xs)
 
   -- the first piece ends at the first separator, and the others follow it
   pub pieces_of-found :
@@ -45,7 +45,7 @@ module _ (separator : ℕ) (end : List (List ℕ)) where
 
   -- with no separator there is one piece, where there is a byte
   pub pieces_of-whole :
-      ((b : ℕ) → onto_first b end ≡ (b ∷ []) ∷ []) → (x : ℕ) (xs : List ℕ) →
+      ((b : ℕ) → prepend_to_first b end ≡ (b ∷ []) ∷ []) → (x : ℕ) (xs : List ℕ) →
       length (x ∷ xs) ≤ first_separator (x ∷ xs) → pieces_of separator end (x ∷ xs) ≡ (x ∷ xs) ∷ []
   pieces_of-whole one x [] h =
       elim (x == separator) as (λ found. 1 ≤ cond (not found) (1 + 0) 0 → first_step found x [] ≡ (x ∷ []) ∷ []) [
@@ -86,7 +86,7 @@ length-lines_of-le [] = omega arith
 length-lines_of-le (x ∷ xs) =
     elim (x == 10) as (λ found. length (first_step 10 [] found x xs) ≤ length (x ∷ xs)) [
       | true ↦ omega (arith, length-lines_of-le xs)
-      | false ↦ elim (lines_of xs) as (λ lines. length lines ≤ length xs → length (onto_first x lines) ≤ length (x ∷ xs)) [
+      | false ↦ elim (lines_of xs) as (λ lines. length lines ≤ length xs → length (prepend_to_first x lines) ≤ length (x ∷ xs)) [
         | [] ↦ λ _. omega arith
         | piece ∷ pieces ↦ λ h. omega arith
       ] (length-lines_of-le xs)

@@ -1,7 +1,7 @@
 -- The piece before the first separator, and the last piece.
 use Rattle.std.proofs.Common.{sym, ◌∙◌}
-use Rattle.superio_script.proofs.PiecesLemmas.{pieces_of-at_found, pieces_of-last_field, pieces_of-last_line}
-use Rattle.superio_script.proofs.pieces.cut.Goals as goal
+use Rattle.superio_script.proofs.SplittingLemmas.{pieces_of-at_found, pieces_of-last_field, pieces_of-last_line}
+use Rattle.superio_script.proofs.splitting.first_piece.Goals as goal
 
 pub returns-in-Some-clause-found : goal.returns-in-Some-clause-found
 returns-in-Some-clause-found c = λ end.

@@ -1,0 +1,411 @@
+-- A line of the serial port is a step of its session.
+use Rattle.std.proofs.Common.{◌≡◌, ℕ, zero, suc, ◌-◌, ◌≤◌, Bool, true, false, List, [], ◌∷◌, ◌++◌, length, Option, Some, None, Result, Ok, Err, refl, ap, sym, ◌∙◌, subst, arith, append-nil, inl, inr}
+use Rattle.std.specs.Cmp.Derive.{both_true}
+use Rattle.std.specs.Prelude.{◌⊎◌, IsTrue, IsSome, IfSome, if◌then◌else◌, nat_le, not, codes, ◌&&◌}
+use Rattle.std.specs.Bool.{beq}
+use Rattle.std.proofs.lemmas.Bool.{and_parts, false≢true}
+use Rattle.std.proofs.lemmas.Bool.Decides.{nat_tests}
+use Rattle.vm_superio.specs.declared.run.Asked.{Asked}
+use Rattle.vm_superio.specs.declared.run.Asked.TheVariants.{Nothing, Took, Refused, TookTook, TookRefused}
+use Rattle.vm_superio.specs.declared.run.Sent.{Sent}
+use Rattle.vm_superio.specs.declared.run.Sent.TheVariants as sent
+use Rattle.vm_superio.specs.State.{State, fresh, has_bits, masked, not_empty}
+use Rattle.vm_superio.specs.Registers.{transmit_first}
+use Rattle.vm_superio.specs.Acts.{Deed, Reads, Writes, Enqueues, Entry, Answer, is_sent, is_lost, ends_refused}
+use Rattle.vm_superio.specs.Coherent.{Coherent}
+use Rattle.vm_superio.specs.Meaning.{Arrival, Other, sent_by}
+use Rattle.vm_superio.specs.Fits.{asked_fits, due}
+use Rattle.vm_superio.specs.Calls.{restore_calls}
+use Rattle.vm_superio.specs.History.{kind, loopback}
+use Rattle.vm_superio.specs.Interrupts.{restore_calls_due}
+use Rattle.vm_superio.specs.Pasts.{none_lost}
+use Rattle.vm_superio.specs.Replies.{reply, output, events_told, described}
+use Rattle.vm_superio.specs.Laws.{PlaceAgrees, StepLaw}
+use Rattle.vm_superio.specs.Links.{answers, written, WriterLink}
+use Rattle.vm_superio.specs.Port.{Port, failure}
+use Rattle.vm_superio.specs.CallCase.{IsCase}
+use Rattle.vm_superio.specs.Restoring.{all_taken, EndsRefused, RefusesRestore}
+use Rattle.vm_superio.specs.declared.serial.errors.Error.{Error}
+use Rattle.vm_superio.specs.declared.serial.errors.Error.TheVariants.{Trigger, IOError, FullFifo, Memory}
+use Rattle.superio_script.specs.InterruptLine.{InterruptLine, fresh_interrupt_line, InterruptLineLink, is_call_refused, line_after_call}
+use Rattle.superio_script.specs.Counts.{EventCounts, no_counts, CountsLink, after_events}
+use Rattle.superio_script.specs.Output.{written_bytes}
+use Rattle.superio_script.specs.Reply.{with_lf, response_reply, digits_reply, count_digits, counts_reply}
+use Rattle.superio_script.specs.SerialScript.{Session, fresh_session, known_output, Choice, IsPossible, responses_of_line, line_after_responses, session_responses, session_sends, outcome_if_sent, call_reply, session_after_call, output_or_chosen, is_restore_refused}
+use Rattle.superio_script.specs.Board.{IsAt, IsSerialLineStep}
+use Rattle.superio_script.specs.declared.output.Output.{Output}
+use Rattle.superio_script.specs.declared.trigger.LineRefused.{LineRefused}
+use Rattle.superio_script.specs.declared.command.SerialLine.TheVariants as line
+
+-- ---- the interrupt line
+
+-- the response to a call, given whether it is refused
+abbrev one_response : (refused : Bool) → Result (Unit {0}) LineRefused
+one_response refused = if refused then Err (record {}) else Ok tt
+
+was_accepted : (refused : Bool) → Ok tt ≡ one_response refused → refused ≡ false
+was_accepted true e = absurd cc
+was_accepted false e = refl
+
+was_refused : (refused : Bool) (refusal : LineRefused) → Err refusal ≡ one_response refused → refused ≡ true
+was_refused true refusal e = refl
+was_refused false refusal e = absurd cc
+
+-- the responses to two calls, given whether each is refused
+abbrev two_responses : (first second : Bool) → Asked
+two_responses first second = if first then Refused else (if second then TookRefused else TookTook)
+
+-- the responses that link an interrupt line are those that its mask gives
+pub responses_of_line-from_link :
+    (line new : InterruptLine) (calls : ℕ) (asked : Asked) (refusal : Option LineRefused) →
+    IsTrue (asked_fits calls asked) → (IsTrue (ends_refused asked) → IsSome refusal) → InterruptLineLink line (answers asked refusal) new →
+    (asked ≡ responses_of_line line calls) × (new ≡ line_after_responses line asked)
+responses_of_line-from_link line new calls Nothing refusal fits some link =
+    let none : calls ≡ 0 = grind (arith, nat_tests) in
+    (ap (responses_of_line line) (sym none), sym link)
+responses_of_line-from_link line new calls Took refusal fits some link =
+    let one : calls ≡ 1 = grind (arith, nat_tests) in
+    let accepted = was_accepted (is_call_refused line.mask line.calls) link.0 in
+    (ap (λ (b : Bool). if b then Refused else Took) (sym accepted) ∙ ap (responses_of_line line) (sym one), sym link.1)
+responses_of_line-from_link line new calls TookTook refusal fits some link =
+    let two : calls ≡ 2 = grind (arith, nat_tests) in
+    let first = was_accepted (is_call_refused line.mask line.calls) link.0 in
+    let second = was_accepted (is_call_refused line.mask (line_after_call line).calls) link.1.0 in (
+      ap (λ (b : Bool). if b then TookRefused else TookTook) (sym second)
+          ∙ ap (λ (b : Bool). two_responses b (is_call_refused line.mask (line_after_call line).calls)) (sym first)
+          ∙ ap (responses_of_line line) (sym two),
+      sym link.1.1,
+    )
+responses_of_line-from_link line new calls Refused None fits some link = absurd (false≢true (some refl))
+responses_of_line-from_link line new zero Refused (Some refusal) fits some link = absurd (false≢true fits)
+responses_of_line-from_link line new (suc zero) Refused (Some refusal) fits some link =
+    let refused = was_refused (is_call_refused line.mask line.calls) refusal link.0 in
+    (ap (λ (b : Bool). if b then Refused else Took) (sym refused), sym link.1)
+responses_of_line-from_link line new (suc (suc more)) Refused (Some refusal) fits some link =
+    let refused = was_refused (is_call_refused line.mask line.calls) refusal link.0 in
+    (ap (λ (b : Bool). two_responses b (is_call_refused line.mask (line_after_call line).calls)) (sym refused), sym link.1)
+responses_of_line-from_link line new calls TookRefused None fits some link = absurd (false≢true (some refl))
+responses_of_line-from_link line new calls TookRefused (Some refusal) fits some link =
+    let two : calls ≡ 2 = grind (arith, nat_tests) in
+    let first = was_accepted (is_call_refused line.mask line.calls) link.0 in
+    let second = was_refused (is_call_refused line.mask (line_after_call line).calls) refusal link.1.0 in (
+      ap (λ (b : Bool). if b then TookRefused else TookTook) (sym second)
+          ∙ ap (λ (b : Bool). two_responses b (is_call_refused line.mask (line_after_call line).calls)) (sym first)
+          ∙ ap (responses_of_line line) (sym two),
+      sym link.1.1,
+    )
+
+-- ---- the byte that was sent
+
+-- the choice where nothing is left open
+abbrev pub no_choice : Choice
+no_choice = record { outcomes = []; outputs = [] }
+
+pub IsPossible-no_choice : IsPossible no_choice
+IsPossible-no_choice = record { sent = refl; room = omega arith; short = refl }
+
+-- a choice by which the next byte has this outcome
+abbrev pub choice_of : (outcome : Sent) → Choice
+choice_of sent.Nothing = no_choice
+choice_of sent.Out = record { outcomes = sent.Out ∷ []; outputs = [] }
+choice_of sent.Lost = record { outcomes = sent.Lost ∷ []; outputs = [] }
+
+pub IsPossible-choice_of : (outcome : Sent) → IsPossible (choice_of outcome)
+IsPossible-choice_of sent.Nothing = IsPossible-no_choice
+IsPossible-choice_of sent.Out = record { sent = refl; room = omega arith; short = refl }
+IsPossible-choice_of sent.Lost = record { sent = refl; room = omega arith; short = refl }
+
+outcome_if_sent-choice_of : (sends : Bool) (outcome : Sent) → IsTrue (beq (is_sent outcome) sends) → outcome ≡ outcome_if_sent sends (choice_of outcome)
+outcome_if_sent-choice_of true sent.Nothing fits = absurd (false≢true fits)
+outcome_if_sent-choice_of true sent.Out fits = refl
+outcome_if_sent-choice_of true sent.Lost fits = refl
+outcome_if_sent-choice_of false sent.Nothing fits = refl
+outcome_if_sent-choice_of false sent.Out fits = absurd (false≢true fits)
+outcome_if_sent-choice_of false sent.Lost fits = absurd (false≢true fits)
+
+-- an enqueue sends no byte
+enqueue-sends_nothing : (loopback : Bool) (bytes : List ℕ) → not_empty (sent_by (if loopback then Other else Arrival bytes)) ≡ false
+enqueue-sends_nothing true bytes = refl
+enqueue-sends_nothing false bytes = refl
+
+nothing-sent : (outcome : Sent) (sends : Bool) → sends ≡ false → IsTrue (beq (is_sent outcome) sends) → outcome ≡ sent.Nothing
+nothing-sent sent.Nothing sends none fits = refl
+nothing-sent sent.Out false none fits = absurd (false≢true fits)
+nothing-sent sent.Out true none fits = absurd (false≢true (sym none))
+nothing-sent sent.Lost false none fits = absurd (false≢true fits)
+nothing-sent sent.Lost true none fits = absurd (false≢true (sym none))
+
+-- the known output after a call with this outcome that sent these bytes
+abbrev pub output_after : (known : Option (List ℕ)) (outcome : Sent) (bytes : List ℕ) → Option (List ℕ)
+output_after None outcome bytes = None
+output_after (Some output) outcome bytes = if is_lost outcome then None else Some (output ++ bytes)
+
+known_output-cases : (kept : Bool) (outcome : Sent) (out bytes all : List ℕ) → all ≡ bytes →
+    (if not (is_lost outcome) && kept then Some (out ++ all) else None) ≡ output_after (if kept then Some out else None) outcome bytes
+known_output-cases false sent.Nothing out bytes all same = refl
+known_output-cases false sent.Out out bytes all same = refl
+known_output-cases false sent.Lost out bytes all same = refl
+known_output-cases true sent.Nothing out bytes all same = ap (λ xs. Some (out ++ xs)) same
+known_output-cases true sent.Out out bytes all same = ap (λ xs. Some (out ++ xs)) same
+known_output-cases true sent.Lost out bytes all same = refl
+
+pub known_output-after : (trace : List Entry) (entry : Entry) →
+    known_output (entry ∷ trace) ≡ output_after (known_output trace) entry.sent (sent_by (kind fresh trace entry.act))
+known_output-after trace entry =
+    known_output-cases (none_lost trace) entry.sent (output fresh [] trace) _ _
+    (ap (λ (before : List Entry). sent_by (kind fresh before entry.act)) (append-nil trace))
+
+-- it is what the writer holds, where the writer is linked by the byte's outcome, and took what was sent
+written_bytes-after_call :
+    (known : Option (List ℕ)) (outcome : Sent) (accepted bytes : List ℕ) (old new : Output) →
+    WriterLink (λ output. Some (written_bytes output)) (outcome ∷ []) accepted old new → (IsTrue (not (is_lost outcome)) → accepted ≡ bytes) →
+    IfSome known (λ all. written_bytes old ≡ all) → IfSome (output_after known outcome bytes) (λ all. written_bytes new ≡ all)
+written_bytes-after_call None outcome accepted bytes old new link same was = tt
+written_bytes-after_call (Some all) sent.Nothing accepted bytes old new link same was =
+    link.grown refl ∙ ap (λ xs. xs ++ accepted) was ∙ ap (λ xs. all ++ xs) (same refl)
+written_bytes-after_call (Some all) sent.Out accepted bytes old new link same was =
+    link.grown refl ∙ ap (λ xs. xs ++ accepted) was ∙ ap (λ xs. all ++ xs) (same refl)
+written_bytes-after_call (Some all) sent.Lost accepted bytes old new link same was = tt
+
+-- ---- the state that a trace describes
+
+fresh-coherent : Coherent fresh
+unfolding has_bits
+fresh-coherent = record {
+  transmit = false;
+  receive = false;
+  identification = refl;
+  received = λ impossible. impossible;
+  data_ready = refl;
+  few = omega arith;
+}
+
+-- a fresh port is at the fresh session
+pub at-start :
+    (mask : ℕ) (port : Port InterruptLine EventCounts Output) →
+    port.state ≡ fresh → port.trigger ≡ fresh_interrupt_line mask → port.events ≡ no_counts → written_bytes port.out ≡ [] → IsAt (fresh_session mask) port
+unfolding has_bits masked
+at-start mask port state line counts output = record { state = state; line = line; counts = counts; output = output }
+
+-- each call of a port that started fresh is a step of its trace
+agrees : StepLaw → (trace : List Entry) → PlaceAgrees fresh trace
+agrees law trace = law fresh trace fresh-coherent (omega arith)
+
+-- a port at a session
+port-at : (before : Session) (port : Port InterruptLine EventCounts Output) → IsAt before port →
+    port ≡ record { state = described fresh before.trace; trigger = before.line; events = before.counts; out = port.out }
+port-at before port at = λ i. record { state = at.state i; trigger = at.line i; events = at.counts i; out = port.out }
+
+module _ (law : StepLaw) where
+  -- ---- a call
+
+  module _ (op : Deed) (asked : Asked) (outcome : Sent) (response : Answer) (refusal : Option LineRefused) (old new : Port InterruptLine EventCounts Output) where
+    -- the call is a step of a session, where its byte has this outcome
+    abbrev pub IsSessionStep : (before : Session) (byte_outcome : Sent) → Type 0
+    IsSessionStep before byte_outcome = (response_reply response ≡ call_reply before op byte_outcome) × IsAt (session_after_call before op byte_outcome) new
+
+    -- the same call, of the port in the state that the session's trace describes
+    abbrev pub PortStepAt : (before : Session) → Type 0
+    PortStepAt before =
+        IsCase InterruptLineLink CountsLink (λ output. Some (written_bytes output)) op asked outcome response refusal
+        (record { state = described fresh before.trace; trigger = before.line; events = before.counts; out = old.out }) new
+
+    pub port_step-at : (before : Session) → IsAt before old →
+        IsCase InterruptLineLink CountsLink (λ output. Some (written_bytes output)) op asked outcome response refusal old new → PortStepAt before
+    port_step-at before at case = subst
+        (λ (port : Port InterruptLine EventCounts Output). IsCase InterruptLineLink CountsLink (λ output. Some (written_bytes output)) op asked outcome response refusal port new)
+        (port-at before old at) case
+
+    pub session_step-from_port_step : (before : Session) → IsAt before old → PortStepAt before → IsSessionStep before outcome
+    session_step-from_port_step before at case =
+        let place = agrees law before.trace in
+        let entry : Entry = record { act = op; asked = asked; sent = outcome } in
+        let step = place.steps entry case.fits in
+        let fitted = (and_parts (asked_fits (due (described fresh before.trace) op) asked) (beq (is_sent outcome) (session_sends before op)) case.fits).0 in
+        let so = responses_of_line-from_link before.line new.trigger (due (described fresh before.trace) op) asked refusal fitted (λ h. case.refused ∙ h) case.trigger in
+        let same : asked ≡ session_responses before op = so.0 ∙ ap (responses_of_line before.line) (place.calls op) in
+        let P : Asked → Type 0 = λ a. (response_reply response ≡ response_reply (reply fresh before.trace op a outcome)) × IsAt (record {
+          trace = record { act = op; asked = a; sent = outcome } ∷ before.trace;
+          line = line_after_responses before.line a;
+          counts = after_events (events_told fresh before.trace (record { act = op; asked = a; sent = outcome })) before.counts;
+        }) new in
+        subst P same (
+          ap response_reply (case.reply ∙ step.answered),
+          record {
+            state = case.state ∙ step.goes_on;
+            line = so.1;
+            counts = sym case.events ∙ ap (λ told. after_events told before.counts) step.told;
+            output = subst (λ (known : Option (List ℕ)). IfSome known (λ all. written_bytes new.out ≡ all)) (sym (known_output-after before.trace entry))
+                (written_bytes-after_call (known_output before.trace) outcome (written op outcome) (sent_by (kind fresh before.trace op)) old.out new.out case.out step.went_out at.output);
+          },
+        )
+
+  -- ---- the lines that make a call
+
+  module _ (old new : Port InterruptLine EventCounts Output) (response : Answer) (refusal : Option LineRefused) where
+    pub write-step :
+        (offset value : ℕ) (asked : Asked) (outcome : Sent) →
+        IsCase InterruptLineLink CountsLink (λ output. Some (written_bytes output)) (Writes offset value) asked outcome response refusal old new →
+        IsSerialLineStep (line.Write offset value) (response_reply response) old new
+    write-step offset value asked outcome case before at =
+        let op = Writes offset value in
+        let here = port_step-at op asked outcome response refusal old new before at case in
+        let step = session_step-from_port_step op asked outcome response refusal old new before at here in
+        let sending = session_sends before op in
+        let same_outcome = outcome_if_sent-choice_of sending outcome (and_parts (asked_fits (due (described fresh before.trace) op) asked) (beq (is_sent outcome) sending) here.fits).1 in
+        let found = subst (IsSessionStep op asked outcome response refusal old new before) same_outcome step in
+        (choice_of outcome, IsPossible-choice_of outcome, found.0, found.1)
+
+    pub enqueue-step :
+        (bytes : List ℕ) (asked : Asked) (outcome : Sent) →
+        IsCase InterruptLineLink CountsLink (λ output. Some (written_bytes output)) (Enqueues bytes) asked outcome response refusal old new →
+        IsSerialLineStep (line.Enqueue bytes) (response_reply response) old new
+    enqueue-step bytes asked outcome case before at =
+        let op = Enqueues bytes in
+        let here = port_step-at op asked outcome response refusal old new before at case in
+        let step = session_step-from_port_step op asked outcome response refusal old new before at here in
+        let sending = session_sends before op in
+        let none = nothing-sent outcome sending (enqueue-sends_nothing (loopback fresh before.trace) bytes) (and_parts (asked_fits (due (described fresh before.trace) op) asked) (beq (is_sent outcome) sending) here.fits).1 in
+        let found = subst (IsSessionStep op asked outcome response refusal old new before) none step in
+        (no_choice, IsPossible-no_choice, found.0, found.1)
+
+    pub read-step :
+        (offset : ℕ) →
+        IsCase InterruptLineLink CountsLink (λ output. Some (written_bytes output)) (Reads offset) Nothing sent.Nothing response refusal old new →
+        IsSerialLineStep (line.Read offset) (response_reply response) old new
+    read-step offset case before at =
+        let here = port_step-at (Reads offset) Nothing sent.Nothing response refusal old new before at case in
+        let found = session_step-from_port_step (Reads offset) Nothing sent.Nothing response refusal old new before at here in
+        (no_choice, IsPossible-no_choice, found.0, found.1)
+
+-- ---- the lines that make none
+
+short-enough : (count : ℕ) → count ≤ 256 → nat_le count 256 ≡ true
+short-enough count few = grind (arith, nat_tests)
+
+-- a `so` prints what went out, or what is chosen
+output_or_chosen-written : (output : Option (List ℕ)) (bytes : List ℕ) → IfSome output (λ all. bytes ≡ all) →
+    bytes ≡ output_or_chosen output (record { outcomes = []; outputs = bytes ∷ [] })
+output_or_chosen-written None bytes was = refl
+output_or_chosen-written (Some all) bytes was = was
+
+module _ (port : Port InterruptLine EventCounts Output) where
+  pub capacity-step : IsSerialLineStep line.Capacity (digits_reply ((64 - length port.state.in_buffer) ∷ [])) port port
+  capacity-step before at =
+      (no_choice, IsPossible-no_choice, ap (λ (s : State). digits_reply ((64 - length s.in_buffer) ∷ [])) at.state, at)
+
+  pub calls-step : IsSerialLineStep line.Calls (with_lf (count_digits port.trigger.calls)) port port
+  calls-step before at =
+      (no_choice, IsPossible-no_choice, ap (λ (l : InterruptLine). with_lf (count_digits l.calls)) at.line, at)
+
+  pub events-step : IsSerialLineStep line.Events (counts_reply port.events) port port
+  events-step before at = (no_choice, IsPossible-no_choice, ap counts_reply at.counts, at)
+
+  pub output-step : IsSerialLineStep line.Output (digits_reply (written_bytes port.out)) port port
+  output-step before at =
+      let choice : Choice = record { outcomes = []; outputs = written_bytes port.out ∷ [] } in
+      let few : nat_le (length (written_bytes port.out)) 256 ≡ true = short-enough (length (written_bytes port.out)) port.out.few in
+      (choice, record { sent = refl; room = omega arith; short = both_true few refl }, ap digits_reply (output_or_chosen-written (known_output before.trace) (written_bytes port.out) at.output), at)
+
+-- ---- a restore
+
+one-accepted : (line new : InterruptLine) → (Ok tt ≡ one_response (is_call_refused line.mask line.calls)) × (line_after_call line ≡ new) →
+    (ends_refused (responses_of_line line 1) ≡ false) × (new ≡ line_after_responses line (responses_of_line line 1))
+one-accepted line new link =
+    let accepted = was_accepted (is_call_refused line.mask line.calls) link.0 in (
+      ap (λ (a : Bool). ends_refused (if a then Refused else Took)) accepted,
+      sym link.1 ∙ ap (λ (a : Bool). line_after_responses line (if a then Refused else Took)) (sym accepted),
+    )
+
+one-refused : (line : InterruptLine) (refusal : LineRefused) (response : Result (Unit {0}) LineRefused) {A B : Type 0} →
+    ((response ≡ Err refusal) × A) ⊎ (B × ⊥) → response ≡ one_response (is_call_refused line.mask line.calls) →
+    ends_refused (responses_of_line line 1) ≡ true
+one-refused line refusal response (inl h) link =
+    ap (λ (a : Bool). ends_refused (if a then Refused else Took)) (was_refused (is_call_refused line.mask line.calls) refusal (sym h.0 ∙ link))
+one-refused line refusal response (inr h) link = absurd h.1
+
+second-refused : (refusal : LineRefused) (response : Result (Unit {0}) LineRefused) (responses : List (Result (Unit {0}) LineRefused)) {A B : Type 0} →
+    ((response ≡ Err refusal) × A) ⊎ (B × ⊥) → response ≡ Err refusal
+second-refused refusal response responses (inl h) = h.0
+second-refused refusal response responses (inr h) = absurd h.1
+
+-- where all calls of a restore were accepted, no response is a refusal
+restore-accepted :
+    (line new : InterruptLine) (transmit receive : Bool) → InterruptLineLink line (all_taken (transmit_first transmit receive)) new →
+    (ends_refused (responses_of_line line (length (transmit_first transmit receive))) ≡ false)
+    × (new ≡ line_after_responses line (responses_of_line line (length (transmit_first transmit receive))))
+restore-accepted line new false false link = (refl, sym link)
+restore-accepted line new true false link = one-accepted line new link
+restore-accepted line new false true link = one-accepted line new link
+restore-accepted line new true true link =
+    let first = was_accepted (is_call_refused line.mask line.calls) link.0 in
+    let second = was_accepted (is_call_refused line.mask (line_after_call line).calls) link.1.0 in
+    let same : two_responses (is_call_refused line.mask line.calls) (is_call_refused line.mask (line_after_call line).calls) ≡ TookTook =
+    ap (λ (a : Bool). two_responses a (is_call_refused line.mask (line_after_call line).calls)) first ∙ ap (λ (b : Bool). two_responses false b) second in
+    (ap ends_refused same, sym link.1.1 ∙ ap (line_after_responses line) (sym same))
+
+-- where one was refused, the last response is a refusal
+restore-refused :
+    (line new : InterruptLine) (transmit receive : Bool) (refusal : LineRefused) (responses : List (Result (Unit {0}) LineRefused)) →
+    EndsRefused (transmit_first transmit receive) refusal responses → InterruptLineLink line responses new →
+    ends_refused (responses_of_line line (length (transmit_first transmit receive))) ≡ true
+restore-refused line new false false refusal responses ends link = absurd ends
+restore-refused line new true false refusal [] ends link = absurd ends
+restore-refused line new true false refusal (response ∷ responses) ends link = one-refused line refusal response ends link.0
+restore-refused line new false true refusal [] ends link = absurd ends
+restore-refused line new false true refusal (response ∷ responses) ends link = one-refused line refusal response ends link.0
+restore-refused line new true true refusal [] ends link = absurd ends
+restore-refused line new true true refusal (response ∷ responses) (inl h) link =
+    ap (λ (a : Bool). ends_refused (two_responses a (is_call_refused line.mask (line_after_call line).calls)))
+    (was_refused (is_call_refused line.mask line.calls) refusal (sym h.0 ∙ link.0))
+restore-refused line new true true refusal (response ∷ []) (inr h) link = absurd h.1
+restore-refused line new true true refusal (response ∷ next ∷ responses) (inr h) link =
+    let first = was_accepted (is_call_refused line.mask line.calls) (sym h.0 ∙ link.0) in
+    let refused = second-refused refusal next responses h.1 in
+    let second = was_refused (is_call_refused line.mask (line_after_call line).calls) refusal (sym refused ∙ link.1.0) in
+    ap (λ (a : Bool). ends_refused (two_responses a (is_call_refused line.mask (line_after_call line).calls))) first
+    ∙ ap (λ (b : Bool). ends_refused (if b then TookRefused else TookTook)) second
+
+module _ (law : StepLaw) (old new : Port InterruptLine EventCounts Output) where
+  -- a restore whose calls were accepted
+  pub restore-step :
+      new.state ≡ old.state → InterruptLineLink old.trigger (all_taken (restore_calls old.state)) new.trigger → new.events ≡ old.events → new.out ≡ old.out →
+      IsSerialLineStep line.Restore (with_lf (codes "ok")) old new
+  restore-step state link events out before at =
+      let calls = ap restore_calls at.state ∙ (agrees law before.trace).restoring in
+      let linked = subst (λ calls. InterruptLineLink before.line (all_taken calls) new.trigger) calls
+      (subst (λ (l : InterruptLine). InterruptLineLink l (all_taken (restore_calls old.state)) new.trigger) at.line link) in
+      let accepted = restore-accepted before.line new.trigger _ _ linked in
+      let after = line_after_responses before.line (responses_of_line before.line (length (restore_calls_due fresh before.trace))) in
+      let P : Bool → Type 0 = λ refused. (with_lf (codes "ok") ≡ with_lf (if refused then codes "trigger" else codes "ok"))
+      × IsAt (if refused then before else record before { line = after }) new in
+      let found : P (is_restore_refused before) = subst P (sym accepted.0) (
+        refl,
+        record {
+          state = state ∙ at.state;
+          line = accepted.1;
+          counts = events ∙ at.counts;
+          output = subst (λ (o : Output). IfSome (known_output before.trace) (λ all. written_bytes o ≡ all)) (sym out) at.output;
+        },
+      ) in
+      (no_choice, IsPossible-no_choice, found.0, found.1)
+
+-- a restore one of whose calls was refused
+pub refused-restore-step :
+    (law : StepLaw) (port : Port InterruptLine EventCounts Output) (line_after_calls : InterruptLine) (error : Error LineRefused) → length port.state.in_buffer ≤ 64 →
+    RefusesRestore InterruptLineLink port.state error port.trigger line_after_calls →
+    IsSerialLineStep line.Restore (response_reply (failure error)) port port
+refused-restore-step law port after FullFifo few refuses = absurd (omega (arith, refuses.0))
+refused-restore-step law port after (IOError fault) few refuses = absurd refuses
+refused-restore-step law port after Memory few refuses = absurd refuses
+refused-restore-step law port after (Trigger refusal) few refuses = λ before at.
+    let calls = ap restore_calls at.state ∙ (agrees law before.trace).restoring in
+    let responses = refuses.1.0 in
+    let ends = subst (λ calls. EndsRefused calls refusal responses) calls refuses.1.1 in
+    let linked = subst (λ (l : InterruptLine). InterruptLineLink l responses after) at.line refuses.1.2 in
+    let refused : is_restore_refused before ≡ true = restore-refused before.line after _ _ refusal responses ends linked in (
+      no_choice,
+      IsPossible-no_choice,
+      ap (λ (b : Bool). with_lf (if b then codes "trigger" else codes "ok")) (sym refused),
+      subst (λ (b : Bool). IsAt (if b then before else record before { line = line_after_responses before.line (responses_of_line before.line (length (restore_calls_due fresh before.trace))) }) port) (sym refused) at,
+    )

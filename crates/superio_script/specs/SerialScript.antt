@@ -1,0 +1,184 @@
+-- The serial port's part of a script: the replies to its lines. They depend on these lines alone, through the trace of
+-- the port's calls.
+use Rattle.std.specs.Prelude.{ℕ, zero, suc, ◌+◌, ◌-◌, ◌≤◌, Bool, nat_le, if◌then◌else◌, List, [], ◌∷◌, length, drop, codes, Option, Some, None, IsTrue}
+use Rattle.std.specs.List.{list_all}
+use Rattle.vm_superio.specs.declared.run.Asked.{Asked}
+use Rattle.vm_superio.specs.declared.run.Asked.TheVariants.{Nothing, Took, Refused, TookTook, TookRefused}
+use Rattle.vm_superio.specs.declared.run.Sent.{Sent}
+use Rattle.vm_superio.specs.declared.run.Sent.TheVariants as sent
+use Rattle.vm_superio.specs.State.{fresh, not_empty}
+use Rattle.vm_superio.specs.Acts.{Deed, Reads, Writes, Enqueues, Entry, is_sent, ends_refused}
+use Rattle.vm_superio.specs.Meaning.{sent_by}
+use Rattle.vm_superio.specs.History.{kind, held}
+use Rattle.vm_superio.specs.Interrupts.{calls_due, restore_calls_due}
+use Rattle.vm_superio.specs.Pasts.{none_lost}
+use Rattle.vm_superio.specs.Replies.{reply, output, events_told}
+use Rattle.superio_script.specs.InterruptLine.{InterruptLine, fresh_interrupt_line, is_call_refused, line_after_call}
+use Rattle.superio_script.specs.Counts.{EventCounts, no_counts, after_events}
+use Rattle.superio_script.specs.Reply.{with_lf, response_reply, digits_reply, count_digits, counts_reply}
+use Rattle.superio_script.specs.declared.command.SerialLine.{SerialLine}
+use Rattle.superio_script.specs.declared.command.SerialLine.TheVariants as serial
+
+-- ---- what the script leaves open
+
+-- what a script does not determine: whether the writer takes a byte, and what it holds once it failed to take one
+pub record Choice : Type 0 where
+  -- what becomes of each byte that the port sends to the writer, in order. Where the list ends, bytes are lost
+  pub outcomes : List Sent
+  -- the bytes that each `so` after a loss prints, in order. Where the list ends, it prints none
+  pub outputs : List (List ℕ)
+
+-- how many bytes go out before the first one is lost
+abbrev pub bytes_before_loss : (outcomes : List Sent) → ℕ
+bytes_before_loss (sent.Out ∷ outcomes) = 1 + bytes_before_loss outcomes
+bytes_before_loss _ = 0
+
+-- at most 256 bytes
+abbrev pub is_short : (bytes : List ℕ) → Bool
+is_short bytes = nat_le (length bytes) 256
+
+-- the possible choices: each byte goes out or is lost; one of the first 257 is lost, since the board's output has room
+-- for 256; and no `so` prints more than these
+pub record IsPossible (choice : Choice) : Type 0 where
+  pub sent : IsTrue (list_all is_sent choice.outcomes)
+  pub room : bytes_before_loss choice.outcomes ≤ 256
+  pub short : IsTrue (list_all is_short choice.outputs)
+
+abbrev pub first_outcome : (outcomes : List Sent) → Sent
+first_outcome [] = sent.Lost
+first_outcome (outcome ∷ outcomes) = outcome
+
+abbrev pub first_output : (outputs : List (List ℕ)) → List ℕ
+first_output [] = []
+first_output (bytes ∷ outputs) = bytes
+
+-- ---- a session
+
+-- a port that started fresh, and its objects, between two lines
+pub record Session : Type 0 where
+  -- the trace of its calls, newest first. A restore adds no entry, since a restored port goes on as the old one
+  pub trace : List Entry
+  pub line : InterruptLine
+  pub counts : EventCounts
+
+-- a port without a call so far. The mask names the calls that its interrupt line refuses
+abbrev pub fresh_session : (mask : ℕ) → Session
+fresh_session mask = record { trace = []; line = fresh_interrupt_line mask; counts = no_counts }
+
+-- the bytes that went out, which are not known once a byte was lost
+abbrev pub known_output : (trace : List Entry) → Option (List ℕ)
+known_output trace = if none_lost trace then Some (output fresh [] trace) else None
+
+-- ---- a call of the port
+
+-- the interrupt line's responses to so many trigger calls, of which a refusal is the last
+abbrev pub responses_of_line : (line : InterruptLine) (calls : ℕ) → Asked
+responses_of_line line zero = Nothing
+responses_of_line line (suc zero) = if is_call_refused line.mask line.calls then Refused else Took
+responses_of_line line (suc (suc more)) =
+    if is_call_refused line.mask line.calls then Refused
+    else (if is_call_refused line.mask (line_after_call line).calls then TookRefused else TookTook)
+
+-- the interrupt line after calls with these responses
+abbrev pub line_after_responses : (line : InterruptLine) (responses : Asked) → InterruptLine
+line_after_responses line Nothing = line
+line_after_responses line Took = line_after_call line
+line_after_responses line Refused = line_after_call line
+line_after_responses line TookTook = line_after_call (line_after_call line)
+line_after_responses line TookRefused = line_after_call (line_after_call line)
+
+abbrev pub session_responses : (session : Session) (op : Deed) → Asked
+session_responses session op = responses_of_line session.line (calls_due fresh session.trace op)
+
+-- the trace entry of a call, given the outcome of its byte
+abbrev pub session_entry : (session : Session) (op : Deed) (outcome : Sent) → Entry
+session_entry session op outcome = record { act = op; asked = session_responses session op; sent = outcome }
+
+-- the reply to the call, and the session after it
+abbrev pub call_reply : (session : Session) (op : Deed) (outcome : Sent) → List ℕ
+call_reply session op outcome =
+    response_reply (reply fresh session.trace op (session_responses session op) outcome)
+
+abbrev pub session_after_call : (session : Session) (op : Deed) (outcome : Sent) → Session
+session_after_call session op outcome = record {
+  trace = session_entry session op outcome ∷ session.trace;
+  line = line_after_responses session.line (session_responses session op);
+  counts = after_events (events_told fresh session.trace (session_entry session op outcome)) session.counts;
+}
+
+-- a call sends a byte to the writer
+abbrev pub session_sends : (session : Session) (op : Deed) → Bool
+session_sends session op = not_empty (sent_by (kind fresh session.trace op))
+
+-- the outcome of the byte that a write sends, if it sends one, and the choice for what follows. No other call sends one
+abbrev pub outcome_if_sent : (sends : Bool) (choice : Choice) → Sent
+outcome_if_sent sends choice = if sends then first_outcome choice.outcomes else sent.Nothing
+
+abbrev pub choice_if_sent : (sends : Bool) (choice : Choice) → Choice
+choice_if_sent sends choice = record choice { outcomes = if sends then drop 1 choice.outcomes else choice.outcomes }
+
+abbrev pub session_write_outcome : (session : Session) (choice : Choice) (offset value : ℕ) → Sent
+session_write_outcome session choice offset value =
+    outcome_if_sent (session_sends session (Writes offset value)) choice
+
+-- ---- a restore
+
+-- the interrupt line's responses to the calls of a restore, and whether they end the restore with a refusal
+abbrev pub restore_responses : (session : Session) → Asked
+restore_responses session = responses_of_line session.line (length (restore_calls_due fresh session.trace))
+
+abbrev pub is_restore_refused : (session : Session) → Bool
+is_restore_refused session = ends_refused (restore_responses session)
+
+-- a restore keeps the trace and the counts, and its calls count. A refused one leaves everything as it was
+abbrev pub session_after_restore : (session : Session) → Session
+session_after_restore session =
+    if is_restore_refused session then session
+    else record session { line = line_after_responses session.line (restore_responses session) }
+
+-- ---- the output
+
+-- the bytes that went out, or the chosen ones where they are not known, and the choice for what follows
+abbrev pub output_or_chosen : (known : Option (List ℕ)) (choice : Choice) → List ℕ
+output_or_chosen (Some bytes) choice = bytes
+output_or_chosen None choice = first_output choice.outputs
+
+abbrev pub choice_after_output : (known : Option (List ℕ)) (choice : Choice) → Choice
+choice_after_output (Some bytes) choice = choice
+choice_after_output None choice = record choice { outputs = drop 1 choice.outputs }
+
+-- ---- the lines
+
+-- the reply to a line, the session after it, and the choice for what follows
+abbrev pub serial_reply : (session : Session) (choice : Choice) (line : SerialLine) → List ℕ
+serial_reply session choice (serial.Read offset) = call_reply session (Reads offset) sent.Nothing
+serial_reply session choice (serial.Write offset value) =
+    call_reply session (Writes offset value) (session_write_outcome session choice offset value)
+serial_reply session choice (serial.Enqueue bytes) = call_reply session (Enqueues bytes) sent.Nothing
+serial_reply session choice serial.Capacity = digits_reply ((64 - length (held fresh session.trace)) ∷ [])
+serial_reply session choice serial.Restore =
+    with_lf (if is_restore_refused session then codes "trigger" else codes "ok")
+serial_reply session choice serial.Output = digits_reply (output_or_chosen (known_output session.trace) choice)
+serial_reply session choice serial.Calls = with_lf (count_digits session.line.calls)
+serial_reply session choice serial.Events = counts_reply session.counts
+
+abbrev pub session_after_line : (session : Session) (choice : Choice) (line : SerialLine) → Session
+session_after_line session choice (serial.Read offset) = session_after_call session (Reads offset) sent.Nothing
+session_after_line session choice (serial.Write offset value) =
+    session_after_call session (Writes offset value) (session_write_outcome session choice offset value)
+session_after_line session choice (serial.Enqueue bytes) = session_after_call session (Enqueues bytes) sent.Nothing
+session_after_line session choice serial.Restore = session_after_restore session
+session_after_line session choice _ = session
+
+abbrev pub choice_after_line : (session : Session) (choice : Choice) (line : SerialLine) → Choice
+choice_after_line session choice (serial.Write offset value) =
+    choice_if_sent (session_sends session (Writes offset value)) choice
+choice_after_line session choice serial.Output = choice_after_output (known_output session.trace) choice
+choice_after_line session choice _ = choice
+
+-- the replies to lines, in order
+abbrev pub serial_replies : (session : Session) (choice : Choice) (lines : List SerialLine) → List (List ℕ)
+serial_replies session choice [] = []
+serial_replies session choice (line ∷ lines) =
+    serial_reply session choice line
+    ∷ serial_replies (session_after_line session choice line) (choice_after_line session choice line) lines
