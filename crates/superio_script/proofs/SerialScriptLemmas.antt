@@ -1,7 +1,7 @@
 -- A line of the serial port is a step of its session.
 use Rattle.std.proofs.Common.{◌≡◌, ℕ, zero, suc, ◌-◌, ◌≤◌, Bool, true, false, List, [], ◌∷◌, ◌++◌, length, Option, Some, None, Result, Ok, Err, refl, ap, sym, ◌∙◌, subst, arith, append-nil, inl, inr}
 use Rattle.std.specs.Cmp.Derive.{both_true}
-use Rattle.std.specs.Prelude.{◌⊎◌, IsTrue, IsSome, IfSome, if◌then◌else◌, nat_le, not, codes, ◌&&◌}
+use Rattle.std.specs.Prelude.{◌⊎◌, IsTrue, IsSome, IfSome, if◌then◌else◌, nat_le, not, codes, fold, ◌&&◌}
 use Rattle.std.specs.Bool.{beq}
 use Rattle.std.proofs.lemmas.Bool.{and_parts, false≢true}
 use Rattle.std.proofs.lemmas.Bool.Decides.{nat_tests}
@@ -28,7 +28,8 @@ use Rattle.vm_superio.specs.Restoring.{all_taken, EndsRefused, RefusesRestore}
 use Rattle.vm_superio.specs.declared.serial.errors.Error.{Error}
 use Rattle.vm_superio.specs.declared.serial.errors.Error.TheVariants.{Trigger, IOError, FullFifo, Memory}
 use Rattle.superio_script.specs.InterruptLine.{InterruptLine, fresh_interrupt_line, InterruptLineLink, is_call_refused, line_after_call}
-use Rattle.superio_script.specs.Counts.{EventCounts, no_counts, CountsLink, after_events}
+use Rattle.superio_script.specs.Counting.{Folds}
+use Rattle.superio_script.specs.Counts.{EventCounts, no_counts, counts_after_event}
 use Rattle.superio_script.specs.Output.{written_bytes}
 use Rattle.superio_script.specs.Reply.{with_lf, response_reply, digits_reply, count_digits, counts_reply}
 use Rattle.superio_script.specs.SerialScript.{Session, fresh_session, known_output, Choice, IsPossible, responses_of_line, line_after_responses, session_responses, session_sends, outcome_if_sent, call_reply, session_after_call, output_or_chosen, is_restore_refused}
@@ -207,13 +208,13 @@ module _ (law : StepLaw) where
     -- the same call, of the port in the state that the session's trace describes
     abbrev pub PortStepAt : (before : Session) → Type 0
     PortStepAt before =
-        IsCase InterruptLineLink CountsLink (λ output. Some (written_bytes output)) op asked outcome response refusal
+        IsCase InterruptLineLink (Folds counts_after_event) (λ output. Some (written_bytes output)) op asked outcome response refusal
         (record { state = described fresh before.trace; trigger = before.line; events = before.counts; out = old.out }) new
 
     pub port_step-at : (before : Session) → IsAt before old →
-        IsCase InterruptLineLink CountsLink (λ output. Some (written_bytes output)) op asked outcome response refusal old new → PortStepAt before
+        IsCase InterruptLineLink (Folds counts_after_event) (λ output. Some (written_bytes output)) op asked outcome response refusal old new → PortStepAt before
     port_step-at before at case = subst
-        (λ (port : Port InterruptLine EventCounts Output). IsCase InterruptLineLink CountsLink (λ output. Some (written_bytes output)) op asked outcome response refusal port new)
+        (λ (port : Port InterruptLine EventCounts Output). IsCase InterruptLineLink (Folds counts_after_event) (λ output. Some (written_bytes output)) op asked outcome response refusal port new)
         (port-at before old at) case
 
     pub session_step-from_port_step : (before : Session) → IsAt before old → PortStepAt before → IsSessionStep before outcome
@@ -227,14 +228,14 @@ module _ (law : StepLaw) where
         let P : Asked → Type 0 = λ a. (response_reply response ≡ response_reply (reply fresh before.trace op a outcome)) × IsAt (record {
           trace = record { act = op; asked = a; sent = outcome } ∷ before.trace;
           line = line_after_responses before.line a;
-          counts = after_events (events_told fresh before.trace (record { act = op; asked = a; sent = outcome })) before.counts;
+          counts = fold counts_after_event before.counts (events_told fresh before.trace (record { act = op; asked = a; sent = outcome }));
         }) new in
         subst P same (
           ap response_reply (case.reply ∙ step.answered),
           record {
             state = case.state ∙ step.goes_on;
             line = so.1;
-            counts = sym case.events ∙ ap (λ told. after_events told before.counts) step.told;
+            counts = case.events.folds ∙ ap (fold counts_after_event before.counts) step.told;
             output = subst (λ (known : Option (List ℕ)). IfSome known (λ all. written_bytes new.out ≡ all)) (sym (known_output-after before.trace entry))
                 (written_bytes-after_call (known_output before.trace) outcome (written op outcome) (sent_by (kind fresh before.trace op)) old.out new.out case.out step.went_out at.output);
           },
@@ -245,7 +246,7 @@ module _ (law : StepLaw) where
   module _ (old new : Port InterruptLine EventCounts Output) (response : Answer) (refusal : Option LineRefused) where
     pub write-step :
         (offset value : ℕ) (asked : Asked) (outcome : Sent) →
-        IsCase InterruptLineLink CountsLink (λ output. Some (written_bytes output)) (Writes offset value) asked outcome response refusal old new →
+        IsCase InterruptLineLink (Folds counts_after_event) (λ output. Some (written_bytes output)) (Writes offset value) asked outcome response refusal old new →
         IsSerialLineStep (line.Write offset value) (response_reply response) old new
     write-step offset value asked outcome case before at =
         let op = Writes offset value in
@@ -258,7 +259,7 @@ module _ (law : StepLaw) where
 
     pub enqueue-step :
         (bytes : List ℕ) (asked : Asked) (outcome : Sent) →
-        IsCase InterruptLineLink CountsLink (λ output. Some (written_bytes output)) (Enqueues bytes) asked outcome response refusal old new →
+        IsCase InterruptLineLink (Folds counts_after_event) (λ output. Some (written_bytes output)) (Enqueues bytes) asked outcome response refusal old new →
         IsSerialLineStep (line.Enqueue bytes) (response_reply response) old new
     enqueue-step bytes asked outcome case before at =
         let op = Enqueues bytes in
@@ -271,7 +272,7 @@ module _ (law : StepLaw) where
 
     pub read-step :
         (offset : ℕ) →
-        IsCase InterruptLineLink CountsLink (λ output. Some (written_bytes output)) (Reads offset) Nothing sent.Nothing response refusal old new →
+        IsCase InterruptLineLink (Folds counts_after_event) (λ output. Some (written_bytes output)) (Reads offset) Nothing sent.Nothing response refusal old new →
         IsSerialLineStep (line.Read offset) (response_reply response) old new
     read-step offset case before at =
         let here = port_step-at (Reads offset) Nothing sent.Nothing response refusal old new before at case in

@@ -1,6 +1,6 @@
 -- The serial port's part of a script: the replies to its lines. They depend on these lines alone, through the trace of
 -- the port's calls.
-use Rattle.std.specs.Prelude.{ℕ, zero, suc, ◌+◌, ◌-◌, ◌≤◌, Bool, nat_le, if◌then◌else◌, List, [], ◌∷◌, length, drop, codes, Option, Some, None, IsTrue}
+use Rattle.std.specs.Prelude.{ℕ, zero, suc, ◌+◌, ◌-◌, ◌≤◌, Bool, nat_le, if◌then◌else◌, List, [], ◌∷◌, length, drop, fold, codes, Option, Some, None, IsTrue}
 use Rattle.std.specs.List.{list_all}
 use Rattle.vm_superio.specs.declared.run.Asked.{Asked}
 use Rattle.vm_superio.specs.declared.run.Asked.TheVariants.{Nothing, Took, Refused, TookTook, TookRefused}
@@ -14,7 +14,7 @@ use Rattle.vm_superio.specs.Interrupts.{calls_due, restore_calls_due}
 use Rattle.vm_superio.specs.Pasts.{none_lost}
 use Rattle.vm_superio.specs.Replies.{reply, output, events_told}
 use Rattle.superio_script.specs.InterruptLine.{InterruptLine, fresh_interrupt_line, is_call_refused, line_after_call}
-use Rattle.superio_script.specs.Counts.{EventCounts, no_counts, after_events}
+use Rattle.superio_script.specs.Counts.{EventCounts, no_counts, counts_after_event}
 use Rattle.superio_script.specs.Reply.{with_lf, response_reply, digits_reply, count_digits, counts_reply}
 use Rattle.superio_script.specs.declared.command.SerialLine.{SerialLine}
 use Rattle.superio_script.specs.declared.command.SerialLine.TheVariants as serial
@@ -103,7 +103,8 @@ abbrev pub session_after_call : (session : Session) (op : Deed) (outcome : Sent)
 session_after_call session op outcome = record {
   trace = session_entry session op outcome ∷ session.trace;
   line = line_after_responses session.line (session_responses session op);
-  counts = after_events (events_told fresh session.trace (session_entry session op outcome)) session.counts;
+  counts =
+      fold counts_after_event session.counts (events_told fresh session.trace (session_entry session op outcome));
 }
 
 -- a call sends a byte to the writer

@@ -103,13 +103,14 @@ impl Counts {
 }
 
 impl SerialEvents for Counts {
-    ghost use Rattle.superio_script.specs.Counts.{CountsLink, CountsLink-append};
+    ghost use Rattle.superio_script.specs.Counting.{Folds, Folds-nil, Folds-append};
+    ghost use Rattle.superio_script.specs.Counts.{counts_after_event};
 
-    ghost link = { CountsLink };
+    ghost link = { Folds counts_after_event };
 
-    ghost no_event = { λ x y. (λ same. same, λ same. same) };
+    ghost no_event = { Folds-nil };
 
-    ghost joined = { CountsLink-append };
+    ghost joined = { Folds-append };
 
     fn buffer_read(&mut self) {
         count(&mut self.buffer_reads);
@@ -129,13 +130,14 @@ impl SerialEvents for Counts {
 }
 
 impl RtcEvents for Counts {
-    ghost use Rattle.superio_script.specs.Counts.{ClockCountsLink, ClockCountsLink-append};
+    ghost use Rattle.superio_script.specs.Counting.{Folds, Folds-nil, Folds-append};
+    ghost use Rattle.superio_script.specs.Counts.{counts_after_clock_event};
 
-    ghost link = { ClockCountsLink };
+    ghost link = { Folds counts_after_clock_event };
 
-    ghost no_event = { λ x y. (λ same. same, λ same. same) };
+    ghost no_event = { Folds-nil };
 
-    ghost joined = { ClockCountsLink-append };
+    ghost joined = { Folds-append };
 
     fn invalid_read(&mut self) {
         count(&mut self.invalid_reads);

@@ -1,5 +1,6 @@
 //! What a line is replied, with its LF.
-ghost use Rattle.std.specs.Prelude.{◌≡◌, ◌<◌, ◌≤◌, [], ◌∷◌, length};
+ghost use Rattle.std.specs.Prelude.{◌≡◌, ◌+◌, ◌*◌, ◌<◌, ◌≤◌, [], ◌∷◌, ◌++◌, length};
+ghost use Rattle.hex.specs.Hex.{encode_lower};
 ghost use Rattle.superio_script.specs.Reply.{with_lf, digits_reply, count_digits, counts_reply};
 
 use crate::counts::Counts;
@@ -19,15 +20,28 @@ pub(crate) fn word(text: &[u8]) -> Reply
     reply
 }
 
+/// Appends two digits for each byte.
+fn push_digits(reply: &mut Reply, bytes: &[u8])
+    requires few { length bytes.now ≤ 256 }
+    requires room { length reply.old.items + 2 * length bytes.now ≤ 513 }
+    ensures digits { reply.new.items ≡ reply.old.items ++ encode_lower bytes.now }
+    ensures longer { length reply.new.items ≡ length reply.old.items + 2 * length bytes.now }
+{
+    let mut digits = [0; 512];
+    let digits = &mut digits[..2 * bytes.len()];
+    hex::encode_to_slice(bytes, digits).unwrap();
+    reply.try_extend_from_slice(digits).unwrap();
+}
+
 /// Two digits for each byte, and LF.
 pub(crate) fn digits(bytes: &[u8]) -> Reply
     requires { length bytes.now ≤ 256 }
     ensures { result.items ≡ digits_reply bytes.now }
 {
-    let mut digits = [0; 512];
-    let digits = &mut digits[..2 * bytes.len()];
-    hex::encode_to_slice(bytes, digits).unwrap();
-    word(digits)
+    let mut reply = Reply::new();
+    push_digits(&mut reply, bytes);
+    reply.push(b'\n');
+    reply
 }
 
 /// The byte as two digits, and LF.
@@ -37,20 +51,11 @@ pub(crate) fn byte(value: u8) -> Reply
     digits(&[value])
 }
 
-/// Sixteen digits of a count.
-fn sixteen(count: u64) -> [u8; 16]
-    ensures { result ≡ count_digits count }
-{
-    let mut digits = [0; 16];
-    hex::encode_to_slice(count.to_be_bytes(), &mut digits).unwrap();
-    digits
-}
-
-/// A count as sixteen digits, and LF.
+/// The count as sixteen digits, and LF.
 pub(crate) fn number(count: u64) -> Reply
     ensures { result.items ≡ with_lf (count_digits count) }
 {
-    word(&sixteen(count))
+    digits(&count.to_be_bytes())
 }
 
 /// The counts of a serial port's events, and LF.
@@ -58,21 +63,13 @@ pub(crate) fn event_counts(counts: &Counts) -> Reply
     ensures { result.items ≡ counts_reply counts.now }
 {
     let mut reply = Reply::new();
-    reply
-        .try_extend_from_slice(&sixteen(counts.buffer_read_count()))
-        .unwrap();
+    push_digits(&mut reply, &counts.buffer_read_count().to_be_bytes());
     reply.push(b' ');
-    reply
-        .try_extend_from_slice(&sixteen(counts.out_byte_count()))
-        .unwrap();
+    push_digits(&mut reply, &counts.out_byte_count().to_be_bytes());
     reply.push(b' ');
-    reply
-        .try_extend_from_slice(&sixteen(counts.tx_lost_byte_count()))
-        .unwrap();
+    push_digits(&mut reply, &counts.tx_lost_byte_count().to_be_bytes());
     reply.push(b' ');
-    reply
-        .try_extend_from_slice(&sixteen(counts.in_buffer_empty_count()))
-        .unwrap();
+    push_digits(&mut reply, &counts.in_buffer_empty_count().to_be_bytes());
     reply.push(b'\n');
     reply
 }

@@ -1,0 +1,24 @@
+-- What an events object that folds its events states as its `link`, with the two laws that an events trait asks for. It
+-- serves any event type: give one function that says what one event does to the object's value.
+use Rattle.std.specs.Prelude.{◌≡◌, ◌↔◌, List, [], ◌++◌, fold}
+use Rattle.std.proofs.Common.{sym, ap, ◌∙◌}
+use Rattle.std.proofs.lemmas.List.Sums.{fold-append}
+
+-- the new value is the old one after a step for each event, in order
+pub record Folds
+    {State Event : Type 0} (step : State → Event → State) (old : State) (events : List Event) (new : State) :
+    Type 0 where
+  pub folds : new ≡ fold step old events
+
+-- the law `no_event`: no event leaves the value as it is, and relates no other values
+pub Folds-nil :
+    {State Event : Type 0} {step : State → Event → State} (old new : State) → Folds step old [] new ↔ (old ≡ new)
+Folds-nil old new = (λ stays. sym stays.folds, λ same. record { folds = sym same })
+
+-- the law `joined`: events that follow each other are one list of events
+pub Folds-append :
+    {State Event : Type 0} {step : State → Event → State} (old between new : State) (first second : List Event) →
+    Folds step old first between → Folds step between second new → Folds step old (first ++ second) new
+Folds-append {step = step} old between new first second to_between to_new = record {
+  folds = to_new.folds ∙ ap (λ state. fold step state second) to_between.folds ∙ sym (fold-append step old first second);
+}
