@@ -1,11 +1,10 @@
 -- The form of a line: what its fields ask for.
-use Rattle.std.specs.Prelude.{◌≡◌, ℕ, ◌/◌, ◌&&◌, nat_le, List, [], ◌∷◌, length, if◌then◌else◌, codes, Option, Some, None, Result, Ok}
+use Rattle.std.specs.Prelude.{◌≡◌, ℕ, ◌/◌, ◌&&◌, nat_le, List, [], ◌∷◌, length, if◌then◌else◌, codes, Option, Some, None}
 use Rattle.std.specs.Option.{option_map, option_and_then}
 use Rattle.std.specs.Result.{result_ok}
 use Rattle.std.specs.Str.{bytes_eq}
-use Rattle.std.specs.Int.{w16, w32, w64, from_be_bytes}
-use Rattle.hex.specs.Hex.{decode_of, decode_sized}
-use Rattle.hex.specs.declared.error.FromHexError.{FromHexError}
+use Rattle.std.specs.Int.{Width, w8, w16, w32, w64, byte_len, from_be_bytes}
+use Rattle.hex.specs.Hex.{decode_sized}
 use Rattle.superio_script.specs.Splitting.{fields_of}
 use Rattle.superio_script.specs.declared.command.Command.{Command}
 use Rattle.superio_script.specs.declared.command.Command.TheVariants.{Serial, Clock, Controller}
@@ -20,30 +19,15 @@ use Rattle.superio_script.specs.declared.command.ControllerLine.TheVariants as c
 abbrev pub bytes_of : (count : ℕ) (field : List ℕ) → Option (List ℕ)
 bytes_of count field = result_ok (decode_sized field count)
 
--- the byte of a list of one
-abbrev pub only_byte : (decoded : Result (List ℕ) FromHexError) → Option ℕ
-only_byte (Ok (byte ∷ [])) = Some byte
-only_byte _ = None
-
--- a byte of two digits
-abbrev pub byte_of : (field : List ℕ) → Option ℕ
-byte_of field = only_byte (decode_sized field 1)
-
--- numbers of sixteen, four and eight digits, the most significant digit first
-abbrev pub number64_of : (field : List ℕ) → Option ℕ
-number64_of field = option_map (from_be_bytes w64) (bytes_of 8 field)
-
-abbrev pub number16_of : (field : List ℕ) → Option ℕ
-number16_of field = option_map (from_be_bytes w16) (bytes_of 2 field)
-
-abbrev pub number32_of : (field : List ℕ) → Option ℕ
-number32_of field = option_map (from_be_bytes w32) (bytes_of 4 field)
+-- a number of this width: two digits for each of its bytes, the most significant digit first
+abbrev pub number_of : (width : Width) (field : List ℕ) → Option ℕ
+number_of width field = option_map (from_be_bytes width) (bytes_of (byte_len width) field)
 
 -- 1 to 128 bytes, of two digits each
 abbrev pub arrival_of : (field : List ℕ) → Option (List ℕ)
 arrival_of field =
     let count = length field / 2 in
-    if nat_le 1 count && nat_le count 128 then result_ok (decode_of field) else None
+    if nat_le 1 count && nat_le count 128 then bytes_of count field else None
 
 -- ---- the fields after a line's name
 
@@ -53,13 +37,13 @@ no_field _ = None
 
 -- OO
 abbrev pub one_byte : (fields : List (List ℕ)) → Option ℕ
-one_byte (field ∷ []) = byte_of field
+one_byte (field ∷ []) = number_of w8 field
 one_byte _ = None
 
 -- OO VV
 abbrev pub two_bytes : (fields : List (List ℕ)) → Option (ℕ × ℕ)
 two_bytes (first ∷ second ∷ []) =
-    option_and_then (λ a. option_map (λ b. (a, b)) (byte_of second)) (byte_of first)
+    option_and_then (λ a. option_map (λ b. (a, b)) (number_of w8 second)) (number_of w8 first)
 two_bytes _ = None
 
 -- nothing, or HH..
@@ -71,19 +55,19 @@ bytes_or_none _ = None
 -- NNNNNNNNNNNNNNNN OOOO
 abbrev pub moment_and_offset : (fields : List (List ℕ)) → Option (ℕ × ℕ)
 moment_and_offset (first ∷ second ∷ []) =
-    option_and_then (λ moment. option_map (λ offset. (moment, offset)) (number16_of second)) (number64_of first)
+    option_and_then (λ moment. option_map (λ offset. (moment, offset)) (number_of w16 second)) (number_of w64 first)
 moment_and_offset _ = None
 
 -- NNNNNNNNNNNNNNNN OOOO VVVVVVVV
 abbrev pub moment_offset_and_value : (fields : List (List ℕ)) → Option (ℕ × ℕ × ℕ)
 moment_offset_and_value (first ∷ second ∷ third ∷ []) =
     option_and_then (λ moment. option_and_then (λ offset. option_map (λ value. (moment, offset, value))
-    (number32_of third)) (number16_of second)) (number64_of first)
+    (number_of w32 third)) (number_of w16 second)) (number_of w64 first)
 moment_offset_and_value _ = None
 
 -- MMMMMMMMMMMMMMMM
 abbrev pub one_number64 : (fields : List (List ℕ)) → Option ℕ
-one_number64 (field ∷ []) = number64_of field
+one_number64 (field ∷ []) = number_of w64 field
 one_number64 _ = None
 
 -- ---- the forms

@@ -1,9 +1,8 @@
 //! The form of a line.
 ghost use Rattle.std.specs.Prelude.{◌≡◌};
-ghost use Rattle.std.specs.Option.{option_map};
-ghost use Rattle.std.specs.Int.{from_be_bytes, w16, w32, w64};
+ghost use Rattle.std.specs.Int.{w8, w16, w32, w64};
 ghost use Rattle.superio_script.specs.Splitting.{remaining_fields};
-ghost use Rattle.superio_script.specs.Command.{bytes_of, byte_of, number64_of, number16_of, number32_of, arrival_of, no_field, one_byte, two_bytes, bytes_or_none, moment_and_offset, moment_offset_and_value, one_number64, line_of_name, command_of_name, command_of, mask_of};
+ghost use Rattle.superio_script.specs.Command.{bytes_of, number_of, arrival_of, no_field, one_byte, two_bytes, bytes_or_none, moment_and_offset, moment_offset_and_value, one_number64, line_of_name, command_of_name, command_of, mask_of};
 
 use crate::splitting::Fields;
 use arrayvec::ArrayVec;
@@ -124,30 +123,28 @@ fn bytes<const N: usize>(field: &[u8]) -> Option<[u8; N]>
 
 /// The byte of a field of two digits.
 fn byte(field: &[u8]) -> Option<u8>
-    ensures { result ≡ byte_of field.now }
+    ensures { result ≡ number_of w8 field.now }
 {
-    let mut bytes = [0];
-    hex::decode_to_slice(field, &mut bytes).ok()?;
-    Some(bytes[0])
+    Some(u8::from_be_bytes(bytes(field)?))
 }
 
 /// The number of a field of sixteen digits.
 fn number64(field: &[u8]) -> Option<u64>
-    ensures { result ≡ number64_of field.now }
+    ensures { result ≡ number_of w64 field.now }
 {
     Some(u64::from_be_bytes(bytes(field)?))
 }
 
 /// The number of a field of four digits.
 fn number16(field: &[u8]) -> Option<u16>
-    ensures { result ≡ number16_of field.now }
+    ensures { result ≡ number_of w16 field.now }
 {
     Some(u16::from_be_bytes(bytes(field)?))
 }
 
 /// The number of a field of eight digits.
 fn number32(field: &[u8]) -> Option<u32>
-    ensures { result ≡ number32_of field.now }
+    ensures { result ≡ number_of w32 field.now }
 {
     Some(u32::from_be_bytes(bytes(field)?))
 }
