@@ -1,4 +1,4 @@
-//! Runs a script of device accesses: from standard input, with the replies on standard output.
+//! Runs a script of device accesses from standard input, and prints the replies on standard output.
 #![tactic(auto)]
 
 ghost use Rattle.std.specs.Prelude.{◌≡◌, ◌⊎◌, ◌<◌, ℕ, length, IfSome, OnOk, Some, None};
@@ -12,26 +12,29 @@ use std::io::{BufWriter, Read, Write};
 use std::process::ExitCode;
 use superio_script::{ScriptFault, run_script};
 
-/// Runs a script as [`run_script`] does, and then writes out what the buffer still holds, however the run ended: after
-/// a bad line too, the replies to the lines before it have gone out.
+/// Runs a script as [`run_script`] does, and then flushes the buffer, however the run ended. So the replies to the
+/// lines before a bad line go out too.
 ///
 /// # Errors
 ///
-/// Those of [`run_script`]. Where the buffer's bytes could not be written, that is [`ScriptFault::Io`].
+/// Those of [`run_script`], but [`ScriptFault::Io`] instead of any of them where the buffer could not be flushed.
 fn run_buffered<R: Read, W: Write + Drop>(
     alloc: Global,
     reader: &mut R,
     output: &mut BufWriter<W>,
 ) -> Result<(), ScriptFault>
     ensures ok { OnOk result (IfSome (R.remaining reader.old) (λ script.
-        RunsUpTo None script (R.remaining reader.new) (writer_contents W.contents output.old) (W.contents (writer_inner output.new)))) }
+        RunsUpTo None script (R.remaining reader.new)
+        (writer_contents W.contents output.old) (W.contents (writer_inner output.new)))) }
     ensures bad { (number : ℕ) → result ≡ Err (ScriptFault.Bad number) → IfSome (R.remaining reader.old) (λ script.
-        RunsUpTo (Some number) script (R.remaining reader.new) (writer_contents W.contents output.old) (W.contents (writer_inner output.new))) }
+        RunsUpTo (Some number) script (R.remaining reader.new)
+        (writer_contents W.contents output.old) (W.contents (writer_inner output.new))) }
     ensures memory { result ≡ Err ScriptFault.Memory
         → Keeps (writer_contents W.contents output.old) (W.contents (writer_inner output.new))
         ⊎ IfSome (R.remaining reader.old) (λ script.
         EndsAtRestore script (writer_contents W.contents output.old) (W.contents (writer_inner output.new))) }
-    ensures too_long { result ≡ Err ScriptFault.TooLong → IfSome (R.remaining reader.old) (λ script. 65536 < length script) }
+    ensures too_long { result ≡ Err ScriptFault.TooLong
+        → IfSome (R.remaining reader.old) (λ script. 65536 < length script) }
     ensures too_long_unwritten { result ≡ Err ScriptFault.TooLong
         → Keeps (writer_contents W.contents output.old) (W.contents (writer_inner output.new)) }
 {
@@ -53,7 +56,7 @@ fn main(rt: HostRuntime) -> ExitCode {
     match run(&rt) {
         Ok(()) => ExitCode::SUCCESS,
         Err(fault) => {
-            // The status says what went wrong even where standard error takes no message.
+            // The status names the fault even where standard error takes no message.
             let _ = eprintln!(rt; "{fault}");
             ExitCode::from(fault.status())
         }

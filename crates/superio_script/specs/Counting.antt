@@ -20,5 +20,7 @@ pub Folds-append :
     {State Event : Type 0} {step : State → Event → State} (old between new : State) (first second : List Event) →
     Folds step old first between → Folds step between second new → Folds step old (first ++ second) new
 Folds-append {step = step} old between new first second to_between to_new = record {
-  folds = to_new.folds ∙ ap (λ state. fold step state second) to_between.folds ∙ sym (fold-append step old first second);
+  folds =
+      to_new.folds ∙ ap (λ state. fold step state second) to_between.folds
+      ∙ sym (fold-append step old first second);
 }

@@ -1,4 +1,4 @@
-//! What a line does to the clock of a board, and what it is replied.
+//! The lines of the clock.
 ghost use Rattle.superio_script.specs.Board.{IsClockLineStep};
 
 use crate::command::ClockLine;
@@ -6,11 +6,11 @@ use crate::counts::Counts;
 use crate::replies::{Reply, digits, word};
 use vm_superio::Rtc;
 
-/// Carries out a line of the clock.
+/// Carries out a line on the clock, and returns the reply.
 pub(crate) fn clock_line(clock: &mut Rtc<Counts>, line: ClockLine) -> Reply
     ensures step { IsClockLineStep line result.items clock.old.state clock.new.state }
 {
-    // With fresh counts, what is counted afterwards is this access's event.
+    // With fresh counts, the counts after the access are those of its own event.
     *clock = Rtc::from_state(&clock.state(), Counts::new());
     match line {
         ClockLine::Read { moment, offset } => {

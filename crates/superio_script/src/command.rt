@@ -1,4 +1,4 @@
-//! The form of a line.
+//! The forms of a line.
 ghost use Rattle.std.specs.Prelude.{◌≡◌};
 ghost use Rattle.std.specs.Int.{w8, w16, w32, w64};
 ghost use Rattle.superio_script.specs.Splitting.{remaining_fields};
@@ -31,27 +31,27 @@ pub(crate) enum SerialLine {
     Write { offset: u8, value: u8 },
     /// `sq` and `sq HH..`: bytes for the guest.
     Enqueue { bytes: Arrival },
-    /// `sc`: how many bytes still fit.
+    /// `sc`: how many more bytes the FIFO has room for.
     Capacity,
-    /// `ss`: the port is saved and restored.
+    /// `ss`: a save and a restore of the port.
     Restore,
-    /// `so`: what the port wrote.
+    /// `so`: the bytes that the port wrote.
     Output,
     /// `st`: how often the interrupt line was called.
     Calls,
-    /// `se`: how often each event was told.
+    /// `se`: how often each event was reported.
     Events,
 }
 
 /// A line of the clock.
 #[derive(Clone, Copy)]
 pub(crate) enum ClockLine {
-    /// `cr NNNNNNNNNNNNNNNN OOOO`: a read at a moment.
+    /// `cr NNNNNNNNNNNNNNNN OOOO`: a read at a moment, in seconds since 1970.
     Read {
         moment: u64,
         offset: u16,
     },
-    /// `cw NNNNNNNNNNNNNNNN OOOO VVVVVVVV`: a write at a moment.
+    /// `cw NNNNNNNNNNNNNNNN OOOO VVVVVVVV`: a write at a moment, in seconds since 1970.
     Write {
         moment: u64,
         offset: u16,
@@ -68,7 +68,7 @@ pub(crate) enum ControllerLine {
     Write { offset: u8, value: u8 },
 }
 
-/// The bytes of an `sq` line, seen as a list.
+/// The bytes of an `sq` line. In a contract it is the list of them.
 #[derive(Drop)]
 pub(crate) struct Arrival {
     bytes: ArrayVec<u8, ARRIVAL_LIMIT>,
@@ -94,7 +94,7 @@ impl Arrival {
         }
     }
 
-    /// These bytes, of which there are few enough.
+    /// These bytes, at most 128.
     fn of(bytes: &[u8]) -> Arrival
         requires { length bytes.now ≤ ARRIVAL_LIMIT }
         ensures { result ≡ bytes.now }
@@ -112,7 +112,7 @@ impl Arrival {
     }
 }
 
-/// The bytes of a field of two hexadecimal digits for each.
+/// The bytes of a field of exactly two hexadecimal digits for each.
 fn bytes<const N: usize>(field: &[u8]) -> Option<[u8; N]>
     ensures { result ≡ bytes_of N field.now }
 {
@@ -149,8 +149,8 @@ fn number32(field: &[u8]) -> Option<u32>
     Some(u32::from_be_bytes(bytes(field)?))
 }
 
-/// The bytes of a field of two digits for each, from 1 to 128.
-fn arriving(field: &[u8]) -> Option<Arrival>
+/// The bytes of a field of two digits for each: 1 to 128 of them.
+fn parse_arrival(field: &[u8]) -> Option<Arrival>
     ensures { result ≡ arrival_of field.now }
 {
     let mut bytes = [0; ARRIVAL_LIMIT];
@@ -163,8 +163,8 @@ fn arriving(field: &[u8]) -> Option<Arrival>
     Some(Arrival::of(bytes))
 }
 
-/// That no field is left.
-fn end(mut fields: Fields) -> Option<()>
+/// `Some` where no field is left.
+fn no_field(mut fields: Fields) -> Option<()>
     ensures { result ≡ no_field (remaining_fields fields.entry.rest) }
 {
     match fields.next_field() {
@@ -178,7 +178,7 @@ fn one_byte(mut fields: Fields) -> Option<u8>
     ensures { result ≡ one_byte (remaining_fields fields.entry.rest) }
 {
     let first = byte(fields.next_field()?)?;
-    end(fields)?;
+    no_field(fields)?;
     Some(first)
 }
 
@@ -198,8 +198,8 @@ fn bytes_or_none(mut fields: Fields) -> Option<Arrival>
     let Some(field) = fields.next_field() else {
         return Some(Arrival::none());
     };
-    let bytes = arriving(field)?;
-    end(fields)?;
+    let bytes = parse_arrival(field)?;
+    no_field(fields)?;
     Some(bytes)
 }
 
@@ -209,7 +209,7 @@ fn moment_and_offset(mut fields: Fields) -> Option<(u64, u16)>
 {
     let moment = number64(fields.next_field()?)?;
     let offset = number16(fields.next_field()?)?;
-    end(fields)?;
+    no_field(fields)?;
     Some((moment, offset))
 }
 
@@ -220,12 +220,12 @@ fn moment_offset_and_value(mut fields: Fields) -> Option<(u64, u16, u32)>
     let moment = number64(fields.next_field()?)?;
     let offset = number16(fields.next_field()?)?;
     let value = number32(fields.next_field()?)?;
-    end(fields)?;
+    no_field(fields)?;
     Some((moment, offset, value))
 }
 
-/// What a line with this name and these other fields asks for.
-fn named(name: &[u8], fields: Fields) -> Option<Command>
+/// What a line with this name and these fields after it asks for.
+fn command_of_name(name: &[u8], fields: Fields) -> Option<Command>
     ensures { result ≡ command_of_name name.now (remaining_fields fields.entry.rest) }
 {
     Some(match name {
@@ -259,14 +259,14 @@ fn named(name: &[u8], fields: Fields) -> Option<Command>
             Command::Controller(ControllerLine::Write { offset, value })
         }
         _ => {
-            end(fields)?;
-            Command::Serial(bare(name)?)
+            no_field(fields)?;
+            Command::Serial(line_of_name(name)?)
         }
     })
 }
 
 /// What a line of this name alone asks for.
-fn bare(name: &[u8]) -> Option<SerialLine>
+fn line_of_name(name: &[u8]) -> Option<SerialLine>
     ensures { result ≡ line_of_name name.now }
 {
     match name {
@@ -279,13 +279,13 @@ fn bare(name: &[u8]) -> Option<SerialLine>
     }
 }
 
-/// What the line asks for, or `None` where it has no form.
+/// What a line asks for, or `None` where it has no form.
 pub(crate) fn parse(line: &[u8]) -> Option<Command>
     ensures { result ≡ command_of line.now }
 {
     let mut fields = Fields::of(line);
     let name = fields.next_field()?;
-    named(name, fields)
+    command_of_name(name, fields)
 }
 
 /// The number of the one field that is left.
@@ -293,11 +293,11 @@ fn one_number64(mut fields: Fields) -> Option<u64>
     ensures { result ≡ one_number64 (remaining_fields fields.entry.rest) }
 {
     let number = number64(fields.next_field()?)?;
-    end(fields)?;
+    no_field(fields)?;
     Some(number)
 }
 
-/// The mask of a line `refuse MMMMMMMMMMMMMMMM`, or `None` where it has another form or none.
+/// The mask of a line `refuse MMMMMMMMMMMMMMMM`, or `None` where the line has another form or none.
 pub(crate) fn refused_mask(line: &[u8]) -> Option<u64>
     ensures { result ≡ mask_of line.now }
 {

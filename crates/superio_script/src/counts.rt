@@ -1,4 +1,4 @@
-//! Counts of what the devices of a board tell.
+//! Counts of the events that the devices of a board report.
 ghost use Rattle.std.specs.Prelude.{◌≡◌};
 ghost use Rattle.superio_script.specs.InterruptLine.{saturating_increment};
 
@@ -6,8 +6,8 @@ use std::marker::Model;
 use vm_superio::rtc_pl031::RtcEvents;
 use vm_superio::serial::SerialEvents;
 
-/// An events object, of a serial port or of a clock, that counts how often each of its functions was called. Each count
-/// stays at 2^64 - 1.
+/// An events object, of a serial port or of a clock, that counts how often each event was reported. Each count
+/// saturates at 2^64 - 1.
 #[derive(Clone, Copy)]
 pub struct Counts {
     buffer_reads: u64,
@@ -45,7 +45,7 @@ impl Model for Counts {
 impl Counts {
     ghost use Rattle.superio_script.specs.Counts.{no_counts};
 
-    /// Counts of nothing yet.
+    /// Counts that are all 0.
     pub fn new() -> Counts
         ensures { result ≡ no_counts }
     {
@@ -59,42 +59,42 @@ impl Counts {
         }
     }
 
-    /// How often the guest read the data register.
+    /// How often the guest read the receive buffer register (RBR).
     pub fn buffer_read_count(&self) -> u64
         ensures { result ≡ self.now.buffer_reads }
     {
         self.buffer_reads
     }
 
-    /// How many bytes went out.
+    /// How many bytes the writer took.
     pub fn out_byte_count(&self) -> u64
         ensures { result ≡ self.now.out_bytes }
     {
         self.out_bytes
     }
 
-    /// How many bytes were lost, because the writer failed.
+    /// How many bytes were lost because the writer failed.
     pub fn tx_lost_byte_count(&self) -> u64
         ensures { result ≡ self.now.tx_lost_bytes }
     {
         self.tx_lost_bytes
     }
 
-    /// How often a read of the data register left no byte.
+    /// How many RBR reads left no byte to receive.
     pub fn in_buffer_empty_count(&self) -> u64
         ensures { result ≡ self.now.in_buffer_empties }
     {
         self.in_buffer_empties
     }
 
-    /// How often the guest read where a clock shows nothing.
+    /// How often the guest read the clock at an offset that gives no value.
     pub fn invalid_read_count(&self) -> u64
         ensures { result ≡ self.now.invalid_reads }
     {
         self.invalid_reads
     }
 
-    /// How often the guest wrote where a clock takes no write.
+    /// How often the guest wrote to the clock at an offset that takes no write.
     pub fn invalid_write_count(&self) -> u64
         ensures { result ≡ self.now.invalid_writes }
     {
@@ -148,7 +148,7 @@ impl RtcEvents for Counts {
     }
 }
 
-/// One more, which stays at 2^64 - 1.
+/// One more, up to 2^64 - 1.
 fn count(count: &mut u64)
     ensures { count.new ≡ saturating_increment count.old }
 {

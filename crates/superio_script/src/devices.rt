@@ -1,4 +1,4 @@
-//! A board of devices, and what a line does on it.
+//! A board of devices, and the lines that drive it.
 ghost use Rattle.std.specs.Prelude.{◌≡◌, ◌↔◌, IfOk, IsSomeAnd, IsErrOf, IsOk, OnErr};
 ghost use Rattle.superio_script.specs.InterruptLine.{fresh_interrupt_line};
 ghost use Rattle.superio_script.specs.Command.{command_of, AsksForRestore};
@@ -20,14 +20,16 @@ use vm_superio::{I8042Device, Rtc, Serial};
 /// Why a line was not carried out.
 #[derive(Clone, Copy, Debug, PartialEq, Eq)]
 pub enum LineFault {
-    /// The line has no form, or is `refuse`, which is for the first line of a script alone.
+    /// The line has no form. A `refuse` has none here: it is a form of a script's first line alone.
     Bad,
-    /// Memory for an `ss` was refused.
+    /// The allocator refused memory for an `ss`.
     Memory,
 }
 
-/// The devices that a script drives. Between two lines the serial port and the clock are in states that the history of
-/// some calls describes: [`Board::line`] says which calls these are after a line.
+/// The devices that a script drives: a serial port, a clock and an i8042 controller.
+///
+/// Between two lines the serial port and the clock are in states that traces of calls describe: [`Board::line`] says by
+/// which calls a line extends these traces.
 #[derive(Drop)]
 pub struct Board {
     serial: Port,
@@ -48,7 +50,12 @@ impl Model for Board {
 impl Board {
     ghost use Rattle.superio_script.specs.Board.{IsFresh, IsLineStep};
 
-    /// A board of fresh devices. The mask names the calls that the serial port's line refuses.
+    /// A board of fresh devices. Where bit k of `mask` is set, for k from 0 to 63, the serial port's interrupt line
+    /// refuses call number k, counted from 0. The controller's reset line refuses no call.
+    ///
+    /// # Errors
+    ///
+    /// None: fresh devices take no memory.
     pub fn new(alloc: Global, mask: u64) -> Result<Board, ScriptFault>
         ensures made { IsOk result }
         ensures fresh { IfOk result (λ board. IsFresh mask board) }
@@ -61,16 +68,17 @@ impl Board {
         })
     }
 
-    /// Carries out one line, given without its LF, and answers the reply with its LF.
+    /// Carries out one line, given without its LF, and returns the reply with its LF.
     ///
     /// # Errors
     ///
-    /// [`LineFault::Bad`] where the line has no form or is `refuse`. [`LineFault::Memory`] where the memory of an `ss` was
-    /// refused. The board is then as it was.
+    /// The board is then unchanged. [`LineFault::Bad`] where the line has no form or is `refuse`. [`LineFault::Memory`]
+    /// where the allocator refused the memory of an `ss`.
     pub fn line(&mut self, alloc: Global, line: &[u8]) -> Result<Reply, LineFault>
         ensures bad { IsErrOf result LineFault.Bad ↔ (command_of line.now ≡ None) }
         ensures memory { result ≡ Err LineFault.Memory → AsksForRestore line.now }
-        ensures step { IfOk result (λ reply. IsSomeAnd (command_of line.now) (λ command. IsLineStep command reply.items self.old self.new)) }
+        ensures step { IfOk result (λ reply.
+            IsSomeAnd (command_of line.now) (λ command. IsLineStep command reply.items self.old self.new)) }
         ensures unchanged { OnErr result (self.new ≡ self.old) }
     {
         Ok(match parse(line).ok_or(LineFault::Bad)? {
@@ -80,7 +88,7 @@ impl Board {
         })
     }
 
-    /// A line of the controller, which is fresh again afterwards.
+    /// Carries out a line on the controller, which is fresh afterwards, and returns the reply.
     fn controller_line(&mut self, line: ControllerLine) -> Reply
         ensures reply { result.items ≡ controller_reply line }
         ensures same { self.new ≡ self.old }
@@ -89,7 +97,7 @@ impl Board {
             ControllerLine::Read { offset } => return byte(self.controller.read(offset)),
             ControllerLine::Write { offset, value } => (offset, value),
         };
-        // The reset line refuses no call, so the answer says nothing that its count does not.
+        // The reset line refuses no call, so its count says all that the result does.
         let _ = self.controller.write(offset, value);
         if self.controller.reset_evt().calls() == 0 {
             return word(b"ok");

@@ -1,4 +1,4 @@
-//! A script that drives the devices of `vm_superio` on a board, line by line.
+//! Scripts that drive the devices of `vm_superio` on a board, one line at a time.
 #![tactic(auto)]
 
 mod clock_lines;
@@ -6,10 +6,10 @@ mod command;
 mod counts;
 mod devices;
 mod output;
-mod splitting;
 mod replies;
 mod script;
 mod serial_lines;
+mod splitting;
 mod trigger;
 
 pub use counts::Counts;

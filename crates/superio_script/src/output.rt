@@ -1,4 +1,4 @@
-//! What a serial port writes, kept.
+//! An output that keeps what a serial port sends.
 ghost use Rattle.std.specs.Prelude.{◌≡◌, ◌≤◌, ◌-◌, Some, [], length, min};
 ghost use Rattle.std.specs.Io.KnownBytes.{WriteAppends, Keeps};
 ghost use Rattle.std.specs.Io.{WritesAtMost};
@@ -7,7 +7,10 @@ use arrayvec::ArrayVec;
 use std::io;
 use std::io::Write;
 
-/// A writer that keeps the first 256 bytes, and takes no more.
+/// A writer that keeps the first 256 bytes that are written to it.
+///
+/// A write takes as many of its bytes as there is room for, and returns that number: 0 once 256 bytes are kept.
+/// Neither a write nor a flush fails.
 #[derive(Drop)]
 pub struct Output {
     bytes: ArrayVec<u8, 256>,
@@ -17,7 +20,7 @@ pub struct Output {
 impl Output {
     ghost use Rattle.superio_script.specs.Output.{written_bytes};
 
-    /// An output to which nothing was written.
+    /// An output that has taken no byte.
     pub fn new() -> Output
         ensures { written_bytes result ≡ [] }
     {
@@ -26,7 +29,7 @@ impl Output {
         }
     }
 
-    /// The bytes that were written, at most 256.
+    /// The bytes that the output has taken, oldest first: at most 256.
     pub fn bytes(&self) -> &[u8]
         ensures { result.now ≡ written_bytes self.now }
     {

@@ -1,4 +1,4 @@
-//! What a line is replied, with its LF.
+//! The reply to a line, with its LF.
 ghost use Rattle.std.specs.Prelude.{◌≡◌, ◌+◌, ◌*◌, ◌<◌, ◌≤◌, [], ◌∷◌, ◌++◌, length};
 ghost use Rattle.hex.specs.Hex.{encode_lower};
 ghost use Rattle.superio_script.specs.Reply.{with_lf, digits_reply, count_digits, counts_reply};
@@ -6,10 +6,10 @@ ghost use Rattle.superio_script.specs.Reply.{with_lf, digits_reply, count_digits
 use crate::counts::Counts;
 use arrayvec::ArrayVec;
 
-/// A reply with its LF. The longest has 512 digits: the 256 bytes that the serial port's output holds.
+/// A reply with its LF. The longest has 512 digits, for the 256 bytes that the serial port's output can hold.
 pub type Reply = ArrayVec<u8, 513>;
 
-/// The text and LF.
+/// The text, and LF.
 pub(crate) fn word(text: &[u8]) -> Reply
     requires { length text.now < 513 }
     ensures { result.items ≡ with_lf text.now }

@@ -6,8 +6,8 @@ ghost use Rattle.superio_script.specs.Script.{body_of, first_bad_line, PrintsLin
 
 use crate::command::refused_mask;
 use crate::devices::{Board, LineFault};
-use crate::splitting::Lines;
 use crate::replies::Reply;
+use crate::splitting::Lines;
 use std::alloc::Global;
 use std::error::Error;
 use std::io::{Read, Write};
@@ -19,11 +19,11 @@ const SCRIPT_LIMIT: usize = 65_536;
 /// Why a run of a script ended early.
 #[derive(Clone, Copy, Debug, PartialEq, Eq)]
 pub enum ScriptFault {
-    /// The line with this number, counted from 1, has no form.
+    /// The line with this number, counted from 1, has no form, and no earlier line lacks one.
     Bad(usize),
     /// The reader or the writer failed.
     Io,
-    /// Memory was refused.
+    /// The allocator refused memory.
     Memory,
     /// The script has more than 65,536 bytes.
     TooLong,
@@ -32,7 +32,8 @@ pub enum ScriptFault {
 impl ScriptFault {
     ghost use Rattle.superio_script.specs.ScriptFault.{status_of};
 
-    /// The exit status of a program that ends by this fault, from 1 to 4.
+    /// The exit status of a program that ends with this fault: 1 for a bad line, 2 for input or output, 3 for memory,
+    /// and 4 for a script that is too long.
     pub fn status(&self) -> u8
         ensures { result ≡ status_of self.now }
     {
@@ -63,7 +64,7 @@ impl fmt::Display for ScriptFault {
 
 impl Error for ScriptFault {}
 
-/// Room for `len` bytes, all 0.
+/// A buffer of `len` bytes, all 0.
 fn room(alloc: Global, len: usize) -> Result<Vec<u8>, ScriptFault>
     ensures made { IfOk result (λ room. vec_len room ≡ len) }
     ensures only_memory { IfErr result (λ fault. fault ≡ ScriptFault.Memory) }
@@ -71,10 +72,11 @@ fn room(alloc: Global, len: usize) -> Result<Vec<u8>, ScriptFault>
     vec![in alloc; 0; len].map_err(|_| ScriptFault::Memory)
 }
 
-/// Reads until the room is full or the input ends, and answers how many bytes came.
+/// Reads until the room is full or the input ends, and returns how many bytes were read.
 fn fill<R: Read>(reader: &mut R, room: &mut [u8]) -> io::Result<usize>
     ensures within { IfOk result (λ filled. filled ≤ length room.old) }
-    ensures read { IfOk result (λ filled. Consumes (R.remaining reader.old) (R.remaining reader.new) (take filled room.new)) }
+    ensures read { IfOk result (λ filled.
+        Consumes (R.remaining reader.old) (R.remaining reader.new) (take filled room.new)) }
     ensures none_left { IfOk result (λ filled. filled < length room.old → IsAtEnd (R.remaining reader.new)) }
 {
     let mut filled = 0;
@@ -91,8 +93,9 @@ fn fill<R: Read>(reader: &mut R, room: &mut [u8]) -> io::Result<usize>
 fn read_script<R: Read>(alloc: Global, reader: &mut R) -> Result<Vec<u8>, ScriptFault>
     ensures whole { IfOk result (λ script. IfSome (R.remaining reader.old) (λ all. script.items ≡ all)) }
     ensures none_left { OnOk result (IsAtEnd (R.remaining reader.new)) }
-    ensures fits { IfOk result (λ script. vec_len script ≤ SCRIPT_LIMIT) }
-    ensures too_long { result ≡ Err ScriptFault.TooLong → IfSome (R.remaining reader.old) (λ all. SCRIPT_LIMIT < length all) }
+    ensures within_limit { IfOk result (λ script. vec_len script ≤ SCRIPT_LIMIT) }
+    ensures too_long { result ≡ Err ScriptFault.TooLong
+        → IfSome (R.remaining reader.old) (λ all. SCRIPT_LIMIT < length all) }
     ensures never_bad { (number : ℕ) → result ≢ Err (ScriptFault.Bad number) }
 {
     let mut script = room(alloc, SCRIPT_LIMIT + 1)?;
@@ -114,7 +117,8 @@ fn print<W: Write>(writer: &mut W, reply: &Reply) -> Result<(), ScriptFault>
         .map_err(|_| ScriptFault::Io)
 }
 
-/// What a script begins with: the mask of a first line `refuse`, or 0, how many lines that took, and the lines after it.
+/// The head of a script: the mask of a first line `refuse`, or 0 without one; how many lines that is, 1 or 0; and the
+/// lines after it.
 fn head(script: &[u8]) -> (u64, usize, Lines<'_>)
     ensures mask { result.0 ≡ (body_of script.now).mask }
     ensures skipped { result.1 + 1 ≡ (body_of script.now).first }
@@ -128,7 +132,7 @@ fn head(script: &[u8]) -> (u64, usize, Lines<'_>)
     (0, 0, Lines::of(script))
 }
 
-/// Carries out lines on a fresh board with this mask, and writes their replies. So many lines stand before them.
+/// Carries out lines on a fresh board with this mask, and writes their replies. `skipped` lines stand before them.
 fn write_replies<W: Write>(
     alloc: Global,
     mask: u64,
@@ -160,17 +164,19 @@ fn write_replies<W: Write>(
     Ok(())
 }
 
-/// Runs a script: reads it from `reader` to the end, carries out its lines on a fresh board, and writes the replies to
-/// `writer`, which is flushed after the last one. A first line `refuse MMMMMMMMMMMMMMMM` has no reply: it gives the mask
-/// of the serial port's interrupt line.
+/// Runs a script: reads it from `reader` to the end, carries out its lines on a fresh board, writes the replies to
+/// `writer` and flushes it. A script has at most 65,536 bytes. A first line `refuse MMMMMMMMMMMMMMMM` has no reply: it
+/// gives the mask of the serial port's interrupt line, which is 0 without one.
 ///
 /// # Errors
 ///
-/// [`ScriptFault::Bad`] with the number of the first line that has no form, after the replies to the lines before it.
-/// [`ScriptFault::TooLong`] where more than 65,536 bytes came: nothing is written then. [`ScriptFault::Memory`] where the
-/// room for them or the board was refused, with nothing written, or where an `ss` was, after the replies to the lines
-/// before it. [`ScriptFault::Io`] where a read, a write or the flush failed: after a read that failed nothing is written,
-/// and after the others it is not said what was.
+/// - [`ScriptFault::Bad`], with the number of the first line that has no form, counted from 1: the replies to the lines
+///   before it were written, but the writer was not flushed.
+/// - [`ScriptFault::TooLong`], where the reader gave more than 65,536 bytes: nothing was written.
+/// - [`ScriptFault::Memory`], where the allocator refused memory for the script, and nothing was written; or for an
+///   `ss`, and the replies to the lines before it were written.
+/// - [`ScriptFault::Io`], where a read, a write or the flush failed. After a failed read nothing was written. After a
+///   failed write or flush, some of the replies may have been written.
 pub fn run_script<R: Read, W: Write>(
     alloc: Global,
     reader: &mut R,
@@ -180,9 +186,11 @@ pub fn run_script<R: Read, W: Write>(
         RunsUpTo None script (R.remaining reader.new) (W.contents writer.old) (W.contents writer.new))) }
     ensures bad { (number : ℕ) → result ≡ Err (ScriptFault.Bad number) → IfSome (R.remaining reader.old) (λ script.
         RunsUpTo (Some number) script (R.remaining reader.new) (W.contents writer.old) (W.contents writer.new)) }
-    ensures memory { result ≡ Err ScriptFault.Memory → (writer.new ≡ writer.old) ⊎ IfSome (R.remaining reader.old) (λ script.
+    ensures memory { result ≡ Err ScriptFault.Memory → (writer.new ≡ writer.old)
+        ⊎ IfSome (R.remaining reader.old) (λ script.
         EndsAtRestore script (W.contents writer.old) (W.contents writer.new)) }
-    ensures too_long { result ≡ Err ScriptFault.TooLong → IfSome (R.remaining reader.old) (λ script. 65536 < length script) }
+    ensures too_long { result ≡ Err ScriptFault.TooLong
+        → IfSome (R.remaining reader.old) (λ script. 65536 < length script) }
     ensures too_long_unwritten { result ≡ Err ScriptFault.TooLong → writer.new ≡ writer.old }
 {
     let script = read_script(alloc, reader)?;

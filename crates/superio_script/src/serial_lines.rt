@@ -1,4 +1,4 @@
-//! What a line does to the serial port of a board, and what it is replied.
+//! The lines of the serial port.
 ghost use Rattle.std.specs.Prelude.{◌≡◌, ◌<◌, IfOk, IfErr, OnErr};
 ghost use Rattle.vm_superio.specs.Port.{write_reply, enqueue_reply, failure as failure_answer};
 ghost use Rattle.superio_script.specs.Reply.{response_reply};
@@ -19,7 +19,8 @@ use vm_superio::{Serial, laws};
 /// The serial port of a board.
 pub(crate) type Port = Serial<Line, Counts, Output>;
 
-/// Carries out a line of the serial port.
+/// Carries out a line on the serial port, and returns the reply. Only a restore can fail, for want of memory. The port
+/// is then unchanged.
 pub(crate) fn serial_line(
     alloc: Global,
     serial: &mut Port,
@@ -30,13 +31,13 @@ pub(crate) fn serial_line(
     ensures only_memory { IfErr result (λ fault. fault ≡ LineFault.Memory) }
     ensures only_restore { OnErr result (line ≡ Restore) }
 {
-    // The port's contracts go by its state, and a session by the history of its calls.
+    // The port's contracts speak of its state, and a session of the trace of its calls.
     laws::steps_of_history();
     match line {
         SerialLine::Read { offset } => Ok(byte(serial.read(offset))),
-        SerialLine::Write { offset, value } => Ok(written(serial.write(offset, value))),
+        SerialLine::Write { offset, value } => Ok(write_result_reply(serial.write(offset, value))),
         SerialLine::Enqueue { bytes } => {
-            Ok(enqueued(serial.enqueue_raw_bytes(bytes.as_slice())))
+            Ok(enqueue_result_reply(serial.enqueue_raw_bytes(bytes.as_slice())))
         }
         SerialLine::Capacity => Ok(byte(serial.fifo_capacity() as u8)),
         SerialLine::Restore => restore(alloc, serial),
@@ -46,7 +47,7 @@ pub(crate) fn serial_line(
     }
 }
 
-/// Makes the port anew from its own state, with copies of its line and its counts, and with its output.
+/// Restores the port from its own state, with copies of its interrupt line and its counts, and with its output.
 fn restore(alloc: Global, serial: &mut Port) -> Result<Reply, LineFault>
     ensures step { IfOk result (λ reply. IsSerialLineStep Restore reply.items serial.old serial.new) }
     ensures unchanged { OnErr result (serial.new ≡ serial.old) }
@@ -66,41 +67,41 @@ fn restore(alloc: Global, serial: &mut Port) -> Result<Reply, LineFault>
         }
         Err(refused) => match refused.into_error() {
             Error::Memory => Err(LineFault::Memory),
-            error => Ok(failed(error)),
+            error => Ok(error_reply(error)),
         },
     }
 }
 
-/// The reply to a write.
-fn written(answer: Result<(), Error<LineRefused>>) -> Reply
-    ensures { result.items ≡ response_reply (write_reply answer) }
+/// The reply to a write with this result.
+fn write_result_reply(written: Result<(), Error<LineRefused>>) -> Reply
+    ensures { result.items ≡ response_reply (write_reply written) }
 {
-    match answer {
+    match written {
         Ok(()) => word(b"ok"),
-        Err(error) => failed(error),
+        Err(error) => error_reply(error),
     }
 }
 
-/// The reply to an enqueue.
-fn enqueued(answer: Result<usize, Error<LineRefused>>) -> Reply
-    requires { IfOk answer (λ count. count < 256) }
-    ensures { result.items ≡ response_reply (enqueue_reply answer) }
+/// The reply to an enqueue with this result.
+fn enqueue_result_reply(enqueued: Result<usize, Error<LineRefused>>) -> Reply
+    requires { IfOk enqueued (λ count. count < 256) }
+    ensures { result.items ≡ response_reply (enqueue_reply enqueued) }
 {
-    match answer {
+    match enqueued {
         Ok(count) => byte(count as u8),
-        Err(error) => failed(error),
+        Err(error) => error_reply(error),
     }
 }
 
-/// The reply to a call that failed.
-fn failed(error: Error<LineRefused>) -> Reply
+/// The reply to a call that failed with this error.
+fn error_reply(error: Error<LineRefused>) -> Reply
     ensures { result.items ≡ response_reply (failure_answer error) }
 {
     match error {
         Error::Trigger(LineRefused) => word(b"trigger"),
         Error::IOError(_) => word(b"io"),
         Error::FullFifo => word(b"full"),
-        // No call of a line is refused memory.
+        // No call that a line makes takes memory.
         Error::Memory => Reply::new(),
     }
 }

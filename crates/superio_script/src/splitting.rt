@@ -1,4 +1,4 @@
-//! Bytes cut at a separator: a script into lines, and a line into fields.
+//! Bytes split at a separator: a script into lines, and a line into fields.
 ghost use Rattle.std.specs.Prelude.{◌≡◌, ◌≢◌, List, ℕ, [], ◌∷◌, ◌==◌, position, IfSome, IfNone, MatchOption};
 ghost use Rattle.superio_script.specs.Splitting.{pieces_of, fields_of, remaining_fields, lines_of};
 
@@ -6,14 +6,14 @@ const SPACE: u8 = b' ';
 
 const LF: u8 = b'\n';
 
-/// The place of the first separator.
+/// The index of the first separator.
 fn find(bytes: &[u8], separator: u8) -> Option<usize>
     ensures { result ≡ position (λ b. b == separator) bytes.now }
 {
     bytes.iter().position(|byte| *byte == separator)
 }
 
-/// The bytes before the first separator, and those after it where there is one.
+/// The bytes before the first separator, and those after it, or `None` where there is no separator.
 fn first_piece(bytes: &[u8], separator: u8) -> (&[u8], Option<&[u8]>)
     ensures found { IfSome result.1 (λ rest. (end : List (List ℕ)) →
         pieces_of separator end bytes.now ≡ result.0.now ∷ pieces_of separator end rest.now) }
@@ -26,21 +26,21 @@ fn first_piece(bytes: &[u8], separator: u8) -> (&[u8], Option<&[u8]>)
     }
 }
 
-/// The fields of a line that are still to come. One space stands between two fields.
+/// The fields of a line that are still to come. One space separates two fields.
 #[derive(Drop)]
 pub(crate) struct Fields<'a> {
     rest: Option<&'a [u8]>,
 }
 
 impl<'a> Fields<'a> {
-    /// All fields of the line.
+    /// The fields of a line.
     pub(crate) fn of(line: &'a [u8]) -> Self
         ensures { remaining_fields result.rest ≡ fields_of line.now }
     {
         Fields { rest: Some(line) }
     }
 
-    /// Takes the first field.
+    /// Takes the next field.
     pub(crate) fn next_field(&mut self) -> Option<&'a [u8]>
         ensures { MatchOption result (remaining_fields self.old.rest ≡ [])
             (λ field. remaining_fields self.old.rest ≡ field.now ∷ remaining_fields self.new.rest) }
@@ -58,14 +58,14 @@ pub(crate) struct Lines<'a> {
 }
 
 impl<'a> Lines<'a> {
-    /// All lines of the script.
+    /// The lines of a script.
     pub(crate) fn of(script: &'a [u8]) -> Self
         ensures { result.rest.now ≡ script.now }
     {
         Lines { rest: script }
     }
 
-    /// Takes the first line.
+    /// Takes the next line.
     pub(crate) fn next_line(&mut self) -> Option<&'a [u8]>
         ensures { MatchOption result (lines_of self.old.rest.now ≡ [])
             (λ line. lines_of self.old.rest.now ≡ line.now ∷ lines_of self.new.rest.now) }

@@ -6,7 +6,7 @@ use std::fmt;
 use std::marker::Model;
 use vm_superio::Trigger;
 
-/// The refusal of a call of a [`Line`].
+/// The refusal of a call of a [`Line`]. It is displayed as `line refused`.
 #[derive(Clone, Copy, Debug, PartialEq, Eq)]
 pub struct LineRefused;
 
@@ -22,8 +22,8 @@ impl Error for LineRefused {}
 
 /// An interrupt line that counts its calls, and refuses those that a mask names.
 ///
-/// The calls are numbered from 0. Call number k is refused where k is below 64 and bit k of the mask is set, bit 0
-/// being the lowest.
+/// Calls are numbered from 0. Call number k is refused where k is below 64 and bit k of the mask is set, bit 0 being
+/// the lowest. A refused call counts like any other.
 #[derive(Clone, Copy)]
 pub struct Line {
     calls: u64,
@@ -43,21 +43,21 @@ impl Model for Line {
 impl Line {
     ghost use Rattle.superio_script.specs.InterruptLine.{fresh_interrupt_line};
 
-    /// A line that was not called, with this mask.
+    /// An interrupt line that was never called. Bit k of `mask` names call number k. A mask of 0 refuses no call.
     pub fn new(mask: u64) -> Line
         ensures { result ≡ fresh_interrupt_line mask }
     {
         Line { calls: 0, mask }
     }
 
-    /// How often the line was called, refused calls included. The count stays at 2^64 - 1.
+    /// How often the line was called, refused calls included. The count saturates at 2^64 - 1.
     pub fn calls(&self) -> u64
         ensures { result ≡ self.now.calls }
     {
         self.calls
     }
 
-    /// Which calls are refused.
+    /// The mask of the calls that the line refuses.
     pub fn mask(&self) -> u64
         ensures { result ≡ self.now.mask }
     {

@@ -33,4 +33,4 @@ returns c =
     let by_state = subst (λ (s : State). RefusesRestore InterruptLineLink s c.in-Err.refused.error c.interrupt_evt-line.result.now c.in-Err.refused.trigger) c.in-Ok.ensures.saved refused in
     let by_line = subst (λ (l : InterruptLine). RefusesRestore InterruptLineLink old.state c.in-Err.refused.error l c.in-Err.refused.trigger) c.interrupt_evt-line.ensures by_state in
     let step = refused-restore-step c.steps_of_history.ensures old c.in-Err.refused.trigger c.in-Err.refused.error c.state.ensures.few by_line in
-    record { step = rw (c.failed.ensures, c.into_error.ensures) step; unchanged = tt; only_memory = tt }
+    record { step = rw (c.error_reply.ensures, c.into_error.ensures) step; unchanged = tt; only_memory = tt }

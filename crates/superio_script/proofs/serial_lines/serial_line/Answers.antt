@@ -12,14 +12,14 @@ returns-in-Read-clause-step c = rw (c.in-Read.is, c.byte.ensures)
 pub returns-in-Write-clause-step : goal.returns-in-Write-clause-step
 returns-in-Write-clause-step c =
     let case = c.write.ensures.case in
-    rw (c.in-Write.is, c.written.ensures)
+    rw (c.in-Write.is, c.write_result_reply.ensures)
     (write-step c.steps_of_history.ensures c.args.serial.now c.write.new.self (write_reply c.write.result) (refusal_of c.write.result) c.in-Write.offset c.in-Write.value case.0 case.1 case.2)
 
 pub returns-in-Enqueue-clause-step : goal.returns-in-Enqueue-clause-step
 returns-in-Enqueue-clause-step c =
     let case = rw c.as_slice.ensures at c.enqueue_raw_bytes.ensures.case in
     let answer = c.enqueue_raw_bytes.result in
-    rw (c.in-Enqueue.is, c.enqueued.ensures)
+    rw (c.in-Enqueue.is, c.enqueue_result_reply.ensures)
     (enqueue-step c.steps_of_history.ensures c.args.serial.now c.enqueue_raw_bytes.new.self (enqueue_reply answer) (refusal_of answer) c.in-Enqueue.bytes case.0 case.1 case.2)
 
 pub returns-in-Capacity-clause-step : goal.returns-in-Capacity-clause-step
