@@ -1,4 +1,4 @@
--- Which ports of a PC's bus are whose, and what an access is there.
+-- The ports of a PC's bus: which device each belongs to, and what an access does there.
 use Rattle.std.specs.Prelude.{ℕ, Bool, ◌&&◌, ◌||◌, ◌==◌, not, nat_le, List, [], ◌∷◌, Option, None, Result, Ok, Err}
 use Rattle.vm_superio.specs.declared.run.Asked.{Asked}
 use Rattle.vm_superio.specs.declared.run.Asked.TheVariants as asked
@@ -12,20 +12,20 @@ use Rattle.vm_superio.specs.Port.{Port, write_reply, refusal_of}
 use Rattle.superio_examples.specs.declared.bus.BusError.{BusError}
 use Rattle.superio_examples.specs.declared.bus.BusError.TheVariants.{Serial, Reset}
 
--- the serial port's eight ports, COM1
-abbrev pub is_com1 : ℕ → Bool
+-- the eight ports of the serial port COM1
+abbrev pub is_com1 : (port : ℕ) → Bool
 is_com1 port = nat_le 0x3F8 port && nat_le port 0x3FF
 
--- the controller's five ports
-abbrev pub is_i8042 : ℕ → Bool
+-- the five ports of the controller
+abbrev pub is_i8042 : (port : ℕ) → Bool
 is_i8042 port = nat_le 0x60 port && nat_le port 0x64
 
--- nobody's port
-abbrev pub is_vacant : ℕ → Bool
+-- a port of neither device
+abbrev pub is_vacant : (port : ℕ) → Bool
 is_vacant port = not (is_com1 port || is_i8042 port)
 
 -- a write resets the machine: the command 0xFE at port 0x64
-abbrev pub is_reset : ℕ → ℕ → Bool
+abbrev pub is_reset : (port value : ℕ) → Bool
 is_reset port value = (port == 0x64) && (value == 0xFE)
 
 -- a call case of a read at the serial port, which gives the byte
@@ -39,16 +39,21 @@ IsWriteCase trigger_link events_link contents offset value answer old new =
     (asked : Asked) × (sent : Sent)
     × IsCase trigger_link events_link contents (Writes offset value) asked sent (write_reply answer) (refusal_of answer) old new
 
--- the same, where the bus hands on that answer: its error is then the serial port's
-abbrev pub HandsOnWrite : {T E EV W F : Type 0} → (T → List (Result (Unit {0}) E) → T → Type 0) → (EV → List Event → EV → Type 0) → (W → Option (List ℕ)) → (offset value : ℕ) → Result (Unit {0}) (BusError E F) → Port T EV W → Port T EV W → Type 0
-HandsOnWrite trigger_link events_link contents offset value (Ok done) old new =
+-- the bus forwards a write to the serial port, and returns its result: an error is the serial port's
+abbrev pub ForwardsWrite :
+    {T E EV W F : Type 0} → (trigger_link : T → List (Result (Unit {0}) E) → T → Type 0)
+    (events_link : EV → List Event → EV → Type 0) (contents : W → Option (List ℕ)) (offset value : ℕ)
+    (result : Result (Unit {0}) (BusError E F)) (old new : Port T EV W) → Type 0
+ForwardsWrite trigger_link events_link contents offset value (Ok done) old new =
     IsWriteCase trigger_link events_link contents offset value (Ok tt) old new
-HandsOnWrite trigger_link events_link contents offset value (Err (Serial error)) old new =
+ForwardsWrite trigger_link events_link contents offset value (Err (Serial error)) old new =
     IsWriteCase trigger_link events_link contents offset value (Err error) old new
-HandsOnWrite trigger_link events_link contents offset value (Err (Reset refusal)) old new = ⊥
+ForwardsWrite trigger_link events_link contents offset value (Err (Reset refusal)) old new = ⊥
 
--- the reset trigger is called once, and the bus hands on its answer: its error is then the trigger's
-abbrev pub HandsOnReset : {R E F : Type 0} → (R → List (Result (Unit {0}) F) → R → Type 0) → Result (Unit {0}) (BusError E F) → R → R → Type 0
-HandsOnReset link (Ok done) old new = link old (Ok tt ∷ []) new
-HandsOnReset link (Err (Reset refusal)) old new = link old (Err refusal ∷ []) new
-HandsOnReset link (Err (Serial error)) old new = ⊥
+-- the reset trigger is called once, and the bus returns its result: an error is the trigger's refusal
+abbrev pub ForwardsReset :
+    {R E F : Type 0} → (link : R → List (Result (Unit {0}) F) → R → Type 0)
+    (result : Result (Unit {0}) (BusError E F)) (old new : R) → Type 0
+ForwardsReset link (Ok done) old new = link old (Ok tt ∷ []) new
+ForwardsReset link (Err (Reset refusal)) old new = link old (Err refusal ∷ []) new
+ForwardsReset link (Err (Serial error)) old new = ⊥

@@ -1,4 +1,4 @@
--- What handing waiting input to a serial port is.
+-- Input that waits for room in a serial port.
 use Rattle.std.specs.Prelude.{ℕ, ◌-◌, if◌then◌else◌, List, length, Option, Result}
 use Rattle.std.specs.Result.{result_err}
 use Rattle.vm_superio.specs.declared.run.Asked.{Asked}
@@ -10,8 +10,8 @@ use Rattle.vm_superio.specs.Events.{Event}
 use Rattle.vm_superio.specs.CallCase.{IsCase}
 use Rattle.vm_superio.specs.Port.{Port}
 
--- how many bytes a serial port takes at the most: what is left of its 64, and in loopback none
-abbrev pub room_in : State → ℕ
+-- how many bytes a serial port has room for: what is left of its 64, and none in loopback
+abbrev pub room_in : (s : State) → ℕ
 room_in s = if is_loopback s.modem_control then 0 else 64 - length s.in_buffer
 
 -- a call case of an enqueue of these bytes, in which the trigger refused exactly where the result is an error, which is

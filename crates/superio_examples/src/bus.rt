@@ -1,9 +1,9 @@
-//! A bus that hands a guest's port I/O to a serial port and a reset controller, by port number.
+//! A bus that forwards a guest's port I/O to a serial port and a reset controller, by port number.
 ghost use Rattle.std.specs.Prelude.{◌≡◌, ◌-◌, ◌||◌};
 ghost use Rattle.std.specs.Bool.{OnTrue, OnFalse};
 ghost use Rattle.vm_superio.specs.Coherent.{Coherent};
 ghost use Rattle.superio_examples.specs.Bus.{is_com1, is_i8042, is_vacant, is_reset};
-ghost use Rattle.superio_examples.specs.Bus.{IsReadCase, HandsOnWrite, HandsOnReset};
+ghost use Rattle.superio_examples.specs.Bus.{IsReadCase, ForwardsWrite, ForwardsReset};
 
 use std::io::Write;
 use vm_superio::serial::{Error, SerialEvents};
@@ -32,10 +32,10 @@ pub struct Bus<T: Trigger, EV: SerialEvents, W: Write, R: Trigger> {
 }
 
 impl<T: Trigger, EV: SerialEvents, W: Write, R: Trigger> Bus<T, EV, W, R> {
-    /// Reads the byte at `port`, as a guest's `in` does. A port that is nobody's gives 0xFF, as on a PC.
+    /// Reads the byte at `port`, as a guest's `in` does. A port of neither device gives 0xFF, as on a PC.
     pub fn read(&mut self, port: u16) -> u8
         ensures serial { OnTrue (is_com1 port)
-            (IsReadCase T.link EV.link W.contents (port - COM1) result self.old.serial self.new.serial) }
+            (IsReadCase T.link EV.link W.contents (port - 0x3F8) result self.old.serial self.new.serial) }
         ensures serial_alone { OnFalse (is_com1 port) (self.new.serial ≡ self.old.serial) }
         ensures controller { OnTrue (is_i8042 port) (result ≡ 0) }
         ensures controller_alone { self.new.controller ≡ self.old.controller }
@@ -49,17 +49,19 @@ impl<T: Trigger, EV: SerialEvents, W: Write, R: Trigger> Bus<T, EV, W, R> {
         }
     }
 
-    /// Writes `value` at `port`, as a guest's `out` does. At a port that is nobody's it is ignored.
+    /// Writes `value` at `port`, as a guest's `out` does. At a port of neither device it is ignored.
     ///
     /// # Errors
     ///
-    /// [`BusError::Serial`]: the write has had its effect on the registers, and is not to be made again.
-    /// [`BusError::Reset`]: nobody was told of the reset.
+    /// [`BusError::Serial`] where the serial port's trigger refused a call or its writer failed. The write has had its
+    /// effect on the registers, and must not be repeated. [`BusError::Reset`] where the reset trigger refused the reset
+    /// command: nobody was notified of the reset.
     pub fn write(&mut self, port: u16, value: u8) -> Result<(), BusError<T::E, R::E>>
         ensures serial { OnTrue (is_com1 port)
-            (HandsOnWrite T.link EV.link W.contents (port - COM1) value result self.old.serial self.new.serial) }
+            (ForwardsWrite T.link EV.link W.contents (port - 0x3F8) value result self.old.serial self.new.serial) }
         ensures serial_alone { OnFalse (is_com1 port) (self.new.serial ≡ self.old.serial) }
-        ensures reset { OnTrue (is_reset port value) (HandsOnReset R.link result self.old.controller self.new.controller) }
+        ensures reset { OnTrue (is_reset port value)
+            (ForwardsReset R.link result self.old.controller self.new.controller) }
         ensures controller_alone { OnFalse (is_reset port value) (self.new.controller ≡ self.old.controller) }
         ensures others { OnFalse (is_com1 port || is_reset port value) (result ≡ Ok tt) }
         ensures coherent { Coherent self.old.serial.state → Coherent self.new.serial.state }

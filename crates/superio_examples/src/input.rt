@@ -1,4 +1,4 @@
-//! Input on its way to a guest: it waits until the serial port's FIFO has room, and no byte of it is lost.
+//! Input on its way to a guest. It waits until the serial port's FIFO has room, and no byte of it is lost.
 ghost use Rattle.std.specs.Prelude.{◌≡◌, ◌+◌, ℕ, List, [], ◌∷◌, ◌++◌, length, drop, OnOk, OnErr, IfOk, IfErr};
 ghost use Rattle.vm_superio.specs.Coherent.{Coherent};
 ghost use Rattle.superio_examples.specs.Input.{room_in, IsEnqueueCase};
@@ -9,7 +9,7 @@ use std::marker::Model;
 use vm_superio::serial::{Error, SerialEvents};
 use vm_superio::{Serial, Trigger};
 
-/// The bytes that a guest has still to be handed, oldest first. In a contract it is the list of them.
+/// The bytes that the guest has yet to be given, oldest first. In a contract it is the list of them.
 #[derive(Drop)]
 pub struct Input {
     waiting: Vec<u8>,
@@ -22,7 +22,7 @@ impl Model for Input {
 }
 
 impl Input {
-    /// No input yet. It takes no memory.
+    /// No input. It takes no memory.
     pub fn new(alloc: Global) -> Input
         ensures { result ≡ [] }
     {
@@ -30,14 +30,18 @@ impl Input {
         Input { waiting }
     }
 
-    /// The bytes that wait. While there are any, a monitor need not ask the host for more.
+    /// The bytes that wait, oldest first. While there are any, a monitor need not ask the host for more.
     pub fn waiting(&self) -> &[u8]
         ensures { result.now ≡ self.now }
     {
         self.waiting.as_slice()
     }
 
-    /// Has these bytes wait behind the others. Where memory is refused nothing changes.
+    /// Appends these bytes to those that wait.
+    ///
+    /// # Errors
+    ///
+    /// `AllocError` where the allocator refused memory. Nothing changes then.
     pub fn push(&mut self, bytes: &[u8]) -> Result<(), AllocError>
         ensures ok { OnOk result (self.new ≡ self.old ++ bytes.now) }
         ensures err { OnErr result (self.new ≡ self.old) }
@@ -45,12 +49,12 @@ impl Input {
         self.waiting.extend_from_slice(bytes)
     }
 
-    /// Hands the port the first bytes that wait, as many as its FIFO has room for, and answers how many. The others
-    /// stay. In loopback the port takes none.
+    /// Gives the port the first bytes that wait, as many as its FIFO has room for, and returns how many: 0 to 64. The
+    /// others stay. In loopback the port takes none.
     ///
     /// # Errors
     ///
-    /// The trigger's refusal. The bytes went in all the same, and wait no more; but nobody told the guest.
+    /// The trigger's refusal. The bytes went in all the same, and no longer wait, but the guest was not interrupted.
     pub fn feed<T: Trigger, EV: SerialEvents, W: Write>(
         &mut self,
         serial: &mut Serial<T, EV, W>,
@@ -63,11 +67,11 @@ impl Input {
         ensures coherent { Coherent serial.old.state → Coherent serial.new.state }
     {
         let room = serial.fifo_capacity();
-        let answer = serial.enqueue_raw_bytes(&self.waiting);
-        // What went in shows in the room that is left, after a refusal too.
+        let enqueued = serial.enqueue_raw_bytes(&self.waiting);
+        // The room that is left shows what went in, after a refusal too.
         let count = room - serial.fifo_capacity();
         self.waiting.drain(..count);
-        match answer {
+        match enqueued {
             Ok(_) => Ok(count),
             Err(error) => match error {
                 Error::Trigger(refusal) => Err(refusal),

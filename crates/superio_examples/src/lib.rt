@@ -1,4 +1,4 @@
-//! Three short programs for the author of a monitor, to copy: a bus, a migration, and input that waits for room.
+//! Three short modules for the author of a monitor to copy: a bus, a migration, and input that waits for room.
 #![tactic(auto)]
 
 pub mod bus;

@@ -1,7 +1,7 @@
-//! Moves a serial port and a clock to another machine: saved there, and made anew here.
+//! Moves a serial port and a clock to another machine: they are saved there, and restored here.
 ghost use Rattle.std.specs.Prelude.{◌≡◌, IfOk, IfErr};
 ghost use Rattle.vm_superio.specs.SavedState.{state_of};
-ghost use Rattle.superio_examples.specs.Migration.{IsMadeOf, HandsBack};
+ghost use Rattle.superio_examples.specs.Migration.{IsRestoredFrom, ReturnsObjects};
 
 use std::alloc::{AllocError, Global};
 use std::io::Write;
@@ -16,25 +16,25 @@ pub struct Saved {
     pub clock: RtcState,
 }
 
-/// The devices, made anew over objects of the other machine.
+/// The restored devices, over objects of the new machine.
 #[derive(Drop)]
 pub struct Restored<T: Trigger, EV: SerialEvents, W: Write, CE: RtcEvents> {
     pub serial: Serial<T, EV, W>,
     pub clock: Rtc<CE>,
 }
 
-/// A restore that was refused: why, with the serial port's objects, and the clock's events object.
+/// A refused restore: the error with the serial port's objects, and the clock's events object.
 #[derive(Drop)]
 pub struct NotRestored<T: Trigger, EV, W, CE> {
     pub serial: Refused<T, EV, W>,
     pub clock_events: CE,
 }
 
-/// Saves both devices, which go on as they are.
+/// Saves both devices, which stay as they are.
 ///
 /// # Errors
 ///
-/// `AllocError` where memory for the received bytes was refused.
+/// `AllocError` where the allocator refused memory for the received bytes.
 pub fn save<T: Trigger, EV: SerialEvents, W: Write, CE: RtcEvents>(
     alloc: Global,
     serial: &Serial<T, EV, W>,
@@ -49,11 +49,13 @@ pub fn save<T: Trigger, EV: SerialEvents, W: Write, CE: RtcEvents>(
     })
 }
 
-/// Makes both devices of what was saved, and calls the trigger for each interrupt that the guest has not taken.
+/// Restores both devices from what was saved, and calls the trigger once for each interrupt condition that is pending
+/// and enabled.
 ///
 /// # Errors
 ///
-/// [`NotRestored`], with all objects, where the state has more than 64 received bytes or the trigger refuses a call.
+/// [`NotRestored`], with all objects, where the saved state has more than 64 received bytes or the trigger refuses a
+/// call.
 pub fn restore<T: Trigger, EV: SerialEvents, W: Write, CE: RtcEvents>(
     alloc: Global,
     saved: &Saved,
@@ -62,8 +64,8 @@ pub fn restore<T: Trigger, EV: SerialEvents, W: Write, CE: RtcEvents>(
     out: W,
     clock_events: CE,
 ) -> Result<Restored<T, EV, W, CE>, NotRestored<T, EV, W, CE>>
-    ensures made { IfOk result (IsMadeOf T.link saved.now trigger events out clock_events) }
-    ensures refused { IfErr result (HandsBack T.link saved.now trigger events out clock_events) }
+    ensures made { IfOk result (IsRestoredFrom T.link saved.now trigger events out clock_events) }
+    ensures refused { IfErr result (ReturnsObjects T.link saved.now trigger events out clock_events) }
 {
     match Serial::from_state(alloc, &saved.serial, trigger, events, out) {
         Ok(serial) => {

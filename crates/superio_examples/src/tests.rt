@@ -1,4 +1,4 @@
-//! The three programs at work, over the objects of a script's board.
+//! The three modules at work, over the objects of a script's board.
 use crate::bus::{Bus, BusError};
 use crate::input::Input;
 use crate::migration::{Saved, restore, save};
@@ -27,7 +27,7 @@ fn a_bus_reaches_its_devices_by_port(rt: HostRuntime) -> Result<(), Fail> {
         assert_eq!(rt; bus.read(port), want, "at {port}");
     }
 
-    // Ports that are nobody's, beside those of the devices and far from them.
+    // Ports of neither device, beside those of the devices and far from them.
     for port in [0x5F, 0x65, 0x3F7, 0x400, 0, 0xFFFF] {
         bus.write(port, 0xFE)?;
         assert_eq!(rt; bus.read(port), 0xFF, "at {port}");
@@ -45,7 +45,7 @@ fn a_bus_reaches_its_devices_by_port(rt: HostRuntime) -> Result<(), Fail> {
     Ok(())
 }
 
-/// A serial port with three bytes and an interrupt that the guest has not taken, and a clock that was set.
+/// A serial port with three bytes and an interrupt that the guest has not acknowledged, and a clock that was set.
 fn saved_devices(alloc: Global) -> Result<Saved, Fail> {
     let mut serial = Serial::new(alloc, Line::new(0), sink()).map_err(Refused::into_error)?;
     serial.write(1, 0x01)?;
@@ -74,7 +74,7 @@ fn devices_go_on_on_another_machine(rt: HostRuntime) -> Result<(), Fail> {
 }
 
 #[test]
-fn a_refused_restore_hands_its_objects_back(rt: HostRuntime) -> Result<(), Fail> {
+fn a_refused_restore_returns_its_objects(rt: HostRuntime) -> Result<(), Fail> {
     let saved = saved_devices(rt.alloc())?;
     let (line, counts) = (Line::new(0b1), Counts::new());
     let Err(refused) = restore(rt.alloc(), &saved, line, counts, sink(), counts) else {

@@ -313,29 +313,29 @@ all_good-append (first ∷ earlier) line good one =
 -- ---- the lines that were carried out
 
 -- so many lines were carried out, of all of them, and led to this board
-pub record Carried (mask : ℕ) (start : Option (List ℕ)) (all rest : List (List ℕ)) (before : Option (List ℕ)) (board : Devices) (count : ℕ) : Type 0 where
+pub record HasCarriedOut (mask : ℕ) (start : Option (List ℕ)) (all rest : List (List ℕ)) (before : Option (List ℕ)) (board : Devices) (count : ℕ) : Type 0 where
   pub earlier : List (List ℕ)
-  pub counted : length earlier ≡ count
+  pub so_many : length earlier ≡ count
   pub split : all ≡ earlier ++ rest
   pub all_good : IsTrue (list_all has_form earlier)
   pub text : Continues mask start before board (good_commands earlier)
 
-pub Carried-at_start : (mask : ℕ) (start : Option (List ℕ)) (all : List (List ℕ)) (board : Devices) → IsFresh mask board → Carried mask start all all start board 0
-Carried-at_start mask start all board is_fresh =
-    record { earlier = []; counted = refl; split = refl; all_good = refl; text = Continues-at_start mask start board is_fresh }
+pub HasCarriedOut-at_start : (mask : ℕ) (start : Option (List ℕ)) (all : List (List ℕ)) (board : Devices) → IsFresh mask board → HasCarriedOut mask start all all start board 0
+HasCarriedOut-at_start mask start all board is_fresh =
+    record { earlier = []; so_many = refl; split = refl; all_good = refl; text = Continues-at_start mask start board is_fresh }
 
-module _ (mask : ℕ) (start : Option (List ℕ)) (all rest : List (List ℕ)) (before : Option (List ℕ)) (board : Devices) (count : ℕ) (carried : Carried mask start all rest before board count) where
+module _ (mask : ℕ) (start : Option (List ℕ)) (all rest : List (List ℕ)) (before : Option (List ℕ)) (board : Devices) (count : ℕ) (carried : HasCarriedOut mask start all rest before board count) where
   module _ (line : List ℕ) (more : List (List ℕ)) (next : rest ≡ line ∷ more) where
     -- one more line was carried out, and its reply was written
-    pub Carried-after_line :
+    pub HasCarriedOut-after_line :
         (after : Option (List ℕ)) (reply : List ℕ) (new : Devices) → Appends before after reply →
-        IsSomeAnd (command_of line) (λ command. IsLineStep command reply board new) → Carried mask start all more after new (count + 1)
-    Carried-after_line after reply new wrote step =
+        IsSomeAnd (command_of line) (λ command. IsLineStep command reply board new) → HasCarriedOut mask start all more after new (count + 1)
+    HasCarriedOut-after_line after reply new wrote step =
         let earlier = carried.earlier in
         let form = has-form (command_of line) step in
         record {
           earlier = earlier ++ line ∷ [];
-          counted = length-append earlier (line ∷ []) ∙ ap (λ n. n + 1) carried.counted;
+          so_many = length-append earlier (line ∷ []) ∙ ap (λ n. n + 1) carried.so_many;
           split = carried.split ∙ ap (λ lines. earlier ++ lines) next ∙ sym (append_assoc earlier (line ∷ []) more);
           all_good = all_good-append earlier line carried.all_good form;
           text = subst (λ commands. Continues mask start after new commands) (sym (good_commands-append earlier (line ∷ []) carried.all_good))
@@ -358,7 +358,7 @@ module _ (mask : ℕ) (start : Option (List ℕ)) (all rest : List (List ℕ)) (
         ap (first_bad_line number) (carried.split ∙ ap (λ lines. carried.earlier ++ lines) next)
         ∙ first_bad_line-append number carried.earlier (line ∷ more) carried.all_good
         ∙ ap (λ (command : Option Command). if is_some command then first_bad_line (number + length carried.earlier + 1) more else Some (number + length carried.earlier)) none
-        ∙ ap (λ n. Some (number + n)) carried.counted
+        ∙ ap (λ n. Some (number + n)) carried.so_many
 
     pub Prints-before_bad : command_of line ≡ None → PrintsLines mask all start before
     Prints-before_bad none =

@@ -1,4 +1,4 @@
--- The first piece ends where the first separator stands, and where there is none, it is all.
+-- The first piece ends at the first separator. Where there is none, it is all of the bytes.
 use Rattle.std.proofs.Common.{◌≡◌, ◌≢◌, ℕ, ◌+◌, ◌<◌, ◌≤◌, ◌==◌, Bool, true, false, cond, ◌-◌, subst, List, [], ◌∷◌, length, take, drop, refl, arith, add-one, one-add}
 use Rattle.std.specs.Prelude.{not, if◌then◌else◌, Some, None, nat_lt}
 use Rattle.std.specs.List.{position, position_or_len}
@@ -58,7 +58,7 @@ module _ (separator : ℕ) (end : List (List ℕ)) where
         | false ↦ λ none. rw (pieces_of-whole one y ys (omega arith)) refl
       ] h
 
-  -- the two, as a search for the first separator shows them
+  -- the same, by the index that a search for the first separator finds
   pub pieces_of-at_found :
       (xs : List ℕ) (at : ℕ) → position (λ b. b == separator) xs ≡ Some at →
       pieces_of separator end xs ≡ take at xs ∷ pieces_of separator end (take (length xs - (at + 1)) (drop (at + 1) xs))

@@ -60,8 +60,8 @@ fn restore(alloc: Global, serial: &mut Port) -> Result<Reply, LineFault>
     let line = *serial.interrupt_evt();
     let counts = *serial.events();
     match Serial::from_state(alloc, &state, line, counts, Output::new()) {
-        Ok(anew) => {
-            let old = mem::replace(serial, anew);
+        Ok(restored) => {
+            let old = mem::replace(serial, restored);
             *serial.writer_mut() = old.into_writer();
             Ok(word(b"ok"))
         }

@@ -1,13 +1,13 @@
 -- Each reply that is written goes from what is still to come to what was carried out.
 use Rattle.std.proofs.Common.{◌≡◌, ap, ◌∙◌, Err, Some, inr, arith, length, length-append, ◌++◌, ◌+◌}
 use Rattle.superio_script.specs.Splitting.{lines_of}
-use Rattle.superio_script.proofs.ScriptLemmas.{Carried-at_start, Carried-after_line, first_bad_line-here, Prints-before_bad, Stops-here, none-bad, Prints-all}
+use Rattle.superio_script.proofs.ScriptLemmas.{HasCarriedOut-at_start, HasCarriedOut-after_line, first_bad_line-here, Prints-before_bad, Stops-here, none-bad, Prints-all}
 use Rattle.superio_script.proofs.script.write_replies.Goals as goal
 
 pub loop-line-init : goal.loop-line-init
 loop-line-init g c = record {
   count = 0;
-  carried = Carried-at_start c.args.mask (g.W.Write.contents c.args.writer.now) (lines_of c.args.lines.rest.now) c.in_ok-board.board c.in_ok-board.ensures.fresh;
+  carried = HasCarriedOut-at_start c.args.mask (g.W.Write.contents c.args.writer.now) (lines_of c.args.lines.rest.now) c.in_ok-board.board c.in_ok-board.ensures.fresh;
   number = omega arith;
 }
 
@@ -15,7 +15,7 @@ pub overflow_add-number : goal.overflow_add-number
 overflow_add-number g c =
     let carried = c.loop-line.invariant.carried in
     let all = carried.split ∙ ap (λ lines. carried.earlier ++ lines) c.in-Some.ensures in
-    omega (arith, c.requires, c.loop-line.invariant.number, carried.counted, simp length-append at (ap length all))
+    omega (arith, c.requires, c.loop-line.invariant.number, carried.so_many, simp length-append at (ap length all))
 
 pub returns-in-Err-Bad-clause-bad : goal.returns-in-Err-Bad-clause-bad
 returns-in-Err-Bad-clause-bad g c = λ number e.
@@ -43,7 +43,7 @@ loop-line-preserved g c =
     let more = lines_of c.next_line.new.self.rest.now in
     record {
       count = c.loop-line.invariant.count + 1;
-      carried = Carried-after_line c.args.mask (g.W.Write.contents c.args.writer.now) (lines_of c.args.lines.rest.now) rest (g.W.Write.contents c.loop-line.writer) c.loop-line.board c.loop-line.invariant.count c.loop-line.invariant.carried c.in-Some.line.now more c.in-Some.ensures (g.W.Write.contents c.print.new.writer) c.in-Ok.reply.items c.line.new.self c.in_ok-print.ensures.written c.in-Ok.ensures.step;
+      carried = HasCarriedOut-after_line c.args.mask (g.W.Write.contents c.args.writer.now) (lines_of c.args.lines.rest.now) rest (g.W.Write.contents c.loop-line.writer) c.loop-line.board c.loop-line.invariant.count c.loop-line.invariant.carried c.in-Some.line.now more c.in-Some.ensures (g.W.Write.contents c.print.new.writer) c.in-Ok.reply.items c.line.new.self c.in_ok-print.ensures.written c.in-Ok.ensures.step;
       number = omega (arith, c.loop-line.invariant.number);
     }
 

@@ -18,9 +18,9 @@ returns-in-Write-clause-step c =
 pub returns-in-Enqueue-clause-step : goal.returns-in-Enqueue-clause-step
 returns-in-Enqueue-clause-step c =
     let case = rw c.as_slice.ensures at c.enqueue_raw_bytes.ensures.case in
-    let answer = c.enqueue_raw_bytes.result in
+    let enqueued = c.enqueue_raw_bytes.result in
     rw (c.in-Enqueue.is, c.enqueue_result_reply.ensures)
-    (enqueue-step c.steps_of_history.ensures c.args.serial.now c.enqueue_raw_bytes.new.self (enqueue_reply answer) (refusal_of answer) c.in-Enqueue.bytes case.0 case.1 case.2)
+    (enqueue-step c.steps_of_history.ensures c.args.serial.now c.enqueue_raw_bytes.new.self (enqueue_reply enqueued) (refusal_of enqueued) c.in-Enqueue.bytes case.0 case.1 case.2)
 
 pub returns-in-Capacity-clause-step : goal.returns-in-Capacity-clause-step
 returns-in-Capacity-clause-step c = rw (c.in-Capacity.is, c.byte-in-Capacity.ensures, c.fifo_capacity.ensures.value) (capacity-step c.args.serial.now)
