@@ -20,7 +20,7 @@ use Rattle.superio_script.specs.Counts.{EventCounts}
 use Rattle.superio_script.specs.Output.{written_bytes}
 use Rattle.superio_script.specs.Command.{command_of, AsksForRestore}
 use Rattle.superio_script.specs.Reply.{digits_reply, access_of}
-use Rattle.superio_script.specs.SerialScript.{Session, fresh_session, known_output, Choice, IsPossible, first_outcome, first_output, bytes_before_loss, is_short, session_entry, session_sends, outcome_if_sent, choice_if_sent, output_or_chosen, choice_after_output, call_reply, session_after_call, serial_reply, session_after_line, choice_after_line}
+use Rattle.superio_script.specs.SerialScript.{Session, fresh_session, known_output, Choice, IsPossible, first_outcome, first_output, bytes_before_loss, is_short, session_entry, session_sends, outcome_if_sent, choice_after_write, output_or_chosen, choice_after_output, call_reply, session_after_call, serial_reply, session_after_line, choice_after_line}
 use Rattle.superio_script.specs.Board.{Devices, IsAt, IsFresh, IsSerialLineStep, IsLineStep}
 use Rattle.superio_script.specs.Script.{has_form, prepend_if_good, good_commands, first_bad_line, text_from, PrintsLines, StopsAtRestore}
 use Rattle.superio_script.proofs.SerialScriptLemmas.{no_choice, output_after, known_output-after}
@@ -100,7 +100,7 @@ module _ (choice later : Choice) (possible : IsPossible choice) where
   write-joins :
       (sending : Bool) (output : Option (List ℕ)) (bytes : List ℕ) → (sending ≡ true → length bytes ≡ 1) → IfSome output (λ all. length all ≤ 256) →
       IsPossibleFrom (output_after output (outcome_if_sent sending choice) bytes) later →
-      (whole : Choice) × IsPossibleFrom output whole × (outcome_if_sent sending whole ≡ outcome_if_sent sending choice) × (choice_if_sent sending whole ≡ later)
+      (whole : Choice) × IsPossibleFrom output whole × (outcome_if_sent sending whole ≡ outcome_if_sent sending choice) × (choice_after_write sending whole ≡ later)
   write-joins true output bytes one few rest_possible =
       let outcome = first_outcome choice.outcomes in
       let is = first-sent choice.outcomes possible.sent in (

@@ -32,7 +32,7 @@ use Rattle.superio_script.specs.Counting.{Folds}
 use Rattle.superio_script.specs.Counts.{EventCounts, no_counts, counts_after_event}
 use Rattle.superio_script.specs.Output.{written_bytes}
 use Rattle.superio_script.specs.Reply.{with_lf, response_reply, digits_reply, count_digits, counts_reply}
-use Rattle.superio_script.specs.SerialScript.{Session, fresh_session, known_output, Choice, IsPossible, responses_of_line, line_after_responses, session_responses, session_sends, outcome_if_sent, call_reply, session_after_call, output_or_chosen, is_restore_refused}
+use Rattle.superio_script.specs.SerialScript.{Session, fresh_session, known_output, Choice, IsPossible, trigger_responses, line_after_responses, session_responses, session_sends, outcome_if_sent, call_reply, session_after_call, output_or_chosen, is_restore_refused}
 use Rattle.superio_script.specs.Board.{IsAt, IsSerialLineStep}
 use Rattle.superio_script.specs.declared.output.Output.{Output}
 use Rattle.superio_script.specs.declared.trigger.LineRefused.{LineRefused}
@@ -57,42 +57,42 @@ abbrev two_responses : (first second : Bool) → Asked
 two_responses first second = if first then Refused else (if second then TookRefused else TookTook)
 
 -- the responses that link an interrupt line are those that its mask gives
-pub responses_of_line-from_link :
+pub trigger_responses-from_link :
     (line new : InterruptLine) (calls : ℕ) (asked : Asked) (refusal : Option LineRefused) →
     IsTrue (asked_fits calls asked) → (IsTrue (ends_refused asked) → IsSome refusal) → InterruptLineLink line (answers asked refusal) new →
-    (asked ≡ responses_of_line line calls) × (new ≡ line_after_responses line asked)
-responses_of_line-from_link line new calls Nothing refusal fits some link =
+    (asked ≡ trigger_responses line calls) × (new ≡ line_after_responses line asked)
+trigger_responses-from_link line new calls Nothing refusal fits some link =
     let none : calls ≡ 0 = grind (arith, nat_tests) in
-    (ap (responses_of_line line) (sym none), sym link)
-responses_of_line-from_link line new calls Took refusal fits some link =
+    (ap (trigger_responses line) (sym none), sym link)
+trigger_responses-from_link line new calls Took refusal fits some link =
     let one : calls ≡ 1 = grind (arith, nat_tests) in
     let accepted = was_accepted (is_call_refused line.mask line.calls) link.0 in
-    (ap (λ (b : Bool). if b then Refused else Took) (sym accepted) ∙ ap (responses_of_line line) (sym one), sym link.1)
-responses_of_line-from_link line new calls TookTook refusal fits some link =
+    (ap (λ (b : Bool). if b then Refused else Took) (sym accepted) ∙ ap (trigger_responses line) (sym one), sym link.1)
+trigger_responses-from_link line new calls TookTook refusal fits some link =
     let two : calls ≡ 2 = grind (arith, nat_tests) in
     let first = was_accepted (is_call_refused line.mask line.calls) link.0 in
     let second = was_accepted (is_call_refused line.mask (line_after_call line).calls) link.1.0 in (
       ap (λ (b : Bool). if b then TookRefused else TookTook) (sym second)
           ∙ ap (λ (b : Bool). two_responses b (is_call_refused line.mask (line_after_call line).calls)) (sym first)
-          ∙ ap (responses_of_line line) (sym two),
+          ∙ ap (trigger_responses line) (sym two),
       sym link.1.1,
     )
-responses_of_line-from_link line new calls Refused None fits some link = absurd (false≢true (some refl))
-responses_of_line-from_link line new zero Refused (Some refusal) fits some link = absurd (false≢true fits)
-responses_of_line-from_link line new (suc zero) Refused (Some refusal) fits some link =
+trigger_responses-from_link line new calls Refused None fits some link = absurd (false≢true (some refl))
+trigger_responses-from_link line new zero Refused (Some refusal) fits some link = absurd (false≢true fits)
+trigger_responses-from_link line new (suc zero) Refused (Some refusal) fits some link =
     let refused = was_refused (is_call_refused line.mask line.calls) refusal link.0 in
     (ap (λ (b : Bool). if b then Refused else Took) (sym refused), sym link.1)
-responses_of_line-from_link line new (suc (suc more)) Refused (Some refusal) fits some link =
+trigger_responses-from_link line new (suc (suc more)) Refused (Some refusal) fits some link =
     let refused = was_refused (is_call_refused line.mask line.calls) refusal link.0 in
     (ap (λ (b : Bool). two_responses b (is_call_refused line.mask (line_after_call line).calls)) (sym refused), sym link.1)
-responses_of_line-from_link line new calls TookRefused None fits some link = absurd (false≢true (some refl))
-responses_of_line-from_link line new calls TookRefused (Some refusal) fits some link =
+trigger_responses-from_link line new calls TookRefused None fits some link = absurd (false≢true (some refl))
+trigger_responses-from_link line new calls TookRefused (Some refusal) fits some link =
     let two : calls ≡ 2 = grind (arith, nat_tests) in
     let first = was_accepted (is_call_refused line.mask line.calls) link.0 in
     let second = was_refused (is_call_refused line.mask (line_after_call line).calls) refusal link.1.0 in (
       ap (λ (b : Bool). if b then TookRefused else TookTook) (sym second)
           ∙ ap (λ (b : Bool). two_responses b (is_call_refused line.mask (line_after_call line).calls)) (sym first)
-          ∙ ap (responses_of_line line) (sym two),
+          ∙ ap (trigger_responses line) (sym two),
       sym link.1.1,
     )
 
@@ -223,8 +223,8 @@ module _ (law : StepLaw) where
         let entry : Entry = record { act = op; asked = asked; sent = outcome } in
         let step = place.steps entry case.fits in
         let fitted = (and_parts (asked_fits (due (described fresh before.trace) op) asked) (beq (is_sent outcome) (session_sends before op)) case.fits).0 in
-        let so = responses_of_line-from_link before.line new.trigger (due (described fresh before.trace) op) asked refusal fitted (λ h. case.refused ∙ h) case.trigger in
-        let same : asked ≡ session_responses before op = so.0 ∙ ap (responses_of_line before.line) (place.calls op) in
+        let so = trigger_responses-from_link before.line new.trigger (due (described fresh before.trace) op) asked refusal fitted (λ h. case.refused ∙ h) case.trigger in
+        let same : asked ≡ session_responses before op = so.0 ∙ ap (trigger_responses before.line) (place.calls op) in
         let P : Asked → Type 0 = λ a. (response_reply response ≡ response_reply (reply fresh before.trace op a outcome)) × IsAt (record {
           trace = record { act = op; asked = a; sent = outcome } ∷ before.trace;
           line = line_after_responses before.line a;
@@ -311,7 +311,7 @@ module _ (port : Port InterruptLine EventCounts Output) where
 -- ---- a restore
 
 one-accepted : (line new : InterruptLine) → (Ok tt ≡ one_response (is_call_refused line.mask line.calls)) × (line_after_call line ≡ new) →
-    (ends_refused (responses_of_line line 1) ≡ false) × (new ≡ line_after_responses line (responses_of_line line 1))
+    (ends_refused (trigger_responses line 1) ≡ false) × (new ≡ line_after_responses line (trigger_responses line 1))
 one-accepted line new link =
     let accepted = was_accepted (is_call_refused line.mask line.calls) link.0 in (
       ap (λ (a : Bool). ends_refused (if a then Refused else Took)) accepted,
@@ -320,7 +320,7 @@ one-accepted line new link =
 
 one-refused : (line : InterruptLine) (refusal : LineRefused) (response : Result (Unit {0}) LineRefused) {A B : Type 0} →
     ((response ≡ Err refusal) × A) ⊎ (B × ⊥) → response ≡ one_response (is_call_refused line.mask line.calls) →
-    ends_refused (responses_of_line line 1) ≡ true
+    ends_refused (trigger_responses line 1) ≡ true
 one-refused line refusal response (inl h) link =
     ap (λ (a : Bool). ends_refused (if a then Refused else Took)) (was_refused (is_call_refused line.mask line.calls) refusal (sym h.0 ∙ link))
 one-refused line refusal response (inr h) link = absurd h.1
@@ -333,8 +333,8 @@ second-refused refusal response responses (inr h) = absurd h.1
 -- where all calls of a restore were accepted, no response is a refusal
 restore-accepted :
     (line new : InterruptLine) (transmit receive : Bool) → InterruptLineLink line (all_taken (transmit_first transmit receive)) new →
-    (ends_refused (responses_of_line line (length (transmit_first transmit receive))) ≡ false)
-    × (new ≡ line_after_responses line (responses_of_line line (length (transmit_first transmit receive))))
+    (ends_refused (trigger_responses line (length (transmit_first transmit receive))) ≡ false)
+    × (new ≡ line_after_responses line (trigger_responses line (length (transmit_first transmit receive))))
 restore-accepted line new false false link = (refl, sym link)
 restore-accepted line new true false link = one-accepted line new link
 restore-accepted line new false true link = one-accepted line new link
@@ -349,7 +349,7 @@ restore-accepted line new true true link =
 restore-refused :
     (line new : InterruptLine) (transmit receive : Bool) (refusal : LineRefused) (responses : List (Result (Unit {0}) LineRefused)) →
     EndsRefused (transmit_first transmit receive) refusal responses → InterruptLineLink line responses new →
-    ends_refused (responses_of_line line (length (transmit_first transmit receive))) ≡ true
+    ends_refused (trigger_responses line (length (transmit_first transmit receive))) ≡ true
 restore-refused line new false false refusal responses ends link = absurd ends
 restore-refused line new true false refusal [] ends link = absurd ends
 restore-refused line new true false refusal (response ∷ responses) ends link = one-refused line refusal response ends link.0
@@ -377,7 +377,7 @@ module _ (law : StepLaw) (old new : Port InterruptLine EventCounts Output) where
       let linked = subst (λ calls. InterruptLineLink before.line (all_taken calls) new.trigger) calls
       (subst (λ (l : InterruptLine). InterruptLineLink l (all_taken (restore_calls old.state)) new.trigger) at.line link) in
       let accepted = restore-accepted before.line new.trigger _ _ linked in
-      let after = line_after_responses before.line (responses_of_line before.line (length (restore_calls_due fresh before.trace))) in
+      let after = line_after_responses before.line (trigger_responses before.line (length (restore_calls_due fresh before.trace))) in
       let P : Bool → Type 0 = λ refused. (with_lf (codes "ok") ≡ with_lf (if refused then codes "trigger" else codes "ok"))
       × IsAt (if refused then before else record before { line = after }) new in
       let found : P (is_restore_refused before) = subst P (sym accepted.0) (
@@ -408,5 +408,5 @@ refused-restore-step law port after (Trigger refusal) few refuses = λ before at
       no_choice,
       IsPossible-no_choice,
       ap (λ (b : Bool). with_lf (if b then codes "trigger" else codes "ok")) (sym refused),
-      subst (λ (b : Bool). IsAt (if b then before else record before { line = line_after_responses before.line (responses_of_line before.line (length (restore_calls_due fresh before.trace))) }) port) (sym refused) at,
+      subst (λ (b : Bool). IsAt (if b then before else record before { line = line_after_responses before.line (trigger_responses before.line (length (restore_calls_due fresh before.trace))) }) port) (sym refused) at,
     )

@@ -15,7 +15,7 @@ use Rattle.superio_script.specs.declared.command.ControllerLine.TheVariants as c
 
 -- ---- one field
 
--- exactly so many bytes, each of two hexadecimal digits of either case
+-- so many bytes, each of two hexadecimal digits of either case
 abbrev pub bytes_of : (count : ℕ) (field : List ℕ) → Option (List ℕ)
 bytes_of count field = result_ok (decode_sized field count)
 
@@ -115,7 +115,7 @@ command_of line = command_of_fields (fields_of line)
 abbrev pub AsksForRestore : (line : List ℕ) → Type 0
 AsksForRestore line = command_of line ≡ Some (Serial serial.Restore)
 
--- the mask of a line `refuse MMMMMMMMMMMMMMMM`, which has a meaning only as the first line
+-- the mask of a line `refuse MMMMMMMMMMMMMMMM`, which is a form of a script's first line alone
 abbrev pub mask_of_fields : (fields : List (List ℕ)) → Option ℕ
 mask_of_fields [] = None
 mask_of_fields (name ∷ fields) = if bytes_eq name (codes "refuse") then one_number64 fields else None

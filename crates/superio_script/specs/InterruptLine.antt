@@ -17,7 +17,7 @@ fresh_interrupt_line mask = record { calls = 0; mask = mask }
 abbrev pub is_call_refused : (mask number : ℕ) → Bool
 is_call_refused mask number = nat_lt number 64 && (bit_at mask number == 1)
 
--- one more, up to 2^64 - 1
+-- one more, which saturates at 2^64 - 1
 abbrev pub saturating_increment : (count : ℕ) → ℕ
 saturating_increment count = min (count + 1) (2 ^ 64 - 1)
 

@@ -33,11 +33,12 @@ body_of_lines (line ∷ lines) = body_from (mask_of line) line lines
 abbrev pub body_of : (script : List ℕ) → Body
 body_of script = body_of_lines (lines_of script)
 
--- the commands of the good lines, which are those before the first line that has no form
+-- the command of a line that has a form, in front of the others. A line that has none ends them
 abbrev pub prepend_if_good : (command : Option Command) (commands : List Command) → List Command
 prepend_if_good None commands = []
 prepend_if_good (Some command) commands = command ∷ commands
 
+-- the commands of the good lines, which are those before the first line that has no form
 abbrev pub good_commands : (lines : List (List ℕ)) → List Command
 good_commands [] = []
 good_commands (line ∷ lines) = prepend_if_good (command_of line) (good_commands lines)
@@ -128,6 +129,6 @@ pub record StopsAtRestore (mask : ℕ) (lines : List (List ℕ)) (before after :
   pub restore : AsksForRestore line
   pub text : PrintsLines mask earlier before after
 
--- the same of a run of a script
+-- the same of a run of this script
 abbrev pub EndsAtRestore : (script : List ℕ) (before after : Option (List ℕ)) → Type 0
 EndsAtRestore script before after = StopsAtRestore (body_of script).mask (body_of script).lines before after

@@ -1,4 +1,4 @@
--- What a program reports of the fault that ended its run.
+-- How a program reports the fault that ended its run.
 use Rattle.std.specs.Prelude.{ℕ, List, ◌++◌, codes}
 use Rattle.std.specs.Fmt.{decimal}
 use Rattle.superio_script.specs.declared.script.ScriptFault.{ScriptFault}

@@ -21,7 +21,7 @@ use Rattle.superio_script.specs.declared.command.SerialLine.TheVariants as seria
 
 -- ---- what the script leaves open
 
--- what a script does not determine: whether the writer takes a byte, and what it holds once it failed to take one
+-- what a script does not determine: whether the writer takes a byte, and what the writer holds after a loss
 pub record Choice : Type 0 where
   -- what becomes of each byte that the port sends to the writer, in order. Where the list ends, bytes are lost
   pub outcomes : List Sent
@@ -61,7 +61,7 @@ pub record Session : Type 0 where
   pub line : InterruptLine
   pub counts : EventCounts
 
--- a port without a call so far. The mask names the calls that its interrupt line refuses
+-- a port that was never called. The mask names the calls that its interrupt line refuses
 abbrev pub fresh_session : (mask : ℕ) → Session
 fresh_session mask = record { trace = []; line = fresh_interrupt_line mask; counts = no_counts }
 
@@ -71,15 +71,15 @@ known_output trace = if none_lost trace then Some (output fresh [] trace) else N
 
 -- ---- a call of the port
 
--- the interrupt line's responses to so many trigger calls, of which a refusal is the last
-abbrev pub responses_of_line : (line : InterruptLine) (calls : ℕ) → Asked
-responses_of_line line zero = Nothing
-responses_of_line line (suc zero) = if is_call_refused line.mask line.calls then Refused else Took
-responses_of_line line (suc (suc more)) =
+-- the interrupt line's responses to so many trigger calls, up to two. A refusal is the last response
+abbrev pub trigger_responses : (line : InterruptLine) (calls : ℕ) → Asked
+trigger_responses line zero = Nothing
+trigger_responses line (suc zero) = if is_call_refused line.mask line.calls then Refused else Took
+trigger_responses line (suc (suc more)) =
     if is_call_refused line.mask line.calls then Refused
     else (if is_call_refused line.mask (line_after_call line).calls then TookRefused else TookTook)
 
--- the interrupt line after calls with these responses
+-- the interrupt line after trigger calls with these responses
 abbrev pub line_after_responses : (line : InterruptLine) (responses : Asked) → InterruptLine
 line_after_responses line Nothing = line
 line_after_responses line Took = line_after_call line
@@ -88,7 +88,7 @@ line_after_responses line TookTook = line_after_call (line_after_call line)
 line_after_responses line TookRefused = line_after_call (line_after_call line)
 
 abbrev pub session_responses : (session : Session) (op : Deed) → Asked
-session_responses session op = responses_of_line session.line (calls_due fresh session.trace op)
+session_responses session op = trigger_responses session.line (calls_due fresh session.trace op)
 
 -- the trace entry of a call, given the outcome of its byte
 abbrev pub session_entry : (session : Session) (op : Deed) (outcome : Sent) → Entry
@@ -111,12 +111,13 @@ session_after_call session op outcome = record {
 abbrev pub session_sends : (session : Session) (op : Deed) → Bool
 session_sends session op = not_empty (sent_by (kind fresh session.trace op))
 
--- the outcome of the byte that a write sends, if it sends one, and the choice for what follows. No other call sends one
+-- the outcome of the byte that a write sends, if it sends one, and the choice for what follows. No other call sends a
+-- byte
 abbrev pub outcome_if_sent : (sends : Bool) (choice : Choice) → Sent
 outcome_if_sent sends choice = if sends then first_outcome choice.outcomes else sent.Nothing
 
-abbrev pub choice_if_sent : (sends : Bool) (choice : Choice) → Choice
-choice_if_sent sends choice = record choice { outcomes = if sends then drop 1 choice.outcomes else choice.outcomes }
+abbrev pub choice_after_write : (sends : Bool) (choice : Choice) → Choice
+choice_after_write sends choice = record choice { outcomes = if sends then drop 1 choice.outcomes else choice.outcomes }
 
 abbrev pub session_write_outcome : (session : Session) (choice : Choice) (offset value : ℕ) → Sent
 session_write_outcome session choice offset value =
@@ -126,12 +127,12 @@ session_write_outcome session choice offset value =
 
 -- the interrupt line's responses to the calls of a restore, and whether they end the restore with a refusal
 abbrev pub restore_responses : (session : Session) → Asked
-restore_responses session = responses_of_line session.line (length (restore_calls_due fresh session.trace))
+restore_responses session = trigger_responses session.line (length (restore_calls_due fresh session.trace))
 
 abbrev pub is_restore_refused : (session : Session) → Bool
 is_restore_refused session = ends_refused (restore_responses session)
 
--- a restore keeps the trace and the counts, and its calls count. A refused one leaves everything as it was
+-- a restore keeps the trace and the counts, and its trigger calls count. A refused restore leaves everything as it was
 abbrev pub session_after_restore : (session : Session) → Session
 session_after_restore session =
     if is_restore_refused session then session
@@ -173,7 +174,7 @@ session_after_line session choice _ = session
 
 abbrev pub choice_after_line : (session : Session) (choice : Choice) (line : SerialLine) → Choice
 choice_after_line session choice (serial.Write offset value) =
-    choice_if_sent (session_sends session (Writes offset value)) choice
+    choice_after_write (session_sends session (Writes offset value)) choice
 choice_after_line session choice serial.Output = choice_after_output (known_output session.trace) choice
 choice_after_line session choice _ = choice
 

@@ -148,7 +148,7 @@ impl RtcEvents for Counts {
     }
 }
 
-/// One more, up to 2^64 - 1.
+/// Counts one more, up to 2^64 - 1.
 fn count(count: &mut u64)
     ensures { count.new ≡ saturating_increment count.old }
 {
