@@ -4,14 +4,14 @@ use Rattle.std.specs.Prelude.{if◌then◌else◌}
 use Rattle.std.proofs.lemmas.List.{take-append-drop, length-take, drop_min}
 use Rattle.vm_superio.specs.declared.serial.errors.Error.{Error}
 use Rattle.vm_superio.specs.declared.serial.errors.Error.TheVariants.{Trigger, IOError, FullFifo, Memory}
-use Rattle.vm_superio.specs.State.{State}
-use Rattle.vm_superio.specs.Registers.{is_loopback}
-use Rattle.vm_superio.specs.Asking.{accepted_of, receive}
-use Rattle.vm_superio.specs.Port.{refusal_in}
+use Rattle.vm_superio.specs.Port.State.{State}
+use Rattle.vm_superio.specs.Port.Registers.{is_loopback}
+use Rattle.vm_superio.specs.Step.Raising.{enqueued_bytes, receive_bytes}
+use Rattle.vm_superio.specs.Port.Model.{refusal_in_error}
 use Rattle.superio_examples.specs.Input.{room_in}
 
 -- bytes that come in stand behind the others
-in_buffer-receive : (bytes : List ℕ) (s : State) → (receive bytes s).in_buffer ≡ s.in_buffer ++ bytes
+in_buffer-receive : (bytes : List ℕ) (s : State) → (receive_bytes bytes s).in_buffer ≡ s.in_buffer ++ bytes
 in_buffer-receive [] s = sym (append-nil s.in_buffer)
 in_buffer-receive (byte ∷ bytes) s = refl
 
@@ -25,20 +25,20 @@ taken-rest false room bytes =
 
 -- the room that an enqueue of these bytes took is how many it accepted
 pub room-taken : (old new : State) (bytes : List ℕ) (room left : ℕ) →
-    new ≡ receive (accepted_of old bytes) old → room ≡ 64 - length old.in_buffer → left ≡ 64 - length new.in_buffer →
-    length new.in_buffer ≤ 64 → room - left ≡ length (accepted_of old bytes)
+    new ≡ receive_bytes (enqueued_bytes old bytes) old → room ≡ 64 - length old.in_buffer → left ≡ 64 - length new.in_buffer →
+    length new.in_buffer ≤ 64 → room - left ≡ length (enqueued_bytes old bytes)
 room-taken old new bytes room left state room_is left_is few =
-    let accepted = accepted_of old bytes in
+    let accepted = enqueued_bytes old bytes in
     let held : new.in_buffer ≡ old.in_buffer ++ accepted = ap (λ (s : State). s.in_buffer) state ∙ in_buffer-receive accepted old in
     let count : length new.in_buffer ≡ length old.in_buffer + length accepted = ap length held ∙ length-append old.in_buffer accepted in
     omega arith
 
 -- the bytes held, then those that wait, are those that were held, and then those that waited
 pub held-waiting : (old new : State) (bytes rest : List ℕ) →
-    new ≡ receive (accepted_of old bytes) old → rest ≡ drop (length (accepted_of old bytes)) bytes →
+    new ≡ receive_bytes (enqueued_bytes old bytes) old → rest ≡ drop (length (enqueued_bytes old bytes)) bytes →
     new.in_buffer ++ rest ≡ old.in_buffer ++ bytes
 held-waiting old new bytes rest state rest_is =
-    let accepted = accepted_of old bytes in
+    let accepted = enqueued_bytes old bytes in
     ap (λ (s : State). s.in_buffer ++ rest) state
     ∙ ap (λ held. held ++ rest) (in_buffer-receive accepted old)
     ∙ append_assoc old.in_buffer accepted rest
@@ -47,9 +47,9 @@ held-waiting old new bytes rest state rest_is =
 
 -- none of the bytes is accepted twice, and none is passed over
 pub length-accepted : (old : State) (bytes : List ℕ) →
-    length bytes ≡ length (accepted_of old bytes) + length (drop (length (accepted_of old bytes)) bytes)
+    length bytes ≡ length (enqueued_bytes old bytes) + length (drop (length (enqueued_bytes old bytes)) bytes)
 length-accepted old bytes =
-    let accepted = accepted_of old bytes in
+    let accepted = enqueued_bytes old bytes in
     sym (ap length (taken-rest (is_loopback old.modem_control) (64 - length old.in_buffer) bytes))
     ∙ length-append accepted (drop (length accepted) bytes)
 
@@ -59,11 +59,11 @@ drop-taken : (none : Bool) (room : ℕ) (bytes : List ℕ) →
 drop-taken true room bytes = refl
 drop-taken false room bytes = ap (λ count. drop count bytes) (length-take room bytes) ∙ drop_min room bytes
 
-pub drop-accepted : (old : State) (bytes : List ℕ) → drop (length (accepted_of old bytes)) bytes ≡ drop (room_in old) bytes
+pub drop-accepted : (old : State) (bytes : List ℕ) → drop (length (enqueued_bytes old bytes)) bytes ≡ drop (room_in old) bytes
 drop-accepted old bytes = drop-taken (is_loopback old.modem_control) (64 - length old.in_buffer) bytes
 
 -- an error that is not the trigger's has no refusal
-pub refusal_in-other : {E : Type 0} (error : Error E) → ((refusal : E) → error ≡ Trigger refusal → ⊥) → refusal_in error ≡ None
+pub refusal_in-other : {E : Type 0} (error : Error E) → ((refusal : E) → error ≡ Trigger refusal → ⊥) → refusal_in_error error ≡ None
 refusal_in-other (Trigger refusal) other = absurd (other refusal refl)
 refusal_in-other (IOError fault) other = refl
 refusal_in-other FullFifo other = refl

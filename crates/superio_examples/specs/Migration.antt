@@ -1,8 +1,8 @@
 -- What a restore of saved devices makes, and what it returns where it is refused.
 use Rattle.std.specs.Prelude.{◌≡◌, List, Result}
-use Rattle.vm_superio.specs.Calls.{restore_calls}
-use Rattle.vm_superio.specs.Restoring.{all_taken, RefusesRestore}
-use Rattle.vm_superio.specs.SavedState.{state_of}
+use Rattle.vm_superio.specs.Step.Restore.{restore_calls, RefusesRestore}
+use Rattle.vm_superio.specs.Port.ObjectLinks.{all_ok}
+use Rattle.vm_superio.specs.Port.SavedState.{state_of}
 use Rattle.superio_examples.specs.declared.migration.Saved.{Saved}
 use Rattle.superio_examples.specs.declared.migration.Restored.{Restored}
 use Rattle.superio_examples.specs.declared.migration.NotRestored.{NotRestored}
@@ -14,7 +14,7 @@ pub record IsRestoredFrom
     (trigger : T) (events : EV) (out : W) (clock_events : CE) (made : Restored T EV W CE E) : Type 0 where
   pub serial : made.serial.state ≡ state_of saved.serial
   pub clock : made.clock.state ≡ saved.clock
-  pub called : link trigger (all_taken (restore_calls (state_of saved.serial))) made.serial.trigger
+  pub called : link trigger (all_ok (restore_calls (state_of saved.serial))) made.serial.trigger
   pub events_kept : made.serial.events ≡ events
   pub out_kept : made.serial.out ≡ out
   pub clock_events_kept : made.clock.events ≡ clock_events

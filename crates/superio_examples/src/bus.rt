@@ -1,9 +1,10 @@
 //! A bus that forwards a guest's port I/O to a serial port and a reset controller, by port number.
 ghost use Rattle.std.specs.Prelude.{◌≡◌, ◌-◌, ◌||◌};
 ghost use Rattle.std.specs.Bool.{OnTrue, OnFalse};
-ghost use Rattle.vm_superio.specs.Coherent.{Coherent};
+ghost use Rattle.vm_superio.specs.Port.Coherent.{Coherent};
+ghost use Rattle.vm_superio.specs.Step.PortStep.{IsReadStep};
 ghost use Rattle.superio_examples.specs.Bus.{is_com1, is_i8042, is_vacant, is_reset};
-ghost use Rattle.superio_examples.specs.Bus.{IsReadCase, ForwardsWrite, ForwardsReset};
+ghost use Rattle.superio_examples.specs.Bus.{ForwardsWrite, ForwardsReset};
 
 use std::io::Write;
 use vm_superio::serial::{Error, SerialEvents};
@@ -35,7 +36,7 @@ impl<T: Trigger, EV: SerialEvents, W: Write, R: Trigger> Bus<T, EV, W, R> {
     /// Reads the byte at `port`, as a guest's `in` does. A port of neither device gives 0xFF, as on a PC.
     pub fn read(&mut self, port: u16) -> u8
         ensures serial { OnTrue (is_com1 port)
-            (IsReadCase T.link EV.link W.contents (port - 0x3F8) result self.old.serial self.new.serial) }
+            (IsReadStep T.link EV.link W.contents (port - 0x3F8) result self.old.serial self.new.serial) }
         ensures serial_alone { OnFalse (is_com1 port) (self.new.serial ≡ self.old.serial) }
         ensures controller { OnTrue (is_i8042 port) (result ≡ 0) }
         ensures controller_alone { self.new.controller ≡ self.old.controller }

@@ -1,7 +1,7 @@
 //! Input on its way to a guest. It waits until the serial port's FIFO has room, and no byte of it is lost.
 ghost use Rattle.std.specs.Prelude.{◌≡◌, ◌+◌, ℕ, List, [], ◌∷◌, ◌++◌, length, drop, OnOk, OnErr, IfOk, IfErr};
-ghost use Rattle.vm_superio.specs.Coherent.{Coherent};
-ghost use Rattle.superio_examples.specs.Input.{room_in, IsEnqueueCase};
+ghost use Rattle.vm_superio.specs.Port.Coherent.{Coherent};
+ghost use Rattle.superio_examples.specs.Input.{room_in, ForwardsEnqueue};
 
 use std::alloc::{AllocError, Global};
 use std::io::Write;
@@ -63,7 +63,7 @@ impl Input {
         ensures room { self.new ≡ drop (room_in serial.old.state) self.old }
         ensures count { IfOk result (λ count. length self.old ≡ count + length self.new) }
         ensures refused { IfErr result (λ refusal. T.link serial.old.trigger (Err refusal ∷ []) serial.new.trigger) }
-        ensures case { IsEnqueueCase T.link EV.link W.contents self.old result serial.old serial.new }
+        ensures step { ForwardsEnqueue T.link EV.link W.contents self.old result serial.old serial.new }
         ensures coherent { Coherent serial.old.state → Coherent serial.new.state }
     {
         let room = serial.fifo_capacity();

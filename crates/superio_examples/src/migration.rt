@@ -1,6 +1,6 @@
 //! Moves a serial port and a clock to another machine: they are saved there, and restored here.
 ghost use Rattle.std.specs.Prelude.{◌≡◌, IfOk, IfErr};
-ghost use Rattle.vm_superio.specs.SavedState.{state_of};
+ghost use Rattle.vm_superio.specs.Port.SavedState.{state_of};
 ghost use Rattle.superio_examples.specs.Migration.{IsRestoredFrom, ReturnsObjects};
 
 use std::alloc::{AllocError, Global};

@@ -5,16 +5,17 @@ use Rattle.std.proofs.lemmas.Bool.{and_parts, false≢true}
 use Rattle.std.specs.Io.KnownBytes.{Appends}
 use Rattle.std.specs.Prelude.{IsTrue, IsSomeAnd, IfSome, is_some, if◌then◌else◌}
 use Rattle.std.specs.List.{list_all}
-use Rattle.vm_superio.specs.declared.run.Sent.{Sent}
-use Rattle.vm_superio.specs.declared.run.Sent.TheVariants as sent
-use Rattle.vm_superio.specs.State.{fresh, not_empty}
-use Rattle.vm_superio.specs.Acts.{Deed, Reads, Writes, Enqueues, Entry, is_sent}
-use Rattle.vm_superio.specs.Meaning.{Kind, DataWrite, sent_by}
-use Rattle.vm_superio.specs.History.{kind}
-use Rattle.vm_superio.specs.ClockRegisters.{Access}
-use Rattle.vm_superio.specs.ClockHistory.{state_by_history}
-use Rattle.vm_superio.specs.Clock as clock
-use Rattle.vm_superio.specs.Port.{Port}
+use Rattle.vm_superio.specs.declared.trace.Sent.{Sent}
+use Rattle.vm_superio.specs.declared.trace.Sent.TheVariants as sent
+use Rattle.vm_superio.specs.Port.SavedState.{fresh_state}
+use Rattle.vm_superio.specs.Port.State.{not_empty}
+use Rattle.vm_superio.specs.Port.Operations.{Op, Read, Write, Enqueue, TraceEntry, is_sent}
+use Rattle.vm_superio.specs.Port.OpKinds.{OpKind, ThrWrite, sent_by}
+use Rattle.vm_superio.specs.History.Registers.{kind_at}
+use Rattle.vm_superio.specs.Clock.Registers.{Access, fresh_clock}
+use Rattle.vm_superio.specs.Clock.History.{clock_of_history}
+use Rattle.vm_superio.specs.Clock.Step.{ClockDevice}
+use Rattle.vm_superio.specs.Port.Model.{Port}
 use Rattle.superio_script.specs.InterruptLine.{InterruptLine}
 use Rattle.superio_script.specs.Counts.{EventCounts}
 use Rattle.superio_script.specs.Output.{written_bytes}
@@ -91,8 +92,8 @@ room-unsent (Some all) sent.Lost bytes later none room = absurd cc
 -- ---- a line of the serial port
 
 -- a call that sends a byte sends exactly one
-one-sent : (k : Kind) → not_empty (sent_by k) ≡ true → length (sent_by k) ≡ 1
-one-sent (DataWrite value) sends = refl
+one-sent : (k : OpKind) → not_empty (sent_by k) ≡ true → length (sent_by k) ≡ 1
+one-sent (ThrWrite value) sends = refl
 one-sent _ sends = absurd (false≢true sends)
 
 module _ (choice later : Choice) (possible : IsPossible choice) where
@@ -140,15 +141,15 @@ module _ (choice later : Choice) (possible : IsPossible choice) where
         (whole : Choice) × IsPossibleFrom (known_output before.trace) whole × (serial_reply before whole line ≡ serial_reply before choice line)
         × (session_after_line before whole line ≡ session_after_line before choice line) × (choice_after_line before whole line ≡ later)
 
-    after-joins : (op : Deed) (outcome : Sent) → IsPossibleFrom (known_output (session_after_call before op outcome).trace) later →
-        IsPossibleFrom (output_after (known_output before.trace) outcome (sent_by (kind fresh before.trace op))) later
+    after-joins : (op : Op) (outcome : Sent) → IsPossibleFrom (known_output (session_after_call before op outcome).trace) later →
+        IsPossibleFrom (output_after (known_output before.trace) outcome (sent_by (kind_at fresh_state before.trace op))) later
     after-joins op outcome rest_possible = subst (λ output. IsPossibleFrom output later) (known_output-after before.trace (session_entry before op outcome)) rest_possible
 
-    unsent-joins : (op : Deed) → IsPossibleFrom (known_output (session_after_call before op sent.Nothing).trace) later → IsPossibleFrom (known_output before.trace) later
+    unsent-joins : (op : Op) → IsPossibleFrom (known_output (session_after_call before op sent.Nothing).trace) later → IsPossibleFrom (known_output before.trace) later
     unsent-joins op rest_possible =
         let rest = after-joins op sent.Nothing rest_possible in record {
           sent = rest.sent;
-          room = room-unsent (known_output before.trace) sent.Nothing (sent_by (kind fresh before.trace op)) later.outcomes refl rest.room;
+          room = room-unsent (known_output before.trace) sent.Nothing (sent_by (kind_at fresh_state before.trace op)) later.outcomes refl rest.room;
           short = rest.short;
         }
 
@@ -157,16 +158,16 @@ module _ (choice later : Choice) (possible : IsPossible choice) where
     trace-after_restore false line = refl
 
     line-joins : (line : SerialLine) → IsPossibleFrom (known_output (session_after_line before choice line).trace) later → LineJoins line
-    line-joins (line.Read offset) rest_possible = (later, unsent-joins (Reads offset) rest_possible, refl, refl, refl)
+    line-joins (line.Read offset) rest_possible = (later, unsent-joins (Read offset) rest_possible, refl, refl, refl)
     line-joins (line.Write offset value) rest_possible =
-        let op = Writes offset value in
-        let k = kind fresh before.trace op in
+        let op = Write offset value in
+        let k = kind_at fresh_state before.trace op in
         let found = write-joins (session_sends before op) (known_output before.trace) (sent_by k) (one-sent k) few (after-joins op _ rest_possible) in
         (found.0, found.1, ap (call_reply before op) found.2, ap (session_after_call before op) found.2, found.3)
-    line-joins (line.Enqueue bytes) rest_possible = (later, unsent-joins (Enqueues bytes) rest_possible, refl, refl, refl)
+    line-joins (line.Enqueue bytes) rest_possible = (later, unsent-joins (Enqueue bytes) rest_possible, refl, refl, refl)
     line-joins line.Capacity rest_possible = (later, rest_possible, refl, refl, refl)
     line-joins line.Restore rest_possible =
-        (later, subst (λ (trace : List Entry). IsPossibleFrom (known_output trace) later) (trace-after_restore _ _) rest_possible, refl, refl, refl)
+        (later, subst (λ (trace : List TraceEntry). IsPossibleFrom (known_output trace) later) (trace-after_restore _ _) rest_possible, refl, refl, refl)
     line-joins line.Output rest_possible =
         let found = output-joins (known_output before.trace) rest_possible in
         (found.0, found.1, ap digits_reply found.2, refl, found.3)
@@ -199,7 +200,7 @@ module _ (mask : ℕ) (start : Option (List ℕ)) where
   abbrev pub Continues : (before : Option (List ℕ)) (board : Devices) (earlier : List Command) → Type 0
   Continues before board earlier =
       (session : Session) × (accesses : List Access) × IsAt session board.serial
-      × (board.clock.state ≡ state_by_history clock.fresh accesses) × Completes before session accesses earlier
+      × (board.clock.state ≡ clock_of_history fresh_clock accesses) × Completes before session accesses earlier
 
   -- where nothing follows
   Prints-so_far : (before : Option (List ℕ)) (board : Devices) (earlier : List Command) → Continues before board earlier → Prints earlier before
@@ -214,7 +215,7 @@ module _ (mask : ℕ) (start : Option (List ℕ)) where
     fresh_session mask,
     [],
     is_fresh.serial,
-    ap (λ (c : clock.Device EventCounts). c.state) is_fresh.clock,
+    ap (λ (c : ClockDevice EventCounts). c.state) is_fresh.clock,
     λ commands choice rest_possible end text. (choice, record { sent = rest_possible.sent; room = omega (arith, rest_possible.room); short = rest_possible.short }, text),
   )
 
@@ -250,7 +251,7 @@ module _ (mask : ℕ) (start : Option (List ℕ)) where
         Continues before old earlier → Continues after new (earlier ++ command ∷ [])
     Continues-after_command (Serial line) old new step (session, accesses, at, is, completes) =
         let next = Continues-after_serial line old.serial new.serial accesses session at step.0 completes in
-        (next.0, accesses, next.1, ap (λ (c : clock.Device EventCounts). c.state) step.1 ∙ is, next.2)
+        (next.0, accesses, next.1, ap (λ (c : ClockDevice EventCounts). c.state) step.1 ∙ is, next.2)
     Continues-after_command (Clock line) old new step (session, accesses, at, is, completes) =
         let taken = step.0 accesses is in (
           session,

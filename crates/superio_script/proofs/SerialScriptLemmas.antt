@@ -5,30 +5,32 @@ use Rattle.std.specs.Prelude.{◌⊎◌, IsTrue, IsSome, IfSome, if◌then◌els
 use Rattle.std.specs.Bool.{beq}
 use Rattle.std.proofs.lemmas.Bool.{and_parts, false≢true}
 use Rattle.std.proofs.lemmas.Bool.Decides.{nat_tests}
-use Rattle.vm_superio.specs.declared.run.Asked.{Asked}
-use Rattle.vm_superio.specs.declared.run.Asked.TheVariants.{Nothing, Took, Refused, TookTook, TookRefused}
-use Rattle.vm_superio.specs.declared.run.Sent.{Sent}
-use Rattle.vm_superio.specs.declared.run.Sent.TheVariants as sent
-use Rattle.vm_superio.specs.State.{State, fresh, has_bits, masked, not_empty}
-use Rattle.vm_superio.specs.Registers.{transmit_first}
-use Rattle.vm_superio.specs.Acts.{Deed, Reads, Writes, Enqueues, Entry, Answer, is_sent, is_lost, ends_refused}
-use Rattle.vm_superio.specs.Coherent.{Coherent}
-use Rattle.vm_superio.specs.Meaning.{Arrival, Other, sent_by}
-use Rattle.vm_superio.specs.Fits.{asked_fits, due}
-use Rattle.vm_superio.specs.Calls.{restore_calls}
-use Rattle.vm_superio.specs.History.{kind, loopback}
-use Rattle.vm_superio.specs.Interrupts.{restore_calls_due}
-use Rattle.vm_superio.specs.Pasts.{none_lost}
-use Rattle.vm_superio.specs.Replies.{reply, output, events_told, described}
-use Rattle.vm_superio.specs.Laws.{PlaceAgrees, StepLaw}
-use Rattle.vm_superio.specs.Links.{answers, written, WriterLink}
-use Rattle.vm_superio.specs.Port.{Port, failure}
-use Rattle.vm_superio.specs.CallCase.{IsCase}
-use Rattle.vm_superio.specs.Restoring.{all_taken, EndsRefused, RefusesRestore}
+use Rattle.vm_superio.specs.declared.trace.Asked.{Asked}
+use Rattle.vm_superio.specs.declared.trace.Asked.TheVariants.{Nothing, Took, Refused, TookTook, TookRefused}
+use Rattle.vm_superio.specs.declared.trace.Sent.{Sent}
+use Rattle.vm_superio.specs.declared.trace.Sent.TheVariants as sent
+use Rattle.vm_superio.specs.Port.State.{State, not_empty}
+use Rattle.vm_superio.specs.Port.SavedState.{fresh_state}
+use Rattle.vm_superio.specs.Port.Bits.{has_bits, masked}
+use Rattle.vm_superio.specs.Port.Registers.{thre_then_rda}
+use Rattle.vm_superio.specs.Port.Operations.{Op, Read, Write, Enqueue, TraceEntry, Response, is_sent, is_lost, ends_in_refusal}
+use Rattle.vm_superio.specs.Port.Coherent.{Coherent}
+use Rattle.vm_superio.specs.Port.OpKinds.{Arrival, Other, sent_by}
+use Rattle.vm_superio.specs.Step.Admissible.{answers_all, step_calls}
+use Rattle.vm_superio.specs.Step.Restore.{restore_calls, RefusesRestore}
+use Rattle.vm_superio.specs.History.Registers.{kind_at, loopback}
+use Rattle.vm_superio.specs.History.Interrupts.{restore_calls_due}
+use Rattle.vm_superio.specs.History.Reads.{none_lost, history_response, output, state_of_history}
+use Rattle.vm_superio.specs.History.Calls.{history_events}
+use Rattle.vm_superio.specs.Laws.Agreement.{PrefixAgrees, StepLaw}
+use Rattle.vm_superio.specs.Port.ObjectLinks.{answers_of, all_ok, StopsAtRefusal}
+use Rattle.vm_superio.specs.Port.WriterLink.{PortLinks, port_links, bytes_taken_by_writer, WriterLink}
+use Rattle.vm_superio.specs.Port.Model.{Port, failure_response}
+use Rattle.vm_superio.specs.Step.PortStep.{IsPortStep}
 use Rattle.vm_superio.specs.declared.serial.errors.Error.{Error}
 use Rattle.vm_superio.specs.declared.serial.errors.Error.TheVariants.{Trigger, IOError, FullFifo, Memory}
 use Rattle.superio_script.specs.InterruptLine.{InterruptLine, fresh_interrupt_line, InterruptLineLink, is_call_refused, line_after_call}
-use Rattle.superio_script.specs.Counting.{Folds}
+use Rattle.vm_superio.specs.Counting.{Folds}
 use Rattle.superio_script.specs.Counts.{EventCounts, no_counts, counts_after_event}
 use Rattle.superio_script.specs.Output.{written_bytes}
 use Rattle.superio_script.specs.Reply.{with_lf, response_reply, digits_reply, count_digits, counts_reply}
@@ -59,7 +61,7 @@ two_responses first second = if first then Refused else (if second then TookRefu
 -- the responses that link an interrupt line are those that its mask gives
 pub trigger_responses-from_link :
     (line new : InterruptLine) (calls : ℕ) (asked : Asked) (refusal : Option LineRefused) →
-    IsTrue (asked_fits calls asked) → (IsTrue (ends_refused asked) → IsSome refusal) → InterruptLineLink line (answers asked refusal) new →
+    IsTrue (answers_all calls asked) → (IsTrue (ends_in_refusal asked) → IsSome refusal) → InterruptLineLink line (answers_of asked refusal) new →
     (asked ≡ trigger_responses line calls) × (new ≡ line_after_responses line asked)
 trigger_responses-from_link line new calls Nothing refusal fits some link =
     let none : calls ≡ 0 = grind (arith, nat_tests) in
@@ -150,11 +152,11 @@ known_output-cases true sent.Nothing out bytes all same = ap (λ xs. Some (out +
 known_output-cases true sent.Out out bytes all same = ap (λ xs. Some (out ++ xs)) same
 known_output-cases true sent.Lost out bytes all same = refl
 
-pub known_output-after : (trace : List Entry) (entry : Entry) →
-    known_output (entry ∷ trace) ≡ output_after (known_output trace) entry.sent (sent_by (kind fresh trace entry.act))
+pub known_output-after : (trace : List TraceEntry) (entry : TraceEntry) →
+    known_output (entry ∷ trace) ≡ output_after (known_output trace) entry.sent (sent_by (kind_at fresh_state trace entry.op))
 known_output-after trace entry =
-    known_output-cases (none_lost trace) entry.sent (output fresh [] trace) _ _
-    (ap (λ (before : List Entry). sent_by (kind fresh before entry.act)) (append-nil trace))
+    known_output-cases (none_lost trace) entry.sent (output fresh_state [] trace) _ _
+    (ap (λ (before : List TraceEntry). sent_by (kind_at fresh_state before entry.op)) (append-nil trace))
 
 -- it is what the writer holds, where the writer is linked by the byte's outcome, and took what was sent
 written_bytes-after_call :
@@ -170,11 +172,11 @@ written_bytes-after_call (Some all) sent.Lost accepted bytes old new link same w
 
 -- ---- the state that a trace describes
 
-fresh-coherent : Coherent fresh
+fresh-coherent : Coherent fresh_state
 unfolding has_bits
 fresh-coherent = record {
-  transmit = false;
-  receive = false;
+  thre = false;
+  rda = false;
   identification = refl;
   received = λ impossible. impossible;
   data_ready = refl;
@@ -184,23 +186,27 @@ fresh-coherent = record {
 -- a fresh port is at the fresh session
 pub at-start :
     (mask : ℕ) (port : Port InterruptLine EventCounts Output) →
-    port.state ≡ fresh → port.trigger ≡ fresh_interrupt_line mask → port.events ≡ no_counts → written_bytes port.out ≡ [] → IsAt (fresh_session mask) port
+    port.state ≡ fresh_state → port.trigger ≡ fresh_interrupt_line mask → port.events ≡ no_counts → written_bytes port.out ≡ [] → IsAt (fresh_session mask) port
 unfolding has_bits masked
 at-start mask port state line counts output = record { state = state; line = line; counts = counts; output = output }
 
 -- each call of a port that started fresh is a step of its trace
-agrees : StepLaw → (trace : List Entry) → PlaceAgrees fresh trace
-agrees law trace = law fresh trace fresh-coherent (omega arith)
+agrees : StepLaw → (trace : List TraceEntry) → PrefixAgrees fresh_state trace
+agrees law trace = law fresh_state trace fresh-coherent
 
 -- a port at a session
 port-at : (before : Session) (port : Port InterruptLine EventCounts Output) → IsAt before port →
-    port ≡ record { state = described fresh before.trace; trigger = before.line; events = before.counts; out = port.out }
+    port ≡ record { state = state_of_history fresh_state before.trace; trigger = before.line; events = before.counts; out = port.out }
 port-at before port at = λ i. record { state = at.state i; trigger = at.line i; events = at.counts i; out = port.out }
+
+-- the links of the board's objects
+abbrev pub board_links : PortLinks InterruptLine LineRefused EventCounts Output
+board_links = port_links InterruptLineLink (Folds counts_after_event) (λ output. Some (written_bytes output))
 
 module _ (law : StepLaw) where
   -- ---- a call
 
-  module _ (op : Deed) (asked : Asked) (outcome : Sent) (response : Answer) (refusal : Option LineRefused) (old new : Port InterruptLine EventCounts Output) where
+  module _ (op : Op) (asked : Asked) (outcome : Sent) (response : Response) (refusal : Option LineRefused) (old new : Port InterruptLine EventCounts Output) where
     -- the call is a step of a session, where its byte has this outcome
     abbrev pub IsSessionStep : (before : Session) (byte_outcome : Sent) → Type 0
     IsSessionStep before byte_outcome = (response_reply response ≡ call_reply before op byte_outcome) × IsAt (session_after_call before op byte_outcome) new
@@ -208,75 +214,75 @@ module _ (law : StepLaw) where
     -- the same call, of the port in the state that the session's trace describes
     abbrev pub PortStepAt : (before : Session) → Type 0
     PortStepAt before =
-        IsCase InterruptLineLink (Folds counts_after_event) (λ output. Some (written_bytes output)) op asked outcome response refusal
-        (record { state = described fresh before.trace; trigger = before.line; events = before.counts; out = old.out }) new
+        IsPortStep board_links op asked outcome response refusal
+        (record { state = state_of_history fresh_state before.trace; trigger = before.line; events = before.counts; out = old.out }) new
 
     pub port_step-at : (before : Session) → IsAt before old →
-        IsCase InterruptLineLink (Folds counts_after_event) (λ output. Some (written_bytes output)) op asked outcome response refusal old new → PortStepAt before
-    port_step-at before at case = subst
-        (λ (port : Port InterruptLine EventCounts Output). IsCase InterruptLineLink (Folds counts_after_event) (λ output. Some (written_bytes output)) op asked outcome response refusal port new)
-        (port-at before old at) case
+        IsPortStep board_links op asked outcome response refusal old new → PortStepAt before
+    port_step-at before at made = subst
+        (λ (port : Port InterruptLine EventCounts Output). IsPortStep board_links op asked outcome response refusal port new)
+        (port-at before old at) made
 
     pub session_step-from_port_step : (before : Session) → IsAt before old → PortStepAt before → IsSessionStep before outcome
-    session_step-from_port_step before at case =
-        let place = agrees law before.trace in
-        let entry : Entry = record { act = op; asked = asked; sent = outcome } in
-        let step = place.steps entry case.fits in
-        let fitted = (and_parts (asked_fits (due (described fresh before.trace) op) asked) (beq (is_sent outcome) (session_sends before op)) case.fits).0 in
-        let so = trigger_responses-from_link before.line new.trigger (due (described fresh before.trace) op) asked refusal fitted (λ h. case.refused ∙ h) case.trigger in
-        let same : asked ≡ session_responses before op = so.0 ∙ ap (trigger_responses before.line) (place.calls op) in
-        let P : Asked → Type 0 = λ a. (response_reply response ≡ response_reply (reply fresh before.trace op a outcome)) × IsAt (record {
-          trace = record { act = op; asked = a; sent = outcome } ∷ before.trace;
+    session_step-from_port_step before at made =
+        let prefix = agrees law before.trace in
+        let entry : TraceEntry = record { op = op; asked = asked; sent = outcome } in
+        let step = prefix.steps entry made.admissible in
+        let fitted = (and_parts (answers_all (step_calls (state_of_history fresh_state before.trace) op) asked) (beq (is_sent outcome) (session_sends before op)) made.admissible).0 in
+        let so = trigger_responses-from_link before.line new.trigger (step_calls (state_of_history fresh_state before.trace) op) asked refusal fitted (λ h. made.refused ∙ h) made.trigger in
+        let same : asked ≡ session_responses before op = so.0 ∙ ap (trigger_responses before.line) (prefix.calls op) in
+        let P : Asked → Type 0 = λ a. (response_reply response ≡ response_reply (history_response fresh_state before.trace op a outcome)) × IsAt (record {
+          trace = record { op = op; asked = a; sent = outcome } ∷ before.trace;
           line = line_after_responses before.line a;
-          counts = fold counts_after_event before.counts (events_told fresh before.trace (record { act = op; asked = a; sent = outcome }));
+          counts = fold counts_after_event before.counts (history_events fresh_state before.trace (record { op = op; asked = a; sent = outcome }));
         }) new in
         subst P same (
-          ap response_reply (case.reply ∙ step.answered),
+          ap response_reply (made.response ∙ step.response),
           record {
-            state = case.state ∙ step.goes_on;
+            state = made.state ∙ step.state;
             line = so.1;
-            counts = case.events.folds ∙ ap (fold counts_after_event before.counts) step.told;
+            counts = made.events.folds ∙ ap (fold counts_after_event before.counts) step.events;
             output = subst (λ (known : Option (List ℕ)). IfSome known (λ all. written_bytes new.out ≡ all)) (sym (known_output-after before.trace entry))
-                (written_bytes-after_call (known_output before.trace) outcome (written op outcome) (sent_by (kind fresh before.trace op)) old.out new.out case.out step.went_out at.output);
+                (written_bytes-after_call (known_output before.trace) outcome (bytes_taken_by_writer op outcome) (sent_by (kind_at fresh_state before.trace op)) old.out new.out made.out step.output at.output);
           },
         )
 
   -- ---- the lines that make a call
 
-  module _ (old new : Port InterruptLine EventCounts Output) (response : Answer) (refusal : Option LineRefused) where
+  module _ (old new : Port InterruptLine EventCounts Output) (response : Response) (refusal : Option LineRefused) where
     pub write-step :
         (offset value : ℕ) (asked : Asked) (outcome : Sent) →
-        IsCase InterruptLineLink (Folds counts_after_event) (λ output. Some (written_bytes output)) (Writes offset value) asked outcome response refusal old new →
+        IsPortStep board_links (Write offset value) asked outcome response refusal old new →
         IsSerialLineStep (line.Write offset value) (response_reply response) old new
-    write-step offset value asked outcome case before at =
-        let op = Writes offset value in
-        let here = port_step-at op asked outcome response refusal old new before at case in
+    write-step offset value asked outcome made before at =
+        let op = Write offset value in
+        let here = port_step-at op asked outcome response refusal old new before at made in
         let step = session_step-from_port_step op asked outcome response refusal old new before at here in
         let sending = session_sends before op in
-        let same_outcome = outcome_if_sent-choice_of sending outcome (and_parts (asked_fits (due (described fresh before.trace) op) asked) (beq (is_sent outcome) sending) here.fits).1 in
+        let same_outcome = outcome_if_sent-choice_of sending outcome (and_parts (answers_all (step_calls (state_of_history fresh_state before.trace) op) asked) (beq (is_sent outcome) sending) here.admissible).1 in
         let found = subst (IsSessionStep op asked outcome response refusal old new before) same_outcome step in
         (choice_of outcome, IsPossible-choice_of outcome, found.0, found.1)
 
     pub enqueue-step :
         (bytes : List ℕ) (asked : Asked) (outcome : Sent) →
-        IsCase InterruptLineLink (Folds counts_after_event) (λ output. Some (written_bytes output)) (Enqueues bytes) asked outcome response refusal old new →
+        IsPortStep board_links (Enqueue bytes) asked outcome response refusal old new →
         IsSerialLineStep (line.Enqueue bytes) (response_reply response) old new
-    enqueue-step bytes asked outcome case before at =
-        let op = Enqueues bytes in
-        let here = port_step-at op asked outcome response refusal old new before at case in
+    enqueue-step bytes asked outcome made before at =
+        let op = Enqueue bytes in
+        let here = port_step-at op asked outcome response refusal old new before at made in
         let step = session_step-from_port_step op asked outcome response refusal old new before at here in
         let sending = session_sends before op in
-        let none = nothing-sent outcome sending (enqueue-sends_nothing (loopback fresh before.trace) bytes) (and_parts (asked_fits (due (described fresh before.trace) op) asked) (beq (is_sent outcome) sending) here.fits).1 in
+        let none = nothing-sent outcome sending (enqueue-sends_nothing (loopback fresh_state before.trace) bytes) (and_parts (answers_all (step_calls (state_of_history fresh_state before.trace) op) asked) (beq (is_sent outcome) sending) here.admissible).1 in
         let found = subst (IsSessionStep op asked outcome response refusal old new before) none step in
         (no_choice, IsPossible-no_choice, found.0, found.1)
 
     pub read-step :
         (offset : ℕ) →
-        IsCase InterruptLineLink (Folds counts_after_event) (λ output. Some (written_bytes output)) (Reads offset) Nothing sent.Nothing response refusal old new →
+        IsPortStep board_links (Read offset) Nothing sent.Nothing response refusal old new →
         IsSerialLineStep (line.Read offset) (response_reply response) old new
-    read-step offset case before at =
-        let here = port_step-at (Reads offset) Nothing sent.Nothing response refusal old new before at case in
-        let found = session_step-from_port_step (Reads offset) Nothing sent.Nothing response refusal old new before at here in
+    read-step offset made before at =
+        let here = port_step-at (Read offset) Nothing sent.Nothing response refusal old new before at made in
+        let found = session_step-from_port_step (Read offset) Nothing sent.Nothing response refusal old new before at here in
         (no_choice, IsPossible-no_choice, found.0, found.1)
 
 -- ---- the lines that make none
@@ -311,18 +317,18 @@ module _ (port : Port InterruptLine EventCounts Output) where
 -- ---- a restore
 
 one-accepted : (line new : InterruptLine) → (Ok tt ≡ one_response (is_call_refused line.mask line.calls)) × (line_after_call line ≡ new) →
-    (ends_refused (trigger_responses line 1) ≡ false) × (new ≡ line_after_responses line (trigger_responses line 1))
+    (ends_in_refusal (trigger_responses line 1) ≡ false) × (new ≡ line_after_responses line (trigger_responses line 1))
 one-accepted line new link =
     let accepted = was_accepted (is_call_refused line.mask line.calls) link.0 in (
-      ap (λ (a : Bool). ends_refused (if a then Refused else Took)) accepted,
+      ap (λ (a : Bool). ends_in_refusal (if a then Refused else Took)) accepted,
       sym link.1 ∙ ap (λ (a : Bool). line_after_responses line (if a then Refused else Took)) (sym accepted),
     )
 
 one-refused : (line : InterruptLine) (refusal : LineRefused) (response : Result (Unit {0}) LineRefused) {A B : Type 0} →
     ((response ≡ Err refusal) × A) ⊎ (B × ⊥) → response ≡ one_response (is_call_refused line.mask line.calls) →
-    ends_refused (trigger_responses line 1) ≡ true
+    ends_in_refusal (trigger_responses line 1) ≡ true
 one-refused line refusal response (inl h) link =
-    ap (λ (a : Bool). ends_refused (if a then Refused else Took)) (was_refused (is_call_refused line.mask line.calls) refusal (sym h.0 ∙ link))
+    ap (λ (a : Bool). ends_in_refusal (if a then Refused else Took)) (was_refused (is_call_refused line.mask line.calls) refusal (sym h.0 ∙ link))
 one-refused line refusal response (inr h) link = absurd h.1
 
 second-refused : (refusal : LineRefused) (response : Result (Unit {0}) LineRefused) (responses : List (Result (Unit {0}) LineRefused)) {A B : Type 0} →
@@ -332,9 +338,9 @@ second-refused refusal response responses (inr h) = absurd h.1
 
 -- where all calls of a restore were accepted, no response is a refusal
 restore-accepted :
-    (line new : InterruptLine) (transmit receive : Bool) → InterruptLineLink line (all_taken (transmit_first transmit receive)) new →
-    (ends_refused (trigger_responses line (length (transmit_first transmit receive))) ≡ false)
-    × (new ≡ line_after_responses line (trigger_responses line (length (transmit_first transmit receive))))
+    (line new : InterruptLine) (thre rda : Bool) → InterruptLineLink line (all_ok (thre_then_rda thre rda)) new →
+    (ends_in_refusal (trigger_responses line (length (thre_then_rda thre rda))) ≡ false)
+    × (new ≡ line_after_responses line (trigger_responses line (length (thre_then_rda thre rda))))
 restore-accepted line new false false link = (refl, sym link)
 restore-accepted line new true false link = one-accepted line new link
 restore-accepted line new false true link = one-accepted line new link
@@ -343,13 +349,13 @@ restore-accepted line new true true link =
     let second = was_accepted (is_call_refused line.mask (line_after_call line).calls) link.1.0 in
     let same : two_responses (is_call_refused line.mask line.calls) (is_call_refused line.mask (line_after_call line).calls) ≡ TookTook =
     ap (λ (a : Bool). two_responses a (is_call_refused line.mask (line_after_call line).calls)) first ∙ ap (λ (b : Bool). two_responses false b) second in
-    (ap ends_refused same, sym link.1.1 ∙ ap (line_after_responses line) (sym same))
+    (ap ends_in_refusal same, sym link.1.1 ∙ ap (line_after_responses line) (sym same))
 
 -- where one was refused, the last response is a refusal
 restore-refused :
-    (line new : InterruptLine) (transmit receive : Bool) (refusal : LineRefused) (responses : List (Result (Unit {0}) LineRefused)) →
-    EndsRefused (transmit_first transmit receive) refusal responses → InterruptLineLink line responses new →
-    ends_refused (trigger_responses line (length (transmit_first transmit receive))) ≡ true
+    (line new : InterruptLine) (thre rda : Bool) (refusal : LineRefused) (responses : List (Result (Unit {0}) LineRefused)) →
+    StopsAtRefusal (thre_then_rda thre rda) refusal responses → InterruptLineLink line responses new →
+    ends_in_refusal (trigger_responses line (length (thre_then_rda thre rda))) ≡ true
 restore-refused line new false false refusal responses ends link = absurd ends
 restore-refused line new true false refusal [] ends link = absurd ends
 restore-refused line new true false refusal (response ∷ responses) ends link = one-refused line refusal response ends link.0
@@ -357,27 +363,27 @@ restore-refused line new false true refusal [] ends link = absurd ends
 restore-refused line new false true refusal (response ∷ responses) ends link = one-refused line refusal response ends link.0
 restore-refused line new true true refusal [] ends link = absurd ends
 restore-refused line new true true refusal (response ∷ responses) (inl h) link =
-    ap (λ (a : Bool). ends_refused (two_responses a (is_call_refused line.mask (line_after_call line).calls)))
+    ap (λ (a : Bool). ends_in_refusal (two_responses a (is_call_refused line.mask (line_after_call line).calls)))
     (was_refused (is_call_refused line.mask line.calls) refusal (sym h.0 ∙ link.0))
 restore-refused line new true true refusal (response ∷ []) (inr h) link = absurd h.1
 restore-refused line new true true refusal (response ∷ next ∷ responses) (inr h) link =
     let first = was_accepted (is_call_refused line.mask line.calls) (sym h.0 ∙ link.0) in
     let refused = second-refused refusal next responses h.1 in
     let second = was_refused (is_call_refused line.mask (line_after_call line).calls) refusal (sym refused ∙ link.1.0) in
-    ap (λ (a : Bool). ends_refused (two_responses a (is_call_refused line.mask (line_after_call line).calls))) first
-    ∙ ap (λ (b : Bool). ends_refused (if b then TookRefused else TookTook)) second
+    ap (λ (a : Bool). ends_in_refusal (two_responses a (is_call_refused line.mask (line_after_call line).calls))) first
+    ∙ ap (λ (b : Bool). ends_in_refusal (if b then TookRefused else TookTook)) second
 
 module _ (law : StepLaw) (old new : Port InterruptLine EventCounts Output) where
   -- a restore whose calls were accepted
   pub restore-step :
-      new.state ≡ old.state → InterruptLineLink old.trigger (all_taken (restore_calls old.state)) new.trigger → new.events ≡ old.events → new.out ≡ old.out →
+      new.state ≡ old.state → InterruptLineLink old.trigger (all_ok (restore_calls old.state)) new.trigger → new.events ≡ old.events → new.out ≡ old.out →
       IsSerialLineStep line.Restore (with_lf (codes "ok")) old new
   restore-step state link events out before at =
       let calls = ap restore_calls at.state ∙ (agrees law before.trace).restoring in
-      let linked = subst (λ calls. InterruptLineLink before.line (all_taken calls) new.trigger) calls
-      (subst (λ (l : InterruptLine). InterruptLineLink l (all_taken (restore_calls old.state)) new.trigger) at.line link) in
+      let linked = subst (λ calls. InterruptLineLink before.line (all_ok calls) new.trigger) calls
+      (subst (λ (l : InterruptLine). InterruptLineLink l (all_ok (restore_calls old.state)) new.trigger) at.line link) in
       let accepted = restore-accepted before.line new.trigger _ _ linked in
-      let after = line_after_responses before.line (trigger_responses before.line (length (restore_calls_due fresh before.trace))) in
+      let after = line_after_responses before.line (trigger_responses before.line (length (restore_calls_due fresh_state before.trace))) in
       let P : Bool → Type 0 = λ refused. (with_lf (codes "ok") ≡ with_lf (if refused then codes "trigger" else codes "ok"))
       × IsAt (if refused then before else record before { line = after }) new in
       let found : P (is_restore_refused before) = subst P (sym accepted.0) (
@@ -395,18 +401,18 @@ module _ (law : StepLaw) (old new : Port InterruptLine EventCounts Output) where
 pub refused-restore-step :
     (law : StepLaw) (port : Port InterruptLine EventCounts Output) (line_after_calls : InterruptLine) (error : Error LineRefused) → length port.state.in_buffer ≤ 64 →
     RefusesRestore InterruptLineLink port.state error port.trigger line_after_calls →
-    IsSerialLineStep line.Restore (response_reply (failure error)) port port
+    IsSerialLineStep line.Restore (response_reply (failure_response error)) port port
 refused-restore-step law port after FullFifo few refuses = absurd (omega (arith, refuses.0))
 refused-restore-step law port after (IOError fault) few refuses = absurd refuses
 refused-restore-step law port after Memory few refuses = absurd refuses
 refused-restore-step law port after (Trigger refusal) few refuses = λ before at.
     let calls = ap restore_calls at.state ∙ (agrees law before.trace).restoring in
     let responses = refuses.1.0 in
-    let ends = subst (λ calls. EndsRefused calls refusal responses) calls refuses.1.1 in
+    let ends = subst (λ calls. StopsAtRefusal calls refusal responses) calls refuses.1.1 in
     let linked = subst (λ (l : InterruptLine). InterruptLineLink l responses after) at.line refuses.1.2 in
     let refused : is_restore_refused before ≡ true = restore-refused before.line after _ _ refusal responses ends linked in (
       no_choice,
       IsPossible-no_choice,
       ap (λ (b : Bool). with_lf (if b then codes "trigger" else codes "ok")) (sym refused),
-      subst (λ (b : Bool). IsAt (if b then before else record before { line = line_after_responses before.line (trigger_responses before.line (length (restore_calls_due fresh before.trace))) }) port) (sym refused) at,
+      subst (λ (b : Bool). IsAt (if b then before else record before { line = line_after_responses before.line (trigger_responses before.line (length (restore_calls_due fresh_state before.trace))) }) port) (sym refused) at,
     )

@@ -1,7 +1,6 @@
 pub mod Splitting
 pub mod Command
 pub mod InterruptLine
-pub mod Counting
 pub mod Counts
 pub mod Output
 pub mod Reply

@@ -2,11 +2,10 @@
 use Rattle.std.specs.Prelude.{ℕ, List, [], ◌∷◌, ◌++◌, if◌then◌else◌, codes, Option, Some, None}
 use Rattle.std.specs.Int.{w32, w64, to_be_bytes}
 use Rattle.hex.specs.Hex.{encode_lower}
-use Rattle.vm_superio.specs.Acts.{Answer, Given, Written, Added, TriggerRefused, WriterFailed, FifoFull, NoAnswer}
-use Rattle.vm_superio.specs.ClockRegisters.{Access, read, write, register_at, is_writable}
-use Rattle.vm_superio.specs.Clock.{fresh}
-use Rattle.vm_superio.specs.ClockHistory.{answer_by_history}
-use Rattle.vm_superio.specs.Reset.{is_reset_command}
+use Rattle.vm_superio.specs.Port.Operations.{Response, ByteRead, WriteOk, EnqueueOk, TriggerRefused, WriterFailed, FifoFull, OutOfMemory, NoResponse}
+use Rattle.vm_superio.specs.Clock.Registers.{Access, read, write, clock_register_at, is_writable, fresh_clock}
+use Rattle.vm_superio.specs.Clock.History.{clock_history_response}
+use Rattle.vm_superio.specs.I8042.{is_reset_command}
 use Rattle.superio_script.specs.Counts.{EventCounts}
 use Rattle.superio_script.specs.declared.command.ClockLine.{ClockLine}
 use Rattle.superio_script.specs.declared.command.ClockLine.TheVariants as clock
@@ -30,15 +29,16 @@ count_digits count = encode_lower (to_be_bytes w64 count)
 -- ---- the serial port
 
 -- the reply to a call of the serial port with this response
-abbrev pub response_reply : (response : Answer) → List ℕ
-response_reply (Given byte) = digits_reply (byte ∷ [])
-response_reply Written = with_lf (codes "ok")
-response_reply (Added count) = digits_reply (count ∷ [])
+abbrev pub response_reply : (response : Response) → List ℕ
+response_reply (ByteRead byte) = digits_reply (byte ∷ [])
+response_reply WriteOk = with_lf (codes "ok")
+response_reply (EnqueueOk count) = digits_reply (count ∷ [])
 response_reply TriggerRefused = with_lf (codes "trigger")
 response_reply WriterFailed = with_lf (codes "io")
 response_reply FifoFull = with_lf (codes "full")
--- no call that a line makes goes without a response
-response_reply NoAnswer = []
+-- no call of a line responds with these
+response_reply OutOfMemory = []
+response_reply NoResponse = []
 
 -- the four counts of a serial port's events, with one space between two
 abbrev pub counts_reply : (counts : EventCounts) → List ℕ
@@ -60,9 +60,9 @@ value_reply None = with_lf (codes "invalid")
 
 -- the reply to a line of a clock that started fresh, after these accesses, newest first
 abbrev pub clock_reply : (trace : List Access) (line : ClockLine) → List ℕ
-clock_reply trace (clock.Read moment offset) = value_reply (answer_by_history fresh trace (read offset moment))
+clock_reply trace (clock.Read moment offset) = value_reply (clock_history_response fresh_clock trace (read offset moment))
 clock_reply trace (clock.Write moment offset value) =
-    with_lf (if is_writable (register_at offset) then codes "ok" else codes "invalid")
+    with_lf (if is_writable (clock_register_at offset) then codes "ok" else codes "invalid")
 
 -- the replies to lines of the clock, in order
 abbrev pub clock_replies : (trace : List Access) (lines : List ClockLine) → List (List ℕ)

@@ -2,7 +2,7 @@
 use Rattle.std.specs.Prelude.{◌≡◌, ℕ, ◌+◌, ◌≤◌, List, [], ◌∷◌, ◌++◌, length, map, if◌then◌else◌, Bool, Option, Some, None, is_some, IsTrue}
 use Rattle.std.specs.List.{list_all}
 use Rattle.std.specs.Io.KnownBytes.{Appends, IsAtEnd}
-use Rattle.vm_superio.specs.ClockRegisters.{Access}
+use Rattle.vm_superio.specs.Clock.Registers.{Access}
 use Rattle.superio_script.specs.Splitting.{lines_of}
 use Rattle.superio_script.specs.Command.{command_of, mask_of, AsksForRestore}
 use Rattle.superio_script.specs.Reply.{clock_replies, controller_reply}

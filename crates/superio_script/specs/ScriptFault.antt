@@ -1,8 +1,8 @@
 -- How a program reports the fault that ended its run.
 use Rattle.std.specs.Prelude.{ℕ, List, ◌++◌, codes}
 use Rattle.std.specs.Fmt.{decimal}
-use Rattle.superio_script.specs.declared.script.ScriptFault.{ScriptFault}
-use Rattle.superio_script.specs.declared.script.ScriptFault.TheVariants.{Bad, Io, Memory, TooLong}
+use Rattle.superio_script.specs.declared.fault.ScriptFault.{ScriptFault}
+use Rattle.superio_script.specs.declared.fault.ScriptFault.TheVariants.{Bad, Io, Memory, TooLong}
 
 -- its exit status
 abbrev pub status_of : (fault : ScriptFault) → ℕ

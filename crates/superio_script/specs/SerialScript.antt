@@ -2,17 +2,18 @@
 -- the port's calls.
 use Rattle.std.specs.Prelude.{ℕ, zero, suc, ◌+◌, ◌-◌, ◌≤◌, Bool, nat_le, if◌then◌else◌, List, [], ◌∷◌, length, drop, fold, codes, Option, Some, None, IsTrue}
 use Rattle.std.specs.List.{list_all}
-use Rattle.vm_superio.specs.declared.run.Asked.{Asked}
-use Rattle.vm_superio.specs.declared.run.Asked.TheVariants.{Nothing, Took, Refused, TookTook, TookRefused}
-use Rattle.vm_superio.specs.declared.run.Sent.{Sent}
-use Rattle.vm_superio.specs.declared.run.Sent.TheVariants as sent
-use Rattle.vm_superio.specs.State.{fresh, not_empty}
-use Rattle.vm_superio.specs.Acts.{Deed, Reads, Writes, Enqueues, Entry, is_sent, ends_refused}
-use Rattle.vm_superio.specs.Meaning.{sent_by}
-use Rattle.vm_superio.specs.History.{kind, held}
-use Rattle.vm_superio.specs.Interrupts.{calls_due, restore_calls_due}
-use Rattle.vm_superio.specs.Pasts.{none_lost}
-use Rattle.vm_superio.specs.Replies.{reply, output, events_told}
+use Rattle.vm_superio.specs.declared.trace.Asked.{Asked}
+use Rattle.vm_superio.specs.declared.trace.Asked.TheVariants.{Nothing, Took, Refused, TookTook, TookRefused}
+use Rattle.vm_superio.specs.declared.trace.Sent.{Sent}
+use Rattle.vm_superio.specs.declared.trace.Sent.TheVariants as sent
+use Rattle.vm_superio.specs.Port.SavedState.{fresh_state}
+use Rattle.vm_superio.specs.Port.State.{not_empty}
+use Rattle.vm_superio.specs.Port.Operations.{Op, Read, Write, Enqueue, TraceEntry, is_sent, ends_in_refusal}
+use Rattle.vm_superio.specs.Port.OpKinds.{sent_by}
+use Rattle.vm_superio.specs.History.Registers.{kind_at, held_bytes}
+use Rattle.vm_superio.specs.History.Calls.{calls_due, history_events}
+use Rattle.vm_superio.specs.History.Interrupts.{restore_calls_due}
+use Rattle.vm_superio.specs.History.Reads.{none_lost, history_response, output}
 use Rattle.superio_script.specs.InterruptLine.{InterruptLine, fresh_interrupt_line, is_call_refused, line_after_call}
 use Rattle.superio_script.specs.Counts.{EventCounts, no_counts, counts_after_event}
 use Rattle.superio_script.specs.Reply.{with_lf, response_reply, digits_reply, count_digits, counts_reply}
@@ -57,7 +58,7 @@ first_output (bytes ∷ outputs) = bytes
 -- a port that started fresh, and its objects, between two lines
 pub record Session : Type 0 where
   -- the trace of its calls, newest first. A restore adds no entry, since a restored port goes on as the old one
-  pub trace : List Entry
+  pub trace : List TraceEntry
   pub line : InterruptLine
   pub counts : EventCounts
 
@@ -66,8 +67,8 @@ abbrev pub fresh_session : (mask : ℕ) → Session
 fresh_session mask = record { trace = []; line = fresh_interrupt_line mask; counts = no_counts }
 
 -- the bytes that went out, which are not known once a byte was lost
-abbrev pub known_output : (trace : List Entry) → Option (List ℕ)
-known_output trace = if none_lost trace then Some (output fresh [] trace) else None
+abbrev pub known_output : (trace : List TraceEntry) → Option (List ℕ)
+known_output trace = if none_lost trace then Some (output fresh_state [] trace) else None
 
 -- ---- a call of the port
 
@@ -87,29 +88,29 @@ line_after_responses line Refused = line_after_call line
 line_after_responses line TookTook = line_after_call (line_after_call line)
 line_after_responses line TookRefused = line_after_call (line_after_call line)
 
-abbrev pub session_responses : (session : Session) (op : Deed) → Asked
-session_responses session op = trigger_responses session.line (calls_due fresh session.trace op)
+abbrev pub session_responses : (session : Session) (op : Op) → Asked
+session_responses session op = trigger_responses session.line (calls_due fresh_state session.trace op)
 
 -- the trace entry of a call, given the outcome of its byte
-abbrev pub session_entry : (session : Session) (op : Deed) (outcome : Sent) → Entry
-session_entry session op outcome = record { act = op; asked = session_responses session op; sent = outcome }
+abbrev pub session_entry : (session : Session) (op : Op) (outcome : Sent) → TraceEntry
+session_entry session op outcome = record { op = op; asked = session_responses session op; sent = outcome }
 
 -- the reply to the call, and the session after it
-abbrev pub call_reply : (session : Session) (op : Deed) (outcome : Sent) → List ℕ
+abbrev pub call_reply : (session : Session) (op : Op) (outcome : Sent) → List ℕ
 call_reply session op outcome =
-    response_reply (reply fresh session.trace op (session_responses session op) outcome)
+    response_reply (history_response fresh_state session.trace op (session_responses session op) outcome)
 
-abbrev pub session_after_call : (session : Session) (op : Deed) (outcome : Sent) → Session
+abbrev pub session_after_call : (session : Session) (op : Op) (outcome : Sent) → Session
 session_after_call session op outcome = record {
   trace = session_entry session op outcome ∷ session.trace;
   line = line_after_responses session.line (session_responses session op);
   counts =
-      fold counts_after_event session.counts (events_told fresh session.trace (session_entry session op outcome));
+      fold counts_after_event session.counts (history_events fresh_state session.trace (session_entry session op outcome));
 }
 
 -- a call sends a byte to the writer
-abbrev pub session_sends : (session : Session) (op : Deed) → Bool
-session_sends session op = not_empty (sent_by (kind fresh session.trace op))
+abbrev pub session_sends : (session : Session) (op : Op) → Bool
+session_sends session op = not_empty (sent_by (kind_at fresh_state session.trace op))
 
 -- the outcome of the byte that a write sends, if it sends one, and the choice for what follows. No other call sends a
 -- byte
@@ -121,16 +122,16 @@ choice_after_write sends choice = record choice { outcomes = if sends then drop 
 
 abbrev pub session_write_outcome : (session : Session) (choice : Choice) (offset value : ℕ) → Sent
 session_write_outcome session choice offset value =
-    outcome_if_sent (session_sends session (Writes offset value)) choice
+    outcome_if_sent (session_sends session (Write offset value)) choice
 
 -- ---- a restore
 
 -- the interrupt line's responses to the calls of a restore, and whether they end the restore with a refusal
 abbrev pub restore_responses : (session : Session) → Asked
-restore_responses session = trigger_responses session.line (length (restore_calls_due fresh session.trace))
+restore_responses session = trigger_responses session.line (length (restore_calls_due fresh_state session.trace))
 
 abbrev pub is_restore_refused : (session : Session) → Bool
-is_restore_refused session = ends_refused (restore_responses session)
+is_restore_refused session = ends_in_refusal (restore_responses session)
 
 -- a restore keeps the trace and the counts, and its trigger calls count. A refused restore leaves everything as it was
 abbrev pub session_after_restore : (session : Session) → Session
@@ -153,11 +154,11 @@ choice_after_output None choice = record choice { outputs = drop 1 choice.output
 
 -- the reply to a line, the session after it, and the choice for what follows
 abbrev pub serial_reply : (session : Session) (choice : Choice) (line : SerialLine) → List ℕ
-serial_reply session choice (serial.Read offset) = call_reply session (Reads offset) sent.Nothing
+serial_reply session choice (serial.Read offset) = call_reply session (Read offset) sent.Nothing
 serial_reply session choice (serial.Write offset value) =
-    call_reply session (Writes offset value) (session_write_outcome session choice offset value)
-serial_reply session choice (serial.Enqueue bytes) = call_reply session (Enqueues bytes) sent.Nothing
-serial_reply session choice serial.Capacity = digits_reply ((64 - length (held fresh session.trace)) ∷ [])
+    call_reply session (Write offset value) (session_write_outcome session choice offset value)
+serial_reply session choice (serial.Enqueue bytes) = call_reply session (Enqueue bytes) sent.Nothing
+serial_reply session choice serial.Capacity = digits_reply ((64 - length (held_bytes fresh_state session.trace)) ∷ [])
 serial_reply session choice serial.Restore =
     with_lf (if is_restore_refused session then codes "trigger" else codes "ok")
 serial_reply session choice serial.Output = digits_reply (output_or_chosen (known_output session.trace) choice)
@@ -165,16 +166,16 @@ serial_reply session choice serial.Calls = with_lf (count_digits session.line.ca
 serial_reply session choice serial.Events = counts_reply session.counts
 
 abbrev pub session_after_line : (session : Session) (choice : Choice) (line : SerialLine) → Session
-session_after_line session choice (serial.Read offset) = session_after_call session (Reads offset) sent.Nothing
+session_after_line session choice (serial.Read offset) = session_after_call session (Read offset) sent.Nothing
 session_after_line session choice (serial.Write offset value) =
-    session_after_call session (Writes offset value) (session_write_outcome session choice offset value)
-session_after_line session choice (serial.Enqueue bytes) = session_after_call session (Enqueues bytes) sent.Nothing
+    session_after_call session (Write offset value) (session_write_outcome session choice offset value)
+session_after_line session choice (serial.Enqueue bytes) = session_after_call session (Enqueue bytes) sent.Nothing
 session_after_line session choice serial.Restore = session_after_restore session
 session_after_line session choice _ = session
 
 abbrev pub choice_after_line : (session : Session) (choice : Choice) (line : SerialLine) → Choice
 choice_after_line session choice (serial.Write offset value) =
-    choice_after_write (session_sends session (Writes offset value)) choice
+    choice_after_write (session_sends session (Write offset value)) choice
 choice_after_line session choice serial.Output = choice_after_output (known_output session.trace) choice
 choice_after_line session choice _ = choice
 

@@ -103,7 +103,7 @@ impl Counts {
 }
 
 impl SerialEvents for Counts {
-    ghost use Rattle.superio_script.specs.Counting.{Folds, Folds-nil, Folds-append};
+    ghost use Rattle.vm_superio.specs.Counting.{Folds, Folds-nil, Folds-append};
     ghost use Rattle.superio_script.specs.Counts.{counts_after_event};
 
     ghost link = { Folds counts_after_event };
@@ -130,7 +130,7 @@ impl SerialEvents for Counts {
 }
 
 impl RtcEvents for Counts {
-    ghost use Rattle.superio_script.specs.Counting.{Folds, Folds-nil, Folds-append};
+    ghost use Rattle.vm_superio.specs.Counting.{Folds, Folds-nil, Folds-append};
     ghost use Rattle.superio_script.specs.Counts.{counts_after_clock_event};
 
     ghost link = { Folds counts_after_clock_event };

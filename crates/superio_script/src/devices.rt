@@ -10,7 +10,7 @@ use crate::command::{Command, ControllerLine, parse};
 use crate::counts::Counts;
 use crate::output::Output;
 use crate::replies::{Reply, byte, word};
-use crate::script::ScriptFault;
+use crate::fault::ScriptFault;
 use crate::serial_lines::{Port, serial_line};
 use crate::trigger::Line;
 use std::alloc::Global;

@@ -1,6 +1,6 @@
 //! The lines of the serial port.
 ghost use Rattle.std.specs.Prelude.{◌≡◌, ◌<◌, IfOk, IfErr, OnErr};
-ghost use Rattle.vm_superio.specs.Port.{write_reply, enqueue_reply, failure as failure_answer};
+ghost use Rattle.vm_superio.specs.Port.Model.{write_response, enqueue_response, failure_response as failure_answer};
 ghost use Rattle.superio_script.specs.Reply.{response_reply};
 ghost use Rattle.superio_script.specs.Board.{IsSerialLineStep};
 ghost use Rattle.superio_script.specs.declared.command.SerialLine.TheVariants.{Restore};
@@ -74,7 +74,7 @@ fn restore(alloc: Global, serial: &mut Port) -> Result<Reply, LineFault>
 
 /// The reply to a write with this result.
 fn write_result_reply(written: Result<(), Error<LineRefused>>) -> Reply
-    ensures { result.items ≡ response_reply (write_reply written) }
+    ensures { result.items ≡ response_reply (write_response written) }
 {
     match written {
         Ok(()) => word(b"ok"),
@@ -85,7 +85,7 @@ fn write_result_reply(written: Result<(), Error<LineRefused>>) -> Reply
 /// The reply to an enqueue with this result.
 fn enqueue_result_reply(enqueued: Result<usize, Error<LineRefused>>) -> Reply
     requires { IfOk enqueued (λ count. count < 256) }
-    ensures { result.items ≡ response_reply (enqueue_reply enqueued) }
+    ensures { result.items ≡ response_reply (enqueue_response enqueued) }
 {
     match enqueued {
         Ok(count) => byte(count as u8),

@@ -5,3 +5,4 @@ pub mod Run
 pub mod Laws
 pub mod Clock
 pub mod I8042
+pub mod Counting

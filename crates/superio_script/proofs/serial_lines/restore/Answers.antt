@@ -1,9 +1,9 @@
 -- A restore is a step of the session, whether its calls were accepted or one was refused.
 use Rattle.std.proofs.Common.{ap, sym, ◌∙◌, subst}
-use Rattle.vm_superio.specs.State.{State}
-use Rattle.vm_superio.specs.Calls.{restore_calls}
-use Rattle.vm_superio.specs.Port.{Port}
-use Rattle.vm_superio.specs.Restoring.{all_taken, RefusesRestore}
+use Rattle.vm_superio.specs.Port.State.{State}
+use Rattle.vm_superio.specs.Step.Restore.{restore_calls, RefusesRestore}
+use Rattle.vm_superio.specs.Port.Model.{Port}
+use Rattle.vm_superio.specs.Port.ObjectLinks.{all_ok}
 use Rattle.superio_script.specs.InterruptLine.{InterruptLine, InterruptLineLink}
 use Rattle.superio_script.specs.Counts.{EventCounts}
 use Rattle.superio_script.specs.declared.output.Output.{Output}
@@ -17,9 +17,9 @@ returns-in-Ok-from_state-clause-step c =
     let after = c.replace-old.ensures.after in
     let state = made.state ∙ c.in-Ok.ensures.saved in
     let line = c.interrupt_evt-line.ensures in
-    let called = subst (λ (s : State). InterruptLineLink c.interrupt_evt-line.result.now (all_taken (restore_calls s)) c.in-Ok-from_state.restored.trigger) c.in-Ok.ensures.saved made.called in
-    let link = subst (λ (new : InterruptLine). InterruptLineLink old.trigger (all_taken (restore_calls old.state)) new) (ap (λ (port : Port InterruptLine EventCounts Output). port.trigger) (sym after))
-    (subst (λ (l : InterruptLine). InterruptLineLink l (all_taken (restore_calls old.state)) c.in-Ok-from_state.restored.trigger) line called) in
+    let called = subst (λ (s : State). InterruptLineLink c.interrupt_evt-line.result.now (all_ok (restore_calls s)) c.in-Ok-from_state.restored.trigger) c.in-Ok.ensures.saved made.called in
+    let link = subst (λ (new : InterruptLine). InterruptLineLink old.trigger (all_ok (restore_calls old.state)) new) (ap (λ (port : Port InterruptLine EventCounts Output). port.trigger) (sym after))
+    (subst (λ (l : InterruptLine). InterruptLineLink l (all_ok (restore_calls old.state)) c.in-Ok-from_state.restored.trigger) line called) in
     rw c.word.ensures (restore-step c.steps_of_history.ensures old _
     (ap (λ (port : Port InterruptLine EventCounts Output). port.state) after ∙ state)
     link
