@@ -60,7 +60,8 @@ value_reply None = with_lf (codes "invalid")
 
 -- the reply to a line of a clock that started fresh, after these accesses, newest first
 abbrev pub clock_reply : (trace : List Access) (line : ClockLine) → List ℕ
-clock_reply trace (clock.Read moment offset) = value_reply (clock_history_response fresh_clock trace (read offset moment))
+clock_reply trace (clock.Read moment offset) =
+    value_reply (clock_history_response fresh_clock trace (read offset moment))
 clock_reply trace (clock.Write moment offset value) =
     with_lf (if is_writable (clock_register_at offset) then codes "ok" else codes "invalid")
 

@@ -105,7 +105,8 @@ session_after_call session op outcome = record {
   trace = session_entry session op outcome ∷ session.trace;
   line = line_after_responses session.line (session_responses session op);
   counts =
-      fold counts_after_event session.counts (history_events fresh_state session.trace (session_entry session op outcome));
+      fold counts_after_event session.counts
+      (history_events fresh_state session.trace (session_entry session op outcome));
 }
 
 -- a call sends a byte to the writer

@@ -8,9 +8,9 @@ ghost use Rattle.superio_script.specs.declared.devices.LineFault.TheVariants.{Ba
 use crate::clock_lines::clock_line;
 use crate::command::{Command, ControllerLine, parse};
 use crate::counts::Counts;
+use crate::fault::ScriptFault;
 use crate::output::Output;
 use crate::replies::{Reply, byte, word};
-use crate::fault::ScriptFault;
 use crate::serial_lines::{Port, serial_line};
 use crate::trigger::Line;
 use std::alloc::Global;

@@ -15,8 +15,8 @@ mod trigger;
 
 pub use counts::Counts;
 pub use devices::{Board, LineFault};
+pub use fault::ScriptFault;
 pub use output::Output;
 pub use replies::Reply;
-pub use fault::ScriptFault;
 pub use script::run_script;
 pub use trigger::{Line, LineRefused};

@@ -10,8 +10,8 @@ use crate::fault::ScriptFault;
 use crate::replies::Reply;
 use crate::splitting::Lines;
 use std::alloc::Global;
-use std::io::{Read, Write};
 use std::io;
+use std::io::{Read, Write};
 
 /// The most bytes that a script may have.
 const SCRIPT_LIMIT: usize = 65_536;

@@ -25,8 +25,8 @@ pub fn held_bytes()
 {}
 
 /// The interrupt law, from a start whose IIR is 1, 2, 4 or 6: IIR shows the conditions that were raised and not
-/// acknowledged since, an entry is admissible exactly where it is well-formed, and a restore makes the trigger calls that
-/// are due. The trace may have refused trigger calls, and IER writes that end early.
+/// acknowledged since, an entry is admissible exactly where it is well-formed, and a restore makes the trigger calls
+/// that are due. The trace may have refused trigger calls, and IER writes that end early.
 pub fn interrupts()
     ensures { InterruptLaw }
 {}
@@ -43,8 +43,8 @@ pub fn states_of_history()
     ensures response { ResponseLaw }
 {}
 
-/// From a coherent start, in the state that a trace leads to, a call makes the trigger calls of its point, responds as the
-/// history says, reports the events of its point, and leaves the state of the trace with the call's entry added. A
+/// From a coherent start, in the state that a trace leads to, a call makes the trigger calls of its point, responds as
+/// the history says, reports the events of its point, and leaves the state of the trace with the call's entry added. A
 /// restore makes the trigger calls that are due.
 pub fn steps_of_history()
     ensures { StepLaw }

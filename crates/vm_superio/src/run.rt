@@ -72,9 +72,9 @@ pub struct Done<T: Trigger, EV: SerialEvents, W: Write> {
 
 /// Makes the calls in order, and answers a record of each.
 ///
-/// Nothing stops a run early: a refusal of the trigger, a failure of the writer or a refused restore is in the record of
-/// its call, and the next call is made. A restore takes the port's state and makes a port of it with the objects that it
-/// brings, which then takes the old port's place. Where it is refused the old port stays.
+/// Nothing stops a run early: a refusal of the trigger, a failure of the writer or a refused restore is in the record
+/// of its call, and the next call is made. A restore takes the port's state and makes a port of it with the objects
+/// that it brings, which then takes the old port's place. Where it is refused the old port stays.
 ///
 /// From a coherent start the records are a trace: each byte that was read follows from the start, the earlier calls and
 /// the trigger's answers. So do the state at the end, and every other response, given the outcome of the byte that a

@@ -119,9 +119,9 @@ impl<T: Trigger, EV: SerialEvents, W: Write> Serial<T, EV, W> {
         })
     }
 
-    /// Makes a serial port of a saved state, which it takes as it stands, and of new objects. The trigger is called once
-    /// for each condition that is both pending and enabled, so that the interrupts that the guest has not
-    /// taken reach the new trigger. The events object is not called, and the writer not used.
+    /// Makes a serial port of a saved state, which it takes as it stands, and of new objects. The trigger is called
+    /// once for each condition that is both pending and enabled, so that the interrupts that the guest has not taken
+    /// reach the new trigger. The events object is not called, and the writer not used.
     ///
     /// # Errors
     ///
@@ -244,8 +244,8 @@ impl<T: Trigger, EV: SerialEvents, W: Write> Serial<T, EV, W> {
     ///
     /// [`Error::Trigger`] where the trigger refused a call, also where the writer failed too; else [`Error::IOError`]
     /// where the writer failed to take the byte or to flush. The registers are the same after a failure of the writer
-    /// as after its success, and a refused condition stays pending: the trigger is not called for it again until the guest
-    /// has acknowledged it.
+    /// as after its success, and a refused condition stays pending: the trigger is not called for it again until the
+    /// guest has acknowledged it.
     pub fn write(&mut self, offset: u8, value: u8) -> Result<(), Error<T::E>>
         ensures step { IsWriteStep T.link EV.link W.contents offset value result self.old self.new }
         ensures coherent { Coherent self.old.state → Coherent self.new.state }

@@ -19,8 +19,8 @@ const OUT_BYTE: u64 = 4;
 
 const OTHER_EVENT: u64 = 5;
 
-/// A trigger, an events object or a writer, whose calls add their digits to a number that the test shares with it: 1 for
-/// `trigger`, 2 for `write`, 3 for `flush`, 4 for `out_byte`, 5 for another event.
+/// A trigger, an events object or a writer, whose calls add their digits to a number that the test shares with it: 1
+/// for `trigger`, 2 for `write`, 3 for `flush`, 4 for `out_byte`, 5 for another event.
 #[derive(Clone, Copy)]
 pub struct CallLog<'a> {
     pub calls: &'a Cell<u64>,

@@ -57,7 +57,8 @@ pub struct Target {
     pub piece: usize,
     /// How many bytes it takes in all, at most.
     pub room: usize,
-    /// The outcomes of its calls of `write`, in turn. Each later call has the last outcome, or `Taken` if there is none.
+    /// The outcomes of its calls of `write`, in turn. Each later call has the last outcome, or `Taken` if there is
+    /// none.
     pub outcomes: Vec<WriteOutcome>,
     pub writes: usize,
     pub flushes: usize,

@@ -53,8 +53,8 @@ module _ {T E EV W : Type 0} (trigger : Link T (TriggerAnswer E)) (events : Link
       IsPortStep (port_links trigger events contents) (Read offset) asked.Nothing sent.Nothing
       (ByteRead byte) None old new
 
-  -- a write, with the trigger's answers and the outcome of its byte. There is one answer for each pending bit of IIR that
-  -- the write turns on
+  -- a write, with the trigger's answers and the outcome of its byte. There is one answer for each pending bit of IIR
+  -- that the write turns on
   pub record IsWriteStep
       (offset value : ℕ) (result : Result (Unit {0}) (Error E)) (old new : Port T EV W) : Type 0 where
     pub asked : Asked

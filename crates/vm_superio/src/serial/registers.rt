@@ -170,8 +170,8 @@ impl Registers {
         has_bits(self.modem_control, MCR_LOOP_BIT)
     }
 
-    /// MSR as it is read: in loopback its high four bits show the outputs of MCR, DTR as DSR, RTS as CTS, OUT1 as RI and
-    /// OUT2 as DCD.
+    /// MSR as it is read: in loopback its high four bits show the outputs of MCR, DTR as DSR, RTS as CTS, OUT1 as RI
+    /// and OUT2 as DCD.
     pub(super) fn modem_status_read(&self) -> u8
         ensures { result ≡ msr_read self.now.modem_control self.now.modem_status }
     {

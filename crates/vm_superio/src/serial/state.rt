@@ -60,11 +60,12 @@ impl SerialState {
         })
     }
 
-    /// Whether the state is coherent, as that of each port that `new` made is: at most 64 bytes are held, data ready shows
-    /// whether any is, IIR is 1, 2, 4 or 6, and RDA is pending only while a byte is held. The other fields are free.
+    /// Whether the state is coherent, as that of each port that `new` made is: at most 64 bytes are held, data ready
+    /// shows whether any is, IIR is 1, 2, 4 or 6, and RDA is pending only while a byte is held. The other fields are
+    /// free.
     ///
-    /// A port that was made of a coherent state stays coherent. With another state each call still meets its contract, but
-    /// the laws that derive a guest's reads from the history do not apply.
+    /// A port that was made of a coherent state stays coherent. With another state each call still meets its contract,
+    /// but the laws that derive a guest's reads from the history do not apply.
     pub fn is_coherent(&self) -> bool
         ensures { IsTrue result ↔ Coherent (state_of self.now) }
     {

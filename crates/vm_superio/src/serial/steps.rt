@@ -98,8 +98,8 @@ impl Registers {
         }
     }
 
-    /// Receives the first of these bytes, as many as there is room for, behind those that are held. If there is one, data
-    /// ready is set and RDA is raised. Answers how many were added.
+    /// Receives the first of these bytes, as many as there is room for, behind those that are held. If there is one,
+    /// data ready is set and RDA is raised. Answers how many were added.
     pub(super) fn receive<T: Trigger>(
         &mut self,
         fifo: &mut Fifo,
