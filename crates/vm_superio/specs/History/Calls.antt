@@ -1,8 +1,7 @@
 -- What a call does to the port's objects at each point of a trace: the events reported, and the trigger calls made.
 use Rattle.std.specs.Prelude.{ℕ, if◌then◌else◌, List, [], ◌∷◌, ◌++◌}
-use Rattle.vm_superio.specs.declared.trace.Asked.TheVariants as asked
+use Rattle.vm_superio.specs.declared.trace.Asked.{Asked}
 use Rattle.vm_superio.specs.declared.trace.Sent.{Sent}
-use Rattle.vm_superio.specs.declared.trace.Sent.TheVariants as sent
 use Rattle.vm_superio.specs.Port.State.{State, not_empty}
 use Rattle.vm_superio.specs.Port.Operations.{Op, TraceEntry, Event, buffer_read, out_byte, tx_lost_byte, in_buffer_empty, Trace}
 use Rattle.vm_superio.specs.Port.OpKinds.{OpKind, RbrRead}
@@ -11,11 +10,11 @@ use Rattle.vm_superio.specs.History.Interrupts.{trigger_calls}
 
 -- an RBR read reports that no byte is left, where none is, and then that it read; a byte that was sent is reported as
 -- out or as lost
-abbrev pub kind_events : (kind : OpKind) (left : List ℕ) (outcome : Sent) → List Event
-kind_events RbrRead left outcome = (if not_empty left then [] else in_buffer_empty ∷ []) ++ buffer_read ∷ []
-kind_events kind left sent.Nothing = []
-kind_events kind left sent.Out = out_byte ∷ []
-kind_events kind left sent.Lost = tx_lost_byte ∷ []
+abbrev pub kind_events : (kind : OpKind) (left : List ℕ) (sent : Sent) → List Event
+kind_events RbrRead left sent = (if not_empty left then [] else in_buffer_empty ∷ []) ++ buffer_read ∷ []
+kind_events kind left Sent.Nothing = []
+kind_events kind left Sent.Out = out_byte ∷ []
+kind_events kind left Sent.Lost = tx_lost_byte ∷ []
 
 -- the events of an entry, with the bytes that are held after it
 abbrev pub history_events : (start : State) (trace : Trace) (entry : TraceEntry) → List Event
@@ -25,4 +24,4 @@ history_events start trace entry =
 -- the trigger calls that an operation makes as long as none is refused
 abbrev pub calls_due : (start : State) (trace : Trace) (op : Op) → ℕ
 calls_due start trace op =
-    trigger_calls start trace (record { op = op; asked = asked.Nothing; sent = sent.Nothing })
+    trigger_calls start trace (record { op = op; asked = Asked.Nothing; sent = Sent.Nothing })

@@ -43,20 +43,20 @@ guest_read start trace offset = register_read (register_at (dlab start trace) of
 -- an enqueue responds 0 in loopback or for no bytes; else that the FIFO is full where 64 bytes are held; else the
 -- trigger's refusal; else how many bytes it accepted
 abbrev pub enqueue_history_response :
-    (start : State) (trace : Trace) (bytes : List ℕ) (answers : Asked) → Response
-enqueue_history_response start trace bytes answers =
+    (start : State) (trace : Trace) (bytes : List ℕ) (asked : Asked) → Response
+enqueue_history_response start trace bytes asked =
     if loopback start trace || (length bytes == 0) then EnqueueOk 0
     else (if nat_le 64 (length (held_bytes start trace)) then FifoFull
-    else (if is_refused_once answers then TriggerRefused
+    else (if is_refused_once asked then TriggerRefused
     else EnqueueOk (length (accepted_by (kind_at start trace (Enqueue bytes)) (held_bytes start trace)))))
 
 -- what any call responds: a write by the trigger's answers and the outcome of its byte
 abbrev pub history_response :
-    (start : State) (trace : Trace) (op : Op) (answers : Asked) (outcome : Sent) → Response
-history_response start trace (Read offset) answers outcome = ByteRead (guest_read start trace offset)
-history_response start trace (Write offset value) answers outcome = write_outcome answers outcome
-history_response start trace (Enqueue bytes) answers outcome = enqueue_history_response start trace bytes answers
-history_response start trace Restore answers outcome = NoResponse
+    (start : State) (trace : Trace) (op : Op) (asked : Asked) (sent : Sent) → Response
+history_response start trace (Read offset) asked sent = ByteRead (guest_read start trace offset)
+history_response start trace (Write offset value) asked sent = write_outcome asked sent
+history_response start trace (Enqueue bytes) asked sent = enqueue_history_response start trace bytes asked
+history_response start trace Restore asked sent = NoResponse
 
 -- each call of some entries, oldest first, responded as the history says
 abbrev pub ResponsesAre : (start : State) (trace : Trace) (calls : List (TraceEntry × Response)) → Type 0

@@ -1,9 +1,7 @@
 -- The laws of one call, in any state.
 use Rattle.std.specs.Prelude.{◌≡◌, ◌↔◌, ℕ, zero, suc, ◌<◌, Bool, true, false, if◌then◌else◌, ◌++◌, length, count_by, IsTrue}
 use Rattle.vm_superio.specs.declared.trace.Asked.{Asked}
-use Rattle.vm_superio.specs.declared.trace.Asked.TheVariants as asked
 use Rattle.vm_superio.specs.declared.trace.Sent.{Sent}
-use Rattle.vm_superio.specs.declared.trace.Sent.TheVariants as sent
 use Rattle.vm_superio.specs.Port.State.{State}
 use Rattle.vm_superio.specs.Port.Operations.{Op, Event, out_byte, tx_lost_byte, answer_count}
 use Rattle.vm_superio.specs.Port.OpKinds.{sent_by}
@@ -37,15 +35,15 @@ TurnedBitsLaw = (s : State) (op : Op) (asked : Asked) (sent : Sent)
 
 -- the record of a trigger that is called so often: the answer to the first call and, if there is one, to the second
 abbrev pub asked_when : (calls : ℕ) (first second : Bool) → Asked
-asked_when zero first second = asked.Nothing
-asked_when (suc zero) first second = if first then asked.Took else asked.Refused
+asked_when zero first second = Asked.Nothing
+asked_when (suc zero) first second = if first then Asked.Took else Asked.Refused
 asked_when (suc (suc more)) first second =
-    if first then (if second then asked.TookTook else asked.TookRefused) else asked.Refused
+    if first then (if second then Asked.TookTook else Asked.TookRefused) else Asked.Refused
 
 -- the outcome of a byte, if one is sent: the writer's success or failure
 abbrev pub sent_when : (sends success : Bool) → Sent
-sent_when false success = sent.Nothing
-sent_when true success = if success then sent.Out else sent.Lost
+sent_when false success = Sent.Nothing
+sent_when true success = if success then Sent.Out else Sent.Lost
 
 -- admissible is what some answers to the trigger's calls and some success or failure of the writer give, and no more
 abbrev pub ExactTestLaw : Type 0

@@ -2,7 +2,6 @@
 use Rattle.std.specs.Prelude.{◌≡◌, ◌⊎◌, ℕ, List, [], ◌∷◌, Option, Result, Ok, Err}
 use Rattle.std.specs.Option.{option_map, option_to_list}
 use Rattle.vm_superio.specs.declared.trace.Asked.{Asked}
-use Rattle.vm_superio.specs.declared.trace.Asked.TheVariants as asked
 use Rattle.vm_superio.specs.declared.serial.errors.Error.{Error}
 use Rattle.vm_superio.specs.declared.serial.errors.Error.TheVariants.{Trigger, Memory}
 use Rattle.vm_superio.specs.Port.Registers.{Condition}
@@ -21,12 +20,12 @@ abbrev pub Contents : (W : Type 0) → Type 0
 Contents W = W → Option (List ℕ)
 
 -- the answers that a record stands for. A refusal among them is the one that the reply carries
-abbrev pub answers_of : {E : Type 0} → (answers : Asked) (refusal : Option E) → List (TriggerAnswer E)
-answers_of asked.Nothing refusal = []
-answers_of asked.Took refusal = Ok tt ∷ []
-answers_of asked.Refused refusal = option_to_list (option_map Err refusal)
-answers_of asked.TookTook refusal = Ok tt ∷ Ok tt ∷ []
-answers_of asked.TookRefused refusal = Ok tt ∷ option_to_list (option_map Err refusal)
+abbrev pub answers_of : {E : Type 0} → (asked : Asked) (refusal : Option E) → List (TriggerAnswer E)
+answers_of Asked.Nothing refusal = []
+answers_of Asked.Took refusal = Ok tt ∷ []
+answers_of Asked.Refused refusal = option_to_list (option_map Err refusal)
+answers_of Asked.TookTook refusal = Ok tt ∷ Ok tt ∷ []
+answers_of Asked.TookRefused refusal = Ok tt ∷ option_to_list (option_map Err refusal)
 
 module _ {E : Type 0} where
   -- a restore calls the trigger once for each condition that is due, and none of these calls is refused

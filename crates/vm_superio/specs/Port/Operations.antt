@@ -1,9 +1,7 @@
 -- The operations on a serial port, their responses, the events that the port reports, and the entries of a trace.
 use Rattle.std.specs.Prelude.{ℕ, Bool, true, false, if◌then◌else◌, List}
 pub use Rattle.vm_superio.specs.declared.trace.Asked.{Asked}
-use Rattle.vm_superio.specs.declared.trace.Asked.TheVariants as asked
 pub use Rattle.vm_superio.specs.declared.trace.Sent.{Sent}
-use Rattle.vm_superio.specs.declared.trace.Sent.TheVariants as sent
 
 -- an operation, without the objects that a restore brings
 pub data Op : Type 0 where
@@ -43,23 +41,23 @@ pub data Event : Type 0 where
 -- ---- the trigger's answers
 
 -- there was one call, which was refused
-abbrev pub is_refused_once : (answers : Asked) → Bool
-is_refused_once asked.Refused = true
+abbrev pub is_refused_once : (asked : Asked) → Bool
+is_refused_once Asked.Refused = true
 is_refused_once _ = false
 
 -- the last call was refused
-abbrev pub ends_in_refusal : (answers : Asked) → Bool
-ends_in_refusal asked.Refused = true
-ends_in_refusal asked.TookRefused = true
+abbrev pub ends_in_refusal : (asked : Asked) → Bool
+ends_in_refusal Asked.Refused = true
+ends_in_refusal Asked.TookRefused = true
 ends_in_refusal _ = false
 
 -- how many calls were answered
-abbrev pub answer_count : (answers : Asked) → ℕ
-answer_count asked.Nothing = 0
-answer_count asked.Took = 1
-answer_count asked.Refused = 1
-answer_count asked.TookTook = 2
-answer_count asked.TookRefused = 2
+abbrev pub answer_count : (asked : Asked) → ℕ
+answer_count Asked.Nothing = 0
+answer_count Asked.Took = 1
+answer_count Asked.Refused = 1
+answer_count Asked.TookTook = 2
+answer_count Asked.TookRefused = 2
 
 abbrev pub one_if : (called : Bool) → ℕ
 one_if called = if called then 1 else 0
@@ -67,16 +65,16 @@ one_if called = if called then 1 else 0
 -- ---- the outcome of a byte
 
 -- a byte was sent to the writer, which took it or failed
-abbrev pub is_sent : (outcome : Sent) → Bool
-is_sent sent.Nothing = false
+abbrev pub is_sent : (sent : Sent) → Bool
+is_sent Sent.Nothing = false
 is_sent _ = true
 
 -- the writer failed
-abbrev pub is_lost : (outcome : Sent) → Bool
-is_lost sent.Lost = true
+abbrev pub is_lost : (sent : Sent) → Bool
+is_lost Sent.Lost = true
 is_lost _ = false
 
 -- a write responds with a refusal of the trigger rather than with a failure of the writer
-abbrev pub write_outcome : (answers : Asked) (outcome : Sent) → Response
-write_outcome answers outcome =
-    if ends_in_refusal answers then TriggerRefused else (if is_lost outcome then WriterFailed else WriteOk)
+abbrev pub write_outcome : (asked : Asked) (sent : Sent) → Response
+write_outcome asked sent =
+    if ends_in_refusal asked then TriggerRefused else (if is_lost sent then WriterFailed else WriteOk)

@@ -3,7 +3,6 @@ use Rattle.std.specs.Prelude.{◌≡◌, ℕ, not, List, [], ◌∷◌, IsTrue}
 use Rattle.std.specs.List.{list_all}
 use Rattle.std.specs.Io.KnownBytes.{Appends}
 use Rattle.vm_superio.specs.declared.trace.Sent.{Sent}
-use Rattle.vm_superio.specs.declared.trace.Sent.TheVariants as sent
 use Rattle.vm_superio.specs.Port.Operations.{Op, Write, Event, is_sent, is_lost}
 use Rattle.vm_superio.specs.Port.ObjectLinks.{Link, TriggerAnswer, Contents}
 
@@ -19,8 +18,8 @@ abbrev pub port_links :
 port_links trigger events contents = record { trigger = trigger; events = events; contents = contents }
 
 -- the byte that the writer took in a call: a write's value, where it went out
-abbrev pub bytes_taken_by_writer : (op : Op) (outcome : Sent) → List ℕ
-bytes_taken_by_writer (Write offset value) sent.Out = value ∷ []
+abbrev pub bytes_taken_by_writer : (op : Op) (sent : Sent) → List ℕ
+bytes_taken_by_writer (Write offset value) Sent.Out = value ∷ []
 bytes_taken_by_writer _ _ = []
 
 -- a writer over calls with these outcomes, in order, of which it took `bytes`. It is unchanged where nothing was sent.

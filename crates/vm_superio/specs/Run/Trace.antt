@@ -2,31 +2,29 @@
 use Rattle.std.specs.Prelude.{◌≡◌, ⊤, List, [], ◌∷◌, Bool, true, false, not, Option, None}
 use Rattle.std.specs.List.{filter}
 pub use Rattle.vm_superio.specs.declared.run.Act.{Act}
-use Rattle.vm_superio.specs.declared.run.Act.TheVariants as act
 pub use Rattle.vm_superio.specs.declared.run.Reply.{Reply}
 pub use Rattle.vm_superio.specs.declared.run.Reply.TheVariants.{Byte, Wrote, Enqueued, Restored, NotRestored}
 pub use Rattle.vm_superio.specs.declared.run.Call.{Call}
-use Rattle.vm_superio.specs.declared.run.Call.TheVariants as call
 pub use Rattle.vm_superio.specs.declared.run.Done.{Done}
 use Rattle.vm_superio.specs.Port.Operations.{Op, Read, Write, Enqueue, Restore, TraceEntry, Response, ByteRead, NoResponse, Trace}
 use Rattle.vm_superio.specs.Port.Model.{write_response, enqueue_response, refusal_in_result}
 
 abbrev pub op_of : (done : Act) → Op
-op_of (act.Read offset) = Read offset
-op_of (act.Write offset value) = Write offset value
-op_of (act.Enqueue bytes) = Enqueue bytes.items
-op_of act.Restore = Restore
+op_of (Act.Read offset) = Read offset
+op_of (Act.Write offset value) = Write offset value
+op_of (Act.Enqueue bytes) = Enqueue bytes.items
+op_of Act.Restore = Restore
 
 abbrev pub is_restore : (done : Act) → Bool
-is_restore act.Restore = true
+is_restore Act.Restore = true
 is_restore _ = false
 
 -- the call without its objects
 abbrev pub act_of : {T EV W : Type 0} → (made : Call T EV W) → Act
-act_of (call.Read offset) = act.Read offset
-act_of (call.Write offset value) = act.Write offset value
-act_of (call.Enqueue bytes) = act.Enqueue bytes
-act_of (call.Restore trigger events out) = act.Restore
+act_of (Call.Read offset) = Act.Read offset
+act_of (Call.Write offset value) = Act.Write offset value
+act_of (Call.Enqueue bytes) = Act.Enqueue bytes
+act_of (Call.Restore trigger events out) = Act.Restore
 
 -- the trace with further entries, which stand oldest first, each with its response
 abbrev pub trace_after : (trace : Trace) (later : List (TraceEntry × Response)) → Trace
@@ -36,11 +34,11 @@ trace_after trace (next ∷ later) = trace_after (next.0 ∷ trace) later
 module _ {T E EV W : Type 0} where
   -- a reply is of the kind that the act has
   abbrev pub IsReplyTo : (done : Act) (reply : Reply T EV W E) → Type 0
-  IsReplyTo (act.Read offset) (Byte byte) = ⊤
-  IsReplyTo (act.Write offset value) (Wrote answer) = ⊤
-  IsReplyTo (act.Enqueue bytes) (Enqueued answer) = ⊤
-  IsReplyTo act.Restore (Restored old) = ⊤
-  IsReplyTo act.Restore (NotRestored refused) = ⊤
+  IsReplyTo (Act.Read offset) (Byte byte) = ⊤
+  IsReplyTo (Act.Write offset value) (Wrote answer) = ⊤
+  IsReplyTo (Act.Enqueue bytes) (Enqueued answer) = ⊤
+  IsReplyTo Act.Restore (Restored old) = ⊤
+  IsReplyTo Act.Restore (NotRestored refused) = ⊤
   IsReplyTo _ _ = ⊥
 
   -- there is one record for each call, in order

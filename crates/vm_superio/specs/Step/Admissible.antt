@@ -2,7 +2,6 @@
 use Rattle.std.specs.Prelude.{ℕ, ◌+◌, Bool, ◌==◌, ◌&&◌, nat_le, List, [], ◌∷◌}
 use Rattle.std.specs.Bool.{beq}
 use Rattle.vm_superio.specs.declared.trace.Asked.{Asked}
-use Rattle.vm_superio.specs.declared.trace.Asked.TheVariants as asked
 use Rattle.vm_superio.specs.declared.trace.Sent.{Sent}
 use Rattle.vm_superio.specs.Port.Bits.{masked, ier_bits}
 use Rattle.vm_superio.specs.Port.State.{State, not_empty}
@@ -40,18 +39,18 @@ step_calls s op = kind_calls (kind_in_state s op) s
 -- ---- admissible
 
 -- each call is answered, and a refusal ends the operation
-abbrev pub answers_all : (calls : ℕ) (answers : Asked) → Bool
-answers_all calls asked.Nothing = calls == 0
-answers_all calls asked.Took = calls == 1
-answers_all calls asked.Refused = nat_le 1 calls
-answers_all calls asked.TookTook = calls == 2
-answers_all calls asked.TookRefused = calls == 2
+abbrev pub answers_all : (calls : ℕ) (asked : Asked) → Bool
+answers_all calls Asked.Nothing = calls == 0
+answers_all calls Asked.Took = calls == 1
+answers_all calls Asked.Refused = nat_le 1 calls
+answers_all calls Asked.TookTook = calls == 2
+answers_all calls Asked.TookRefused = calls == 2
 
 -- a byte goes to the writer
 abbrev pub sends_byte : (s : State) (op : Op) → Bool
 sends_byte s op = not_empty (sent_by (kind_in_state s op))
 
 -- the trigger's calls are answered, and there is an outcome exactly where a byte goes to the writer
-abbrev pub is_admissible : (s : State) (op : Op) (answers : Asked) (outcome : Sent) → Bool
-is_admissible s op answers outcome =
-    answers_all (step_calls s op) answers && beq (is_sent outcome) (sends_byte s op)
+abbrev pub is_admissible : (s : State) (op : Op) (asked : Asked) (sent : Sent) → Bool
+is_admissible s op asked sent =
+    answers_all (step_calls s op) asked && beq (is_sent sent) (sends_byte s op)

@@ -1,9 +1,7 @@
 -- One call of a port, as its contract states it.
 use Rattle.std.specs.Prelude.{◌≡◌, ℕ, ◌+◌, Bool, not, ◌&&◌, length, List, [], ◌∷◌, IsTrue, Option, None, Result, is_some}
 use Rattle.vm_superio.specs.declared.trace.Asked.{Asked}
-use Rattle.vm_superio.specs.declared.trace.Asked.TheVariants as asked
 use Rattle.vm_superio.specs.declared.trace.Sent.{Sent}
-use Rattle.vm_superio.specs.declared.trace.Sent.TheVariants as sent
 use Rattle.vm_superio.specs.declared.serial.errors.Error.{Error}
 use Rattle.vm_superio.specs.Port.Bits.{has_bits}
 use Rattle.vm_superio.specs.Port.State.{State}
@@ -18,15 +16,15 @@ use Rattle.vm_superio.specs.Step.Admissible.{is_admissible}
 -- a call takes a port from `old` to `new` by one step, with these answers of the trigger and this outcome of a byte. A
 -- refusal is that of the trigger's last call
 pub record IsPortStep
-    {T E EV W : Type 0} (links : PortLinks T E EV W) (op : Op) (answers : Asked) (outcome : Sent) (answered : Response)
+    {T E EV W : Type 0} (links : PortLinks T E EV W) (op : Op) (asked : Asked) (sent : Sent) (answered : Response)
     (refusal : Option E) (old new : Port T EV W) : Type 0 where
-  pub admissible : IsTrue (is_admissible old.state op answers outcome)
-  pub response : answered ≡ step_response old.state op answers outcome
-  pub refused : is_some refusal ≡ ends_in_refusal answers
-  pub state : new.state ≡ step old.state op answers
-  pub trigger : links.trigger old.trigger (answers_of answers refusal) new.trigger
-  pub events : links.events old.events (step_events old.state op outcome) new.events
-  pub out : WriterLink links.contents (outcome ∷ []) (bytes_taken_by_writer op outcome) old.out new.out
+  pub admissible : IsTrue (is_admissible old.state op asked sent)
+  pub response : answered ≡ step_response old.state op asked sent
+  pub refused : is_some refusal ≡ ends_in_refusal asked
+  pub state : new.state ≡ step old.state op asked
+  pub trigger : links.trigger old.trigger (answers_of asked refusal) new.trigger
+  pub events : links.events old.events (step_events old.state op sent) new.events
+  pub out : WriterLink links.contents (sent ∷ []) (bytes_taken_by_writer op sent) old.out new.out
 
 -- the port with another writer, and nothing else changed
 abbrev pub with_writer : {T EV W : Type 0} → (port : Port T EV W) (writer : W) → Port T EV W
@@ -50,7 +48,7 @@ module _ {T E EV W : Type 0} (trigger : Link T (TriggerAnswer E)) (events : Link
   -- a read calls no trigger and sends no byte
   abbrev pub IsReadStep : (offset byte : ℕ) (old new : Port T EV W) → Type 0
   IsReadStep offset byte old new =
-      IsPortStep (port_links trigger events contents) (Read offset) asked.Nothing sent.Nothing
+      IsPortStep (port_links trigger events contents) (Read offset) Asked.Nothing Sent.Nothing
       (ByteRead byte) None old new
 
   -- a write, with the trigger's answers and the outcome of its byte. There is one answer for each pending bit of IIR

@@ -3,7 +3,6 @@
 use Rattle.std.specs.Prelude.{ℕ, Bool, ◌==◌, ◌&&◌, ◌||◌, nat_le, if◌then◌else◌, List, [], ◌∷◌, ◌++◌, length, drop}
 use Rattle.vm_superio.specs.declared.trace.Asked.{Asked}
 use Rattle.vm_superio.specs.declared.trace.Sent.{Sent}
-use Rattle.vm_superio.specs.declared.trace.Sent.TheVariants as sent
 use Rattle.vm_superio.specs.Port.Bits.{masked, without, lsr_dr_bit, ier_bits}
 use Rattle.vm_superio.specs.Port.State.{State, not_empty}
 use Rattle.vm_superio.specs.Port.Registers.{Register, Dll, Dlm, RbrThr, Ier, Iir, Lcr, Mcr, Scr, register_at, is_dlab, is_loopback, Rda, Thre, iir_bit, register_read}
@@ -14,20 +13,20 @@ use Rattle.vm_superio.specs.Step.Raising.{iir_none_bit, raise, rda_becomes_pendi
 
 -- an enqueue responds 0 in loopback, whatever is passed, and for no bytes; else that the FIFO is full; else the
 -- trigger's refusal; else how many bytes it added
-abbrev pub enqueue_step_response : (s : State) (bytes : List ℕ) (answers : Asked) → Response
-enqueue_step_response s bytes answers =
+abbrev pub enqueue_step_response : (s : State) (bytes : List ℕ) (asked : Asked) → Response
+enqueue_step_response s bytes asked =
     if is_loopback s.modem_control || (length bytes == 0) then EnqueueOk 0
     else (if nat_le 64 (length s.in_buffer) then FifoFull
-    else (if is_refused_once answers then TriggerRefused
+    else (if is_refused_once asked then TriggerRefused
     else EnqueueOk (length (enqueued_bytes s bytes))))
 
 -- any call: a read shows the register at its offset
-abbrev pub step_response : (s : State) (op : Op) (answers : Asked) (outcome : Sent) → Response
-step_response s (Read offset) answers outcome =
+abbrev pub step_response : (s : State) (op : Op) (asked : Asked) (sent : Sent) → Response
+step_response s (Read offset) asked sent =
     ByteRead (register_read (register_at (is_dlab s.line_control) offset) s)
-step_response s (Write offset value) answers outcome = write_outcome answers outcome
-step_response s (Enqueue bytes) answers outcome = enqueue_step_response s bytes answers
-step_response s Restore answers outcome = NoResponse
+step_response s (Write offset value) asked sent = write_outcome asked sent
+step_response s (Enqueue bytes) asked sent = enqueue_step_response s bytes asked
+step_response s Restore asked sent = NoResponse
 
 -- ---- the state afterwards
 
@@ -50,9 +49,9 @@ read_step _ s = s
 
 -- an IER write raises RDA while bytes are held, and then THRE, unless the trigger refused the first call. It clears no
 -- pending condition
-abbrev pub ier_write : (enable : ℕ) (answers : Asked) (s : State) → State
-ier_write enable answers s =
-    let refused = rda_becomes_pending s.in_buffer enable s.interrupt_identification && is_refused_once answers in
+abbrev pub ier_write : (enable : ℕ) (asked : Asked) (s : State) → State
+ier_write enable asked s =
+    let refused = rda_becomes_pending s.in_buffer enable s.interrupt_identification && is_refused_once asked in
     let identification = raise_rda_while_held s.in_buffer enable s.interrupt_identification in
     record s {
       interrupt_enable = enable;
@@ -67,22 +66,22 @@ thr_write value s =
 
 -- a write, by the register at its offset: IER keeps the low four bits, and IIR, LSR, MSR and unassigned offsets ignore
 -- the write
-abbrev pub write_step : (register : Register) (value : ℕ) (answers : Asked) (s : State) → State
-write_step Dll value answers s = record s { baud_divisor_low = value }
-write_step Dlm value answers s = record s { baud_divisor_high = value }
-write_step RbrThr value answers s = thr_write value s
-write_step Ier value answers s = ier_write (masked value ier_bits) answers s
-write_step Lcr value answers s = record s { line_control = value }
-write_step Mcr value answers s = record s { modem_control = value }
-write_step Scr value answers s = record s { scratch = value }
-write_step _ value answers s = s
+abbrev pub write_step : (register : Register) (value : ℕ) (asked : Asked) (s : State) → State
+write_step Dll value asked s = record s { baud_divisor_low = value }
+write_step Dlm value asked s = record s { baud_divisor_high = value }
+write_step RbrThr value asked s = thr_write value s
+write_step Ier value asked s = ier_write (masked value ier_bits) asked s
+write_step Lcr value asked s = record s { line_control = value }
+write_step Mcr value asked s = record s { modem_control = value }
+write_step Scr value asked s = record s { scratch = value }
+write_step _ value asked s = s
 
 -- any call: an enqueue receives what it accepts, and a restore keeps the state
-abbrev pub step : (s : State) (op : Op) (answers : Asked) → State
-step s (Read offset) answers = read_step (register_at (is_dlab s.line_control) offset) s
-step s (Write offset value) answers = write_step (register_at (is_dlab s.line_control) offset) value answers s
-step s (Enqueue bytes) answers = receive_bytes (enqueued_bytes s bytes) s
-step s Restore answers = s
+abbrev pub step : (s : State) (op : Op) (asked : Asked) → State
+step s (Read offset) asked = read_step (register_at (is_dlab s.line_control) offset) s
+step s (Write offset value) asked = write_step (register_at (is_dlab s.line_control) offset) value asked s
+step s (Enqueue bytes) asked = receive_bytes (enqueued_bytes s bytes) s
+step s Restore asked = s
 
 -- ---- the events
 
@@ -92,13 +91,13 @@ read_events RbrThr held = (if not_empty (drop 1 held) then [] else in_buffer_emp
 read_events _ held = []
 
 -- a byte that was sent is reported as out or as lost
-abbrev pub sent_events : (outcome : Sent) → List Event
-sent_events sent.Nothing = []
-sent_events sent.Out = out_byte ∷ []
-sent_events sent.Lost = tx_lost_byte ∷ []
+abbrev pub sent_events : (sent : Sent) → List Event
+sent_events Sent.Nothing = []
+sent_events Sent.Out = out_byte ∷ []
+sent_events Sent.Lost = tx_lost_byte ∷ []
 
 -- any call
-abbrev pub step_events : (s : State) (op : Op) (outcome : Sent) → List Event
-step_events s (Read offset) outcome = read_events (register_at (is_dlab s.line_control) offset) s.in_buffer
-step_events s (Write offset value) outcome = sent_events outcome
-step_events s _ outcome = []
+abbrev pub step_events : (s : State) (op : Op) (sent : Sent) → List Event
+step_events s (Read offset) sent = read_events (register_at (is_dlab s.line_control) offset) s.in_buffer
+step_events s (Write offset value) sent = sent_events sent
+step_events s _ sent = []
