@@ -11,7 +11,7 @@ use Rattle.vm_superio.specs.declared.trace.Sent.{Sent}
 use Rattle.vm_superio.specs.declared.trace.Sent.TheVariants as sent
 use Rattle.vm_superio.specs.Port.State.{State, not_empty}
 use Rattle.vm_superio.specs.Port.SavedState.{fresh_state}
-use Rattle.vm_superio.specs.Port.Bits.{has_bits, masked}
+use Rattle.vm_superio.specs.Port.Bits.{has_bits, only_bits}
 use Rattle.vm_superio.specs.Port.Registers.{thre_then_rda}
 use Rattle.vm_superio.specs.Port.Operations.{Op, Read, Write, Enqueue, TraceEntry, Response, is_sent, is_lost, ends_in_refusal}
 use Rattle.vm_superio.specs.Port.Coherent.{Coherent}
@@ -187,7 +187,7 @@ fresh-coherent = record {
 pub at-start :
     (mask : ℕ) (port : Port InterruptLine EventCounts Output) →
     port.state ≡ fresh_state → port.trigger ≡ fresh_interrupt_line mask → port.events ≡ no_counts → written_bytes port.out ≡ [] → IsAt (fresh_session mask) port
-unfolding has_bits masked
+unfolding has_bits only_bits
 at-start mask port state line counts output = record { state = state; line = line; counts = counts; output = output }
 
 -- each call of a port that started fresh is a step of its trace

@@ -2,7 +2,7 @@
 use Rattle.std.proofs.Common.{◌≡◌, ℕ, Bool, true, false, List, refl, ap, subst, ◌∙◌, ◌∷◌}
 use Rattle.vm_superio.specs.declared.trace.Asked.{Asked}
 use Rattle.vm_superio.specs.Port.State.{State}
-use Rattle.vm_superio.specs.Port.Bits.{masked}
+use Rattle.vm_superio.specs.Port.Bits.{only_bits}
 use Rattle.vm_superio.specs.Port.Registers.{Register, RbrThr, Ier, Iir, register_at, is_dlab, is_loopback, Thre}
 use Rattle.vm_superio.specs.Port.Operations.{Op, Read, Write, Enqueue, Restore, TraceEntry}
 use Rattle.vm_superio.specs.Step.Raising.{raise, enqueued_bytes, receive_bytes, bytes_that_fit}
@@ -19,7 +19,7 @@ use Rattle.vm_superio.proofs.RegisterSteps.{register_law}
 abbrev pub by_kind : OpKind → Asked → State → State
 by_kind RbrRead asked s = rbr_read s
 by_kind IirRead asked s = record s { interrupt_identification = 1 }
-by_kind (IerWrite value) asked s = ier_write (masked value 0x0F) asked s
+by_kind (IerWrite value) asked s = ier_write (only_bits value 0x0F) asked s
 by_kind (ThrWrite value) asked s =
     record s { interrupt_identification = raise Thre s.interrupt_enable s.interrupt_identification }
 by_kind (Arrival bytes) asked s = receive_bytes (bytes_that_fit s.in_buffer bytes) s

@@ -10,7 +10,7 @@ use Rattle.std.proofs.lemmas.Nat.Bits.{bit_at_or, bit_at-lt, bit_at-zero}
 use Rattle.vm_superio.specs.declared.rtc_pl031.RtcState.{RtcState}
 use Rattle.vm_superio.specs.declared.rtc_pl031.registers.ClockRegister.{ClockRegister}
 use Rattle.vm_superio.specs.declared.rtc_pl031.registers.ClockRegister.TheVariants.{Dr, Mr, Lr, Cr, Imsc, Ris, Mis, Icr, Id, Reserved}
-use Rattle.vm_superio.specs.Port.Bits.{without}
+use Rattle.vm_superio.specs.Port.Bits.{without_bits}
 use Rattle.vm_superio.specs.Clock.Registers.{Access, read, write, clock_register_at, host_time, guest_time, clock_register_read}
 use Rattle.vm_superio.specs.Clock.Step.{after_write, clock_step, clock_response, state_after_accesses}
 use Rattle.vm_superio.specs.Clock.History.{clock_of_history, clock_history_response, counter, cleared_bits, cleared_by}
@@ -55,7 +55,7 @@ answers start trace (write offset value now) = refl
 begins : (start : RtcState) → start ≡ clock_of_history start []
 begins start =
     let no_offset : start.offset ≡ pos 0 +ℤ start.offset = omega (arith, ints) in
-    let none_cleared : start.ris ≡ without start.ris 0 = omega (arith, and_zero_r start.ris) in
+    let none_cleared : start.ris ≡ without_bits start.ris 0 = omega (arith, and_zero_r start.ris) in
     ap (λ offset. record start { offset = offset }) no_offset
     ∙ ap (λ ris. record start { offset = pos 0 +ℤ start.offset; ris = ris }) none_cleared
 

@@ -4,7 +4,7 @@ use Rattle.std.proofs.Math.Seq.{drop-append-add}
 use Rattle.std.specs.Prelude.{if◌then◌else◌}
 use Rattle.vm_superio.specs.declared.trace.Asked.{Asked}
 use Rattle.vm_superio.specs.Port.State.{State, not_empty}
-use Rattle.vm_superio.specs.Port.Bits.{has_bits, without}
+use Rattle.vm_superio.specs.Port.Bits.{has_bits, without_bits}
 use Rattle.vm_superio.specs.History.Reads.{with_data_ready, line_status}
 use Rattle.vm_superio.specs.Port.Operations.{Op, TraceEntry}
 use Rattle.vm_superio.specs.Step.Raising.{receive_bytes, bytes_that_fit}
@@ -114,7 +114,7 @@ received_ready [] s ready = ready
 received_ready (byte ∷ bytes) s ready = rw (not_empty-append s.in_buffer byte bytes) refl
 
 read_ready : (bytes : List ℕ) (line_status : ℕ) → line_status ≡ with_data_ready line_status (not_empty bytes)
-    → (if not_empty (drop 1 bytes) then line_status else without line_status 0x01)
+    → (if not_empty (drop 1 bytes) then line_status else without_bits line_status 0x01)
     ≡ with_data_ready line_status (not_empty (drop 1 bytes))
 read_ready [] line_status ready = refl
 read_ready (byte ∷ []) line_status ready = refl

@@ -5,7 +5,7 @@ use Rattle.std.specs.Bool.{beq}
 use Rattle.std.proofs.Math.Bool.{and-true}
 use Rattle.vm_superio.specs.declared.trace.Asked.{Asked}
 use Rattle.vm_superio.specs.Port.State.{State, not_empty}
-use Rattle.vm_superio.specs.Port.Bits.{has_bits, masked, without}
+use Rattle.vm_superio.specs.Port.Bits.{has_bits, only_bits, without_bits}
 use Rattle.vm_superio.specs.Port.Registers.{Thre, Rda, identification_of, thre_then_rda}
 use Rattle.vm_superio.specs.Port.Operations.{TraceEntry, is_refused_once, is_sent, one_if, answer_count}
 use Rattle.vm_superio.specs.Step.Raising.{raise, raise_rda_while_held, becomes_pending, rda_becomes_pending, receive_bytes, bytes_that_fit}
@@ -47,12 +47,12 @@ received_pending (byte ∷ bytes) s thre before e =
 -- what an IER write leaves of an IIR, if the trigger refuses for RDA or not
 abbrev enabled_if : Bool → List ℕ → ℕ → ℕ → ℕ
 enabled_if refused held_bytes value old =
-    let new = raise_rda_while_held held_bytes (masked value 0x0F) old in
-    if refused then new else raise Thre (masked value 0x0F) new
+    let new = raise_rda_while_held held_bytes (only_bits value 0x0F) old in
+    if refused then new else raise Thre (only_bits value 0x0F) new
 
 abbrev enabled : List ℕ → ℕ → Asked → ℕ → ℕ
 enabled held_bytes value asked old =
-    enabled_if (rda_becomes_pending held_bytes (masked value 0x0F) old && is_refused_once asked) held_bytes value old
+    enabled_if (rda_becomes_pending held_bytes (only_bits value 0x0F) old && is_refused_once asked) held_bytes value old
 
 -- from IIR of two conditions to that of the next two
 pub pending_by_kind : (k : OpKind) (asked : Asked) (s : State) (thre receive_bytes : Bool)
@@ -61,7 +61,7 @@ pub pending_by_kind : (k : OpKind) (asked : Asked) (s : State) (thre receive_byt
     ≡ identification_of (thre_next k s.in_buffer s.interrupt_enable asked thre receive_bytes)
     (rda_next k s.in_buffer s.interrupt_enable receive_bytes)
 pending_by_kind RbrRead asked s thre receive_bytes e =
-    ap (λ old. let new = without old 0x04 in if new == 0 then 1 else new) e ∙ read_clears thre receive_bytes
+    ap (λ old. let new = without_bits old 0x04 in if new == 0 then 1 else new) e ∙ read_clears thre receive_bytes
 pending_by_kind IirRead asked s thre receive_bytes e = refl
 pending_by_kind (IerWrite value) asked s thre receive_bytes e =
     ap (λ old. enabled s.in_buffer value asked old) e
@@ -91,7 +91,7 @@ pub due_is : (k : OpKind) (s : State) (thre receive_bytes : Bool)
     ≡ one_if (rda_called k s.in_buffer s.interrupt_enable receive_bytes)
     + one_if (raises_thre k s.interrupt_enable false && not thre)
 due_is (IerWrite value) s thre receive_bytes e =
-    let enable = masked value 0x0F in
+    let enable = only_bits value 0x0F in
     ap (λ old. one_if (rda_becomes_pending s.in_buffer enable old)
     + one_if (becomes_pending Thre enable (raise_rda_while_held s.in_buffer enable old))) e
     ∙ ap (λ new. one_if new

@@ -9,7 +9,7 @@ use Rattle.vm_superio.specs.declared.trace.Sent.{Sent}
 use Rattle.vm_superio.specs.declared.trace.Sent.TheVariants as sent
 use Rattle.std.proofs.Math.Nat.{add-le-add}
 use Rattle.vm_superio.specs.Port.State.{State, not_empty}
-use Rattle.vm_superio.specs.Port.Bits.{masked}
+use Rattle.vm_superio.specs.Port.Bits.{only_bits}
 use Rattle.vm_superio.specs.Port.Registers.{Register, RbrThr, Iir, register_at, is_dlab, is_loopback, Rda, Thre}
 use Rattle.vm_superio.specs.Port.Operations.{buffer_read, in_buffer_empty, Op, Read, Write, Enqueue, Restore, is_sent}
 use Rattle.vm_superio.specs.Step.Raising.{becomes_pending, rda_becomes_pending, raise_rda_while_held, bytes_that_fit}
@@ -74,7 +74,7 @@ received_at_most (byte ∷ bytes) s =
 
 two_at_most : (k : OpKind) (s : State) → kind_calls k s ≤ 2
 two_at_most (IerWrite value) s =
-    let enable = masked value 0x0F in
+    let enable = only_bits value 0x0F in
     let old = s.interrupt_identification in
     add-le-add (one_at_most (rda_becomes_pending s.in_buffer enable old))
     (one_at_most (becomes_pending Thre enable (raise_rda_while_held s.in_buffer enable old)))

@@ -3,7 +3,7 @@ use Rattle.std.proofs.Common.{◌≡◌, ℕ, ◌+◌, Bool, true, false, not, �
 use Rattle.std.specs.Prelude.{if◌then◌else◌}
 use Rattle.vm_superio.specs.declared.trace.Asked.{Asked}
 use Rattle.vm_superio.specs.declared.trace.Asked.TheVariants.{Nothing}
-use Rattle.vm_superio.specs.Port.Bits.{has_bits, masked, joined, without}
+use Rattle.vm_superio.specs.Port.Bits.{has_bits, only_bits, with_bits, without_bits}
 use Rattle.vm_superio.specs.Port.State.{not_empty}
 use Rattle.vm_superio.specs.Port.Registers.{Rda, Thre, identification_of}
 use Rattle.vm_superio.specs.Port.Operations.{is_refused_once, one_if, answer_count}
@@ -30,9 +30,9 @@ thre_bit false false = refl
 -- an RBR read clears RDA
 pub read_clears : (thre rda : Bool)
     → (let identification =
-    without (identification_of thre rda) 0x04 in if identification == 0 then 1 else identification)
+    without_bits (identification_of thre rda) 0x04 in if identification == 0 then 1 else identification)
     ≡ identification_of thre false
-unfolding masked
+unfolding only_bits
 read_clears true true = refl
 read_clears true false = refl
 read_clears false true = refl
@@ -42,9 +42,9 @@ read_clears false false = refl
 
 raised_rda : (enabled thre rda : Bool) → let identification = identification_of thre rda in
     (if enabled
-    && not (has_bits identification 0x04) then joined (without identification 0x01) 0x04 else identification)
+    && not (has_bits identification 0x04) then with_bits (without_bits identification 0x01) 0x04 else identification)
     ≡ identification_of thre (enabled || rda)
-unfolding has_bits masked joined
+unfolding has_bits only_bits with_bits
 raised_rda true true true = refl
 raised_rda true true false = refl
 raised_rda true false true = refl
@@ -53,9 +53,9 @@ raised_rda false _ _ = refl
 
 raised_thre : (enabled thre rda : Bool) → let identification = identification_of thre rda in
     (if enabled
-    && not (has_bits identification 0x02) then joined (without identification 0x01) 0x02 else identification)
+    && not (has_bits identification 0x02) then with_bits (without_bits identification 0x01) 0x02 else identification)
     ≡ identification_of (enabled || thre) rda
-unfolding has_bits masked joined
+unfolding has_bits only_bits with_bits
 raised_thre true true true = refl
 raised_thre true true false = refl
 raised_thre true false true = refl
@@ -89,11 +89,11 @@ held_first false true rda = refl
 held_first false false rda = refl
 
 pub ier_write_raises_rda : (held : List ℕ) (value : ℕ) (thre rda : Bool)
-    → rda_becomes_pending held (masked value 0x0F) (identification_of thre rda)
+    → rda_becomes_pending held (only_bits value 0x0F) (identification_of thre rda)
     ≡ ((has_bits value 0x01 && not_empty held) && not rda)
 ier_write_raises_rda held value thre rda =
     ap (λ new. not_empty held && new)
-    (rda_new (masked value 0x0F) thre rda ∙ ap (λ bit. bit && not rda) (enables_rda value))
+    (rda_new (only_bits value 0x0F) thre rda ∙ ap (λ bit. bit && not rda) (enables_rda value))
     ∙ held_first (not_empty held) (has_bits value 0x01) rda
 
 held_asked : (held enabled thre rda : Bool)
@@ -105,11 +105,11 @@ held_asked false true thre rda = refl
 held_asked false false thre rda = refl
 
 pub ier_write_raises : (held : List ℕ) (value : ℕ) (thre rda : Bool)
-    → raise_rda_while_held held (masked value 0x0F) (identification_of thre rda)
+    → raise_rda_while_held held (only_bits value 0x0F) (identification_of thre rda)
     ≡ identification_of thre ((has_bits value 0x01 && not_empty held) || rda)
 ier_write_raises held value thre rda =
     ap (λ asked. if not_empty held then asked else identification_of thre rda)
-    (raise_rda (masked value 0x0F) thre rda
+    (raise_rda (only_bits value 0x0F) thre rda
     ∙ ap (λ bit. identification_of thre (bit || rda)) (enables_rda value))
     ∙ held_asked (not_empty held) (has_bits value 0x01) thre rda
 
@@ -123,26 +123,26 @@ refused_or_asked false false thre rda = refl
 
 -- IIR afterwards, where the trigger refused for RDA or did not
 pub ier_write_leaves : (refused : Bool) (held : List ℕ) (value : ℕ) (thre rda : Bool)
-    → (let identification = raise_rda_while_held held (masked value 0x0F) (identification_of thre rda) in
-    if refused then identification else raise Thre (masked value 0x0F) identification)
+    → (let identification = raise_rda_while_held held (only_bits value 0x0F) (identification_of thre rda) in
+    if refused then identification else raise Thre (only_bits value 0x0F) identification)
     ≡ identification_of ((has_bits value 0x02 && not refused) || thre)
     ((has_bits value 0x01 && not_empty held) || rda)
 ier_write_leaves refused held value thre rda =
     let after = (has_bits value 0x01 && not_empty held) || rda in
-    ap (λ identification. if refused then identification else raise Thre (masked value 0x0F) identification)
+    ap (λ identification. if refused then identification else raise Thre (only_bits value 0x0F) identification)
     (ier_write_raises held value thre rda)
     ∙ ap (λ asked. if refused then identification_of thre after else asked)
-    (raise_thre (masked value 0x0F) thre after
+    (raise_thre (only_bits value 0x0F) thre after
     ∙ ap (λ bit. identification_of (bit || thre) after) (enables_thre value))
     ∙ refused_or_asked refused (has_bits value 0x02) thre after
 
 pub ier_write_raises_thre : (held : List ℕ) (value : ℕ) (thre rda : Bool)
-    → becomes_pending Thre (masked value 0x0F)
-    (raise_rda_while_held held (masked value 0x0F) (identification_of thre rda))
+    → becomes_pending Thre (only_bits value 0x0F)
+    (raise_rda_while_held held (only_bits value 0x0F) (identification_of thre rda))
     ≡ (has_bits value 0x02 && not thre)
 ier_write_raises_thre held value thre rda =
-    ap (becomes_pending Thre (masked value 0x0F)) (ier_write_raises held value thre rda)
-    ∙ thre_new (masked value 0x0F) thre ((has_bits value 0x01 && not_empty held) || rda)
+    ap (becomes_pending Thre (only_bits value 0x0F)) (ier_write_raises held value thre rda)
+    ∙ thre_new (only_bits value 0x0F) thre ((has_bits value 0x01 && not_empty held) || rda)
     ∙ ap (λ bit. bit && not thre) (enables_thre value)
 
 -- ---- the answers to the calls that are due

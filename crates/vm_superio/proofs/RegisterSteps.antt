@@ -5,7 +5,7 @@ use Rattle.std.specs.Prelude.{if◌then◌else◌, unwrap_or}
 use Rattle.std.specs.Option.{option_or, option_map_or}
 use Rattle.vm_superio.specs.declared.trace.Asked.{Asked}
 use Rattle.vm_superio.specs.Port.State.{State}
-use Rattle.vm_superio.specs.Port.Bits.{masked}
+use Rattle.vm_superio.specs.Port.Bits.{only_bits}
 use Rattle.vm_superio.specs.Port.Registers.{Register, RbrThr, Iir, Unassigned, register_at, is_dlab, is_loopback}
 use Rattle.vm_superio.specs.Port.Operations.{Op, Read, Write, Enqueue, Restore, TraceEntry}
 use Rattle.vm_superio.specs.Step.Raising.{receive_bytes, enqueued_bytes, bytes_that_fit}
@@ -20,7 +20,7 @@ pub record Steps (dlab : Bool) (op : Op) (s new : State) : Type 0 where
   pub divisor_low : new.baud_divisor_low ≡ unwrap_or (if dlab then value_written_at 0 op else None) s.baud_divisor_low
   pub divisor_high : new.baud_divisor_high ≡ unwrap_or (if dlab then value_written_at 1 op else None) s.baud_divisor_high
   pub interrupt_enable : new.interrupt_enable
-      ≡ option_map_or (λ value. masked value 0x0F) (if dlab then None else value_written_at 1 op) s.interrupt_enable
+      ≡ option_map_or (λ value. only_bits value 0x0F) (if dlab then None else value_written_at 1 op) s.interrupt_enable
   pub line_control : new.line_control ≡ unwrap_or (value_written_at 3 op) s.line_control
   pub modem_control : new.modem_control ≡ unwrap_or (value_written_at 4 op) s.modem_control
   pub modem_status : new.modem_status ≡ s.modem_status
@@ -179,12 +179,12 @@ more found entry trace byte old new before step =
     ∙ sym (unwrap_or-or (found trace entry.op) (last_found found trace) byte)
 
 more_masked : (found : List TraceEntry → Op → Option ℕ) (entry : TraceEntry) (trace : List TraceEntry) (byte old new : ℕ)
-    → old ≡ option_map_or (λ value. masked value 0x0F) (last_found found trace) byte
-    → new ≡ option_map_or (λ value. masked value 0x0F) (found trace entry.op) old
-    → new ≡ option_map_or (λ value. masked value 0x0F) (last_found found (entry ∷ trace)) byte
+    → old ≡ option_map_or (λ value. only_bits value 0x0F) (last_found found trace) byte
+    → new ≡ option_map_or (λ value. only_bits value 0x0F) (found trace entry.op) old
+    → new ≡ option_map_or (λ value. only_bits value 0x0F) (last_found found (entry ∷ trace)) byte
 more_masked found entry trace byte old new before step =
-    step ∙ ap (option_map_or (λ value. masked value 0x0F) (found trace entry.op)) before
-    ∙ sym (option_map_or-or (λ value. masked value 0x0F) (found trace entry.op) (last_found found trace) byte)
+    step ∙ ap (option_map_or (λ value. only_bits value 0x0F) (found trace entry.op)) before
+    ∙ sym (option_map_or-or (λ value. only_bits value 0x0F) (found trace entry.op) (last_found found trace) byte)
 
 pub register_law : RegisterLaw
 register_law start [] = search rules

@@ -7,7 +7,7 @@ use Rattle.std.specs.Bool.{beq}
 use Rattle.vm_superio.specs.declared.trace.Asked.{Asked}
 use Rattle.vm_superio.specs.declared.trace.Asked.TheVariants.{Nothing, Took, Refused}
 use Rattle.vm_superio.specs.Port.State.{State, not_empty}
-use Rattle.vm_superio.specs.Port.Bits.{has_bits, masked, joined, without}
+use Rattle.vm_superio.specs.Port.Bits.{has_bits, only_bits, with_bits, without_bits}
 use Rattle.vm_superio.specs.Port.Registers.{Rda, Thre}
 use Rattle.vm_superio.specs.Step.PortStep.{turns_on}
 use Rattle.vm_superio.specs.Port.Operations.{is_refused_once, one_if, answer_count}
@@ -40,16 +40,16 @@ no_turn old_rda old_thre new_rda new_thre rda thre =
     ∙ ap (λ bit. 0 + one_if bit) (kept old_thre)
 
 module _ (old : ℕ) where
-  without_thre : has_bits (without old 0x01) 0x02 ≡ has_bits old 0x02
+  without_thre : has_bits (without_bits old 0x01) 0x02 ≡ has_bits old 0x02
   unfolding has_bits
   without_thre = ap (λ n. n == 0x02) (and-without-apart old 0x01 0x02 refl)
 
-  without_rda : has_bits (without old 0x01) 0x04 ≡ has_bits old 0x04
+  without_rda : has_bits (without_bits old 0x01) 0x04 ≡ has_bits old 0x04
   unfolding has_bits
   without_rda = ap (λ n. n == 0x04) (and-without-apart old 0x01 0x04 refl)
 
   -- neither an RBR read nor an IIR read turns any
-  rbr_read_turns_at : (empty : Bool) → count old (if empty then 1 else without old 0x04) ≡ 0
+  rbr_read_turns_at : (empty : Bool) → count old (if empty then 1 else without_bits old 0x04) ≡ 0
   unfolding has_bits
   rbr_read_turns_at true =
       ap (λ bit. one_if bit + one_if (not (has_bits old 0x02) && false)) (and-false (not (has_bits old 0x04)))
@@ -58,49 +58,49 @@ module _ (old : ℕ) where
       no_turn (has_bits old 0x04) (has_bits old 0x02) _ _ (ap (λ n. n == 0x04) (and-without old 0x04))
       (ap (λ n. n == 0x02) (and-without-apart old 0x04 0x02 refl))
 
-  rbr_read_turns : count old (let new = without old 0x04 in if new == 0 then 1 else new) ≡ 0
-  rbr_read_turns = rbr_read_turns_at (without old 0x04 == 0)
+  rbr_read_turns : count old (let new = without_bits old 0x04 in if new == 0 then 1 else new) ≡ 0
+  rbr_read_turns = rbr_read_turns_at (without_bits old 0x04 == 0)
 
   iir_read_turns : count old 1 ≡ 0
   iir_read_turns = rbr_read_turns_at true
 
   -- raising RDA sets its bit and leaves the other
-  rda_sets : has_bits (joined (without old 0x01) 0x04) 0x04 ≡ true
-  unfolding has_bits joined
-  rda_sets = ap (λ n. n == 0x04) (and_or_self 0x04 (without old 0x01))
+  rda_sets : has_bits (with_bits (without_bits old 0x01) 0x04) 0x04 ≡ true
+  unfolding has_bits with_bits
+  rda_sets = ap (λ n. n == 0x04) (and_or_self 0x04 (without_bits old 0x01))
 
-  rda_leaves : has_bits (joined (without old 0x01) 0x04) 0x02 ≡ has_bits old 0x02
-  unfolding has_bits joined
-  rda_leaves = ap (λ n. n == 0x02) (and_or_apart 0x02 (without old 0x01) 0x04 refl) ∙ without_thre
+  rda_leaves : has_bits (with_bits (without_bits old 0x01) 0x04) 0x02 ≡ has_bits old 0x02
+  unfolding has_bits with_bits
+  rda_leaves = ap (λ n. n == 0x02) (and_or_apart 0x02 (without_bits old 0x01) 0x04 refl) ∙ without_thre
 
-  thre_sets : has_bits (joined (without old 0x01) 0x02) 0x02 ≡ true
-  unfolding has_bits joined
-  thre_sets = ap (λ n. n == 0x02) (and_or_self 0x02 (without old 0x01))
+  thre_sets : has_bits (with_bits (without_bits old 0x01) 0x02) 0x02 ≡ true
+  unfolding has_bits with_bits
+  thre_sets = ap (λ n. n == 0x02) (and_or_self 0x02 (without_bits old 0x01))
 
-  thre_leaves : has_bits (joined (without old 0x01) 0x02) 0x04 ≡ has_bits old 0x04
-  unfolding has_bits joined
-  thre_leaves = ap (λ n. n == 0x04) (and_or_apart 0x04 (without old 0x01) 0x02 refl) ∙ without_rda
+  thre_leaves : has_bits (with_bits (without_bits old 0x01) 0x02) 0x04 ≡ has_bits old 0x04
+  unfolding has_bits with_bits
+  thre_leaves = ap (λ n. n == 0x04) (and_or_apart 0x04 (without_bits old 0x01) 0x02 refl) ∙ without_rda
 
   -- ---- raising, where IIR is any byte
 
   rda_asked : (enabled pending : Bool) → has_bits old 0x04 ≡ pending
-      → has_bits (if enabled && not pending then joined (without old 0x01) 0x04 else old) 0x04 ≡ (enabled || pending)
+      → has_bits (if enabled && not pending then with_bits (without_bits old 0x01) 0x04 else old) 0x04 ≡ (enabled || pending)
   rda_asked true true e = e
   rda_asked true false e = rda_sets
   rda_asked false pending e = e
 
-  rda_other : (new : Bool) → has_bits (if new then joined (without old 0x01) 0x04 else old) 0x02 ≡ has_bits old 0x02
+  rda_other : (new : Bool) → has_bits (if new then with_bits (without_bits old 0x01) 0x04 else old) 0x02 ≡ has_bits old 0x02
   rda_other true = rda_leaves
   rda_other false = refl
 
   thre_asked : (enabled pending : Bool) → has_bits old 0x02 ≡ pending
-      → has_bits (if enabled && not pending then joined (without old 0x01) 0x02 else old) 0x02 ≡ (enabled || pending)
+      → has_bits (if enabled && not pending then with_bits (without_bits old 0x01) 0x02 else old) 0x02 ≡ (enabled || pending)
   thre_asked true true e = e
   thre_asked true false e = thre_sets
   thre_asked false pending e = e
 
   thre_other : (new : Bool)
-      → has_bits (if new then joined (without old 0x01) 0x02 else old) 0x04 ≡ has_bits old 0x04
+      → has_bits (if new then with_bits (without_bits old 0x01) 0x02 else old) 0x04 ≡ has_bits old 0x04
   thre_other true = thre_leaves
   thre_other false = refl
 
@@ -228,7 +228,7 @@ turned_by_kind RbrRead asked s fit =
 turned_by_kind IirRead asked s fit =
     no_answers asked fit ∙ sym (iir_read_turns s.interrupt_identification)
 turned_by_kind (IerWrite value) asked s fit =
-    let enable = masked value 0x0F in
+    let enable = only_bits value 0x0F in
     let old = s.interrupt_identification in
     let held = not_empty s.in_buffer in
     let call = held && becomes_pending Rda enable old in

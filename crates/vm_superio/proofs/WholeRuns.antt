@@ -8,7 +8,7 @@ use Rattle.vm_superio.specs.declared.trace.Asked.{Asked}
 use Rattle.vm_superio.specs.declared.trace.Sent.{Sent}
 use Rattle.vm_superio.specs.Port.State.{State, not_empty}
 use Rattle.vm_superio.specs.Port.SavedState.{fresh_state}
-use Rattle.vm_superio.specs.Port.Bits.{has_bits, without}
+use Rattle.vm_superio.specs.Port.Bits.{has_bits, without_bits}
 use Rattle.vm_superio.specs.Port.Operations.{Op, Read, Write, Enqueue, Restore, TraceEntry, Response, EnqueueOk, FifoFull, TriggerRefused, is_refused_once}
 use Rattle.vm_superio.specs.Step.Raising.{receive_bytes, bytes_that_fit}
 use Rattle.vm_superio.specs.Step.Admissible.{kind_in_state}
@@ -65,7 +65,7 @@ received_by_kind Other asked s before kept now = kept now
 
 -- data ready is set exactly while a byte is held
 read_shows : (bytes : List ℕ) (line_status : ℕ) → has_bits line_status 0x01 ≡ not_empty bytes
-    → has_bits (if not_empty (drop 1 bytes) then line_status else without line_status 0x01) 0x01
+    → has_bits (if not_empty (drop 1 bytes) then line_status else without_bits line_status 0x01) 0x01
     ≡ not_empty (drop 1 bytes)
 read_shows [] line_status shows = data_ready_cleared line_status
 read_shows (byte ∷ []) line_status shows = data_ready_cleared line_status

@@ -3,7 +3,7 @@
 use Rattle.std.specs.Prelude.{ℕ, ◌+◌, ◌%◌, ℤ, pos, ◌+ℤ◌, ◌-ℤ◌, ◌==◌, ◌&&◌, if◌then◌else◌, List, [], ◌∷◌, Option, Some, None, unwrap_or, bit_or}
 use Rattle.std.specs.Option.{option_or, option_map_or}
 use Rattle.vm_superio.specs.declared.rtc_pl031.RtcState.{RtcState}
-use Rattle.vm_superio.specs.Port.Bits.{without}
+use Rattle.vm_superio.specs.Port.Bits.{without_bits}
 use Rattle.vm_superio.specs.Clock.Registers.{Access, read, write, clock_register_at, host_time, guest_time, clock_register_read}
 
 -- what the newest access that gives something gives
@@ -69,7 +69,7 @@ clock_of_history start trace = record {
   offset = counter start trace 0;
   mr = unwrap_or (newest_found (value_written 0x004) trace) start.mr;
   imsc = option_map_or (λ value. value % 2) (newest_found (value_written 0x010) trace) start.imsc;
-  ris = without start.ris (cleared_bits trace);
+  ris = without_bits start.ris (cleared_bits trace);
 }
 
 -- the number that a read shows at its moment; a write responds nothing

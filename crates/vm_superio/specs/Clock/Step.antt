@@ -2,7 +2,7 @@
 -- reports.
 use Rattle.std.specs.Prelude.{ℕ, ◌%◌, pos, ◌+ℤ◌, ◌-ℤ◌, ◌==◌, if◌then◌else◌, List, [], ◌∷◌, Option, None}
 use Rattle.vm_superio.specs.declared.rtc_pl031.RtcState.{RtcState}
-use Rattle.vm_superio.specs.Port.Bits.{without}
+use Rattle.vm_superio.specs.Port.Bits.{without_bits}
 use Rattle.vm_superio.specs.Clock.Events.{RtcEvent, invalid_read, invalid_write}
 use Rattle.vm_superio.specs.Clock.Registers.{Access, read, write, ClockRegister, Mr, Lr, Cr, Imsc, Icr, clock_register_at, is_readable, is_writable, host_time, guest_time, clock_register_read}
 
@@ -24,7 +24,7 @@ after_write state Mr value time = record state { mr = value }
 after_write state Lr value time = record state { lr = value; offset = pos value -ℤ pos time }
 after_write state Cr value time = if value == 1 then record state { lr = 0; offset = pos 0 } else state
 after_write state Imsc value time = record state { imsc = value % 2 }
-after_write state Icr value time = record state { ris = without state.ris value }
+after_write state Icr value time = record state { ris = without_bits state.ris value }
 after_write state _ value time = state
 
 -- the state that an access leaves: no read changes a register

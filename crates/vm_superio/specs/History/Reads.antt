@@ -1,7 +1,7 @@
 -- What the history makes of a port: its state, what a guest reads, what the other calls respond, and the output.
 use Rattle.std.specs.Prelude.{◌≡◌, ⊤, ℕ, Bool, not, ◌==◌, ◌||◌, nat_le, if◌then◌else◌, List, [], ◌∷◌, ◌++◌, length}
 use Rattle.std.specs.List.{list_all}
-use Rattle.vm_superio.specs.Port.Bits.{joined, without, lsr_dr_bit}
+use Rattle.vm_superio.specs.Port.Bits.{with_bits, without_bits, lsr_dr_bit}
 use Rattle.vm_superio.specs.Port.State.{State, not_empty}
 use Rattle.vm_superio.specs.Port.Registers.{Rda, Thre, register_at, identification_of, register_read}
 use Rattle.vm_superio.specs.Port.Operations.{Asked, Sent, Op, Read, Write, Enqueue, Restore, TraceEntry, Response, ByteRead, EnqueueOk, TriggerRefused, FifoFull, NoResponse, is_refused_once, is_lost, write_outcome, Trace}
@@ -15,7 +15,7 @@ interrupt_identification start trace = identification_of (is_pending Thre start 
 -- LSR with data ready set or cleared
 abbrev pub with_data_ready : (line_status : ℕ) (ready : Bool) → ℕ
 with_data_ready line_status ready =
-    if ready then joined line_status lsr_dr_bit else without line_status lsr_dr_bit
+    if ready then with_bits line_status lsr_dr_bit else without_bits line_status lsr_dr_bit
 
 -- the start's LSR, in which data ready says whether bytes are held
 abbrev pub line_status : (start : State) (trace : Trace) → ℕ

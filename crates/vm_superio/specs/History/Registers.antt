@@ -2,7 +2,7 @@
 -- is kept along a trace: each definition searches the start and the trace. Restores change nothing.
 use Rattle.std.specs.Prelude.{ℕ, ◌-◌, Bool, ◌==◌, if◌then◌else◌, List, [], ◌∷◌, ◌++◌, length, take, drop, Option, Some, None, unwrap_or}
 use Rattle.std.specs.Option.{option_or, option_map_or}
-use Rattle.vm_superio.specs.Port.Bits.{masked, ier_bits}
+use Rattle.vm_superio.specs.Port.Bits.{only_bits, ier_bits}
 use Rattle.vm_superio.specs.Port.State.{State}
 use Rattle.vm_superio.specs.Port.Registers.{is_dlab, is_loopback}
 use Rattle.vm_superio.specs.Port.Operations.{Op, Write, Trace}
@@ -50,7 +50,7 @@ divisor_high start trace =
 -- IER: the low four bits of the last write at offset 1 with DLAB clear at that point, or the start's whole byte
 abbrev pub interrupt_enable : (start : State) (trace : Trace) → ℕ
 interrupt_enable start trace =
-    option_map_or (λ value. masked value ier_bits)
+    option_map_or (λ value. only_bits value ier_bits)
     (last_found (λ before op. if dlab start before then None else value_written_at 1 op) trace) start.interrupt_enable
 
 -- what an operation means at this point

@@ -6,16 +6,16 @@ unfoldable pub has_bits : (byte bits : ℕ) → Bool
 has_bits byte bits = bit_and byte bits == bits
 
 -- the byte with no bit but these
-unfoldable pub masked : (byte bits : ℕ) → ℕ
-masked byte bits = bit_and byte bits
+unfoldable pub only_bits : (byte bits : ℕ) → ℕ
+only_bits byte bits = bit_and byte bits
 
 -- the byte with these bits set
-unfoldable pub joined : (byte bits : ℕ) → ℕ
-joined byte bits = bit_or byte bits
+unfoldable pub with_bits : (byte bits : ℕ) → ℕ
+with_bits byte bits = bit_or byte bits
 
 -- the byte, or any number, with these bits cleared: `byte & !bits`
-abbrev pub without : (byte bits : ℕ) → ℕ
-without byte bits = byte - bit_and byte bits
+abbrev pub without_bits : (byte bits : ℕ) → ℕ
+without_bits byte bits = byte - bit_and byte bits
 
 -- LCR: the divisor latch is at offsets 0 and 1
 abbrev pub lcr_dlab_bit : ℕ

@@ -1,6 +1,6 @@
 -- The registers of a 16550: which one an offset reaches, what a read of each shows, and the interrupt conditions.
 use Rattle.std.specs.Prelude.{ℕ, Bool, true, false, ◌==◌, if◌then◌else◌, List, [], ◌∷◌, ◌++◌, slice_index}
-use Rattle.vm_superio.specs.Port.Bits.{has_bits, masked, joined, lcr_dlab_bit, mcr_dtr_bit, mcr_rts_bit, mcr_out1_bit, mcr_out2_bit, mcr_loop_bit, msr_cts_bit, msr_dsr_bit, msr_ri_bit, msr_dcd_bit, iir_fifo_bits}
+use Rattle.vm_superio.specs.Port.Bits.{has_bits, only_bits, with_bits, lcr_dlab_bit, mcr_dtr_bit, mcr_rts_bit, mcr_out1_bit, mcr_out2_bit, mcr_loop_bit, msr_cts_bit, msr_dsr_bit, msr_ri_bit, msr_dcd_bit, iir_fifo_bits}
 use Rattle.vm_superio.specs.Port.State.{State}
 pub use Rattle.vm_superio.specs.declared.serial.registers.Register.{Register}
 pub use Rattle.vm_superio.specs.declared.serial.registers.Register.TheVariants.{Dll, Dlm, RbrThr, Ier, Iir, Lcr, Mcr, Lsr, Msr, Scr, Unassigned}
@@ -31,7 +31,7 @@ is_loopback modem_control = has_bits modem_control mcr_loop_bit
 abbrev pub msr_read : (modem_control modem_status : ℕ) → ℕ
 msr_read modem_control modem_status =
     if is_loopback modem_control
-    then joined (joined (joined (joined (masked modem_status 0x0F)
+    then with_bits (with_bits (with_bits (with_bits (only_bits modem_status 0x0F)
     (if has_bits modem_control mcr_dtr_bit then msr_dsr_bit else 0))
     (if has_bits modem_control mcr_rts_bit then msr_cts_bit else 0))
     (if has_bits modem_control mcr_out1_bit then msr_ri_bit else 0))
@@ -46,7 +46,7 @@ register_read Dlm s = s.baud_divisor_high
 register_read RbrThr s = slice_index s.in_buffer 0
 register_read Ier s = s.interrupt_enable
 -- IIR: with the bits that say that the FIFOs are enabled
-register_read Iir s = joined s.interrupt_identification iir_fifo_bits
+register_read Iir s = with_bits s.interrupt_identification iir_fifo_bits
 register_read Lcr s = s.line_control
 register_read Mcr s = s.modem_control
 register_read Lsr s = s.line_status

@@ -3,7 +3,7 @@ use Rattle.std.specs.Prelude.{ℕ, ◌+◌, Bool, ◌==◌, ◌&&◌, nat_le, Li
 use Rattle.std.specs.Bool.{beq}
 use Rattle.vm_superio.specs.declared.trace.Asked.{Asked}
 use Rattle.vm_superio.specs.declared.trace.Sent.{Sent}
-use Rattle.vm_superio.specs.Port.Bits.{masked, ier_bits}
+use Rattle.vm_superio.specs.Port.Bits.{only_bits, ier_bits}
 use Rattle.vm_superio.specs.Port.State.{State, not_empty}
 use Rattle.vm_superio.specs.Port.Registers.{Rda, Thre, is_dlab, is_loopback}
 use Rattle.vm_superio.specs.Port.Operations.{Op, is_sent, one_if}
@@ -28,7 +28,7 @@ ier_write_calls enable s =
     + one_if (becomes_pending Thre enable (raise_rda_while_held s.in_buffer enable s.interrupt_identification))
 
 abbrev pub kind_calls : (kind : OpKind) (s : State) → ℕ
-kind_calls (IerWrite value) s = ier_write_calls (masked value ier_bits) s
+kind_calls (IerWrite value) s = ier_write_calls (only_bits value ier_bits) s
 kind_calls (ThrWrite value) s = one_if (becomes_pending Thre s.interrupt_enable s.interrupt_identification)
 kind_calls (Arrival bytes) s = arrival_calls (bytes_that_fit s.in_buffer bytes) s
 kind_calls _ s = 0

@@ -1,6 +1,6 @@
 -- Raising a condition, and receiving bytes: the small parts of a step.
 use Rattle.std.specs.Prelude.{ℕ, ◌-◌, Bool, not, ◌&&◌, if◌then◌else◌, List, [], ◌∷◌, ◌++◌, length, take}
-use Rattle.vm_superio.specs.Port.Bits.{has_bits, joined, without, lsr_dr_bit}
+use Rattle.vm_superio.specs.Port.Bits.{has_bits, with_bits, without_bits, lsr_dr_bit}
 use Rattle.vm_superio.specs.Port.State.{State, not_empty}
 use Rattle.vm_superio.specs.Port.Registers.{is_loopback, Condition, Rda, ier_bit, iir_bit}
 
@@ -21,7 +21,7 @@ becomes_pending condition enable identification =
 abbrev pub raise : (condition : Condition) (enable identification : ℕ) → ℕ
 raise condition enable identification =
     if becomes_pending condition enable identification
-    then joined (without identification iir_none_bit) (iir_bit condition)
+    then with_bits (without_bits identification iir_none_bit) (iir_bit condition)
     else identification
 
 -- an IER write raises RDA only while bytes are held
@@ -47,6 +47,6 @@ abbrev pub receive_bytes : (bytes : List ℕ) (s : State) → State
 receive_bytes [] s = s
 receive_bytes (byte ∷ bytes) s = record s {
   in_buffer = s.in_buffer ++ byte ∷ bytes;
-  line_status = joined s.line_status lsr_dr_bit;
+  line_status = with_bits s.line_status lsr_dr_bit;
   interrupt_identification = raise Rda s.interrupt_enable s.interrupt_identification;
 }

@@ -3,7 +3,7 @@
 use Rattle.std.specs.Prelude.{ℕ, Bool, ◌==◌, ◌&&◌, ◌||◌, nat_le, if◌then◌else◌, List, [], ◌∷◌, ◌++◌, length, drop}
 use Rattle.vm_superio.specs.declared.trace.Asked.{Asked}
 use Rattle.vm_superio.specs.declared.trace.Sent.{Sent}
-use Rattle.vm_superio.specs.Port.Bits.{masked, without, lsr_dr_bit, ier_bits}
+use Rattle.vm_superio.specs.Port.Bits.{only_bits, without_bits, lsr_dr_bit, ier_bits}
 use Rattle.vm_superio.specs.Port.State.{State, not_empty}
 use Rattle.vm_superio.specs.Port.Registers.{Register, Dll, Dlm, RbrThr, Ier, Iir, Lcr, Mcr, Scr, register_at, is_dlab, is_loopback, Rda, Thre, iir_bit, register_read}
 use Rattle.vm_superio.specs.Port.Operations.{Op, Read, Write, Enqueue, Restore, Response, ByteRead, EnqueueOk, TriggerRefused, FifoFull, NoResponse, Event, buffer_read, out_byte, tx_lost_byte, in_buffer_empty, is_refused_once, write_outcome}
@@ -33,12 +33,12 @@ step_response s Restore asked sent = NoResponse
 -- an RBR read clears RDA, and an IIR of 0 is then 1; it takes the oldest byte, and clears data ready when none is left
 abbrev pub rbr_read : (s : State) → State
 rbr_read s =
-    let identification = without s.interrupt_identification (iir_bit Rda) in
+    let identification = without_bits s.interrupt_identification (iir_bit Rda) in
     let left = drop 1 s.in_buffer in
     record s {
       interrupt_identification = if identification == 0 then iir_none_bit else identification;
       in_buffer = left;
-      line_status = if not_empty left then s.line_status else without s.line_status lsr_dr_bit;
+      line_status = if not_empty left then s.line_status else without_bits s.line_status lsr_dr_bit;
     }
 
 -- after an IIR read nothing is pending; no other read changes anything
@@ -70,7 +70,7 @@ abbrev pub write_step : (register : Register) (value : ℕ) (asked : Asked) (s :
 write_step Dll value asked s = record s { baud_divisor_low = value }
 write_step Dlm value asked s = record s { baud_divisor_high = value }
 write_step RbrThr value asked s = thr_write value s
-write_step Ier value asked s = ier_write (masked value ier_bits) asked s
+write_step Ier value asked s = ier_write (only_bits value ier_bits) asked s
 write_step Lcr value asked s = record s { line_control = value }
 write_step Mcr value asked s = record s { modem_control = value }
 write_step Scr value asked s = record s { scratch = value }

@@ -1,6 +1,6 @@
 //! Bytes as sets of bits, and the bits and offsets of a 16550's registers by their standard names.
 ghost use Rattle.std.specs.Prelude.{◌≡◌};
-ghost use Rattle.vm_superio.specs.Port.Bits.{has_bits, masked, joined, without};
+ghost use Rattle.vm_superio.specs.Port.Bits.{has_bits, only_bits, with_bits, without_bits};
 
 // Offsets. DLL and DLM stand in the place of RBR, THR and IER while DLAB is set.
 pub(super) const DATA_OFFSET: u8 = 0;
@@ -84,25 +84,25 @@ pub(super) fn has_bits(byte: u8, bits: u8) -> bool
 }
 
 /// The byte with these bits set.
-#[tactic(auto, unfolding(crate::specs::Port::Bits::joined))]
-pub(super) fn joined(byte: u8, bits: u8) -> u8
-    ensures { result ≡ joined byte bits }
+#[tactic(auto, unfolding(crate::specs::Port::Bits::with_bits))]
+pub(super) fn with_bits(byte: u8, bits: u8) -> u8
+    ensures { result ≡ with_bits byte bits }
 {
     byte | bits
 }
 
 /// The byte with no bit but these.
-#[tactic(auto, unfolding(crate::specs::Port::Bits::masked))]
-pub(super) fn masked(byte: u8, bits: u8) -> u8
-    ensures { result ≡ masked byte bits }
+#[tactic(auto, unfolding(crate::specs::Port::Bits::only_bits))]
+pub(super) fn only_bits(byte: u8, bits: u8) -> u8
+    ensures { result ≡ only_bits byte bits }
 {
     byte & bits
 }
 
 /// The byte with these bits cleared.
 #[tactic(auto, using(crate::proofs::BitLemmas::and_not_is_without_byte))]
-pub(super) fn without(byte: u8, bits: u8) -> u8
-    ensures { result ≡ without byte bits }
+pub(super) fn without_bits(byte: u8, bits: u8) -> u8
+    ensures { result ≡ without_bits byte bits }
 {
     byte & !bits
 }

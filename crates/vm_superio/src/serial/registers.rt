@@ -9,8 +9,8 @@ use super::bits::{
     DEFAULT_MODEM_CONTROL, DEFAULT_MODEM_STATUS, IER_OFFSET, IER_RDA_BIT, IER_THR_EMPTY_BIT,
     IIR_NONE_BIT, IIR_OFFSET, IIR_RDA_BIT, IIR_THR_EMPTY_BIT, LCR_DLAB_BIT, LCR_OFFSET, LSR_OFFSET,
     MCR_DTR_BIT, MCR_LOOP_BIT, MCR_OFFSET, MCR_OUT1_BIT, MCR_OUT2_BIT, MCR_RTS_BIT, MSR_CTS_BIT,
-    MSR_DCD_BIT, MSR_DELTA_BITS, MSR_DSR_BIT, MSR_OFFSET, MSR_RI_BIT, SCR_OFFSET, has_bits, joined,
-    masked,
+    MSR_DCD_BIT, MSR_DELTA_BITS, MSR_DSR_BIT, MSR_OFFSET, MSR_RI_BIT, SCR_OFFSET, has_bits,
+    only_bits, with_bits,
 };
 
 /// The register that an access reaches.
@@ -183,10 +183,10 @@ impl Registers {
         } else {
             0
         };
-        let status = masked(self.modem_status, MSR_DELTA_BITS);
-        let status = joined(status, shown(MCR_DTR_BIT, MSR_DSR_BIT));
-        let status = joined(status, shown(MCR_RTS_BIT, MSR_CTS_BIT));
-        let status = joined(status, shown(MCR_OUT1_BIT, MSR_RI_BIT));
-        joined(status, shown(MCR_OUT2_BIT, MSR_DCD_BIT))
+        let status = only_bits(self.modem_status, MSR_DELTA_BITS);
+        let status = with_bits(status, shown(MCR_DTR_BIT, MSR_DSR_BIT));
+        let status = with_bits(status, shown(MCR_RTS_BIT, MSR_CTS_BIT));
+        let status = with_bits(status, shown(MCR_OUT1_BIT, MSR_RI_BIT));
+        with_bits(status, shown(MCR_OUT2_BIT, MSR_DCD_BIT))
     }
 }

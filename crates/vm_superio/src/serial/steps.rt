@@ -5,7 +5,7 @@ ghost use Rattle.std.specs.Io.KnownBytes.{Appends};
 ghost use Rattle.std.specs.Bool.{beq};
 ghost use Rattle.std.specs.Option.{option_to_list};
 ghost use Rattle.vm_superio.specs.Port.State.{not_empty};
-ghost use Rattle.vm_superio.specs.Port.Bits.{masked};
+ghost use Rattle.vm_superio.specs.Port.Bits.{only_bits};
 ghost use Rattle.vm_superio.specs.Port.Registers.{is_loopback, register_read};
 ghost use Rattle.vm_superio.specs.Port.Operations.{Write, out_byte, tx_lost_byte, in_buffer_empty, buffer_read, is_sent, one_if};
 ghost use Rattle.vm_superio.specs.Port.OpKinds.{write_kind, sent_by};
@@ -21,7 +21,7 @@ use super::SerialEvents;
 use super::answers::TriggerAnswers;
 use super::bits::{
     IER_UART_VALID_BITS, IIR_FIFO_BITS, IIR_NONE_BIT, IIR_RDA_BIT, LSR_DATA_READY_BIT, has_bits,
-    joined, masked, without,
+    only_bits, with_bits, without_bits,
 };
 use super::registers::{Condition, Register, Registers};
 use crate::Trigger;
@@ -48,8 +48,8 @@ impl Registers {
         {
             return None;
         }
-        let others = without(self.interrupt_identification, IIR_NONE_BIT);
-        self.interrupt_identification = joined(others, condition.iir_bit());
+        let others = without_bits(self.interrupt_identification, IIR_NONE_BIT);
+        self.interrupt_identification = with_bits(others, condition.iir_bit());
         Some(trigger.trigger())
     }
 
@@ -80,13 +80,13 @@ impl Registers {
         trigger: &mut T,
         value: u8,
     ) -> TriggerAnswers<T::E>
-        ensures asked { let enable = masked value 0x0F in
+        ensures asked { let enable = only_bits value 0x0F in
             IsTrue (answers_all (ier_write_calls enable (state_with self.old fifo.now)) (asked_of result)) }
-        ensures state { let enable = masked value 0x0F in
+        ensures state { let enable = only_bits value 0x0F in
             state_with self.new fifo.now ≡ ier_write enable (asked_of result) (state_with self.old fifo.now) }
         ensures trigger { T.link trigger.old (answers_of (asked_of result) (refusal_in_answers result)) trigger.new }
     {
-        self.interrupt_enable = masked(value, IER_UART_VALID_BITS);
+        self.interrupt_enable = only_bits(value, IER_UART_VALID_BITS);
         match self.raise_while_held(fifo, trigger) {
             None => TriggerAnswers::to_one(self.raise(trigger, Condition::Thre)),
             Some(Err(refusal)) => TriggerAnswers::Refused(refusal),
@@ -117,7 +117,7 @@ impl Registers {
         if count == 0 {
             return (0, None);
         }
-        self.line_status = joined(self.line_status, LSR_DATA_READY_BIT);
+        self.line_status = with_bits(self.line_status, LSR_DATA_READY_BIT);
         (count, self.raise(trigger, Condition::Rda))
     }
 
@@ -127,12 +127,12 @@ impl Registers {
         ensures state { state_with self.new fifo.new ≡ rbr_read (state_with self.old fifo.old) }
         ensures events { EV.link events.old (read_events Register.RbrThr fifo.old) events.new }
     {
-        let others = without(self.interrupt_identification, IIR_RDA_BIT);
+        let others = without_bits(self.interrupt_identification, IIR_RDA_BIT);
         self.interrupt_identification = if others == 0 { IIR_NONE_BIT } else { others };
         let byte = fifo.take_first().unwrap_or(0);
         let is_empty = fifo.is_empty();
         if is_empty {
-            self.line_status = without(self.line_status, LSR_DATA_READY_BIT);
+            self.line_status = without_bits(self.line_status, LSR_DATA_READY_BIT);
         }
         report_read(events, is_empty);
         byte
@@ -186,7 +186,7 @@ impl Registers {
             Register::Iir => {
                 let identification = self.interrupt_identification;
                 self.interrupt_identification = IIR_NONE_BIT;
-                joined(identification, IIR_FIFO_BITS)
+                with_bits(identification, IIR_FIFO_BITS)
             }
             Register::Lcr => self.line_control,
             Register::Mcr => self.modem_control,
