@@ -1,6 +1,5 @@
 -- The ports of a PC's bus: which device each belongs to, and what an access does there.
-use Rattle.std.specs.Prelude.{ℕ, Bool, ◌&&◌, ◌||◌, ◌==◌, not, nat_le, List, [], ◌∷◌, Option, None, Result, Ok, Err}
-use Rattle.vm_superio.specs.declared.serial.errors.Error.{Error}
+use Rattle.std.specs.Prelude.{ℕ, Bool, ◌&&◌, ◌||◌, ◌==◌, not, nat_le, [], ◌∷◌, Result, Ok, Err}
 use Rattle.vm_superio.specs.Port.Operations.{Event}
 use Rattle.vm_superio.specs.Port.ObjectLinks.{Link, TriggerAnswer, Contents}
 use Rattle.vm_superio.specs.Port.Model.{Port}

@@ -16,6 +16,7 @@ use Rattle.vm_superio.specs.Clock.Registers.{Access, fresh_clock}
 use Rattle.vm_superio.specs.Clock.History.{clock_of_history}
 use Rattle.vm_superio.specs.Clock.Step.{ClockDevice}
 use Rattle.vm_superio.specs.Port.Model.{Port}
+use Rattle.vm_superio.proofs.PublicLemmas.{Appends-nothing, Appends-append}
 use Rattle.superio_script.specs.InterruptLine.{InterruptLine}
 use Rattle.superio_script.specs.Counts.{EventCounts}
 use Rattle.superio_script.specs.Output.{written_bytes}
@@ -30,19 +31,6 @@ use Rattle.superio_script.specs.declared.command.Command.{Command}
 use Rattle.superio_script.specs.declared.command.Command.TheVariants.{Serial, Clock, Controller}
 use Rattle.superio_script.specs.declared.command.SerialLine.{SerialLine}
 use Rattle.superio_script.specs.declared.command.SerialLine.TheVariants as line
-
--- two writes, one after the other
-Appends-append :
-    (before middle after : Option (List ℕ)) (xs ys : List ℕ) →
-    Appends before middle xs → Appends middle after ys → Appends before after (xs ++ ys)
-Appends-append None middle after xs ys first second = tt
-Appends-append (Some a) None after xs ys first second = absurd first
-Appends-append (Some a) (Some b) None xs ys first second = second
-Appends-append (Some a) (Some b) (Some c) xs ys first second = second ∙ ap (λ bytes. bytes ++ ys) first ∙ append_assoc a xs ys
-
-Appends-nothing : (known : Option (List ℕ)) → Appends known known []
-Appends-nothing None = tt
-Appends-nothing (Some a) = sym (append-nil a)
 
 -- ---- a choice for what follows
 

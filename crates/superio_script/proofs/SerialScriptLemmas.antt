@@ -14,7 +14,6 @@ use Rattle.vm_superio.specs.Port.SavedState.{fresh_state}
 use Rattle.vm_superio.specs.Port.Bits.{has_bits, only_bits}
 use Rattle.vm_superio.specs.Port.Registers.{thre_then_rda}
 use Rattle.vm_superio.specs.Port.Operations.{Op, Read, Write, Enqueue, TraceEntry, Response, is_sent, is_lost, ends_in_refusal}
-use Rattle.vm_superio.specs.Port.Coherent.{Coherent}
 use Rattle.vm_superio.specs.Port.OpKinds.{Arrival, Other, sent_by}
 use Rattle.vm_superio.specs.Step.Admissible.{answers_all, step_calls}
 use Rattle.vm_superio.specs.Step.Restore.{restore_calls, RefusesRestore}
@@ -29,6 +28,7 @@ use Rattle.vm_superio.specs.Port.Model.{Port, failure_response}
 use Rattle.vm_superio.specs.Step.PortStep.{IsPortStep}
 use Rattle.vm_superio.specs.declared.serial.errors.Error.{Error}
 use Rattle.vm_superio.specs.declared.serial.errors.Error.TheVariants.{Trigger, IOError, FullFifo, Memory}
+use Rattle.vm_superio.proofs.PublicLemmas.{fresh_coherent}
 use Rattle.superio_script.specs.InterruptLine.{InterruptLine, fresh_interrupt_line, InterruptLineLink, is_call_refused, line_after_call}
 use Rattle.vm_superio.specs.Counting.{Folds}
 use Rattle.superio_script.specs.Counts.{EventCounts, no_counts, counts_after_event}
@@ -172,17 +172,6 @@ written_bytes-after_call (Some all) sent.Lost accepted bytes old new link same w
 
 -- ---- the state that a trace describes
 
-fresh-coherent : Coherent fresh_state
-unfolding has_bits
-fresh-coherent = record {
-  thre = false;
-  rda = false;
-  identification = refl;
-  received = λ impossible. impossible;
-  data_ready = refl;
-  few = omega arith;
-}
-
 -- a fresh port is at the fresh session
 pub at-start :
     (mask : ℕ) (port : Port InterruptLine EventCounts Output) →
@@ -192,7 +181,7 @@ at-start mask port state line counts output = record { state = state; line = lin
 
 -- each call of a port that started fresh is a step of its trace
 agrees : StepLaw → (trace : List TraceEntry) → PrefixAgrees fresh_state trace
-agrees law trace = law fresh_state trace fresh-coherent
+agrees law trace = law fresh_state trace fresh_coherent
 
 -- a port at a session
 port-at : (before : Session) (port : Port InterruptLine EventCounts Output) → IsAt before port →

@@ -96,7 +96,7 @@ impl Arrival {
 
     /// These bytes, at most 128.
     fn of(bytes: &[u8]) -> Arrival
-        requires { length bytes.now ≤ ARRIVAL_LIMIT }
+        requires { length bytes.now ≤ 128 }
         ensures { result ≡ bytes.now }
     {
         let mut arrival = ArrayVec::new();

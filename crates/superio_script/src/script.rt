@@ -45,9 +45,9 @@ fn fill<R: Read>(reader: &mut R, room: &mut [u8]) -> io::Result<usize>
 fn read_script<R: Read>(alloc: Global, reader: &mut R) -> Result<Vec<u8>, ScriptFault>
     ensures whole { IfOk result (λ script. IfSome (R.remaining reader.old) (λ all. script.items ≡ all)) }
     ensures none_left { OnOk result (IsAtEnd (R.remaining reader.new)) }
-    ensures within_limit { IfOk result (λ script. vec_len script ≤ SCRIPT_LIMIT) }
+    ensures within_limit { IfOk result (λ script. vec_len script ≤ 65536) }
     ensures too_long { result ≡ Err ScriptFault.TooLong
-        → IfSome (R.remaining reader.old) (λ all. SCRIPT_LIMIT < length all) }
+        → IfSome (R.remaining reader.old) (λ all. 65536 < length all) }
     ensures never_bad { (number : ℕ) → result ≢ Err (ScriptFault.Bad number) }
 {
     let mut script = room(alloc, SCRIPT_LIMIT + 1)?;

@@ -23,3 +23,4 @@ mod TriggerCalls
 mod TurnedBits
 mod SameReads
 mod Output
+pub mod PublicLemmas

@@ -9,7 +9,7 @@ use Rattle.vm_superio.specs.Port.State.{State, not_empty}
 use Rattle.vm_superio.specs.Port.Bits.{has_bits}
 use Rattle.vm_superio.specs.Port.Operations.{TraceEntry}
 use Rattle.vm_superio.specs.Step.Raising.{receive_bytes, bytes_that_fit}
-use Rattle.vm_superio.specs.Port.OpKinds.{OpKind, RbrRead, IirRead, IerWrite, ThrWrite, Arrival, Other, is_iir_read}
+use Rattle.vm_superio.specs.Port.OpKinds.{OpKind, RbrRead, IirRead, IerWrite, ThrWrite, Arrival, Other}
 use Rattle.vm_superio.specs.History.Registers.{kind_at, held_bytes, interrupt_enable}
 use Rattle.vm_superio.specs.Port.Registers.{Condition, Rda, iir_bit}
 use Rattle.vm_superio.specs.History.Interrupts.{raised_since, is_raised, acknowledges, is_pending, NoneAcknowledges, shows_waiting_bytes}

@@ -1,5 +1,5 @@
 -- One call of a run, and what it makes of the segment.
-use Rattle.std.proofs.Common.{◌≡◌, ℕ, List, [], ◌∷◌, ◌++◌, Option, Some, None, refl, sym, ap, ◌∙◌, subst, append_assoc, append-nil}
+use Rattle.std.proofs.Common.{◌≡◌, ℕ, List, [], ◌∷◌, ◌++◌, Option, refl, sym, ap, ◌∙◌, subst}
 use Rattle.std.specs.Prelude.{◌↔◌}
 use Rattle.std.proofs.lemmas.Bool.{and_parts}
 use Rattle.std.proofs.lemmas.List.Folds.{list_all-append}
@@ -11,28 +11,16 @@ use Rattle.vm_superio.specs.declared.run.Call.TheVariants.{Read, Write, Enqueue,
 use Rattle.vm_superio.specs.declared.run.Reply.{Reply}
 use Rattle.vm_superio.specs.declared.run.Reply.TheVariants.{Byte, Wrote, Enqueued, Restored, NotRestored}
 use Rattle.vm_superio.specs.declared.run.Done.{Done}
-use Rattle.vm_superio.specs.Port.State.{State}
 use Rattle.vm_superio.specs.Port.Operations.{Event, Op, Response}
 use Rattle.vm_superio.specs.Port.ObjectLinks.{TriggerAnswer, Contents, answers_of}
 use Rattle.vm_superio.specs.Port.WriterLink.{PortLinks, bytes_taken_by_writer, WriterLink}
 use Rattle.vm_superio.specs.Port.Model.{Port}
 use Rattle.vm_superio.specs.Step.Transition.{step}
 use Rattle.vm_superio.specs.Step.PortStep.{IsPortStep}
-use Rattle.vm_superio.specs.Step.Restore.{restore_calls}
-use Rattle.vm_superio.specs.Run.Segments.{Segment, first_segment, segment_from, extend, IsAfter}
+use Rattle.vm_superio.specs.Run.Segments.{Segment, first_segment, extend, IsAfter}
 use Rattle.vm_superio.specs.Run.Steps.{IsCallStep, CallFollows, next_segment, IsRun}
 use Rattle.vm_superio.specs.Run.Trace.{op_of, act_of}
-
--- nothing was sent, so nothing was taken
-Appends-nothing : (known : Option (List ℕ)) → Appends known known []
-Appends-nothing None = tt
-Appends-nothing (Some xs) = sym (append-nil xs)
-
-Appends-append : (before middle after : Option (List ℕ)) (xs ys : List ℕ) → Appends before middle xs → Appends middle after ys → Appends before after (xs ++ ys)
-Appends-append None middle after xs ys first second = tt
-Appends-append (Some a) None after xs ys first second = absurd first
-Appends-append (Some a) (Some b) None xs ys first second = second
-Appends-append (Some a) (Some b) (Some c) xs ys first second = second ∙ ap (λ bytes. bytes ++ ys) first ∙ append_assoc a xs ys
+use Rattle.vm_superio.proofs.PublicLemmas.{Appends-nothing, Appends-append}
 
 WriterLink-nothing : {W : Type 0} (contents : Contents W) (old new : W) → new ≡ old → WriterLink contents [] [] old new
 WriterLink-nothing contents old new same = record {

@@ -1,9 +1,8 @@
 -- The trigger is called once for each pending bit that a call turns from clear to set, in any state.
-use Rattle.std.proofs.Common.{add-zero, zero-add, ◌≡◌, ℕ, ◌+◌, ◌<◌, Bool, true, false, not, ◌==◌, ◌&&◌, ◌||◌, List, [], ◌∷◌, refl, ap, sym, ◌∙◌}
-use Rattle.std.proofs.lemmas.Bool.{and_parts, false≢true, eqb-true, ltb-true}
+use Rattle.std.proofs.Common.{add-zero, zero-add, ◌≡◌, ℕ, ◌+◌, Bool, true, false, not, ◌==◌, ◌&&◌, ◌||◌, List, [], ◌∷◌, refl, ap, sym, ◌∙◌}
+use Rattle.std.proofs.lemmas.Bool.{and_parts, false≢true, eqb-true}
 use Rattle.std.proofs.Math.Bool.{and-true, and-false}
-use Rattle.std.specs.Prelude.{if◌then◌else◌, IsTrue, nat_lt}
-use Rattle.std.specs.Bool.{beq}
+use Rattle.std.specs.Prelude.{if◌then◌else◌, IsTrue}
 use Rattle.vm_superio.specs.declared.trace.Asked.{Asked}
 use Rattle.vm_superio.specs.declared.trace.Asked.TheVariants.{Nothing, Took, Refused}
 use Rattle.vm_superio.specs.Port.State.{State, not_empty}

@@ -1,13 +1,12 @@
 -- A coherent state stays coherent, is the one that the trace describes, and answers what the history replies; so whole
 -- runs by the steps are well_formed histories.
-use Rattle.std.proofs.Common.{◌≡◌, ℕ, ◌+◌, ◌<◌, ◌≤◌, Bool, true, false, ◌==◌, ◌&&◌, ◌||◌, List, [], ◌∷◌, length, drop, refl, ap, sym, ◌∙◌, subst, length-append, length-take, length-drop, arith}
+use Rattle.std.proofs.Common.{◌≡◌, ℕ, ◌+◌, ◌≤◌, Bool, true, false, ◌==◌, ◌&&◌, ◌||◌, List, [], ◌∷◌, length, drop, refl, ap, sym, ◌∙◌, subst, length-append, length-take, length-drop, arith}
 use Rattle.std.specs.Cmp.Derive.{both_true}
 use Rattle.std.proofs.lemmas.Bool.{false≢true}
 use Rattle.std.specs.Prelude.{if◌then◌else◌, nat_le, IsTrue}
 use Rattle.vm_superio.specs.declared.trace.Asked.{Asked}
 use Rattle.vm_superio.specs.declared.trace.Sent.{Sent}
 use Rattle.vm_superio.specs.Port.State.{State, not_empty}
-use Rattle.vm_superio.specs.Port.SavedState.{fresh_state}
 use Rattle.vm_superio.specs.Port.Bits.{has_bits, without_bits}
 use Rattle.vm_superio.specs.Port.Operations.{Op, Read, Write, Enqueue, Restore, TraceEntry, Response, EnqueueOk, FifoFull, TriggerRefused, is_refused_once}
 use Rattle.vm_superio.specs.Step.Raising.{receive_bytes, bytes_that_fit}
@@ -26,17 +25,6 @@ use Rattle.vm_superio.proofs.HeldBytes.{held_bytes_law, line_status_law, not_emp
 use Rattle.vm_superio.proofs.Interrupts.{interrupt_law, pending_by_kind, thre_next, rda_next}
 
 -- ---- a new port is coherent: nothing is pending, and no byte is held
-
-pub fresh_coherent : Coherent fresh_state
-unfolding has_bits
-fresh_coherent = record {
-  thre = false;
-  rda = false;
-  identification = refl;
-  received = λ impossible. impossible;
-  data_ready = refl;
-  few = omega arith;
-}
 
 -- ---- a coherent state stays coherent
 

@@ -1,5 +1,5 @@
 -- What a run from a coherent start shows, by the history alone: bytes read, output, trigger calls.
-use Rattle.std.specs.Prelude.{◌≡◌, ℕ, List, [], ◌∷◌, ◌++◌, IsTrue, ⊤}
+use Rattle.std.specs.Prelude.{◌≡◌, List, [], ◌∷◌, ◌++◌, IsTrue, ⊤}
 use Rattle.std.specs.Io.KnownBytes.{Appends}
 use Rattle.vm_superio.specs.declared.run.Act.TheVariants.{Read}
 use Rattle.vm_superio.specs.declared.run.Call.TheVariants.{Restore}

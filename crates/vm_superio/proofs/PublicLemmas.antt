@@ -1,0 +1,29 @@
+-- Lemmas that other crates' proofs use too.
+use Rattle.std.proofs.Common.{ℕ, List, [], ◌++◌, Option, Some, None, false, refl, sym, ap, ◌∙◌, append_assoc, append-nil, arith}
+use Rattle.std.specs.Io.KnownBytes.{Appends}
+use Rattle.vm_superio.specs.Port.Bits.{has_bits}
+use Rattle.vm_superio.specs.Port.Coherent.{Coherent}
+use Rattle.vm_superio.specs.Port.SavedState.{fresh_state}
+
+-- a fresh port is coherent
+pub fresh_coherent : Coherent fresh_state
+unfolding has_bits
+fresh_coherent = record {
+  thre = false;
+  rda = false;
+  identification = refl;
+  received = λ impossible. impossible;
+  data_ready = refl;
+  few = omega arith;
+}
+
+-- a writer that took nothing
+pub Appends-nothing : (known : Option (List ℕ)) → Appends known known []
+Appends-nothing None = tt
+Appends-nothing (Some xs) = sym (append-nil xs)
+
+pub Appends-append : (before middle after : Option (List ℕ)) (xs ys : List ℕ) → Appends before middle xs → Appends middle after ys → Appends before after (xs ++ ys)
+Appends-append None middle after xs ys first second = tt
+Appends-append (Some a) None after xs ys first second = absurd first
+Appends-append (Some a) (Some b) None xs ys first second = second
+Appends-append (Some a) (Some b) (Some c) xs ys first second = second ∙ ap (λ bytes. bytes ++ ys) first ∙ append_assoc a xs ys
