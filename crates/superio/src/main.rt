@@ -1,10 +1,11 @@
 //! Runs a script of device accesses from standard input, and prints the replies on standard output.
 #![tactic(auto)]
 
-ghost use Rattle.std.specs.Prelude.{◌≡◌, ◌⊎◌, ◌<◌, ℕ, length, IfSome, OnOk, Some, None};
+ghost use Rattle.std.specs.Prelude.{◌≡◌, ◌⊎◌, ◌<◌, ℕ, length, IfErr, IfSome, OnOk, Some, None};
 ghost use Rattle.std.specs.Io.KnownBytes.{Keeps};
 ghost use Rattle.std.specs.Io.Buffered.{writer_inner, writer_contents};
-ghost use Rattle.superio_script.specs.Script.{RunsUpTo, EndsAtRestore};
+ghost use Rattle.superio_script.specs.Script.{RunsUpTo, EndsAtRestore, ReadsBytes};
+ghost use Rattle.superio_script.specs.ScriptFault.{status_of};
 
 use std::alloc::Global;
 use std::io;
@@ -37,6 +38,8 @@ fn run_buffered<R: Read, W: Write + Drop>(
         → IfSome (R.remaining reader.old) (λ script. 65536 < length script) }
     ensures too_long_unwritten { result ≡ Err ScriptFault.TooLong
         → Keeps (writer_contents W.contents output.old) (W.contents (writer_inner output.new)) }
+    ensures read_no_further { result ≡ Err ScriptFault.TooLong
+        → ReadsBytes 65537 (R.remaining reader.old) (R.remaining reader.new) }
 {
     let end = run_script(alloc, reader, output);
     match output.flush() {
@@ -45,22 +48,41 @@ fn run_buffered<R: Read, W: Write + Drop>(
     }
 }
 
+/// A buffer in front of a writer.
+///
+/// # Errors
+///
+/// [`ScriptFault::Memory`] where memory for the buffer was refused.
+fn buffer<W: Write + Drop>(alloc: Global, writer: W) -> Result<BufWriter<W>, ScriptFault>
+    ensures only_memory { IfErr result (λ fault. fault ≡ ScriptFault.Memory) }
+{
+    BufWriter::new(alloc, writer).map_err(|_| ScriptFault::Memory)
+}
+
+/// The status that the program ends with: 0, or that of the fault.
+fn exit_status(end: &Result<(), ScriptFault>) -> u8
+    ensures success { OnOk end.now (result ≡ 0) }
+    ensures fault { IfErr end.now (λ fault. result ≡ status_of fault) }
+{
+    match end {
+        Ok(()) => 0,
+        Err(fault) => fault.status(),
+    }
+}
+
 /// Runs the script on standard input.
 fn run(rt: &HostRuntime) -> Result<(), ScriptFault> {
-    let writer = io::writer(rt);
-    let mut output = BufWriter::new(rt.alloc(), writer).map_err(|_| ScriptFault::Memory)?;
+    let mut output = buffer(rt.alloc(), io::writer(rt))?;
     run_buffered(rt.alloc(), &mut rt.reader(), &mut output)
 }
 
 fn main(rt: HostRuntime) -> ExitCode {
-    match run(&rt) {
-        Ok(()) => ExitCode::SUCCESS,
-        Err(fault) => {
-            // The status names the fault even where standard error takes no message.
-            let _ = eprintln!(rt; "{fault}");
-            ExitCode::from(fault.status())
-        }
+    let end = run(&rt);
+    if let Err(fault) = &end {
+        // The status names the fault even where standard error takes no message.
+        let _ = eprintln!(rt; "{fault}");
     }
+    ExitCode::from(exit_status(&end))
 }
 
 #[cfg(test)]

@@ -1,7 +1,7 @@
 -- The text of a script: what a run of it prints.
 use Rattle.std.specs.Prelude.{◌≡◌, ℕ, ◌+◌, ◌≤◌, List, [], ◌∷◌, ◌++◌, length, map, if◌then◌else◌, Bool, Option, Some, None, is_some, IsTrue}
 use Rattle.std.specs.List.{list_all}
-use Rattle.std.specs.Io.KnownBytes.{Appends, IsAtEnd}
+use Rattle.std.specs.Io.KnownBytes.{Appends, Consumes, IsAtEnd}
 use Rattle.vm_superio.specs.Clock.Registers.{Access}
 use Rattle.superio_script.specs.Splitting.{lines_of}
 use Rattle.superio_script.specs.Command.{command_of, mask_of, AsksForRestore}
@@ -117,6 +117,10 @@ pub record RunsUpTo (bad : Option ℕ) (script : List ℕ) (left before after : 
   pub none_left : IsAtEnd left
   pub first_bad : first_bad_line_of script ≡ bad
   pub text : PrintsLines (body_of script).mask (body_of script).lines before after
+
+-- so many bytes were read, and no more
+abbrev pub ReadsBytes : (count : ℕ) (before after : Option (List ℕ)) → Type 0
+ReadsBytes count before after = (bytes : List ℕ) × Consumes before after bytes × (length bytes ≡ count)
 
 -- a run of these lines ended at a line that asks for a restore: all lines before it are good, and their text was
 -- written

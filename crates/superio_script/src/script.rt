@@ -2,7 +2,7 @@
 ghost use Rattle.std.specs.Prelude.{◌≡◌, ◌≢◌, ◌⊎◌, ℕ, ◌+◌, ◌^◌, ◌<◌, ◌≤◌, length, IfOk, IfErr, IfSome, OnOk, vec_len, take, Some, None};
 ghost use Rattle.std.specs.Io.KnownBytes.{Keeps, Appends, Consumes, IsAtEnd};
 ghost use Rattle.superio_script.specs.Splitting.{lines_of};
-ghost use Rattle.superio_script.specs.Script.{body_of, first_bad_line, PrintsLines, StopsAtRestore, RunsUpTo, EndsAtRestore};
+ghost use Rattle.superio_script.specs.Script.{body_of, first_bad_line, PrintsLines, StopsAtRestore, RunsUpTo, EndsAtRestore, ReadsBytes};
 
 use crate::command::refused_mask;
 use crate::devices::{Board, LineFault};
@@ -48,6 +48,8 @@ fn read_script<R: Read>(alloc: Global, reader: &mut R) -> Result<Vec<u8>, Script
     ensures within_limit { IfOk result (λ script. vec_len script ≤ 65536) }
     ensures too_long { result ≡ Err ScriptFault.TooLong
         → IfSome (R.remaining reader.old) (λ all. 65536 < length all) }
+    ensures read_no_further { result ≡ Err ScriptFault.TooLong
+        → ReadsBytes 65537 (R.remaining reader.old) (R.remaining reader.new) }
     ensures never_bad { (number : ℕ) → result ≢ Err (ScriptFault.Bad number) }
 {
     let mut script = room(alloc, SCRIPT_LIMIT + 1)?;
@@ -124,7 +126,8 @@ fn write_replies<W: Write>(
 ///
 /// - [`ScriptFault::Bad`], with the number of the first line that has no form, counted from 1: the replies to the lines
 ///   before it were written, but the writer was not flushed.
-/// - [`ScriptFault::TooLong`], where the reader gave more than 65,536 bytes: nothing was written.
+/// - [`ScriptFault::TooLong`], where the reader gave more than 65,536 bytes: nothing was written, and no byte after the
+///   65,537th was read.
 /// - [`ScriptFault::Memory`], where the allocator refused memory for the script, and nothing was written; or for an
 ///   `ss`, and the replies to the lines before it were written.
 /// - [`ScriptFault::Io`], where a read, a write or the flush failed. After a failed read nothing was written. After a
@@ -144,6 +147,8 @@ pub fn run_script<R: Read, W: Write>(
     ensures too_long { result ≡ Err ScriptFault.TooLong
         → IfSome (R.remaining reader.old) (λ script. 65536 < length script) }
     ensures too_long_unwritten { result ≡ Err ScriptFault.TooLong → writer.new ≡ writer.old }
+    ensures read_no_further { result ≡ Err ScriptFault.TooLong
+        → ReadsBytes 65537 (R.remaining reader.old) (R.remaining reader.new) }
 {
     let script = read_script(alloc, reader)?;
     let (mask, skipped, lines) = head(&script);
