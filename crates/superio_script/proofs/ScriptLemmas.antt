@@ -20,7 +20,7 @@ use Rattle.vm_superio.proofs.PublicLemmas.{Appends-nothing, Appends-append}
 use Rattle.superio_script.specs.InterruptLine.{InterruptLine}
 use Rattle.superio_script.specs.Counts.{EventCounts}
 use Rattle.superio_script.specs.Output.{written_bytes}
-use Rattle.superio_script.specs.Command.{command_of, AsksForRestore}
+use Rattle.superio_script.specs.Command.{command_of, IsRestoreLine}
 use Rattle.superio_script.specs.Reply.{digits_reply, access_of}
 use Rattle.superio_script.specs.SerialScript.{Session, fresh_session, known_output, Choice, IsPossible, first_outcome, first_output, bytes_before_loss, is_short, session_entry, session_sends, outcome_if_sent, choice_after_write, output_or_chosen, choice_after_output, call_reply, session_after_call, serial_reply, session_after_line, choice_after_line}
 use Rattle.superio_script.specs.Board.{Devices, IsAt, IsFresh, IsSerialLineStep, IsLineStep}
@@ -357,7 +357,7 @@ module _ (mask : ℕ) (start : Option (List ℕ)) (all rest : List (List ℕ)) (
         subst (λ commands. Prints mask start commands before) (sym same) (Prints-so_far mask start before board (good_commands carried.earlier) carried.text)
 
     -- the next line asks for a restore, for which memory was refused
-    pub Stops-here : AsksForRestore line → StopsAtRestore mask all start before
+    pub Stops-here : IsRestoreLine line → StopsAtRestore mask all start before
     Stops-here restore = record {
       earlier = carried.earlier;
       line = line;

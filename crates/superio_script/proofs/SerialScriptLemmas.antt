@@ -23,18 +23,18 @@ use Rattle.vm_superio.specs.History.Reads.{none_lost, history_response, output, 
 use Rattle.vm_superio.specs.History.Calls.{history_events}
 use Rattle.vm_superio.specs.Laws.Agreement.{PrefixAgrees, StepLaw}
 use Rattle.vm_superio.specs.Port.ObjectLinks.{answers_of, all_ok, StopsAtRefusal}
-use Rattle.vm_superio.specs.Port.WriterLink.{PortLinks, port_links, bytes_taken_by_writer, WriterLink}
+use Rattle.vm_superio.specs.Port.WriterLink.{PortLinks, port_links, bytes_written, WriterLink}
 use Rattle.vm_superio.specs.Port.Model.{Port, failure_response}
 use Rattle.vm_superio.specs.Step.PortStep.{IsPortStep}
 use Rattle.vm_superio.specs.declared.serial.errors.Error.{Error}
 use Rattle.vm_superio.specs.declared.serial.errors.Error.TheVariants.{Trigger, IOError, FullFifo, Memory}
 use Rattle.vm_superio.proofs.PublicLemmas.{fresh_coherent}
-use Rattle.superio_script.specs.InterruptLine.{InterruptLine, fresh_interrupt_line, InterruptLineLink, is_call_refused, line_after_call}
+use Rattle.superio_script.specs.InterruptLine.{InterruptLine, fresh_interrupt_line, InterruptLineLink, is_call_refused, interrupt_line_after_call}
 use Rattle.vm_superio.specs.Counting.{Folds}
 use Rattle.superio_script.specs.Counts.{EventCounts, no_counts, counts_after_event}
 use Rattle.superio_script.specs.Output.{written_bytes}
 use Rattle.superio_script.specs.Reply.{with_lf, response_reply, digits_reply, count_digits, counts_reply}
-use Rattle.superio_script.specs.SerialScript.{Session, fresh_session, known_output, Choice, IsPossible, trigger_responses, line_after_responses, session_responses, session_sends, outcome_if_sent, call_reply, session_after_call, output_or_chosen, is_restore_refused}
+use Rattle.superio_script.specs.SerialScript.{Session, fresh_session, known_output, Choice, IsPossible, trigger_answers, interrupt_line_after_answers, session_answers, session_sends, outcome_if_sent, call_reply, session_after_call, output_or_chosen, is_restore_refused}
 use Rattle.superio_script.specs.Board.{IsAt, IsSerialLineStep}
 use Rattle.superio_script.specs.declared.output.Output.{Output}
 use Rattle.superio_script.specs.declared.trigger.LineRefused.{LineRefused}
@@ -59,42 +59,42 @@ abbrev two_responses : (first second : Bool) → Asked
 two_responses first second = if first then Refused else (if second then TookRefused else TookTook)
 
 -- the responses that link an interrupt line are those that its mask gives
-pub trigger_responses-from_link :
+pub trigger_answers-from_link :
     (line new : InterruptLine) (calls : ℕ) (asked : Asked) (refusal : Option LineRefused) →
     IsTrue (answers_all calls asked) → (IsTrue (ends_in_refusal asked) → IsSome refusal) → InterruptLineLink line (answers_of asked refusal) new →
-    (asked ≡ trigger_responses line calls) × (new ≡ line_after_responses line asked)
-trigger_responses-from_link line new calls Nothing refusal fits some link =
+    (asked ≡ trigger_answers line calls) × (new ≡ interrupt_line_after_answers line asked)
+trigger_answers-from_link line new calls Nothing refusal fits some link =
     let none : calls ≡ 0 = grind (arith, nat_tests) in
-    (ap (trigger_responses line) (sym none), sym link)
-trigger_responses-from_link line new calls Took refusal fits some link =
+    (ap (trigger_answers line) (sym none), sym link)
+trigger_answers-from_link line new calls Took refusal fits some link =
     let one : calls ≡ 1 = grind (arith, nat_tests) in
     let accepted = was_accepted (is_call_refused line.mask line.calls) link.0 in
-    (ap (λ (b : Bool). if b then Refused else Took) (sym accepted) ∙ ap (trigger_responses line) (sym one), sym link.1)
-trigger_responses-from_link line new calls TookTook refusal fits some link =
+    (ap (λ (b : Bool). if b then Refused else Took) (sym accepted) ∙ ap (trigger_answers line) (sym one), sym link.1)
+trigger_answers-from_link line new calls TookTook refusal fits some link =
     let two : calls ≡ 2 = grind (arith, nat_tests) in
     let first = was_accepted (is_call_refused line.mask line.calls) link.0 in
-    let second = was_accepted (is_call_refused line.mask (line_after_call line).calls) link.1.0 in (
+    let second = was_accepted (is_call_refused line.mask (interrupt_line_after_call line).calls) link.1.0 in (
       ap (λ (b : Bool). if b then TookRefused else TookTook) (sym second)
-          ∙ ap (λ (b : Bool). two_responses b (is_call_refused line.mask (line_after_call line).calls)) (sym first)
-          ∙ ap (trigger_responses line) (sym two),
+          ∙ ap (λ (b : Bool). two_responses b (is_call_refused line.mask (interrupt_line_after_call line).calls)) (sym first)
+          ∙ ap (trigger_answers line) (sym two),
       sym link.1.1,
     )
-trigger_responses-from_link line new calls Refused None fits some link = absurd (false≢true (some refl))
-trigger_responses-from_link line new zero Refused (Some refusal) fits some link = absurd (false≢true fits)
-trigger_responses-from_link line new (suc zero) Refused (Some refusal) fits some link =
+trigger_answers-from_link line new calls Refused None fits some link = absurd (false≢true (some refl))
+trigger_answers-from_link line new zero Refused (Some refusal) fits some link = absurd (false≢true fits)
+trigger_answers-from_link line new (suc zero) Refused (Some refusal) fits some link =
     let refused = was_refused (is_call_refused line.mask line.calls) refusal link.0 in
     (ap (λ (b : Bool). if b then Refused else Took) (sym refused), sym link.1)
-trigger_responses-from_link line new (suc (suc more)) Refused (Some refusal) fits some link =
+trigger_answers-from_link line new (suc (suc more)) Refused (Some refusal) fits some link =
     let refused = was_refused (is_call_refused line.mask line.calls) refusal link.0 in
-    (ap (λ (b : Bool). two_responses b (is_call_refused line.mask (line_after_call line).calls)) (sym refused), sym link.1)
-trigger_responses-from_link line new calls TookRefused None fits some link = absurd (false≢true (some refl))
-trigger_responses-from_link line new calls TookRefused (Some refusal) fits some link =
+    (ap (λ (b : Bool). two_responses b (is_call_refused line.mask (interrupt_line_after_call line).calls)) (sym refused), sym link.1)
+trigger_answers-from_link line new calls TookRefused None fits some link = absurd (false≢true (some refl))
+trigger_answers-from_link line new calls TookRefused (Some refusal) fits some link =
     let two : calls ≡ 2 = grind (arith, nat_tests) in
     let first = was_accepted (is_call_refused line.mask line.calls) link.0 in
-    let second = was_refused (is_call_refused line.mask (line_after_call line).calls) refusal link.1.0 in (
+    let second = was_refused (is_call_refused line.mask (interrupt_line_after_call line).calls) refusal link.1.0 in (
       ap (λ (b : Bool). if b then TookRefused else TookTook) (sym second)
-          ∙ ap (λ (b : Bool). two_responses b (is_call_refused line.mask (line_after_call line).calls)) (sym first)
-          ∙ ap (trigger_responses line) (sym two),
+          ∙ ap (λ (b : Bool). two_responses b (is_call_refused line.mask (interrupt_line_after_call line).calls)) (sym first)
+          ∙ ap (trigger_answers line) (sym two),
       sym link.1.1,
     )
 
@@ -218,11 +218,11 @@ module _ (law : StepLaw) where
         let entry : TraceEntry = record { op = op; asked = asked; sent = outcome } in
         let step = prefix.steps entry made.admissible in
         let fitted = (and_parts (answers_all (step_calls (state_of_history fresh_state before.trace) op) asked) (beq (is_sent outcome) (session_sends before op)) made.admissible).0 in
-        let so = trigger_responses-from_link before.line new.trigger (step_calls (state_of_history fresh_state before.trace) op) asked refusal fitted (λ h. made.refused ∙ h) made.trigger in
-        let same : asked ≡ session_responses before op = so.0 ∙ ap (trigger_responses before.line) (prefix.calls op) in
+        let so = trigger_answers-from_link before.line new.trigger (step_calls (state_of_history fresh_state before.trace) op) asked refusal fitted (λ h. made.refused ∙ h) made.trigger in
+        let same : asked ≡ session_answers before op = so.0 ∙ ap (trigger_answers before.line) (prefix.calls op) in
         let P : Asked → Type 0 = λ a. (response_reply response ≡ response_reply (history_response fresh_state before.trace op a outcome)) × IsAt (record {
           trace = record { op = op; asked = a; sent = outcome } ∷ before.trace;
-          line = line_after_responses before.line a;
+          line = interrupt_line_after_answers before.line a;
           counts = fold counts_after_event before.counts (history_events fresh_state before.trace (record { op = op; asked = a; sent = outcome }));
         }) new in
         subst P same (
@@ -232,7 +232,7 @@ module _ (law : StepLaw) where
             line = so.1;
             counts = made.events.folds ∙ ap (fold counts_after_event before.counts) step.events;
             output = subst (λ (known : Option (List ℕ)). IfSome known (λ all. written_bytes new.out ≡ all)) (sym (known_output-after before.trace entry))
-                (written_bytes-after_call (known_output before.trace) outcome (bytes_taken_by_writer op outcome) (sent_by (kind_at fresh_state before.trace op)) old.out new.out made.out step.output at.output);
+                (written_bytes-after_call (known_output before.trace) outcome (bytes_written op outcome) (sent_by (kind_at fresh_state before.trace op)) old.out new.out made.out step.output at.output);
           },
         )
 
@@ -305,17 +305,17 @@ module _ (port : Port InterruptLine EventCounts Output) where
 
 -- ---- a restore
 
-one-accepted : (line new : InterruptLine) → (Ok tt ≡ one_response (is_call_refused line.mask line.calls)) × (line_after_call line ≡ new) →
-    (ends_in_refusal (trigger_responses line 1) ≡ false) × (new ≡ line_after_responses line (trigger_responses line 1))
+one-accepted : (line new : InterruptLine) → (Ok tt ≡ one_response (is_call_refused line.mask line.calls)) × (interrupt_line_after_call line ≡ new) →
+    (ends_in_refusal (trigger_answers line 1) ≡ false) × (new ≡ interrupt_line_after_answers line (trigger_answers line 1))
 one-accepted line new link =
     let accepted = was_accepted (is_call_refused line.mask line.calls) link.0 in (
       ap (λ (a : Bool). ends_in_refusal (if a then Refused else Took)) accepted,
-      sym link.1 ∙ ap (λ (a : Bool). line_after_responses line (if a then Refused else Took)) (sym accepted),
+      sym link.1 ∙ ap (λ (a : Bool). interrupt_line_after_answers line (if a then Refused else Took)) (sym accepted),
     )
 
 one-refused : (line : InterruptLine) (refusal : LineRefused) (response : Result (Unit {0}) LineRefused) {A B : Type 0} →
     ((response ≡ Err refusal) × A) ⊎ (B × ⊥) → response ≡ one_response (is_call_refused line.mask line.calls) →
-    ends_in_refusal (trigger_responses line 1) ≡ true
+    ends_in_refusal (trigger_answers line 1) ≡ true
 one-refused line refusal response (inl h) link =
     ap (λ (a : Bool). ends_in_refusal (if a then Refused else Took)) (was_refused (is_call_refused line.mask line.calls) refusal (sym h.0 ∙ link))
 one-refused line refusal response (inr h) link = absurd h.1
@@ -328,23 +328,23 @@ second-refused refusal response responses (inr h) = absurd h.1
 -- where all calls of a restore were accepted, no response is a refusal
 restore-accepted :
     (line new : InterruptLine) (thre rda : Bool) → InterruptLineLink line (all_ok (thre_then_rda thre rda)) new →
-    (ends_in_refusal (trigger_responses line (length (thre_then_rda thre rda))) ≡ false)
-    × (new ≡ line_after_responses line (trigger_responses line (length (thre_then_rda thre rda))))
+    (ends_in_refusal (trigger_answers line (length (thre_then_rda thre rda))) ≡ false)
+    × (new ≡ interrupt_line_after_answers line (trigger_answers line (length (thre_then_rda thre rda))))
 restore-accepted line new false false link = (refl, sym link)
 restore-accepted line new true false link = one-accepted line new link
 restore-accepted line new false true link = one-accepted line new link
 restore-accepted line new true true link =
     let first = was_accepted (is_call_refused line.mask line.calls) link.0 in
-    let second = was_accepted (is_call_refused line.mask (line_after_call line).calls) link.1.0 in
-    let same : two_responses (is_call_refused line.mask line.calls) (is_call_refused line.mask (line_after_call line).calls) ≡ TookTook =
-    ap (λ (a : Bool). two_responses a (is_call_refused line.mask (line_after_call line).calls)) first ∙ ap (λ (b : Bool). two_responses false b) second in
-    (ap ends_in_refusal same, sym link.1.1 ∙ ap (line_after_responses line) (sym same))
+    let second = was_accepted (is_call_refused line.mask (interrupt_line_after_call line).calls) link.1.0 in
+    let same : two_responses (is_call_refused line.mask line.calls) (is_call_refused line.mask (interrupt_line_after_call line).calls) ≡ TookTook =
+    ap (λ (a : Bool). two_responses a (is_call_refused line.mask (interrupt_line_after_call line).calls)) first ∙ ap (λ (b : Bool). two_responses false b) second in
+    (ap ends_in_refusal same, sym link.1.1 ∙ ap (interrupt_line_after_answers line) (sym same))
 
 -- where one was refused, the last response is a refusal
 restore-refused :
     (line new : InterruptLine) (thre rda : Bool) (refusal : LineRefused) (responses : List (Result (Unit {0}) LineRefused)) →
     StopsAtRefusal (thre_then_rda thre rda) refusal responses → InterruptLineLink line responses new →
-    ends_in_refusal (trigger_responses line (length (thre_then_rda thre rda))) ≡ true
+    ends_in_refusal (trigger_answers line (length (thre_then_rda thre rda))) ≡ true
 restore-refused line new false false refusal responses ends link = absurd ends
 restore-refused line new true false refusal [] ends link = absurd ends
 restore-refused line new true false refusal (response ∷ responses) ends link = one-refused line refusal response ends link.0
@@ -352,14 +352,14 @@ restore-refused line new false true refusal [] ends link = absurd ends
 restore-refused line new false true refusal (response ∷ responses) ends link = one-refused line refusal response ends link.0
 restore-refused line new true true refusal [] ends link = absurd ends
 restore-refused line new true true refusal (response ∷ responses) (inl h) link =
-    ap (λ (a : Bool). ends_in_refusal (two_responses a (is_call_refused line.mask (line_after_call line).calls)))
+    ap (λ (a : Bool). ends_in_refusal (two_responses a (is_call_refused line.mask (interrupt_line_after_call line).calls)))
     (was_refused (is_call_refused line.mask line.calls) refusal (sym h.0 ∙ link.0))
 restore-refused line new true true refusal (response ∷ []) (inr h) link = absurd h.1
 restore-refused line new true true refusal (response ∷ next ∷ responses) (inr h) link =
     let first = was_accepted (is_call_refused line.mask line.calls) (sym h.0 ∙ link.0) in
     let refused = second-refused refusal next responses h.1 in
-    let second = was_refused (is_call_refused line.mask (line_after_call line).calls) refusal (sym refused ∙ link.1.0) in
-    ap (λ (a : Bool). ends_in_refusal (two_responses a (is_call_refused line.mask (line_after_call line).calls))) first
+    let second = was_refused (is_call_refused line.mask (interrupt_line_after_call line).calls) refusal (sym refused ∙ link.1.0) in
+    ap (λ (a : Bool). ends_in_refusal (two_responses a (is_call_refused line.mask (interrupt_line_after_call line).calls))) first
     ∙ ap (λ (b : Bool). ends_in_refusal (if b then TookRefused else TookTook)) second
 
 module _ (law : StepLaw) (old new : Port InterruptLine EventCounts Output) where
@@ -372,7 +372,7 @@ module _ (law : StepLaw) (old new : Port InterruptLine EventCounts Output) where
       let linked = subst (λ calls. InterruptLineLink before.line (all_ok calls) new.trigger) calls
       (subst (λ (l : InterruptLine). InterruptLineLink l (all_ok (restore_calls old.state)) new.trigger) at.line link) in
       let accepted = restore-accepted before.line new.trigger _ _ linked in
-      let after = line_after_responses before.line (trigger_responses before.line (length (restore_calls_due fresh_state before.trace))) in
+      let after = interrupt_line_after_answers before.line (trigger_answers before.line (length (restore_calls_due fresh_state before.trace))) in
       let P : Bool → Type 0 = λ refused. (with_lf (codes "ok") ≡ with_lf (if refused then codes "trigger" else codes "ok"))
       × IsAt (if refused then before else record before { line = after }) new in
       let found : P (is_restore_refused before) = subst P (sym accepted.0) (
@@ -403,5 +403,5 @@ refused-restore-step law port after (Trigger refusal) few refuses = λ before at
       no_choice,
       IsPossible-no_choice,
       ap (λ (b : Bool). with_lf (if b then codes "trigger" else codes "ok")) (sym refused),
-      subst (λ (b : Bool). IsAt (if b then before else record before { line = line_after_responses before.line (trigger_responses before.line (length (restore_calls_due fresh_state before.trace))) }) port) (sym refused) at,
+      subst (λ (b : Bool). IsAt (if b then before else record before { line = interrupt_line_after_answers before.line (trigger_answers before.line (length (restore_calls_due fresh_state before.trace))) }) port) (sym refused) at,
     )

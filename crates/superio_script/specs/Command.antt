@@ -112,8 +112,8 @@ abbrev pub command_of : (line : List ℕ) → Option Command
 command_of line = command_of_fields (fields_of line)
 
 -- a line is `ss`
-abbrev pub AsksForRestore : (line : List ℕ) → Type 0
-AsksForRestore line = command_of line ≡ Some (Serial serial.Restore)
+abbrev pub IsRestoreLine : (line : List ℕ) → Type 0
+IsRestoreLine line = command_of line ≡ Some (Serial serial.Restore)
 
 -- the mask of a line `refuse MMMMMMMMMMMMMMMM`, which is a form of a script's first line alone
 abbrev pub mask_of_fields : (fields : List (List ℕ)) → Option ℕ

@@ -22,19 +22,19 @@ abbrev pub saturating_increment : (count : ℕ) → ℕ
 saturating_increment count = min (count + 1) (2 ^ 64 - 1)
 
 -- the response to the next call
-abbrev pub next_call_response : (line : InterruptLine) → Result (Unit {0}) LineRefused
-next_call_response line = if is_call_refused line.mask line.calls then Err (record {}) else Ok tt
+abbrev pub next_call_answer : (line : InterruptLine) → Result (Unit {0}) LineRefused
+next_call_answer line = if is_call_refused line.mask line.calls then Err (record {}) else Ok tt
 
 -- the interrupt line after one more call
-abbrev pub line_after_call : (line : InterruptLine) → InterruptLine
-line_after_call line = record { calls = saturating_increment line.calls; mask = line.mask }
+abbrev pub interrupt_line_after_call : (line : InterruptLine) → InterruptLine
+interrupt_line_after_call line = record { calls = saturating_increment line.calls; mask = line.mask }
 
 -- calls with these responses, in order, take the interrupt line from old to new
 abbrev pub InterruptLineLink :
     (old : InterruptLine) (responses : List (Result (Unit {0}) LineRefused)) (new : InterruptLine) → Type 0
 InterruptLineLink old [] new = old ≡ new
 InterruptLineLink old (response ∷ responses) new =
-    (response ≡ next_call_response old) × InterruptLineLink (line_after_call old) responses new
+    (response ≡ next_call_answer old) × InterruptLineLink (interrupt_line_after_call old) responses new
 
 -- calls that follow each other are one list of calls
 pub InterruptLineLink-append :
@@ -42,4 +42,4 @@ pub InterruptLineLink-append :
     InterruptLineLink x first y → InterruptLineLink y second z → InterruptLineLink x (first ++ second) z
 InterruptLineLink-append x y z [] second same h = subst (λ line. InterruptLineLink line second z) (sym same) h
 InterruptLineLink-append x y z (response ∷ responses) second l h =
-    (l.0, InterruptLineLink-append (line_after_call x) y z responses second l.1 h)
+    (l.0, InterruptLineLink-append (interrupt_line_after_call x) y z responses second l.1 h)

@@ -4,7 +4,7 @@ use Rattle.std.specs.List.{list_all}
 use Rattle.std.specs.Io.KnownBytes.{Appends, Consumes, IsAtEnd}
 use Rattle.vm_superio.specs.Clock.Registers.{Access}
 use Rattle.superio_script.specs.Splitting.{lines_of}
-use Rattle.superio_script.specs.Command.{command_of, mask_of, AsksForRestore}
+use Rattle.superio_script.specs.Command.{command_of, mask_of, IsRestoreLine}
 use Rattle.superio_script.specs.Reply.{clock_replies, controller_reply}
 use Rattle.superio_script.specs.SerialScript.{Session, fresh_session, Choice, IsPossible, serial_replies}
 use Rattle.superio_script.specs.declared.command.Command.{Command}
@@ -130,7 +130,7 @@ pub record StopsAtRestore (mask : ℕ) (lines : List (List ℕ)) (before after :
   pub later : List (List ℕ)
   pub split : lines ≡ earlier ++ line ∷ later
   pub all_good : IsTrue (list_all has_form earlier)
-  pub restore : AsksForRestore line
+  pub restore : IsRestoreLine line
   pub text : PrintsLines mask earlier before after
 
 -- the same of a run of this script

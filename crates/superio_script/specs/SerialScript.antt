@@ -14,7 +14,7 @@ use Rattle.vm_superio.specs.History.Registers.{kind_at, held_bytes}
 use Rattle.vm_superio.specs.History.Calls.{calls_due, history_events}
 use Rattle.vm_superio.specs.History.Interrupts.{restore_calls_due}
 use Rattle.vm_superio.specs.History.Reads.{none_lost, history_response, output}
-use Rattle.superio_script.specs.InterruptLine.{InterruptLine, fresh_interrupt_line, is_call_refused, line_after_call}
+use Rattle.superio_script.specs.InterruptLine.{InterruptLine, fresh_interrupt_line, is_call_refused, interrupt_line_after_call}
 use Rattle.superio_script.specs.Counts.{EventCounts, no_counts, counts_after_event}
 use Rattle.superio_script.specs.Reply.{with_lf, response_reply, digits_reply, count_digits, counts_reply}
 use Rattle.superio_script.specs.declared.command.SerialLine.{SerialLine}
@@ -73,37 +73,37 @@ known_output trace = if none_lost trace then Some (output fresh_state [] trace) 
 -- ---- a call of the port
 
 -- the interrupt line's responses to so many trigger calls, up to two. A refusal is the last response
-abbrev pub trigger_responses : (line : InterruptLine) (calls : ℕ) → Asked
-trigger_responses line zero = Nothing
-trigger_responses line (suc zero) = if is_call_refused line.mask line.calls then Refused else Took
-trigger_responses line (suc (suc more)) =
+abbrev pub trigger_answers : (line : InterruptLine) (calls : ℕ) → Asked
+trigger_answers line zero = Nothing
+trigger_answers line (suc zero) = if is_call_refused line.mask line.calls then Refused else Took
+trigger_answers line (suc (suc more)) =
     if is_call_refused line.mask line.calls then Refused
-    else (if is_call_refused line.mask (line_after_call line).calls then TookRefused else TookTook)
+    else (if is_call_refused line.mask (interrupt_line_after_call line).calls then TookRefused else TookTook)
 
 -- the interrupt line after trigger calls with these responses
-abbrev pub line_after_responses : (line : InterruptLine) (responses : Asked) → InterruptLine
-line_after_responses line Nothing = line
-line_after_responses line Took = line_after_call line
-line_after_responses line Refused = line_after_call line
-line_after_responses line TookTook = line_after_call (line_after_call line)
-line_after_responses line TookRefused = line_after_call (line_after_call line)
+abbrev pub interrupt_line_after_answers : (line : InterruptLine) (responses : Asked) → InterruptLine
+interrupt_line_after_answers line Nothing = line
+interrupt_line_after_answers line Took = interrupt_line_after_call line
+interrupt_line_after_answers line Refused = interrupt_line_after_call line
+interrupt_line_after_answers line TookTook = interrupt_line_after_call (interrupt_line_after_call line)
+interrupt_line_after_answers line TookRefused = interrupt_line_after_call (interrupt_line_after_call line)
 
-abbrev pub session_responses : (session : Session) (op : Op) → Asked
-session_responses session op = trigger_responses session.line (calls_due fresh_state session.trace op)
+abbrev pub session_answers : (session : Session) (op : Op) → Asked
+session_answers session op = trigger_answers session.line (calls_due fresh_state session.trace op)
 
 -- the trace entry of a call, given the outcome of its byte
 abbrev pub session_entry : (session : Session) (op : Op) (outcome : Sent) → TraceEntry
-session_entry session op outcome = record { op = op; asked = session_responses session op; sent = outcome }
+session_entry session op outcome = record { op = op; asked = session_answers session op; sent = outcome }
 
 -- the reply to the call, and the session after it
 abbrev pub call_reply : (session : Session) (op : Op) (outcome : Sent) → List ℕ
 call_reply session op outcome =
-    response_reply (history_response fresh_state session.trace op (session_responses session op) outcome)
+    response_reply (history_response fresh_state session.trace op (session_answers session op) outcome)
 
 abbrev pub session_after_call : (session : Session) (op : Op) (outcome : Sent) → Session
 session_after_call session op outcome = record {
   trace = session_entry session op outcome ∷ session.trace;
-  line = line_after_responses session.line (session_responses session op);
+  line = interrupt_line_after_answers session.line (session_answers session op);
   counts =
       fold counts_after_event session.counts
       (history_events fresh_state session.trace (session_entry session op outcome));
@@ -128,17 +128,17 @@ session_write_outcome session choice offset value =
 -- ---- a restore
 
 -- the interrupt line's responses to the calls of a restore, and whether they end the restore with a refusal
-abbrev pub restore_responses : (session : Session) → Asked
-restore_responses session = trigger_responses session.line (length (restore_calls_due fresh_state session.trace))
+abbrev pub restore_answers : (session : Session) → Asked
+restore_answers session = trigger_answers session.line (length (restore_calls_due fresh_state session.trace))
 
 abbrev pub is_restore_refused : (session : Session) → Bool
-is_restore_refused session = ends_in_refusal (restore_responses session)
+is_restore_refused session = ends_in_refusal (restore_answers session)
 
 -- a restore keeps the trace and the counts, and its trigger calls count. A refused restore leaves everything as it was
 abbrev pub session_after_restore : (session : Session) → Session
 session_after_restore session =
     if is_restore_refused session then session
-    else record session { line = line_after_responses session.line (restore_responses session) }
+    else record session { line = interrupt_line_after_answers session.line (restore_answers session) }
 
 -- ---- the output
 

@@ -1,7 +1,7 @@
 //! A board of devices, and the lines that drive it.
 ghost use Rattle.std.specs.Prelude.{◌≡◌, ◌↔◌, IfOk, IsSomeAnd, IsErrOf, IsOk, OnErr};
 ghost use Rattle.superio_script.specs.InterruptLine.{fresh_interrupt_line};
-ghost use Rattle.superio_script.specs.Command.{command_of, AsksForRestore};
+ghost use Rattle.superio_script.specs.Command.{command_of, IsRestoreLine};
 ghost use Rattle.superio_script.specs.Reply.{controller_reply};
 ghost use Rattle.superio_script.specs.declared.devices.LineFault.TheVariants.{Bad, Memory};
 
@@ -76,7 +76,7 @@ impl Board {
     /// where the allocator refused the memory of an `ss`.
     pub fn line(&mut self, alloc: Global, line: &[u8]) -> Result<Reply, LineFault>
         ensures bad { IsErrOf result LineFault.Bad ↔ (command_of line.now ≡ None) }
-        ensures memory { result ≡ Err LineFault.Memory → AsksForRestore line.now }
+        ensures memory { result ≡ Err LineFault.Memory → IsRestoreLine line.now }
         ensures step { IfOk result (λ reply.
             IsSomeAnd (command_of line.now) (λ command. IsLineStep command reply.items self.old self.new)) }
         ensures unchanged { OnErr result (self.new ≡ self.old) }

@@ -1,6 +1,6 @@
 //! The lines of the serial port.
 ghost use Rattle.std.specs.Prelude.{◌≡◌, ◌<◌, IfOk, IfErr, OnErr};
-ghost use Rattle.vm_superio.specs.Port.Model.{write_response, enqueue_response, failure_response as failure_answer};
+ghost use Rattle.vm_superio.specs.Port.Model.{write_response, enqueue_response, failure_response};
 ghost use Rattle.superio_script.specs.Reply.{response_reply};
 ghost use Rattle.superio_script.specs.Board.{IsSerialLineStep};
 ghost use Rattle.superio_script.specs.declared.command.SerialLine.TheVariants.{Restore};
@@ -95,7 +95,7 @@ fn enqueue_result_reply(enqueued: Result<usize, Error<LineRefused>>) -> Reply
 
 /// The reply to a call that failed with this error.
 fn error_reply(error: Error<LineRefused>) -> Reply
-    ensures { result.items ≡ response_reply (failure_answer error) }
+    ensures { result.items ≡ response_reply (failure_response error) }
 {
     match error {
         Error::Trigger(LineRefused) => word(b"trigger"),

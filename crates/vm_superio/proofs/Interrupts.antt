@@ -7,7 +7,7 @@ use Rattle.vm_superio.specs.declared.trace.Asked.{Asked}
 use Rattle.vm_superio.specs.Port.State.{State, not_empty}
 use Rattle.vm_superio.specs.Port.Bits.{has_bits, only_bits, without_bits}
 use Rattle.vm_superio.specs.Port.Registers.{Thre, Rda, identification_of, thre_then_rda}
-use Rattle.vm_superio.specs.Port.Operations.{TraceEntry, is_refused_once, is_sent, one_if, answer_count}
+use Rattle.vm_superio.specs.Port.Operations.{TraceEntry, is_first_refused, is_sent, one_if, answer_count}
 use Rattle.vm_superio.specs.Step.Raising.{raise, raise_rda_while_held, becomes_pending, rda_becomes_pending, receive_bytes, bytes_that_fit}
 use Rattle.vm_superio.specs.Port.OpKinds.{OpKind, RbrRead, IirRead, IerWrite, ThrWrite, Arrival, Other, sent_by, is_iir_read}
 use Rattle.vm_superio.specs.Step.Admissible.{arrival_calls, kind_calls, answers_all, step_calls, is_admissible}
@@ -30,7 +30,7 @@ rda_called k held_bytes enable receive_bytes = raises_rda k held_bytes enable &&
 -- the conditions that are pending afterwards
 abbrev pub thre_next : OpKind → List ℕ → ℕ → Asked → Bool → Bool → Bool
 thre_next k held_bytes enable asked thre receive_bytes =
-    raises_thre k enable (rda_called k held_bytes enable receive_bytes && is_refused_once asked) ||
+    raises_thre k enable (rda_called k held_bytes enable receive_bytes && is_first_refused asked) ||
     (not (is_iir_read k) && thre)
 
 abbrev pub rda_next : OpKind → List ℕ → ℕ → Bool → Bool
@@ -52,7 +52,7 @@ enabled_if refused held_bytes value old =
 
 abbrev enabled : List ℕ → ℕ → Asked → ℕ → ℕ
 enabled held_bytes value asked old =
-    enabled_if (rda_becomes_pending held_bytes (only_bits value 0x0F) old && is_refused_once asked) held_bytes value old
+    enabled_if (rda_becomes_pending held_bytes (only_bits value 0x0F) old && is_first_refused asked) held_bytes value old
 
 -- from IIR of two conditions to that of the next two
 pub pending_by_kind : (k : OpKind) (asked : Asked) (s : State) (thre receive_bytes : Bool)
@@ -65,11 +65,11 @@ pending_by_kind RbrRead asked s thre receive_bytes e =
 pending_by_kind IirRead asked s thre receive_bytes e = refl
 pending_by_kind (IerWrite value) asked s thre receive_bytes e =
     ap (λ old. enabled s.in_buffer value asked old) e
-    ∙ ap (λ new. enabled_if (new && is_refused_once asked) s.in_buffer value (identification_of thre receive_bytes))
+    ∙ ap (λ new. enabled_if (new && is_first_refused asked) s.in_buffer value (identification_of thre receive_bytes))
     (ier_write_raises_rda s.in_buffer value thre receive_bytes)
     ∙ ier_write_leaves
     (rda_called (IerWrite value) s.in_buffer s.interrupt_enable receive_bytes
-    && is_refused_once asked) s.in_buffer value thre receive_bytes
+    && is_first_refused asked) s.in_buffer value thre receive_bytes
 pending_by_kind (ThrWrite value) asked s thre receive_bytes e =
     ap (raise Thre s.interrupt_enable) e ∙ raise_thre s.interrupt_enable thre receive_bytes
 pending_by_kind (Arrival bytes) asked s thre receive_bytes e =
@@ -131,15 +131,15 @@ test_by_kind : (k : OpKind) (asked : Asked) (s : State) (thre receive_bytes : Bo
     → let first = rda_called k s.in_buffer s.interrupt_enable receive_bytes in
     answers_all (kind_calls k s) asked
     ≡ (answer_count asked == one_if first
-    + one_if (raises_thre k s.interrupt_enable (first && is_refused_once asked) && not thre))
+    + one_if (raises_thre k s.interrupt_enable (first && is_first_refused asked) && not thre))
 test_by_kind k asked s thre receive_bytes e =
     let first = rda_called k s.in_buffer s.interrupt_enable receive_bytes in
     let second = raises_thre k s.interrupt_enable false in
     ap (λ calls. answers_all calls asked) (due_is k s thre receive_bytes e)
     ∙ answers_counted first (second && not thre) asked
     ∙ ap (λ new. answer_count asked == one_if first + one_if new)
-    (and_swap second (not thre) (not (first && is_refused_once asked))
-    ∙ ap (λ raised. raised && not thre) (ends_early k s.in_buffer s.interrupt_enable receive_bytes (is_refused_once asked)))
+    (and_swap second (not thre) (not (first && is_first_refused asked))
+    ∙ ap (λ raised. raised && not thre) (ends_early k s.in_buffer s.interrupt_enable receive_bytes (is_first_refused asked)))
 
 -- ---- any trace
 
@@ -180,7 +180,7 @@ well_formed_law start trace thre receive_bytes entry e =
     let outcome_fits = beq (is_sent entry.sent) (not_empty (sent_by k)) in
     let calls_of = λ (bytes : List ℕ) (enable : ℕ).
     one_if (rda_called k bytes enable r)
-    + one_if (raises_thre k enable (rda_called k bytes enable r && is_refused_once entry.asked) && not t) in
+    + one_if (raises_thre k enable (rda_called k bytes enable r && is_first_refused entry.asked) && not t) in
     ap (λ test. answers_all (step_calls s entry.op) entry.asked && test)
     (ap (λ (k : OpKind). beq (is_sent entry.sent) (not_empty (sent_by k))) same)
     ∙ ap (λ calls. answers_all calls entry.asked && outcome_fits) (ap (λ (k : OpKind). kind_calls k s) same)

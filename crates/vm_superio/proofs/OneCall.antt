@@ -16,7 +16,7 @@ use Rattle.vm_superio.specs.Step.Raising.{becomes_pending, rda_becomes_pending, 
 use Rattle.vm_superio.specs.Step.Admissible.{kind_in_state, arrival_calls, kind_calls, answers_all, step_calls, sends_byte}
 use Rattle.vm_superio.specs.Port.OpKinds.{OpKind, IerWrite, ThrWrite, Arrival, RbrRead, read_kind, kind_of, sent_by}
 use Rattle.vm_superio.specs.Step.Transition.{read_events, sent_events, step_events}
-use Rattle.vm_superio.specs.Laws.OneCall.{EventsLaw, ExactTestLaw, reports_outcome, asked_when, sent_when}
+use Rattle.vm_superio.specs.Laws.OneCall.{OutcomeEventsLaw, AdmissibilityLaw, reports_outcome, asked_when, sent_when}
 use Rattle.vm_superio.proofs.Bounds.{one_at_most}
 
 -- what is reported of a byte, where one is sent or not
@@ -61,7 +61,7 @@ reported s (Write offset value) outcome fit =
 reported s (Enqueue bytes) outcome fit = enqueue_reported (is_loopback s.modem_control) (is_dlab s.line_control) bytes
 reported s Restore outcome fit = refl
 
-pub events_law : EventsLaw
+pub events_law : OutcomeEventsLaw
 events_law s op asked outcome fit =
     reported s op outcome (and_parts (answers_all (step_calls s op) asked) (sent_fits (sends_byte s op) outcome) fit).1
 
@@ -131,7 +131,7 @@ sent_passes false success = refl
 due_at_most : (s : State) (op : Op) → step_calls s op ≤ 2
 due_at_most s op = two_at_most (kind_in_state s op) s
 
-pub exact_test_law : ExactTestLaw
+pub exact_test_law : AdmissibilityLaw
 unfolding Exact
 exact_test_law s op asked outcome = (
   λ fit.

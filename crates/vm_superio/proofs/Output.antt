@@ -8,7 +8,7 @@ use Rattle.vm_superio.specs.declared.trace.Sent.TheVariants as sent
 use Rattle.vm_superio.specs.Port.State.{not_empty}
 use Rattle.vm_superio.specs.Port.Registers.{Register, RbrThr, Ier, Iir, register_at}
 use Rattle.vm_superio.specs.Port.Operations.{Op, Read, Write, Enqueue, Restore, is_sent, is_lost, answer_count}
-use Rattle.vm_superio.specs.Port.WriterLink.{bytes_taken_by_writer}
+use Rattle.vm_superio.specs.Port.WriterLink.{bytes_written}
 use Rattle.vm_superio.specs.Port.OpKinds.{read_kind, write_kind, kind_of, sent_by}
 use Rattle.vm_superio.specs.History.Registers.{dlab, loopback}
 use Rattle.vm_superio.specs.History.Interrupts.{trigger_calls, is_well_formed_entry, is_well_formed}
@@ -21,20 +21,20 @@ use Rattle.vm_superio.specs.Laws.Consequences.{OutputLaw}
 abbrev Fate : List ℕ → Sent → Type 0
 Fate bytes outcome = IsTrue (beq (is_sent outcome) (not_empty bytes))
 
-written_none : (offset value : ℕ) (outcome : Sent) → Fate [] outcome → bytes_taken_by_writer (Write offset value) outcome ≡ []
+written_none : (offset value : ℕ) (outcome : Sent) → Fate [] outcome → bytes_written (Write offset value) outcome ≡ []
 written_none offset value sent.Nothing outcome_fits = refl
 written_none offset value sent.Out outcome_fits = absurd (false≢true outcome_fits)
 written_none offset value sent.Lost outcome_fits = absurd (false≢true outcome_fits)
 
 written_one : (offset value : ℕ) (outcome : Sent) → IsTrue (not (is_lost outcome)) → Fate (value ∷ []) outcome
-    → bytes_taken_by_writer (Write offset value) outcome ≡ value ∷ []
+    → bytes_written (Write offset value) outcome ≡ value ∷ []
 written_one offset value sent.Nothing kept outcome_fits = absurd (false≢true outcome_fits)
 written_one offset value sent.Out kept outcome_fits = refl
 written_one offset value sent.Lost kept outcome_fits = absurd (false≢true kept)
 
 write_written : (r : Register) (loopback : Bool) (offset value : ℕ) (outcome : Sent) → IsTrue (not (is_lost outcome))
     → Fate (sent_by (write_kind r loopback value)) outcome
-    → bytes_taken_by_writer (Write offset value) outcome ≡ sent_by (write_kind r loopback value)
+    → bytes_written (Write offset value) outcome ≡ sent_by (write_kind r loopback value)
 write_written RbrThr true offset value outcome kept outcome_fits = written_none offset value outcome outcome_fits
 write_written RbrThr false offset value outcome kept outcome_fits = written_one offset value outcome kept outcome_fits
 write_written Ier loopback offset value outcome kept outcome_fits = written_none offset value outcome outcome_fits
@@ -51,7 +51,7 @@ enqueue_sends dlab false bytes = refl
 
 -- what the writer took is what the operation sends
 pub call_written : (dlab loopback : Bool) (op : Op) (outcome : Sent) → IsTrue (not (is_lost outcome))
-    → Fate (sent_by (kind_of dlab loopback op)) outcome → bytes_taken_by_writer op outcome ≡ sent_by (kind_of dlab loopback op)
+    → Fate (sent_by (kind_of dlab loopback op)) outcome → bytes_written op outcome ≡ sent_by (kind_of dlab loopback op)
 call_written dlab loopback (Read offset) outcome kept outcome_fits = read_sends (register_at dlab offset)
 call_written dlab loopback (Write offset value) outcome kept outcome_fits =
     write_written (register_at dlab offset) loopback offset value outcome kept outcome_fits
@@ -70,4 +70,4 @@ output_law start trace (entry ∷ newest) fitting kept =
     let call = call_written (dlab start place) (loopback start place) entry.op entry.sent
     (and_parts (not (is_lost entry.sent)) (none_lost newest) kept).0
     (and_parts (answer_count entry.asked == trigger_calls start place entry) _ here).1 in
-    ap (λ bytes. bytes ++ bytes_taken_by_writer entry.op entry.sent) rest ∙ ap (λ bytes. output start trace newest ++ bytes) call
+    ap (λ bytes. bytes ++ bytes_written entry.op entry.sent) rest ∙ ap (λ bytes. output start trace newest ++ bytes) call

@@ -12,7 +12,7 @@ use Rattle.vm_superio.specs.Step.Raising.{receive_bytes, bytes_that_fit}
 use Rattle.vm_superio.specs.Port.OpKinds.{OpKind, RbrRead, IirRead, IerWrite, ThrWrite, Arrival, Other}
 use Rattle.vm_superio.specs.History.Registers.{kind_at, held_bytes, interrupt_enable}
 use Rattle.vm_superio.specs.Port.Registers.{Condition, Rda, iir_bit}
-use Rattle.vm_superio.specs.History.Interrupts.{raised_since, is_raised, acknowledges, is_pending, NoneAcknowledges, shows_waiting_bytes}
+use Rattle.vm_superio.specs.History.Interrupts.{pending_since, is_raised, acknowledges, is_pending, NoneAcknowledges, shows_waiting_bytes}
 use Rattle.vm_superio.specs.Laws.Consequences.{PendingByPrefixesLaw, WaitingBytesLaw}
 use Rattle.vm_superio.specs.Laws.Agreement.{state_after}
 use Rattle.vm_superio.proofs.Bytes.{enables_rda}
@@ -68,8 +68,8 @@ module _ (condition : Condition) (start : State) (raises : List TraceEntry → T
 
   -- what was raised stays raised while none acknowledges
   stays : (newest trace : List TraceEntry) → NoneAcknowledges start (acknowledges condition) newest trace
-      → IsTrue (raised_since condition start raises trace)
-      → IsTrue (raised_since condition start raises (newest ++ trace))
+      → IsTrue (pending_since condition start raises trace)
+      → IsTrue (pending_since condition start raises (newest ++ trace))
   stays [] trace none raised = raised
   stays (entry ∷ newest) trace none raised =
       let rest = stays newest trace (none_fewer start (acknowledges condition) newest trace entry none) raised in
@@ -99,32 +99,32 @@ module _ (condition : Condition) (start : State) (raises : List TraceEntry → T
       )
 
   found : (entry : TraceEntry) (trace : List TraceEntry) (here : Bool) → raises trace entry ≡ here
-      → (IsTrue (raised_since condition start raises trace)
+      → (IsTrue (pending_since condition start raises trace)
       → ByPrefixes trace)
       → IsTrue (here ||
-      (not (acknowledges condition (kind_at start trace entry.op)) && raised_since condition start raises trace))
+      (not (acknowledges condition (kind_at start trace entry.op)) && pending_since condition start raises trace))
       → ByPrefixes (entry ∷ trace)
   found entry trace true raised earlier e =
       inl ([], trace, entry, refl, raised, nowhere start (acknowledges condition) (entry ∷ trace))
   found entry trace false raised earlier e =
       let acknowledged = acknowledges condition (kind_at start trace entry.op) in
-      let rest = raised_since condition start raises trace in
+      let rest = pending_since condition start raises trace in
       grown entry trace (not_false acknowledged (and_parts (not acknowledged) rest e).0)
       (earlier (and_parts (not acknowledged) rest e).1)
 
-  to_places : (trace : List TraceEntry) → IsTrue (raised_since condition start raises trace)
+  to_places : (trace : List TraceEntry) → IsTrue (pending_since condition start raises trace)
       → ByPrefixes trace
   to_places [] e = inr (e, nowhere start (acknowledges condition) [])
   to_places (entry ∷ trace) e = found entry trace (raises trace entry) refl (to_places trace) e
 
   from_places : (trace : List TraceEntry) → ByPrefixes trace
-      → IsTrue (raised_since condition start raises trace)
+      → IsTrue (pending_since condition start raises trace)
   from_places trace (inl (after, before, entry, place, raised, none)) =
-      let there : IsTrue (raised_since condition start raises (entry ∷ before)) = rw raised refl in
-      subst (λ (trace : List TraceEntry). IsTrue (raised_since condition start raises trace)) (sym place)
+      let there : IsTrue (pending_since condition start raises (entry ∷ before)) = rw raised refl in
+      subst (λ (trace : List TraceEntry). IsTrue (pending_since condition start raises trace)) (sym place)
       (stays after (entry ∷ before) none there)
   from_places trace (inr (pending, none)) =
-      subst (λ (trace : List TraceEntry). IsTrue (raised_since condition start raises trace)) (append-nil trace)
+      subst (λ (trace : List TraceEntry). IsTrue (pending_since condition start raises trace)) (append-nil trace)
       (stays trace [] none pending)
 
 pub pending_by_prefixes_law : PendingByPrefixesLaw

@@ -6,7 +6,7 @@ use Rattle.vm_superio.specs.declared.trace.Asked.TheVariants.{Nothing}
 use Rattle.vm_superio.specs.Port.Bits.{has_bits, only_bits, with_bits, without_bits}
 use Rattle.vm_superio.specs.Port.State.{not_empty}
 use Rattle.vm_superio.specs.Port.Registers.{Rda, Thre, identification_of}
-use Rattle.vm_superio.specs.Port.Operations.{is_refused_once, one_if, answer_count}
+use Rattle.vm_superio.specs.Port.Operations.{is_first_refused, one_if, answer_count}
 use Rattle.vm_superio.specs.Step.Raising.{becomes_pending, raise, rda_becomes_pending, raise_rda_while_held}
 use Rattle.vm_superio.specs.Step.Admissible.{answers_all}
 use Rattle.vm_superio.proofs.Bytes.{enables_rda, enables_thre}
@@ -150,7 +150,7 @@ ier_write_raises_thre held value thre rda =
 -- two calls may be due, and the second is not made where the first is refused
 pub answers_counted : (first second : Bool) (asked : Asked)
     → answers_all (one_if first + one_if second) asked
-    ≡ (answer_count asked == one_if first + one_if (second && not (first && is_refused_once asked)))
+    ≡ (answer_count asked == one_if first + one_if (second && not (first && is_first_refused asked)))
 answers_counted true true Nothing = refl
 answers_counted true false Nothing = refl
 answers_counted false true Nothing = refl

@@ -21,7 +21,7 @@ use Rattle.vm_superio.specs.Port.State.{State}
 use Rattle.vm_superio.specs.Port.Operations.{Op, TraceEntry, Response, ByteRead, is_lost}
 use Rattle.vm_superio.specs.Port.Operations as operation
 use Rattle.vm_superio.specs.Port.Coherent.{Coherent}
-use Rattle.vm_superio.specs.Port.WriterLink.{PortLinks, bytes_taken_by_writer}
+use Rattle.vm_superio.specs.Port.WriterLink.{PortLinks, bytes_written}
 use Rattle.vm_superio.specs.Port.ObjectLinks.{all_ok, RefusesOwnState}
 use Rattle.vm_superio.specs.Port.Model.{Port}
 use Rattle.vm_superio.specs.Step.Transition.{step, step_response}
@@ -33,7 +33,7 @@ use Rattle.vm_superio.specs.History.Reads.{ResponsesAre, history_response, none_
 use Rattle.vm_superio.specs.Run.Segments.{Segment, first_segment, extend, IsAfter}
 use Rattle.vm_superio.specs.Run.Steps.{CallFollows, next_segment, IsRun}
 use Rattle.vm_superio.specs.Run.Trace.{IsReplyTo, RecordsOf, act_of, op_of, is_restore, entry_of, response_of, refusal_in_reply, entries_of, trace_of, without_restores}
-use Rattle.vm_superio.specs.Run.Observations.{ReadIs, ReadsAre, WriterSegment, OutputIs, OutputAtEnd, next_writer_segment, OutputsAre, TriggerSegment, TriggerAtRestore, next_trigger_segment, TriggersAre}
+use Rattle.vm_superio.specs.Run.Observations.{ReadIs, ReadsAre, WriterSegment, OutputIs, OutputAtRestore, next_writer_segment, OutputsAre, TriggerSegment, TriggerAtRestore, next_trigger_segment, TriggersAre}
 use Rattle.vm_superio.specs.Run.HistoryTheorem.{HistoryTheorem}
 use Rattle.vm_superio.specs.Laws.Agreement.{state_after, StepsFollow}
 use Rattle.vm_superio.specs.Laws.Consequences.{op_and_asked, ops_and_asked, recorded_output}
@@ -183,11 +183,11 @@ module _ {T E EV W : Type 0} (links : PortLinks T E EV W) where
     record IsSegmentOf (before newest : List TraceEntry) (s : State) (segment : Segment T E EV W) : Type 0 where
       state : s ≡ state_after start (newest ++ before)
       well_formed : IsTrue (is_well_formed start (newest ++ before))
-      taken : segment.written_out ≡ recorded_output newest
+      taken : segment.written_bytes ≡ recorded_output newest
       outcomes : list_all (λ outcome. not (is_lost outcome)) segment.outcomes ≡ none_lost newest
 
     abbrev writer : (before newest : List TraceEntry) (segment : Segment T E EV W) → WriterSegment W
-    writer before newest segment = record { before = before; newest = newest; begun = segment.out }
+    writer before newest segment = record { before = before; newest = newest; initial = segment.out }
 
     OutputIs-segment :
         (before newest : List TraceEntry) (s : State) (segment : Segment T E EV W) (port : Port T EV W) →
@@ -203,7 +203,7 @@ module _ {T E EV W : Type 0} (links : PortLinks T E EV W) where
         (asked : Asked) (sent : Sent) (reply : Reply T EV W E) : Type 0 where
       next_before : List TraceEntry
       next_newest : List TraceEntry
-      end : OutputAtEnd links.contents start (writer before newest segment) call reply
+      end : OutputAtRestore links.contents start (writer before newest segment) call reply
       same :
           next_writer_segment links.contents start (writer before newest segment) (entry made asked sent) call reply
           ≡ writer next_before next_newest (next_segment links s segment call asked sent reply)
@@ -218,7 +218,7 @@ module _ {T E EV W : Type 0} (links : PortLinks T E EV W) where
         record {
           state = ap (λ s. step s op asked) is.state;
           well_formed = well_formed-step (newest ++ before) s added is.state admissible is.well_formed;
-          taken = ap (λ bytes. bytes ++ bytes_taken_by_writer op sent) is.taken;
+          taken = ap (λ bytes. bytes ++ bytes_written op sent) is.taken;
           outcomes = list_all-append (λ outcome. not (is_lost outcome)) segment.outcomes (sent ∷ []) ∙ swapped _ _ (not (is_lost sent)) is.outcomes;
         }
 
@@ -294,7 +294,7 @@ module _ {T E EV W : Type 0} (links : PortLinks T E EV W) where
     restoring trace s state = ap restore_calls state ∙ (interrupt_law start trace coherent.thre coherent.rda coherent.identification).restoring
 
     abbrev called : (segment : Segment T E EV W) → TriggerSegment T E
-    called segment = record { begun = segment.trigger; answers = segment.answers }
+    called segment = record { initial = segment.trigger; answers = segment.answers }
 
     -- a call adds to the segment of the trigger, or ends it
     record Trigger-next
@@ -314,7 +314,7 @@ module _ {T E EV W : Type 0} (links : PortLinks T E EV W) where
     Trigger-call trace s segment (Enqueue bytes) asked sent (Enqueued answer) state h = record { at_restore = tt; same = refl }
     Trigger-call trace s segment (Restore trigger events out) asked sent (Restored old) state h = record {
       at_restore = (h.2.trigger, subst (λ due. (now : T) × links.trigger trigger (all_ok due) now) (restoring trace s state) h.3);
-      same = ap (λ due. record { begun = trigger; answers = all_ok due }) (sym (restoring trace s state));
+      same = ap (λ due. record { initial = trigger; answers = all_ok due }) (sym (restoring trace s state));
     }
     Trigger-call trace s segment (Restore trigger events out) asked sent (NotRestored refused) state h = record {
       at_restore = subst (λ due. RefusesOwnState links.trigger due refused.error trigger refused.trigger) (restoring trace s state) h.2;
@@ -352,7 +352,7 @@ module _ {T E EV W : Type 0} (links : PortLinks T E EV W) where
         records_of_calls = of;
         reads = reads;
         responses = agrees.responses;
-        kept = ap (λ (port : State). taken_bytes s trace ++ port.in_buffer) agrees.state ∙ taken_then_held s trace;
+        received_bytes = ap (λ (port : State). taken_bytes s trace ++ port.in_buffer) agrees.state ∙ taken_then_held s trace;
         trigger_calls = agrees.well_formed;
         bound = trigger_bound_law s trace agrees.well_formed;
         waiting = waiting_bytes_law s trace;

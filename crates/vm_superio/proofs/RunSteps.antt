@@ -13,7 +13,7 @@ use Rattle.vm_superio.specs.declared.run.Reply.TheVariants.{Byte, Wrote, Enqueue
 use Rattle.vm_superio.specs.declared.run.Done.{Done}
 use Rattle.vm_superio.specs.Port.Operations.{Event, Op, Response}
 use Rattle.vm_superio.specs.Port.ObjectLinks.{TriggerAnswer, Contents, answers_of}
-use Rattle.vm_superio.specs.Port.WriterLink.{PortLinks, bytes_taken_by_writer, WriterLink}
+use Rattle.vm_superio.specs.Port.WriterLink.{PortLinks, bytes_written, WriterLink}
 use Rattle.vm_superio.specs.Port.Model.{Port}
 use Rattle.vm_superio.specs.Step.Transition.{step}
 use Rattle.vm_superio.specs.Step.PortStep.{IsPortStep}
@@ -63,8 +63,8 @@ module _ {T E EV W : Type 0} (links : PortLinks T E EV W) (laws : LawfulLinks li
   IsAfter-extend segment op asked sent answered refusal old new before h = record {
     state = refl;
     trigger = laws.calls_joined segment.trigger old.trigger new.trigger segment.answers (answers_of asked refusal) before.trigger h.trigger;
-    events = laws.events_joined segment.events old.events new.events segment.reported _ before.events h.events;
-    out = WriterLink-append links.contents segment.out old.out new.out segment.outcomes (sent ∷ []) segment.written_out (bytes_taken_by_writer op sent) before.out h.out;
+    events = laws.events_joined segment.events old.events new.events segment.reported_events _ before.events h.events;
+    out = WriterLink-append links.contents segment.out old.out new.out segment.outcomes (sent ∷ []) segment.written_bytes (bytes_written op sent) before.out h.out;
   }
 
   -- a call that was made follows, and its port is the one after the next segment

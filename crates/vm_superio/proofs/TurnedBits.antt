@@ -9,7 +9,7 @@ use Rattle.vm_superio.specs.Port.State.{State, not_empty}
 use Rattle.vm_superio.specs.Port.Bits.{has_bits, only_bits, with_bits, without_bits}
 use Rattle.vm_superio.specs.Port.Registers.{Rda, Thre}
 use Rattle.vm_superio.specs.Step.PortStep.{turns_on}
-use Rattle.vm_superio.specs.Port.Operations.{is_refused_once, one_if, answer_count}
+use Rattle.vm_superio.specs.Port.Operations.{is_first_refused, one_if, answer_count}
 use Rattle.vm_superio.specs.Port.OpKinds.{OpKind, RbrRead, IirRead, IerWrite, ThrWrite, Arrival, Other}
 use Rattle.vm_superio.specs.Step.Admissible.{kind_in_state, arrival_calls, kind_calls, step_calls, answers_all}
 use Rattle.vm_superio.specs.Step.Raising.{bytes_that_fit, becomes_pending, raise, receive_bytes}
@@ -233,7 +233,7 @@ turned_by_kind (IerWrite value) asked s fit =
     let call = held && becomes_pending Rda enable old in
     eqb-true _ _
     (sym (answers_counted call (becomes_pending Thre enable (first enable old held)) asked) ∙ fit)
-    ∙ ier_write_turned enable old held (call && is_refused_once asked)
+    ∙ ier_write_turned enable old held (call && is_first_refused asked)
 turned_by_kind (ThrWrite value) asked s fit =
     one_answer _ asked fit ∙ thre_turned s.interrupt_enable s.interrupt_identification
 turned_by_kind (Arrival bytes) asked s fit = received_turned (bytes_that_fit s.in_buffer bytes) s asked fit

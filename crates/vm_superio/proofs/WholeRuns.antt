@@ -8,7 +8,7 @@ use Rattle.vm_superio.specs.declared.trace.Asked.{Asked}
 use Rattle.vm_superio.specs.declared.trace.Sent.{Sent}
 use Rattle.vm_superio.specs.Port.State.{State, not_empty}
 use Rattle.vm_superio.specs.Port.Bits.{has_bits, without_bits}
-use Rattle.vm_superio.specs.Port.Operations.{Op, Read, Write, Enqueue, Restore, TraceEntry, Response, EnqueueOk, FifoFull, TriggerRefused, is_refused_once}
+use Rattle.vm_superio.specs.Port.Operations.{Op, Read, Write, Enqueue, Restore, TraceEntry, Response, EnqueueOk, FifoFull, TriggerRefused, is_first_refused}
 use Rattle.vm_superio.specs.Step.Raising.{receive_bytes, bytes_that_fit}
 use Rattle.vm_superio.specs.Step.Admissible.{kind_in_state}
 use Rattle.vm_superio.specs.Port.OpKinds.{OpKind, RbrRead, IirRead, IerWrite, ThrWrite, Arrival, Other}
@@ -127,11 +127,11 @@ state_law start trace coherent =
 enqueue_reported : (loopback : Bool) (bytes held_bytes : List ℕ) (asked : Asked)
     → (if loopback || (length bytes == 0) then EnqueueOk 0
     else (if nat_le 64 (length held_bytes) then FifoFull
-    else (if is_refused_once asked then TriggerRefused
+    else (if is_first_refused asked then TriggerRefused
     else EnqueueOk (length (if loopback then [] else bytes_that_fit held_bytes bytes)))))
     ≡ (if loopback || (length bytes == 0) then EnqueueOk 0
     else (if nat_le 64 (length held_bytes) then FifoFull
-    else (if is_refused_once asked then TriggerRefused
+    else (if is_first_refused asked then TriggerRefused
     else EnqueueOk (length (accepted_by (if loopback then Other else Arrival bytes) held_bytes)))))
 enqueue_reported true bytes held_bytes asked = refl
 enqueue_reported false bytes held_bytes asked = refl

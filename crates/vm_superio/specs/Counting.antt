@@ -1,5 +1,5 @@
--- What an events object that folds its events states as its `link`, with the two laws that an events trait asks for. It
--- serves any event type: give one function that says what one event does to the object's value.
+-- A `link` for events objects that fold their events, with the two laws that an events trait requires. It serves any
+-- type of events: give one function that says what one event does to the object's value.
 use Rattle.std.specs.Prelude.{◌≡◌, ◌↔◌, List, [], ◌++◌, fold}
 use Rattle.std.proofs.Common.{sym, ap, ◌∙◌}
 use Rattle.std.proofs.lemmas.List.Sums.{fold-append}

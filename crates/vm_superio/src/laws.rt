@@ -6,7 +6,7 @@
 //! two alone.
 ghost use Rattle.vm_superio.specs.Laws.Agreement.{RegisterLaw, HeldBytesLaw, LineStatusLaw, InterruptLaw, CoherenceLaw, StateLaw, ResponseLaw, StepLaw, WholeRunLaw};
 ghost use Rattle.vm_superio.specs.Laws.Consequences.{PendingByPrefixesLaw, TriggerBoundLaw, WaitingBytesLaw, SameReadsLaw, TakenThenHeldLaw, OutputLaw};
-ghost use Rattle.vm_superio.specs.Laws.OneCall.{OneCallLaw, EventsLaw, TurnedBitsLaw, ExactTestLaw};
+ghost use Rattle.vm_superio.specs.Laws.OneCall.{OneCallLaw, OutcomeEventsLaw, TurnedBitsLaw, AdmissibilityLaw};
 
 mod clock;
 
@@ -98,7 +98,7 @@ pub fn one_call()
 /// One call in any state: a THR write reports exactly one of `out_byte` and `tx_lost_byte`, once, and no other call
 /// reports either.
 pub fn outcome_events()
-    ensures { EventsLaw }
+    ensures { OutcomeEventsLaw }
 {}
 
 /// One call in any state: the trigger is called once for each of the two pending bits of IIR that the call turns from
@@ -110,5 +110,5 @@ pub fn turned_bits()
 /// One call in any state: each choice of answers to the trigger calls that are due, and of the writer's success or
 /// failure, gives one pair of answers and outcome. These pairs are admissible, and no others.
 pub fn admissibility()
-    ensures { ExactTestLaw }
+    ensures { AdmissibilityLaw }
 {}

@@ -6,7 +6,7 @@ use Rattle.vm_superio.specs.declared.rtc_pl031.RtcState.{RtcState}
 use Rattle.vm_superio.specs.Port.Bits.{without_bits}
 use Rattle.vm_superio.specs.Clock.Registers.{Access, read, write, clock_register_at, host_time, guest_time, clock_register_read}
 
--- what the newest access that gives something gives
+-- the value of the newest access for which `find` gives one
 abbrev pub newest_found : {A : Type 0} → (find : Access → Option A) (trace : List Access) → Option A
 newest_found find [] = None
 newest_found find (access ∷ trace) = option_or (find access) (newest_found find trace)

@@ -4,7 +4,7 @@ use Rattle.std.specs.Bool.{beq, IsFalse}
 use Rattle.vm_superio.specs.Port.Bits.{has_bits}
 use Rattle.vm_superio.specs.Port.State.{State, not_empty}
 use Rattle.vm_superio.specs.Port.Registers.{Condition, Rda, Thre, ier_bit, iir_bit, thre_then_rda}
-use Rattle.vm_superio.specs.Port.Operations.{TraceEntry, is_refused_once, is_sent, answer_count, one_if, Trace}
+use Rattle.vm_superio.specs.Port.Operations.{TraceEntry, is_first_refused, is_sent, answer_count, one_if, Trace}
 use Rattle.vm_superio.specs.Port.OpKinds.{OpKind, IerWrite, ThrWrite, sent_by, is_iir_read, is_rbr_read}
 use Rattle.vm_superio.specs.History.Registers.{accepted_by, kind_at, interrupt_enable, held_bytes}
 
@@ -15,13 +15,13 @@ abbrev pub acknowledges : (condition : Condition) (kind : OpKind) → Bool
 acknowledges Rda kind = is_iir_read kind || is_rbr_read kind
 acknowledges Thre kind = is_iir_read kind
 
--- pending: the newest entry that raises or acknowledges the condition raises it; or there is none, and it was at first
-abbrev pub raised_since :
+-- the newest entry that raises or acknowledges the condition raises it; or no entry does, and it was pending at the start
+abbrev pub pending_since :
     (condition : Condition) (start : State) (raises : Trace → TraceEntry → Bool) (trace : Trace) → Bool
-raised_since condition start raises [] = has_bits start.interrupt_identification (iir_bit condition)
-raised_since condition start raises (entry ∷ trace) =
+pending_since condition start raises [] = has_bits start.interrupt_identification (iir_bit condition)
+pending_since condition start raises (entry ∷ trace) =
     raises trace entry
-    || (not (acknowledges condition (kind_at start trace entry.op)) && raised_since condition start raises trace)
+    || (not (acknowledges condition (kind_at start trace entry.op)) && pending_since condition start raises trace)
 
 -- RDA is raised by an IER write whose value has its bit while bytes are held, and by an operation that accepts a byte
 -- while IER has the bit
@@ -29,7 +29,7 @@ abbrev pub raises_rda : (kind : OpKind) (held : List ℕ) (enable : ℕ) → Boo
 raises_rda (IerWrite value) held enable = has_bits value (ier_bit Rda) && not_empty held
 raises_rda kind held enable = not_empty (accepted_by kind held) && has_bits enable (ier_bit Rda)
 
--- THRE is raised by a THR write while IER has its bit, and by an IER write whose value has the bit unless the trigger
+-- THRE is raised by a THR write outside loopback while IER has its bit, and by an IER write whose value has the bit unless the trigger
 -- refused its call for RDA
 abbrev pub raises_thre : (kind : OpKind) (enable : ℕ) (refused : Bool) → Bool
 raises_thre (ThrWrite value) enable refused = has_bits enable (ier_bit Thre)
@@ -42,17 +42,17 @@ rda_raised start trace entry =
     raises_rda (kind_at start trace entry.op) (held_bytes start trace) (interrupt_enable start trace)
 
 abbrev pub rda_pending : (start : State) (trace : Trace) → Bool
-rda_pending start trace = raised_since Rda start (rda_raised start) trace
+rda_pending start trace = pending_since Rda start (rda_raised start) trace
 
--- either condition is raised by this entry, or pending
+-- the same for either condition: `is_raised Rda` is `rda_raised`, and `is_pending Rda` is `rda_pending`
 abbrev pub is_raised : (condition : Condition) (start : State) (trace : Trace) (entry : TraceEntry) → Bool
 is_raised Rda start trace entry = rda_raised start trace entry
 is_raised Thre start trace entry =
     raises_thre (kind_at start trace entry.op) (interrupt_enable start trace)
-    (rda_raised start trace entry && not (rda_pending start trace) && is_refused_once entry.asked)
+    (rda_raised start trace entry && not (rda_pending start trace) && is_first_refused entry.asked)
 
 abbrev pub is_pending : (condition : Condition) (start : State) (trace : Trace) → Bool
-is_pending condition start trace = raised_since condition start (is_raised condition start) trace
+is_pending condition start trace = pending_since condition start (is_raised condition start) trace
 
 -- a trigger call is due where a condition is raised and was not pending
 abbrev pub is_call_due : (condition : Condition) (start : State) (trace : Trace) (entry : TraceEntry) → Bool
@@ -76,7 +76,7 @@ abbrev pub is_well_formed : (start : State) (trace : Trace) → Bool
 is_well_formed start [] = true
 is_well_formed start (entry ∷ trace) = is_well_formed_entry start trace entry && is_well_formed start trace
 
--- a restore calls for each condition that is pending and enabled, THRE first, as long as no call is refused
+-- a restore calls the trigger once for each condition that is pending and enabled, THRE first, up to the first refusal
 abbrev pub restore_calls_due : (start : State) (trace : Trace) → List Condition
 restore_calls_due start trace =
     thre_then_rda (is_pending Thre start trace && has_bits (interrupt_enable start trace) (ier_bit Thre))
@@ -89,7 +89,7 @@ abbrev pub op_kinds : (start : State) (trace : Trace) → List OpKind
 op_kinds start [] = []
 op_kinds start (entry ∷ trace) = kind_at start trace entry.op ∷ op_kinds start trace
 
--- the trigger calls outside restores are at most two, two more for each IIR read, and one more for each RBR read
+-- the trigger calls outside restores are at most two, plus two for each IIR read and one for each RBR read
 abbrev pub IsWithinBound : (start : State) (trace : Trace) → Type 0
 IsWithinBound start trace =
     sum_by (λ (entry : TraceEntry). answer_count entry.asked) trace

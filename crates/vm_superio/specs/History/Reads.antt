@@ -1,10 +1,10 @@
--- What the history makes of a port: its state, what a guest reads, what the other calls respond, and the output.
+-- What the history says of a port: its state, what a guest reads, what the other calls respond, and the output.
 use Rattle.std.specs.Prelude.{◌≡◌, ⊤, ℕ, Bool, not, ◌==◌, ◌||◌, nat_le, if◌then◌else◌, List, [], ◌∷◌, ◌++◌, length}
 use Rattle.std.specs.List.{list_all}
 use Rattle.vm_superio.specs.Port.Bits.{with_bits, without_bits, lsr_dr_bit}
 use Rattle.vm_superio.specs.Port.State.{State, not_empty}
 use Rattle.vm_superio.specs.Port.Registers.{Rda, Thre, register_at, identification_of, register_read}
-use Rattle.vm_superio.specs.Port.Operations.{Asked, Sent, Op, Read, Write, Enqueue, Restore, TraceEntry, Response, ByteRead, EnqueueOk, TriggerRefused, FifoFull, NoResponse, is_refused_once, is_lost, write_outcome, Trace}
+use Rattle.vm_superio.specs.Port.Operations.{Asked, Sent, Op, Read, Write, Enqueue, Restore, TraceEntry, Response, ByteRead, EnqueueOk, TriggerRefused, FifoFull, NoResponse, is_first_refused, is_lost, recorded_write_response, Trace}
 use Rattle.vm_superio.specs.Port.OpKinds.{sent_by}
 use Rattle.vm_superio.specs.History.Registers.{kind_at, line_control, modem_control, scratch, dlab, loopback, divisor_low, divisor_high, interrupt_enable, accepted_by, held_bytes}
 use Rattle.vm_superio.specs.History.Interrupts.{is_pending}
@@ -21,7 +21,7 @@ with_data_ready line_status ready =
 abbrev pub line_status : (start : State) (trace : Trace) → ℕ
 line_status start trace = with_data_ready start.line_status (not_empty (held_bytes start trace))
 
--- the state that a trace leads to
+-- the state that the history of a trace describes
 abbrev pub state_of_history : (start : State) (trace : Trace) → State
 state_of_history start trace = record {
   baud_divisor_low = divisor_low start trace;
@@ -47,14 +47,14 @@ abbrev pub enqueue_history_response :
 enqueue_history_response start trace bytes asked =
     if loopback start trace || (length bytes == 0) then EnqueueOk 0
     else (if nat_le 64 (length (held_bytes start trace)) then FifoFull
-    else (if is_refused_once asked then TriggerRefused
+    else (if is_first_refused asked then TriggerRefused
     else EnqueueOk (length (accepted_by (kind_at start trace (Enqueue bytes)) (held_bytes start trace)))))
 
 -- what any call responds: a write by the trigger's answers and the outcome of its byte
 abbrev pub history_response :
     (start : State) (trace : Trace) (op : Op) (asked : Asked) (sent : Sent) → Response
 history_response start trace (Read offset) asked sent = ByteRead (guest_read start trace offset)
-history_response start trace (Write offset value) asked sent = write_outcome asked sent
+history_response start trace (Write offset value) asked sent = recorded_write_response asked sent
 history_response start trace (Enqueue bytes) asked sent = enqueue_history_response start trace bytes asked
 history_response start trace Restore asked sent = NoResponse
 
@@ -65,7 +65,7 @@ ResponsesAre start trace (call ∷ later) =
     (call.1 ≡ history_response start trace call.0.op call.0.asked call.0.sent)
     × ResponsesAre start (call.0 ∷ trace) later
 
--- the output of the newest entries, those in front of `trace`: the values of their THR writes, in order
+-- the output of the newest entries, those in front of `trace`: the values of their THR writes outside loopback, in order
 abbrev pub output : (start : State) (trace newest : Trace) → List ℕ
 output start trace [] = []
 output start trace (entry ∷ newest) =

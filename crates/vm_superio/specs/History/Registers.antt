@@ -59,7 +59,7 @@ kind_at start trace op = kind_of (dlab start trace) (loopback start trace) op
 
 -- ---- received bytes
 
--- of the bytes that come in, those that find room beside the held ones in a FIFO of 64 are accepted
+-- of the bytes that come in, the first that find room beside the held ones in a FIFO of 64 are accepted
 abbrev pub accepted_by : (kind : OpKind) (held : List ℕ) → List ℕ
 accepted_by (Arrival bytes) held = take (64 - length held) bytes
 accepted_by _ held = []
@@ -69,7 +69,7 @@ abbrev pub taken_by : (kind : OpKind) (held : List ℕ) → List ℕ
 taken_by RbrRead held = take 1 held
 taken_by _ held = []
 
--- the bytes that remain: the first ones and those accepted, without as many of the first as were taken
+-- the bytes that remain: those at the start and those accepted, less as many from the front as were taken
 abbrev pub remaining_bytes : (first accepted taken : List ℕ) → List ℕ
 remaining_bytes first accepted taken = drop (length taken) (first ++ accepted)
 

@@ -7,7 +7,7 @@ use Rattle.vm_superio.specs.Port.Registers.{identification_of}
 use Rattle.vm_superio.specs.Port.Coherent.{Coherent}
 use Rattle.vm_superio.specs.Port.Operations.{Op, TraceEntry, Response, is_lost, Trace}
 use Rattle.vm_superio.specs.Port.OpKinds.{sent_by}
-use Rattle.vm_superio.specs.Port.WriterLink.{bytes_taken_by_writer}
+use Rattle.vm_superio.specs.Port.WriterLink.{bytes_written}
 use Rattle.vm_superio.specs.Step.Transition.{step, step_response, step_events}
 use Rattle.vm_superio.specs.Step.Admissible.{step_calls, is_admissible}
 use Rattle.vm_superio.specs.Step.Restore.{restore_calls}
@@ -41,13 +41,13 @@ RegisterLaw = (start : State) (trace : Trace) → RegistersAgree start trace (st
 abbrev pub HeldBytesLaw : Type 0
 HeldBytesLaw = (start : State) (trace : Trace) → (state_after start trace).in_buffer ≡ held_bytes start trace
 
--- its LSR, from a start whose LSR is a byte that shows whether bytes are held
+-- the LSR law, from a start whose LSR shows whether bytes are held
 abbrev pub LineStatusLaw : Type 0
 LineStatusLaw = (start : State) (trace : Trace)
     → has_bits start.line_status lsr_dr_bit ≡ not_empty start.in_buffer
     → (state_after start trace).line_status ≡ line_status start trace
 
--- the interrupt law, from a start whose IIR shows two conditions, and over any trace: IIR shows the conditions that are
+-- the interrupt law, from a start whose IIR is 1, 2, 4 or 6, and over any trace: IIR shows the conditions that are
 -- pending, an entry is admissible exactly where it is well-formed, and a restore makes the calls that are due
 pub record InterruptsAgree (start : State) (trace : Trace) (s : State) : Type 0 where
   pub pending : s.interrupt_identification ≡ interrupt_identification start trace
@@ -87,7 +87,7 @@ pub record StepAgrees (start : State) (trace : Trace) (entry : TraceEntry) : Typ
   pub events : step_events (state_of_history start trace) entry.op entry.sent ≡ history_events start trace entry
   pub output :
       IsTrue (not (is_lost entry.sent))
-      → bytes_taken_by_writer entry.op entry.sent ≡ sent_by (kind_at start trace entry.op)
+      → bytes_written entry.op entry.sent ≡ sent_by (kind_at start trace entry.op)
 
 -- the trigger calls that a call makes, as long as none is refused, are those of the history, and so are a restore's
 pub record PrefixAgrees (start : State) (trace : Trace) : Type 0 where

@@ -5,7 +5,7 @@ use Rattle.vm_superio.specs.Port.Bits.{has_bits}
 use Rattle.vm_superio.specs.Port.State.{State}
 use Rattle.vm_superio.specs.Port.Registers.{Condition, iir_bit}
 use Rattle.vm_superio.specs.Port.Operations.{Op, Restore, TraceEntry, Trace}
-use Rattle.vm_superio.specs.Port.WriterLink.{bytes_taken_by_writer}
+use Rattle.vm_superio.specs.Port.WriterLink.{bytes_written}
 use Rattle.vm_superio.specs.History.Registers.{accepted_bytes, taken_bytes, held_bytes}
 use Rattle.vm_superio.specs.History.Interrupts.{acknowledges, is_raised, is_pending, is_well_formed, NoneAcknowledges, IsWithinBound, WaitingBytesShow}
 use Rattle.vm_superio.specs.History.Reads.{guest_read, output, none_lost}
@@ -21,7 +21,7 @@ PendingByPrefixes condition start trace =
     ⊎ (IsTrue (has_bits start.interrupt_identification (iir_bit condition))
     × NoneAcknowledges start (acknowledges condition) trace [])
 
--- the backward search finds what the sentence says
+-- `is_pending`, a search from the newest entry back, decides it
 abbrev pub PendingByPrefixesLaw : Type 0
 PendingByPrefixesLaw = (condition : Condition) (start : State) (trace : Trace)
     → IsTrue (is_pending condition start trace) ↔ PendingByPrefixes condition start trace
@@ -61,7 +61,7 @@ TakenThenHeldLaw = (start : State) (trace : Trace)
 -- the bytes that are recorded as taken by the writer, in order
 abbrev pub recorded_output : (newest : Trace) → List ℕ
 recorded_output [] = []
-recorded_output (entry ∷ newest) = recorded_output newest ++ bytes_taken_by_writer entry.op entry.sent
+recorded_output (entry ∷ newest) = recorded_output newest ++ bytes_written entry.op entry.sent
 
 -- in the newest entries of a well-formed trace, if no byte of them is lost, the recorded output is the output
 abbrev pub OutputLaw : Type 0

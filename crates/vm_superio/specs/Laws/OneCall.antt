@@ -10,7 +10,7 @@ use Rattle.vm_superio.specs.Step.Admissible.{kind_in_state, step_calls, sends_by
 use Rattle.vm_superio.specs.Step.PortStep.{turned_on_count}
 use Rattle.vm_superio.specs.History.Registers.{accepted_by, taken_by}
 
--- what a call takes, then what is held after it, is what was held, then what it accepts
+-- the bytes that a call takes, then those held after it, are those held before it, then those it accepts
 abbrev pub OneCallLaw : Type 0
 OneCallLaw = (s : State) (op : Op) (asked : Asked)
     → taken_by (kind_in_state s op) s.in_buffer ++ (step s op asked).in_buffer
@@ -22,9 +22,9 @@ reports_outcome out_byte = true
 reports_outcome tx_lost_byte = true
 reports_outcome _ = false
 
--- a THR write reports exactly one of the two, once, and no other call reports either
-abbrev pub EventsLaw : Type 0
-EventsLaw = (s : State) (op : Op) (asked : Asked) (sent : Sent) → IsTrue (is_admissible s op asked sent)
+-- a THR write outside loopback reports exactly one of the two, once, and no other call reports either
+abbrev pub OutcomeEventsLaw : Type 0
+OutcomeEventsLaw = (s : State) (op : Op) (asked : Asked) (sent : Sent) → IsTrue (is_admissible s op asked sent)
     → count_by reports_outcome (step_events s op sent) ≡ length (sent_by (kind_in_state s op))
 
 -- the trigger is called once for each of the two pending bits of IIR that the call turns from clear to set
@@ -33,7 +33,7 @@ TurnedBitsLaw = (s : State) (op : Op) (asked : Asked) (sent : Sent)
     → IsTrue (is_admissible s op asked sent)
     → answer_count asked ≡ turned_on_count s (step s op asked)
 
--- the record of a trigger that is called so often: the answer to the first call and, if there is one, to the second
+-- the record of a trigger that is called this many times: the answer to the first call and, if there is one, to the second
 abbrev pub asked_when : (calls : ℕ) (first second : Bool) → Asked
 asked_when zero first second = Asked.Nothing
 asked_when (suc zero) first second = if first then Asked.Took else Asked.Refused
@@ -46,8 +46,8 @@ sent_when false success = Sent.Nothing
 sent_when true success = if success then Sent.Out else Sent.Lost
 
 -- admissible is what some answers to the trigger's calls and some success or failure of the writer give, and no more
-abbrev pub ExactTestLaw : Type 0
-ExactTestLaw = (s : State) (op : Op) (asked : Asked) (sent : Sent)
+abbrev pub AdmissibilityLaw : Type 0
+AdmissibilityLaw = (s : State) (op : Op) (asked : Asked) (sent : Sent)
     → IsTrue (is_admissible s op asked sent)
     ↔ ((first second success : Bool)
     × (asked ≡ asked_when (step_calls s op) first second) × (sent ≡ sent_when (sends_byte s op) success))

@@ -1,4 +1,4 @@
--- The invariant of a serial port.
+-- The states that every step keeps: the invariant of a port that started in one.
 use Rattle.std.specs.Prelude.{◌≡◌, ◌≤◌, Bool, length, IsTrue}
 use Rattle.vm_superio.specs.Port.Bits.{has_bits, lsr_dr_bit}
 use Rattle.vm_superio.specs.Port.State.{State, not_empty}

@@ -12,7 +12,7 @@ pub record Port (T EV W : Type 0) : Type 0 where
   pub events : EV
   pub out : W
 
--- what a write or an enqueue answers, as a response, and the refusal that it carries
+-- what a write or an enqueue returns, as a response, and the refusal in it. Neither ever lacks memory
 abbrev pub failure_response : {E : Type 0} → (error : Error E) → Response
 failure_response (Trigger refusal) = TriggerRefused
 failure_response (IOError fault) = WriterFailed

@@ -1,4 +1,4 @@
--- What the objects that a port owns are called for: their values before some calls and after them, and the answers.
+-- The relations that trigger and events types state, and how the trigger calls of a restore are answered.
 use Rattle.std.specs.Prelude.{◌≡◌, ◌⊎◌, ℕ, List, [], ◌∷◌, Option, Result, Ok, Err}
 use Rattle.std.specs.Option.{option_map, option_to_list}
 use Rattle.vm_superio.specs.declared.trace.Asked.{Asked}
@@ -19,7 +19,7 @@ TriggerAnswer E = Result (Unit {0}) E
 abbrev pub Contents : (W : Type 0) → Type 0
 Contents W = W → Option (List ℕ)
 
--- the answers that a record stands for. A refusal among them is the one that the reply carries
+-- the answers that a record stands for. A refusal among them is the one in the reply, which has one exactly then
 abbrev pub answers_of : {E : Type 0} → (asked : Asked) (refusal : Option E) → List (TriggerAnswer E)
 answers_of Asked.Nothing refusal = []
 answers_of Asked.Took refusal = Ok tt ∷ []
@@ -41,7 +41,7 @@ module _ {E : Type 0} where
       ((answer ≡ Err refusal) × (answers ≡ []))
       ⊎ ((answer ≡ Ok tt) × StopsAtRefusal due refusal answers)
 
--- a port that was not made of another port's state: why, and what became of the trigger. Either the trigger refused one
+-- a port that was not made from another port's state: why, and what became of the trigger. Either the trigger refused one
 -- of the calls that are due, or memory was refused and the trigger not called. It is never for too many bytes, since a
 -- port holds at most 64
 abbrev pub RefusesOwnState :

@@ -14,7 +14,7 @@ pub data OpKind : Type 0 where
   ThrWrite : (value : ℕ) → OpKind
   -- bytes that come in: an enqueue outside loopback, or the byte of a THR write in loopback
   Arrival : (bytes : List ℕ) → OpKind
-  -- everything else, a restore and an enqueue in loopback among it
+  -- everything else, a restore and an enqueue in loopback among them
   Other : OpKind
 
 abbrev pub read_kind : (register : Register) → OpKind

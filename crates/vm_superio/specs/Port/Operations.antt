@@ -41,9 +41,9 @@ pub data Event : Type 0 where
 -- ---- the trigger's answers
 
 -- there was one call, which was refused
-abbrev pub is_refused_once : (asked : Asked) → Bool
-is_refused_once Asked.Refused = true
-is_refused_once _ = false
+abbrev pub is_first_refused : (asked : Asked) → Bool
+is_first_refused Asked.Refused = true
+is_first_refused _ = false
 
 -- the last call was refused
 abbrev pub ends_in_refusal : (asked : Asked) → Bool
@@ -75,6 +75,6 @@ is_lost Sent.Lost = true
 is_lost _ = false
 
 -- a write responds with a refusal of the trigger rather than with a failure of the writer
-abbrev pub write_outcome : (asked : Asked) (sent : Sent) → Response
-write_outcome asked sent =
+abbrev pub recorded_write_response : (asked : Asked) (sent : Sent) → Response
+recorded_write_response asked sent =
     if ends_in_refusal asked then TriggerRefused else (if is_lost sent then WriterFailed else WriteOk)

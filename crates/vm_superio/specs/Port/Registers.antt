@@ -66,7 +66,7 @@ abbrev pub iir_bit : (condition : Condition) → ℕ
 iir_bit Rda = 0x04
 iir_bit Thre = 0x02
 
--- IIR while exactly these conditions are pending
+-- IIR while exactly these conditions are pending. A 16550 shows one at a time; here 0x06 shows both
 abbrev pub identification_of : (thre rda : Bool) → ℕ
 identification_of false false = 0x01
 identification_of true false = 0x02

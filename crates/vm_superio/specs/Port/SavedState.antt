@@ -1,4 +1,4 @@
--- The states that a serial port starts from and is kept in: a fresh one, a saved one, and that of its parts.
+-- The state of a serial port: a fresh one, that of a saved state, and that of its registers and bytes.
 use Rattle.std.specs.Prelude.{ℕ, List, []}
 use Rattle.vm_superio.specs.declared.serial.registers.Registers.{Registers}
 use Rattle.vm_superio.specs.declared.serial.state.SerialState.{SerialState}

@@ -18,11 +18,11 @@ abbrev pub port_links :
 port_links trigger events contents = record { trigger = trigger; events = events; contents = contents }
 
 -- the byte that the writer took in a call: a write's value, where it went out
-abbrev pub bytes_taken_by_writer : (op : Op) (sent : Sent) → List ℕ
-bytes_taken_by_writer (Write offset value) Sent.Out = value ∷ []
-bytes_taken_by_writer _ _ = []
+abbrev pub bytes_written : (op : Op) (sent : Sent) → List ℕ
+bytes_written (Write offset value) Sent.Out = value ∷ []
+bytes_written _ _ = []
 
--- a writer over calls with these outcomes, in order, of which it took `bytes`. It is unchanged where nothing was sent.
+-- a writer before and after calls with these outcomes, in order, in which it took `bytes`. It is unchanged where nothing was sent.
 -- Where nothing was lost it grew by these bytes, if its contents are known. Else nothing is stated of it
 pub record WriterLink
     {W : Type 0} (contents : Contents W) (outcomes : List Sent) (bytes : List ℕ) (old new : W) : Type 0 where

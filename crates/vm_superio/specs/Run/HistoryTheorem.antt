@@ -20,21 +20,21 @@ pub record HistoryTheorem
   -- so is every other response: that of a write and of an enqueue, given the outcome of the byte that a write sends
   pub responses : ResponsesAre start.state [] (entries_of records)
   -- bytes taken, then those held, are those held at the start, then those accepted
-  pub kept :
+  pub received_bytes :
       taken_bytes start.state (trace_of records) ++ end.state.in_buffer
       ≡ start.state.in_buffer ++ accepted_bytes start.state (trace_of records)
-  -- each trigger call outside restores is one condition that becomes pending; their number is bounded; and RDA stays
-  -- pending while bytes wait
+  -- each trigger call outside restores is one condition that becomes pending; their number is bounded; and RDA is pending
+  -- while bytes are held and enabled, from an accepted byte or an IER write until IIR or RBR is read
   pub trigger_calls : IsTrue (is_well_formed start.state (trace_of records))
   pub bound : IsWithinBound start.state (trace_of records)
   pub waiting : WaitingBytesShow start.state (trace_of records)
   -- output reaches each writer byte for byte, from its start to its end, while no byte is recorded lost
   pub output :
-      OutputsAre contents start.state (record { before = []; newest = []; begun = start.out }) calls records end.out
+      OutputsAre contents start.state (record { before = []; newest = []; initial = start.out }) calls records end.out
   -- each trigger gave the answers that are recorded: the first from the run's start, each later one from its restore,
   -- which makes the calls that are due. And restores change no later read
   pub restores :
-      TriggersAre trigger_link start.state [] (record { begun = start.trigger; answers = [] }) calls records end.trigger
+      TriggersAre trigger_link start.state [] (record { initial = start.trigger; answers = [] }) calls records end.trigger
   pub reads_alone : ReadsAre start.state [] (without_restores records)
   -- the end is the state that the trace leads to, and it is coherent
   pub end_state : end.state ≡ state_of_history start.state (trace_of records)

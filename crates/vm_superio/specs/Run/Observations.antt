@@ -27,26 +27,26 @@ module _ {T E EV W : Type 0} where
 pub record WriterSegment (W : Type 0) : Type 0 where
   pub before : Trace
   pub newest : Trace
-  pub begun : W
+  pub initial : W
 
 -- where no byte of the segment is lost, a writer whose contents are known took the segment's output
 abbrev pub OutputIs :
     {W : Type 0} → (contents : Contents W) (start : State) (segment : WriterSegment W) (now : W) → Type 0
 OutputIs contents start segment now =
     IsTrue (none_lost segment.newest)
-    → Appends (contents segment.begun) (contents now) (output start segment.before segment.newest)
+    → Appends (contents segment.initial) (contents now) (output start segment.before segment.newest)
 
 module _ {T E EV W : Type 0} (contents : Contents W) (start : State) where
   -- a restore that succeeds ends a segment
-  abbrev pub OutputAtEnd : (segment : WriterSegment W) (call : Call T EV W) (reply : Reply T EV W E) → Type 0
-  OutputAtEnd segment (Restore trigger events out) (Restored old) = OutputIs contents start segment old.out
-  OutputAtEnd segment call reply = ⊤
+  abbrev pub OutputAtRestore : (segment : WriterSegment W) (call : Call T EV W) (reply : Reply T EV W E) → Type 0
+  OutputAtRestore segment (Restore trigger events out) (Restored old) = OutputIs contents start segment old.out
+  OutputAtRestore segment call reply = ⊤
 
   -- and the writer that it brings begins the next
   abbrev pub next_writer_segment :
       (segment : WriterSegment W) (entry : TraceEntry) (call : Call T EV W) (reply : Reply T EV W E) → WriterSegment W
   next_writer_segment segment entry (Restore trigger events out) (Restored old) =
-      record { before = entry ∷ segment.newest ++ segment.before; newest = []; begun = out }
+      record { before = entry ∷ segment.newest ++ segment.before; newest = []; initial = out }
   next_writer_segment segment entry call reply = record segment { newest = entry ∷ segment.newest }
 
   -- over calls and their records, to the writer at the end
@@ -54,7 +54,7 @@ module _ {T E EV W : Type 0} (contents : Contents W) (start : State) where
       (segment : WriterSegment W) (calls : List (Call T EV W)) (records : List (Done T EV W E)) (end : W) → Type 0
   OutputsAre segment [] [] end = OutputIs contents start segment end
   OutputsAre segment (call ∷ calls) (done ∷ later) end =
-      OutputAtEnd segment call done.reply
+      OutputAtRestore segment call done.reply
       × OutputsAre (next_writer_segment segment (entry_of done) call done.reply) calls later end
   OutputsAre segment _ _ end = ⊥
 
@@ -62,7 +62,7 @@ module _ {T E EV W : Type 0} (contents : Contents W) (start : State) where
 
 -- the segment of a trigger: the trigger as it was at its start, and its answers since
 pub record TriggerSegment (T E : Type 0) : Type 0 where
-  pub begun : T
+  pub initial : T
   pub answers : List (TriggerAnswer E)
 
 module _ {T E EV W : Type 0} (link : Link T (TriggerAnswer E)) (start : State) where
@@ -71,7 +71,7 @@ module _ {T E EV W : Type 0} (link : Link T (TriggerAnswer E)) (start : State) w
   abbrev pub TriggerAtRestore :
       (trace : Trace) (segment : TriggerSegment T E) (call : Call T EV W) (reply : Reply T EV W E) → Type 0
   TriggerAtRestore trace segment (Restore trigger events out) (Restored old) =
-      link segment.begun segment.answers old.trigger
+      link segment.initial segment.answers old.trigger
       × ((now : T) × link trigger (all_ok (restore_calls_due start trace)) now)
   TriggerAtRestore trace segment (Restore trigger events out) (NotRestored refused) =
       RefusesOwnState link (restore_calls_due start trace) refused.error trigger refused.trigger
@@ -82,7 +82,7 @@ module _ {T E EV W : Type 0} (link : Link T (TriggerAnswer E)) (start : State) w
       (trace : Trace) (segment : TriggerSegment T E) (call : Call T EV W) (asked : Asked)
       (reply : Reply T EV W E) → TriggerSegment T E
   next_trigger_segment trace segment (Restore trigger events out) asked (Restored old) =
-      record { begun = trigger; answers = all_ok (restore_calls_due start trace) }
+      record { initial = trigger; answers = all_ok (restore_calls_due start trace) }
   next_trigger_segment trace segment (Restore trigger events out) asked reply = segment
   next_trigger_segment trace segment call asked reply =
       record segment { answers = segment.answers ++ answers_of asked (refusal_in_reply reply) }
@@ -91,7 +91,7 @@ module _ {T E EV W : Type 0} (link : Link T (TriggerAnswer E)) (start : State) w
   abbrev pub TriggersAre :
       (trace : Trace) (segment : TriggerSegment T E) (calls : List (Call T EV W))
       (records : List (Done T EV W E)) (end : T) → Type 0
-  TriggersAre trace segment [] [] end = link segment.begun segment.answers end
+  TriggersAre trace segment [] [] end = link segment.initial segment.answers end
   TriggersAre trace segment (call ∷ calls) (done ∷ later) end =
       TriggerAtRestore trace segment call done.reply
       × TriggersAre (entry_of done ∷ trace) (next_trigger_segment trace segment call done.asked done.reply)

@@ -7,7 +7,7 @@ use Rattle.vm_superio.specs.Port.State.{State}
 use Rattle.vm_superio.specs.Port.Registers.{Condition}
 use Rattle.vm_superio.specs.Port.Operations.{Op, Event}
 use Rattle.vm_superio.specs.Port.ObjectLinks.{TriggerAnswer, answers_of, all_ok}
-use Rattle.vm_superio.specs.Port.WriterLink.{PortLinks, bytes_taken_by_writer, WriterLink}
+use Rattle.vm_superio.specs.Port.WriterLink.{PortLinks, bytes_written, WriterLink}
 use Rattle.vm_superio.specs.Port.Model.{Port}
 use Rattle.vm_superio.specs.Step.Transition.{step_events}
 
@@ -18,9 +18,9 @@ pub record Segment (T E EV W : Type 0) : Type 0 where
   pub events : EV
   pub out : W
   pub answers : List (TriggerAnswer E)
-  pub reported : List Event
+  pub reported_events : List Event
   pub outcomes : List Sent
-  pub written_out : List ℕ
+  pub written_bytes : List ℕ
 
 module _ {T E EV W : Type 0} where
   -- the first segment begins with the port as it is
@@ -30,9 +30,9 @@ module _ {T E EV W : Type 0} where
     events = port.events;
     out = port.out;
     answers = [];
-    reported = [];
+    reported_events = [];
     outcomes = [];
-    written_out = [];
+    written_bytes = [];
   }
 
   -- each later one begins with the objects that a restore brings, and with the calls of its trigger that are due then
@@ -42,9 +42,9 @@ module _ {T E EV W : Type 0} where
     events = events;
     out = out;
     answers = all_ok due;
-    reported = [];
+    reported_events = [];
     outcomes = [];
-    written_out = [];
+    written_bytes = [];
   }
 
   -- it goes on by a call in a state
@@ -53,9 +53,9 @@ module _ {T E EV W : Type 0} where
       → Segment T E EV W
   extend segment s op asked sent refusal = record segment {
     answers = segment.answers ++ answers_of asked refusal;
-    reported = segment.reported ++ step_events s op sent;
+    reported_events = segment.reported_events ++ step_events s op sent;
     outcomes = segment.outcomes ++ sent ∷ [];
-    written_out = segment.written_out ++ bytes_taken_by_writer op sent;
+    written_bytes = segment.written_bytes ++ bytes_written op sent;
   }
 
   -- a port of this state, whose objects are those of the segment's start after all that was done with them
@@ -63,5 +63,5 @@ module _ {T E EV W : Type 0} where
       (links : PortLinks T E EV W) (segment : Segment T E EV W) (s : State) (port : Port T EV W) : Type 0 where
     pub state : port.state ≡ s
     pub trigger : links.trigger segment.trigger segment.answers port.trigger
-    pub events : links.events segment.events segment.reported port.events
-    pub out : WriterLink links.contents segment.outcomes segment.written_out segment.out port.out
+    pub events : links.events segment.events segment.reported_events port.events
+    pub out : WriterLink links.contents segment.outcomes segment.written_bytes segment.out port.out

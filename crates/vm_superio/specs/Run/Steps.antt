@@ -24,10 +24,10 @@ module _ {T E EV W : Type 0} (links : PortLinks T E EV W) where
   OpFollows s op asked sent response =
       IsTrue (is_admissible s op asked sent) × (response ≡ step_response s op asked sent)
 
-  -- one call and its record. A restore asks and sends nothing of its own. On success the old port comes back, its
+  -- one call and its record. A restore records no trigger answers and no sent byte. On success the old port comes back, its
   -- segment over, and the new trigger is called; else the objects come back
   abbrev pub CallFollows :
-      (s : State) (segment : Segment T E EV W) (made : Call T EV W) (asked : Asked) (sent : Sent)
+      (s : State) (segment : Segment T E EV W) (call : Call T EV W) (asked : Asked) (sent : Sent)
       (reply : Reply T EV W E) → Type 0
   CallFollows s segment (Call.Read offset) asked sent (Byte byte) =
       OpFollows s (Read offset) asked sent (ByteRead byte)
@@ -46,30 +46,30 @@ module _ {T E EV W : Type 0} (links : PortLinks T E EV W) where
 
   -- the segment goes on by the call; a successful restore begins a new one, and a refused restore changes nothing
   abbrev pub next_segment :
-      (s : State) (segment : Segment T E EV W) (made : Call T EV W) (asked : Asked) (sent : Sent)
+      (s : State) (segment : Segment T E EV W) (call : Call T EV W) (asked : Asked) (sent : Sent)
       (reply : Reply T EV W E) → Segment T E EV W
   next_segment s segment (Call.Restore trigger events out) asked sent (Restored old) =
       segment_from (restore_calls s) trigger events out
   next_segment s segment (Call.Restore trigger events out) asked sent reply = segment
-  next_segment s segment made asked sent reply =
-      extend segment s (op_of (act_of made)) asked sent (refusal_in_reply reply)
+  next_segment s segment call asked sent reply =
+      extend segment s (op_of (act_of call)) asked sent (refusal_in_reply reply)
 
-  -- there is one record for each call, in order; and at the end stands the port that the last segment leaves
+  -- there is one record for each call, in order; and the run ends with the port that the last segment leaves
   abbrev pub IsRun :
       (s : State) (segment : Segment T E EV W) (calls : List (Call T EV W)) (records : List (Done T EV W E))
       (end : Port T EV W) → Type 0
   IsRun s segment [] [] end = IsAfter links segment s end
-  IsRun s segment (made ∷ calls) (done ∷ later) end =
-      (done.act ≡ act_of made) × CallFollows s segment made done.asked done.sent done.reply
+  IsRun s segment (call ∷ calls) (done ∷ later) end =
+      (done.act ≡ act_of call) × CallFollows s segment call done.asked done.sent done.reply
       × IsRun (step s (op_of done.act) done.asked)
-      (next_segment s segment made done.asked done.sent done.reply) calls later end
+      (next_segment s segment call done.asked done.sent done.reply) calls later end
   IsRun s segment [] (done ∷ later) end = ⊥
-  IsRun s segment (made ∷ calls) [] end = ⊥
+  IsRun s segment (call ∷ calls) [] end = ⊥
 
-  -- one call as a port makes it: a step, or a restore, which on success puts a new port of the same state in the place
-  -- of the old one
+  -- one call as a port makes it: a step, or a restore, which on success puts a new port of the same state in
+  -- place of the old one
   abbrev pub IsCallStep :
-      (made : Call T EV W) (asked : Asked) (sent : Sent) (reply : Reply T EV W E) (old new : Port T EV W) → Type 0
+      (call : Call T EV W) (asked : Asked) (sent : Sent) (reply : Reply T EV W E) (old new : Port T EV W) → Type 0
   IsCallStep (Call.Read offset) asked sent (Byte byte) old new =
       IsPortStep links (Read offset) asked sent (ByteRead byte) None old new
   IsCallStep (Call.Write offset value) asked sent (Wrote answer) old new =

@@ -9,18 +9,18 @@ pub use Rattle.vm_superio.specs.declared.run.Done.{Done}
 use Rattle.vm_superio.specs.Port.Operations.{Op, Read, Write, Enqueue, Restore, TraceEntry, Response, ByteRead, NoResponse, Trace}
 use Rattle.vm_superio.specs.Port.Model.{write_response, enqueue_response, refusal_in_result}
 
-abbrev pub op_of : (done : Act) → Op
+abbrev pub op_of : (act : Act) → Op
 op_of (Act.Read offset) = Read offset
 op_of (Act.Write offset value) = Write offset value
 op_of (Act.Enqueue bytes) = Enqueue bytes.items
 op_of Act.Restore = Restore
 
-abbrev pub is_restore : (done : Act) → Bool
+abbrev pub is_restore : (act : Act) → Bool
 is_restore Act.Restore = true
 is_restore _ = false
 
 -- the call without its objects
-abbrev pub act_of : {T EV W : Type 0} → (made : Call T EV W) → Act
+abbrev pub act_of : {T EV W : Type 0} → (call : Call T EV W) → Act
 act_of (Call.Read offset) = Act.Read offset
 act_of (Call.Write offset value) = Act.Write offset value
 act_of (Call.Enqueue bytes) = Act.Enqueue bytes
@@ -33,7 +33,7 @@ trace_after trace (next ∷ later) = trace_after (next.0 ∷ trace) later
 
 module _ {T E EV W : Type 0} where
   -- a reply is of the kind that the act has
-  abbrev pub IsReplyTo : (done : Act) (reply : Reply T EV W E) → Type 0
+  abbrev pub IsReplyTo : (act : Act) (reply : Reply T EV W E) → Type 0
   IsReplyTo (Act.Read offset) (Byte byte) = ⊤
   IsReplyTo (Act.Write offset value) (Wrote answer) = ⊤
   IsReplyTo (Act.Enqueue bytes) (Enqueued answer) = ⊤

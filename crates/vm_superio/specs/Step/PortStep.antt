@@ -8,7 +8,7 @@ use Rattle.vm_superio.specs.Port.State.{State}
 use Rattle.vm_superio.specs.Port.Registers.{Rda, Thre, iir_bit}
 use Rattle.vm_superio.specs.Port.Operations.{Op, Read, Write, Enqueue, Response, ByteRead, Event, ends_in_refusal, one_if}
 use Rattle.vm_superio.specs.Port.ObjectLinks.{Link, TriggerAnswer, Contents, answers_of}
-use Rattle.vm_superio.specs.Port.WriterLink.{PortLinks, port_links, bytes_taken_by_writer, WriterLink}
+use Rattle.vm_superio.specs.Port.WriterLink.{PortLinks, port_links, bytes_written, WriterLink}
 use Rattle.vm_superio.specs.Port.Model.{Port, write_response, enqueue_response, refusal_in_result}
 use Rattle.vm_superio.specs.Step.Transition.{step, step_response, step_events}
 use Rattle.vm_superio.specs.Step.Admissible.{is_admissible}
@@ -16,15 +16,15 @@ use Rattle.vm_superio.specs.Step.Admissible.{is_admissible}
 -- a call takes a port from `old` to `new` by one step, with these answers of the trigger and this outcome of a byte. A
 -- refusal is that of the trigger's last call
 pub record IsPortStep
-    {T E EV W : Type 0} (links : PortLinks T E EV W) (op : Op) (asked : Asked) (sent : Sent) (answered : Response)
+    {T E EV W : Type 0} (links : PortLinks T E EV W) (op : Op) (asked : Asked) (sent : Sent) (reply : Response)
     (refusal : Option E) (old new : Port T EV W) : Type 0 where
   pub admissible : IsTrue (is_admissible old.state op asked sent)
-  pub response : answered ≡ step_response old.state op asked sent
+  pub response : reply ≡ step_response old.state op asked sent
   pub refused : is_some refusal ≡ ends_in_refusal asked
   pub state : new.state ≡ step old.state op asked
   pub trigger : links.trigger old.trigger (answers_of asked refusal) new.trigger
   pub events : links.events old.events (step_events old.state op sent) new.events
-  pub out : WriterLink links.contents (sent ∷ []) (bytes_taken_by_writer op sent) old.out new.out
+  pub out : WriterLink links.contents (sent ∷ []) (bytes_written op sent) old.out new.out
 
 -- the port with another writer, and nothing else changed
 abbrev pub with_writer : {T EV W : Type 0} → (port : Port T EV W) (writer : W) → Port T EV W
@@ -36,7 +36,7 @@ with_writer port writer = record port { out = writer }
 abbrev pub turns_on : (bit old new : ℕ) → Bool
 turns_on bit old new = not (has_bits old bit) && has_bits new bit
 
--- how many of the two pending bits do
+-- how many of the two pending bits turn on
 abbrev pub turned_on_count : (old new : State) → ℕ
 turned_on_count old new =
     one_if (turns_on (iir_bit Rda) old.interrupt_identification new.interrupt_identification)

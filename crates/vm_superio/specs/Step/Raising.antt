@@ -1,10 +1,11 @@
--- Raising a condition, and receiving bytes: the small parts of a step.
+-- Raising a condition, and receiving bytes: the small parts of a step. A step may raise a condition that IER does not
+-- enable, which does nothing.
 use Rattle.std.specs.Prelude.{ℕ, ◌-◌, Bool, not, ◌&&◌, if◌then◌else◌, List, [], ◌∷◌, ◌++◌, length, take}
 use Rattle.vm_superio.specs.Port.Bits.{has_bits, with_bits, without_bits, lsr_dr_bit}
 use Rattle.vm_superio.specs.Port.State.{State, not_empty}
 use Rattle.vm_superio.specs.Port.Registers.{is_loopback, Condition, Rda, ier_bit, iir_bit}
 
--- IIR: nothing is pending
+-- IIR: nothing is pending. The steps alone use this bit
 abbrev pub iir_none_bit : ℕ
 iir_none_bit = 0x01
 
@@ -42,7 +43,7 @@ bytes_that_fit held bytes = take (64 - length held) bytes
 abbrev pub enqueued_bytes : (s : State) (bytes : List ℕ) → List ℕ
 enqueued_bytes s bytes = if is_loopback s.modem_control then [] else bytes_that_fit s.in_buffer bytes
 
--- received bytes go behind the others, data ready is set, and RDA is raised
+-- received bytes go behind the others, data ready is set, and RDA is raised; no bytes change nothing
 abbrev pub receive_bytes : (bytes : List ℕ) (s : State) → State
 receive_bytes [] s = s
 receive_bytes (byte ∷ bytes) s = record s {

@@ -6,7 +6,7 @@ use Rattle.vm_superio.specs.declared.trace.Sent.{Sent}
 use Rattle.vm_superio.specs.Port.Bits.{only_bits, without_bits, lsr_dr_bit, ier_bits}
 use Rattle.vm_superio.specs.Port.State.{State, not_empty}
 use Rattle.vm_superio.specs.Port.Registers.{Register, Dll, Dlm, RbrThr, Ier, Iir, Lcr, Mcr, Scr, register_at, is_dlab, is_loopback, Rda, Thre, iir_bit, register_read}
-use Rattle.vm_superio.specs.Port.Operations.{Op, Read, Write, Enqueue, Restore, Response, ByteRead, EnqueueOk, TriggerRefused, FifoFull, NoResponse, Event, buffer_read, out_byte, tx_lost_byte, in_buffer_empty, is_refused_once, write_outcome}
+use Rattle.vm_superio.specs.Port.Operations.{Op, Read, Write, Enqueue, Restore, Response, ByteRead, EnqueueOk, TriggerRefused, FifoFull, NoResponse, Event, buffer_read, out_byte, tx_lost_byte, in_buffer_empty, is_first_refused, recorded_write_response}
 use Rattle.vm_superio.specs.Step.Raising.{iir_none_bit, raise, rda_becomes_pending, raise_rda_while_held, bytes_that_fit, enqueued_bytes, receive_bytes}
 
 -- ---- the response
@@ -17,14 +17,14 @@ abbrev pub enqueue_step_response : (s : State) (bytes : List ℕ) (asked : Asked
 enqueue_step_response s bytes asked =
     if is_loopback s.modem_control || (length bytes == 0) then EnqueueOk 0
     else (if nat_le 64 (length s.in_buffer) then FifoFull
-    else (if is_refused_once asked then TriggerRefused
+    else (if is_first_refused asked then TriggerRefused
     else EnqueueOk (length (enqueued_bytes s bytes))))
 
 -- any call: a read shows the register at its offset
 abbrev pub step_response : (s : State) (op : Op) (asked : Asked) (sent : Sent) → Response
 step_response s (Read offset) asked sent =
     ByteRead (register_read (register_at (is_dlab s.line_control) offset) s)
-step_response s (Write offset value) asked sent = write_outcome asked sent
+step_response s (Write offset value) asked sent = recorded_write_response asked sent
 step_response s (Enqueue bytes) asked sent = enqueue_step_response s bytes asked
 step_response s Restore asked sent = NoResponse
 
@@ -41,7 +41,7 @@ rbr_read s =
       line_status = if not_empty left then s.line_status else without_bits s.line_status lsr_dr_bit;
     }
 
--- after an IIR read nothing is pending; no other read changes anything
+-- an RBR read; an IIR read, after which nothing is pending; no other read changes anything
 abbrev pub read_step : (register : Register) (s : State) → State
 read_step RbrThr s = rbr_read s
 read_step Iir s = record s { interrupt_identification = iir_none_bit }
@@ -51,7 +51,7 @@ read_step _ s = s
 -- pending condition
 abbrev pub ier_write : (enable : ℕ) (asked : Asked) (s : State) → State
 ier_write enable asked s =
-    let refused = rda_becomes_pending s.in_buffer enable s.interrupt_identification && is_refused_once asked in
+    let refused = rda_becomes_pending s.in_buffer enable s.interrupt_identification && is_first_refused asked in
     let identification = raise_rda_while_held s.in_buffer enable s.interrupt_identification in
     record s {
       interrupt_enable = enable;

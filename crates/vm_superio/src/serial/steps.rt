@@ -10,7 +10,7 @@ ghost use Rattle.vm_superio.specs.Port.Registers.{is_loopback, register_read};
 ghost use Rattle.vm_superio.specs.Port.Operations.{Write, out_byte, tx_lost_byte, in_buffer_empty, buffer_read, is_sent, one_if};
 ghost use Rattle.vm_superio.specs.Port.OpKinds.{write_kind, sent_by};
 ghost use Rattle.vm_superio.specs.Port.ObjectLinks.{answers_of};
-ghost use Rattle.vm_superio.specs.Port.WriterLink.{bytes_taken_by_writer, WriterLink};
+ghost use Rattle.vm_superio.specs.Port.WriterLink.{bytes_written, WriterLink};
 ghost use Rattle.vm_superio.specs.Port.TriggerAnswers.{asked_of, refusal_in_answers, sent_of};
 ghost use Rattle.vm_superio.specs.Port.SavedState.{state_with};
 ghost use Rattle.vm_superio.specs.Step.Raising.{becomes_pending, raise, rda_becomes_pending, raise_rda_while_held, bytes_that_fit, receive_bytes};
@@ -156,7 +156,7 @@ impl Registers {
             T.link trigger.old answers trigger.new }
         ensures events { EV.link events.old (sent_events (sent_of result.1)) events.new }
         ensures out { let outcome = sent_of result.1 in
-            WriterLink W.contents (outcome ∷ []) (bytes_taken_by_writer (Write 0 value) outcome) out.old out.new }
+            WriterLink W.contents (outcome ∷ []) (bytes_written (Write 0 value) outcome) out.old out.new }
     {
         if self.is_loopback() {
             let (_, answer) = self.receive(fifo, trigger, &[value]);
@@ -217,7 +217,7 @@ impl Registers {
             T.link trigger.old answers trigger.new }
         ensures events { EV.link events.old (sent_events (sent_of result.1)) events.new }
         ensures out { let outcome = sent_of result.1 in
-            WriterLink W.contents (outcome ∷ []) (bytes_taken_by_writer (Write 0 value) outcome) out.old out.new }
+            WriterLink W.contents (outcome ∷ []) (bytes_written (Write 0 value) outcome) out.old out.new }
     {
         match register {
             Register::Dll => self.baud_divisor_low = value,
