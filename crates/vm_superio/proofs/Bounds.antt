@@ -41,11 +41,11 @@ calls_so_far : (start : State) (trace : List TraceEntry) → IsTrue (is_well_for
     → sum_by (λ (entry : TraceEntry). answer_count entry.asked) trace
     ≤ one_if (is_pending Rda start trace) + one_if (is_pending Thre start trace)
     + 2 * count_by is_iir_read (op_kinds start trace) + count_by is_rbr_read (op_kinds start trace)
-calls_so_far start [] fitting = omega arith
-calls_so_far start (entry ∷ trace) fitting =
+calls_so_far start [] well_formed = omega arith
+calls_so_far start (entry ∷ trace) well_formed =
     let k = kind_at start trace entry.op in
-    let here = (and_parts (is_well_formed_entry start trace entry) (is_well_formed start trace) fitting).0 in
-    let before = calls_so_far start trace (and_parts (is_well_formed_entry start trace entry) (is_well_formed start trace) fitting).1 in
+    let here = (and_parts (is_well_formed_entry start trace entry) (is_well_formed start trace) well_formed).0 in
+    let before = calls_so_far start trace (and_parts (is_well_formed_entry start trace entry) (is_well_formed start trace) well_formed).1 in
     let answers : answer_count entry.asked ≡ trigger_calls start trace entry =
     eqb-true _ _ (and_parts (answer_count entry.asked == trigger_calls start trace entry) _ here).0 in
     rw (
@@ -65,10 +65,10 @@ calls_so_far start (entry ∷ trace) fitting =
     ))
 
 pub trigger_bound_law : TriggerBoundLaw
-trigger_bound_law start trace fitting =
+trigger_bound_law start trace well_formed =
     omega (
       arith,
-      calls_so_far start trace fitting,
+      calls_so_far start trace well_formed,
       one_at_most (is_pending Rda start trace),
       one_at_most
           (is_pending Thre start trace),

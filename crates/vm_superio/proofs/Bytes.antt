@@ -1,4 +1,4 @@
--- What the words on bytes do: data ready is set and cleared, and the low four bits keep both enable bits.
+-- What the words for bits do: data ready is set and cleared, and the low four bits keep both enable bits.
 use Rattle.std.proofs.Common.{◌≡◌, ◌≢◌, ◌%◌, lit<, ℕ, zero, suc, ◌<◌, Bool, true, false, ◌==◌, refl, sym, ap, ◌∙◌, arith}
 use Rattle.std.proofs.Math.Nat.{mod-lt}
 use Rattle.std.proofs.lemmas.Bool.{false≢true, eqb-true}

@@ -24,27 +24,27 @@ reported (access ∷ rest) = clock_events access ++ reported rest
 
 -- the accesses have these answers, by the steps and by the history, and report these events
 record Gives (start : RtcState) (accesses : List Access) (answers : List (Option ℕ)) (events : List RtcEvent) : Type 0 where
-  cases : by_cases start accesses ≡ answers
+  steps : by_cases start accesses ≡ answers
   history : by_history start [] accesses ≡ answers
-  tells : reported accesses ≡ events
+  reports : reported accesses ≡ events
 
 load_sets_guest_time : Gives fresh_clock
     (write 0x008 100 1000 ∷ read 0x000 1007 ∷ [])
     (None ∷ Some 107 ∷ [])
     []
-load_sets_guest_time = record { cases = refl; history = refl; tells = refl }
+load_sets_guest_time = record { steps = refl; history = refl; reports = refl }
 
 guest_time_does_not_wrap : Gives fresh_clock
     (write 0x008 4294967295 1000 ∷ read 0x000 1000 ∷ read 0x000 1001 ∷ read 0x008 1001 ∷ [])
     (None ∷ Some 4294967295 ∷ Some 1001 ∷ Some 4294967295 ∷ [])
     []
-guest_time_does_not_wrap = record { cases = refl; history = refl; tells = refl }
+guest_time_does_not_wrap = record { steps = refl; history = refl; reports = refl }
 
 guest_time_before_the_first_second_is_the_host_time : Gives fresh_clock
     (write 0x008 5 1000 ∷ read 0x000 996 ∷ read 0x000 995 ∷ read 0x000 994 ∷ [])
     (None ∷ Some 1 ∷ Some 0 ∷ Some 994 ∷ [])
     []
-guest_time_before_the_first_second_is_the_host_time = record { cases = refl; history = refl; tells = refl }
+guest_time_before_the_first_second_is_the_host_time = record { steps = refl; history = refl; reports = refl }
 
 -- the offset at which the host's time 65172 makes the sum 2 ^ 63
 abbrev far_ahead : RtcState
@@ -54,13 +54,13 @@ a_sum_past_64_bits_is_the_host_time : Gives far_ahead
     (read 0x000 65172 ∷ read 0x000 4294967301 ∷ [])
     (Some 65172 ∷ Some 5 ∷ [])
     []
-a_sum_past_64_bits_is_the_host_time = record { cases = refl; history = refl; tells = refl }
+a_sum_past_64_bits_is_the_host_time = record { steps = refl; history = refl; reports = refl }
 
 only_a_control_write_of_1_resets : Gives fresh_clock
     (write 0x008 100 1000 ∷ write 0x00C 2 1001 ∷ read 0x000 1007 ∷ write 0x00C 1 1008 ∷ read 0x000 1009 ∷ read 0x008 1009 ∷ read 0x00C 1009 ∷ [])
     (None ∷ None ∷ Some 107 ∷ None ∷ Some 1009 ∷ Some 0 ∷ Some 1 ∷ [])
     []
-only_a_control_write_of_1_resets = record { cases = refl; history = refl; tells = refl }
+only_a_control_write_of_1_resets = record { steps = refl; history = refl; reports = refl }
 
 -- a load at a moment past 32 bits, of which the low 32 bits are 1
 abbrev loaded_late : List Access
@@ -70,7 +70,7 @@ the_low_32_bits_of_a_moment_count : Gives fresh_clock
     (write 0x008 5 4294967297 ∷ read 0x000 3 ∷ [])
     (None ∷ Some 7 ∷ [])
     []
-the_low_32_bits_of_a_moment_count = record { cases = refl; history = refl; tells = refl }
+the_low_32_bits_of_a_moment_count = record { steps = refl; history = refl; reports = refl }
 
 the_offset_is_the_load_less_the_host_time : ((state_after_accesses fresh_clock loaded_late).offset ≡ pos 4) × ((clock_of_history fresh_clock loaded_late).offset ≡ pos 4)
 the_offset_is_the_load_less_the_host_time = (refl, refl)
@@ -83,25 +83,25 @@ the_mask_is_one_bit_and_a_clear_takes_bits_away : Gives raised
     (read 0x014 1000 ∷ read 0x018 1000 ∷ write 0x010 2 1000 ∷ read 0x010 1000 ∷ read 0x018 1000 ∷ write 0x01C 1 1000 ∷ read 0x014 1000 ∷ [])
     (Some 1 ∷ Some 1 ∷ None ∷ Some 0 ∷ Some 0 ∷ None ∷ Some 0 ∷ [])
     []
-the_mask_is_one_bit_and_a_clear_takes_bits_away = record { cases = refl; history = refl; tells = refl }
+the_mask_is_one_bit_and_a_clear_takes_bits_away = record { steps = refl; history = refl; reports = refl }
 
 the_match_register_shows_what_was_written : Gives fresh_clock
     (write 0x004 123 1000 ∷ read 0x004 1000 ∷ read 0x014 1000 ∷ [])
     (None ∷ Some 123 ∷ Some 0 ∷ [])
     []
-the_match_register_shows_what_was_written = record { cases = refl; history = refl; tells = refl }
+the_match_register_shows_what_was_written = record { steps = refl; history = refl; reports = refl }
 
 an_invalid_read_answers_nothing_and_is_reported : Gives fresh_clock
     (read 0x01C 1000 ∷ read 0xFE5 1000 ∷ read 0xFFF 1000 ∷ read 0x1003 1000 ∷ [])
     (None ∷ Some 0x10 ∷ Some 0xB1 ∷ None ∷ [])
     (invalid_read ∷ invalid_read ∷ [])
-an_invalid_read_answers_nothing_and_is_reported = record { cases = refl; history = refl; tells = refl }
+an_invalid_read_answers_nothing_and_is_reported = record { steps = refl; history = refl; reports = refl }
 
 an_invalid_write_changes_nothing_and_is_reported : Gives raised
     (write 0x000 7 1000 ∷ write 0x014 0 1000 ∷ write 0x018 0 1000 ∷ write 0xFE0 7 1000 ∷ write 0x009 7 1000 ∷ read 0x018 1000 ∷ read 0x000 1000 ∷ [])
     (None ∷ None ∷ None ∷ None ∷ None ∷ Some 1 ∷ Some 1000 ∷ [])
     (invalid_write ∷ invalid_write ∷ invalid_write ∷ invalid_write ∷ invalid_write ∷ [])
-an_invalid_write_changes_nothing_and_is_reported = record { cases = refl; history = refl; tells = refl }
+an_invalid_write_changes_nothing_and_is_reported = record { steps = refl; history = refl; reports = refl }
 
 -- the four bytes of each kind of read, into the bytes of 123
 abbrev bytes_of_123 : List ℕ

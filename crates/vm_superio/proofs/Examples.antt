@@ -24,7 +24,7 @@ read offset byte = (record { op = Read offset; asked = Nothing; sent = sent.Noth
 abbrev pub write : ℕ → ℕ → Asked → Sent → TraceEntry × Response
 write offset value asked outcome = (record { op = Write offset value; asked = asked; sent = outcome }, WriteOk)
 
--- a write at an offset that asks and sends nothing
+-- a write at an offset with no trigger call and no byte sent
 abbrev pub store : ℕ → ℕ → TraceEntry × Response
 store offset value = write offset value Nothing sent.Nothing
 

@@ -18,22 +18,22 @@ use Rattle.vm_superio.specs.Laws.Consequences.{OutputLaw}
 -- ---- one call
 
 -- nothing is sent where the kind sends nothing
-abbrev Fate : List ℕ → Sent → Type 0
-Fate bytes outcome = IsTrue (beq (is_sent outcome) (not_empty bytes))
+abbrev IsOutcome : List ℕ → Sent → Type 0
+IsOutcome bytes outcome = IsTrue (beq (is_sent outcome) (not_empty bytes))
 
-written_none : (offset value : ℕ) (outcome : Sent) → Fate [] outcome → bytes_written (Write offset value) outcome ≡ []
+written_none : (offset value : ℕ) (outcome : Sent) → IsOutcome [] outcome → bytes_written (Write offset value) outcome ≡ []
 written_none offset value sent.Nothing outcome_fits = refl
 written_none offset value sent.Out outcome_fits = absurd (false≢true outcome_fits)
 written_none offset value sent.Lost outcome_fits = absurd (false≢true outcome_fits)
 
-written_one : (offset value : ℕ) (outcome : Sent) → IsTrue (not (is_lost outcome)) → Fate (value ∷ []) outcome
+written_one : (offset value : ℕ) (outcome : Sent) → IsTrue (not (is_lost outcome)) → IsOutcome (value ∷ []) outcome
     → bytes_written (Write offset value) outcome ≡ value ∷ []
 written_one offset value sent.Nothing kept outcome_fits = absurd (false≢true outcome_fits)
 written_one offset value sent.Out kept outcome_fits = refl
 written_one offset value sent.Lost kept outcome_fits = absurd (false≢true kept)
 
 write_written : (r : Register) (loopback : Bool) (offset value : ℕ) (outcome : Sent) → IsTrue (not (is_lost outcome))
-    → Fate (sent_by (write_kind r loopback value)) outcome
+    → IsOutcome (sent_by (write_kind r loopback value)) outcome
     → bytes_written (Write offset value) outcome ≡ sent_by (write_kind r loopback value)
 write_written RbrThr true offset value outcome kept outcome_fits = written_none offset value outcome outcome_fits
 write_written RbrThr false offset value outcome kept outcome_fits = written_one offset value outcome kept outcome_fits
@@ -51,23 +51,23 @@ enqueue_sends dlab false bytes = refl
 
 -- what the writer took is what the operation sends
 pub call_written : (dlab loopback : Bool) (op : Op) (outcome : Sent) → IsTrue (not (is_lost outcome))
-    → Fate (sent_by (kind_of dlab loopback op)) outcome → bytes_written op outcome ≡ sent_by (kind_of dlab loopback op)
+    → IsOutcome (sent_by (kind_of dlab loopback op)) outcome → bytes_written op outcome ≡ sent_by (kind_of dlab loopback op)
 call_written dlab loopback (Read offset) outcome kept outcome_fits = read_sends (register_at dlab offset)
 call_written dlab loopback (Write offset value) outcome kept outcome_fits =
     write_written (register_at dlab offset) loopback offset value outcome kept outcome_fits
 call_written dlab loopback (Enqueue bytes) outcome kept outcome_fits = enqueue_sends dlab loopback bytes
 call_written dlab loopback Restore outcome kept outcome_fits = refl
 
--- ---- the newest entrys
+-- ---- the newest entries
 
 pub output_law : OutputLaw
-output_law start trace [] fitting kept = refl
-output_law start trace (entry ∷ newest) fitting kept =
-    let place = newest ++ trace in
-    let here = (and_parts (is_well_formed_entry start place entry) (is_well_formed start place) fitting).0 in
-    let rest = output_law start trace newest (and_parts (is_well_formed_entry start place entry) (is_well_formed start place) fitting).1
+output_law start trace [] well_formed kept = refl
+output_law start trace (entry ∷ newest) well_formed kept =
+    let point = newest ++ trace in
+    let here = (and_parts (is_well_formed_entry start point entry) (is_well_formed start point) well_formed).0 in
+    let rest = output_law start trace newest (and_parts (is_well_formed_entry start point entry) (is_well_formed start point) well_formed).1
     (and_parts (not (is_lost entry.sent)) (none_lost newest) kept).1 in
-    let call = call_written (dlab start place) (loopback start place) entry.op entry.sent
+    let call = call_written (dlab start point) (loopback start point) entry.op entry.sent
     (and_parts (not (is_lost entry.sent)) (none_lost newest) kept).0
-    (and_parts (answer_count entry.asked == trigger_calls start place entry) _ here).1 in
+    (and_parts (answer_count entry.asked == trigger_calls start point entry) _ here).1 in
     ap (λ bytes. bytes ++ bytes_written entry.op entry.sent) rest ∙ ap (λ bytes. output start trace newest ++ bytes) call

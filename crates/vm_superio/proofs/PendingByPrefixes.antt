@@ -80,15 +80,15 @@ module _ (condition : Condition) (start : State) (raises : List TraceEntry → T
   grown : (entry : TraceEntry) (trace : List TraceEntry) → IsFalse (acknowledges condition (kind_at start trace entry.op))
       → ByPrefixes trace
       → ByPrefixes (entry ∷ trace)
-  grown entry trace not_here (inl (after, before, x, place, raised, none)) =
+  grown entry trace not_here (inl (after, before, x, point, raised, none)) =
       inl (
         entry ∷ after,
         before,
         x,
-        ap (λ rest. entry ∷ rest) place,
+        ap (λ rest. entry ∷ rest) point,
         raised,
         none_more start (acknowledges condition) after (x ∷ before) entry
-            (subst (λ (trace : List TraceEntry). IsFalse (acknowledges condition (kind_at start trace entry.op))) place not_here) none,
+            (subst (λ (trace : List TraceEntry). IsFalse (acknowledges condition (kind_at start trace entry.op))) point not_here) none,
       )
   grown entry trace not_here (inr (pending, none)) =
       inr (
@@ -112,25 +112,25 @@ module _ (condition : Condition) (start : State) (raises : List TraceEntry → T
       grown entry trace (not_false acknowledged (and_parts (not acknowledged) rest e).0)
       (earlier (and_parts (not acknowledged) rest e).1)
 
-  to_places : (trace : List TraceEntry) → IsTrue (pending_since condition start raises trace)
+  to_prefixes : (trace : List TraceEntry) → IsTrue (pending_since condition start raises trace)
       → ByPrefixes trace
-  to_places [] e = inr (e, nowhere start (acknowledges condition) [])
-  to_places (entry ∷ trace) e = found entry trace (raises trace entry) refl (to_places trace) e
+  to_prefixes [] e = inr (e, nowhere start (acknowledges condition) [])
+  to_prefixes (entry ∷ trace) e = found entry trace (raises trace entry) refl (to_prefixes trace) e
 
-  from_places : (trace : List TraceEntry) → ByPrefixes trace
+  from_prefixes : (trace : List TraceEntry) → ByPrefixes trace
       → IsTrue (pending_since condition start raises trace)
-  from_places trace (inl (after, before, entry, place, raised, none)) =
+  from_prefixes trace (inl (after, before, entry, point, raised, none)) =
       let there : IsTrue (pending_since condition start raises (entry ∷ before)) = rw raised refl in
-      subst (λ (trace : List TraceEntry). IsTrue (pending_since condition start raises trace)) (sym place)
+      subst (λ (trace : List TraceEntry). IsTrue (pending_since condition start raises trace)) (sym point)
       (stays after (entry ∷ before) none there)
-  from_places trace (inr (pending, none)) =
+  from_prefixes trace (inr (pending, none)) =
       subst (λ (trace : List TraceEntry). IsTrue (pending_since condition start raises trace)) (append-nil trace)
       (stays trace [] none pending)
 
 pub pending_by_prefixes_law : PendingByPrefixesLaw
 pending_by_prefixes_law condition start trace =
     let raises = is_raised condition start in
-    (to_places condition start raises trace, from_places condition start raises trace)
+    (to_prefixes condition start raises trace, from_prefixes condition start raises trace)
 
 -- ---- waiting bytes
 
@@ -205,13 +205,13 @@ stays_reported : (start : State) (newest trace : List TraceEntry) → NoneAcknow
     → IsToldAt start trace → IsToldAt start (newest ++ trace)
 stays_reported start [] trace none before = before
 stays_reported start (entry ∷ newest) trace none before =
-    let place = newest ++ trace in
-    let s = state_after start place in
+    let point = newest ++ trace in
+    let s = state_after start point in
     let rest = stays_reported start newest trace (none_fewer start (acknowledges Rda) newest trace entry none) before in
-    at_point start place entry
-    (reported_by_kind (kind_at start place entry.op) entry.asked s (is_pending Rda start place) (none [] newest entry refl)
-    (λ some enabled. rest (ap not_empty (sym (held_bytes_law start place)) ∙ some)
-    (ap (λ enable. has_bits enable 0x01) (sym (register_law start place).interrupt_enable) ∙ enabled)))
+    at_point start point entry
+    (reported_by_kind (kind_at start point entry.op) entry.asked s (is_pending Rda start point) (none [] newest entry refl)
+    (λ some enabled. rest (ap not_empty (sym (held_bytes_law start point)) ∙ some)
+    (ap (λ enable. has_bits enable 0x01) (sym (register_law start point).interrupt_enable) ∙ enabled)))
 
 pub waiting_bytes_law : WaitingBytesLaw
 waiting_bytes_law start trace after before entry same tells none =

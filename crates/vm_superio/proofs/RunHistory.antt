@@ -45,7 +45,7 @@ use Rattle.vm_superio.proofs.PendingByPrefixes.{waiting_bytes_law}
 use Rattle.vm_superio.proofs.SameReads.{same_reads_law}
 use Rattle.vm_superio.proofs.Output.{output_law}
 
--- a restore asks and sends nothing of its own
+-- a restore records no trigger answers and no sent byte
 restore_admissible : (s : State) (asked : Asked) (sent : Sent) → asked ≡ answers.Nothing → sent ≡ outcome.Nothing → IsTrue (is_admissible s operation.Restore asked sent)
 restore_admissible s asked sent no_call no_byte =
     subst (λ a. IsTrue (is_admissible s operation.Restore a sent)) (sym no_call)

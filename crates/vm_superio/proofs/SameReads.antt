@@ -30,7 +30,7 @@ record SameView (start : State) (one other : List TraceEntry) : Type 0 where
   rda : (is_pending Rda) start one ≡ is_pending Rda start other
   thre : (is_pending Thre) start one ≡ is_pending Thre start other
 
--- the conditions that are pending after one more act, by the state before it
+-- the conditions that are pending after one more operation, by the state before it
 rda_by_state : (start : State) (trace : List TraceEntry) (entry : TraceEntry) → let s = state_after start trace in
     is_pending Rda start (entry ∷ trace)
     ≡ rda_next (kind_in_state s entry.op) s.in_buffer s.interrupt_enable (is_pending Rda start trace)

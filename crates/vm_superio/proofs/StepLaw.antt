@@ -128,9 +128,9 @@ step_law start trace coherent =
     record {
       calls = calls_at_point start trace;
       restoring = ap restore_calls (sym here) ∙ interrupts.restoring;
-      steps = λ entry fits.
+      steps = λ entry admissible.
           let outcome_fits = (and_parts (answers_all (step_calls (state_of_history start trace) entry.op) entry.asked)
-          (beq (is_sent entry.sent) (sends_byte (state_of_history start trace) entry.op)) fits).1 in
+          (beq (is_sent entry.sent) (sends_byte (state_of_history start trace) entry.op)) admissible).1 in
           let goes_on = ap (λ (s : State). step s entry.op entry.asked) (sym here)
           ∙ state_law start (entry ∷ trace) coherent in
           record {

@@ -1,5 +1,5 @@
 -- A coherent state stays coherent, is the one that the trace describes, and answers what the history replies; so whole
--- runs by the steps are well_formed histories.
+-- runs by the steps are well-formed traces.
 use Rattle.std.proofs.Common.{◌≡◌, ℕ, ◌+◌, ◌≤◌, Bool, true, false, ◌==◌, ◌&&◌, ◌||◌, List, [], ◌∷◌, length, drop, refl, ap, sym, ◌∙◌, subst, length-append, length-take, length-drop, arith}
 use Rattle.std.specs.Cmp.Derive.{both_true}
 use Rattle.std.proofs.lemmas.Bool.{false≢true}

@@ -48,7 +48,7 @@ impl Fifo {
     /// A copy of the bytes.
     pub(crate) fn to_vec(&self, alloc: Global) -> Result<Vec<u8>, AllocError>
         ensures bytes { IfOk result (λ bytes. bytes.items ≡ self.now) }
-        ensures fits { length self.now ≤ 64 }
+        ensures bound { length self.now ≤ 64 }
     {
         self.bytes.as_slice().to_vec(alloc)
     }
@@ -56,7 +56,7 @@ impl Fifo {
     /// How many bytes are held.
     pub(crate) fn len(&self) -> usize
         ensures value { result ≡ length self.now }
-        ensures fits { length self.now ≤ 64 }
+        ensures bound { length self.now ≤ 64 }
     {
         self.bytes.len()
     }
@@ -76,7 +76,7 @@ impl Fifo {
         self.bytes.pop_at(0)
     }
 
-    /// Adds the first of these bytes, as many as there is room for, and answers how many.
+    /// Adds the first of these bytes, as many as there is room for, and returns how many.
     pub(crate) fn fill(&mut self, bytes: &[u8]) -> usize
         ensures count { result ≡ length (take (64 - length self.old) bytes.now) }
         ensures added { self.new ≡ self.old ++ take (64 - length self.old) bytes.now }

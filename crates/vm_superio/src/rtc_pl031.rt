@@ -90,7 +90,7 @@ impl RtcState {
     }
 
     /// The number that a read of `register` shows where the host's time is `time`, or `None` where it shows nothing.
-    fn shown(&self, register: ClockRegister, time: u32) -> Option<u32>
+    fn read_register(&self, register: ClockRegister, time: u32) -> Option<u32>
         ensures { result ≡ clock_register_read register (guest_time (pos time +ℤ self.now.offset) time) self.now }
     {
         match register {
@@ -106,7 +106,7 @@ impl RtcState {
         }
     }
 
-    /// Writes `value` to `register` where the host's time is `time`, and answers whether the register takes a write.
+    /// Writes `value` to `register` where the host's time is `time`, and returns whether the register takes a write.
     /// Where it takes none nothing changes.
     #[tactic(auto, using(crate::proofs::BitLemmas::and_not_is_without))]
     fn store(&mut self, register: ClockRegister, value: u32, time: u32) -> bool
@@ -257,7 +257,7 @@ impl<EV: RtcEvents> Rtc<EV> {
         ensures quiet { OnTrue (is_readable (clock_register_at offset)) (self.new.events ≡ self.old.events) }
     {
         let time = self.begin_access(now);
-        match self.state.shown(ClockRegister::at(offset), time) {
+        match self.state.read_register(ClockRegister::at(offset), time) {
             Some(number) => *bytes = number.to_le_bytes(),
             None => self.events.invalid_read(),
         }

@@ -25,7 +25,7 @@ pub enum Call<T, EV, W> {
     Write(u8, u8),
     /// `enqueue_raw_bytes` of these bytes.
     Enqueue(Vec<u8>),
-    /// The port is made anew from its own state, with this trigger, events object and writer.
+    /// The port is made again from its own state, with this trigger, events object and writer.
     Restore(T, EV, W),
 }
 
@@ -38,20 +38,20 @@ pub enum Act {
     Write(u8, u8),
     /// `enqueue_raw_bytes` of these bytes.
     Enqueue(Vec<u8>),
-    /// The port was to be made anew.
+    /// The port was to be made again.
     Restore,
 }
 
-/// What a call answered.
+/// What a call returned.
 #[derive(Drop)]
 pub enum Reply<T: Trigger, EV: SerialEvents, W: Write> {
     /// The byte that was read.
     Byte(u8),
-    /// What `write` answered.
+    /// What `write` returned.
     Wrote(Result<(), Error<T::E>>),
-    /// What `enqueue_raw_bytes` answered.
+    /// What `enqueue_raw_bytes` returned.
     Enqueued(Result<usize, Error<T::E>>),
-    /// The port was made anew: the old one, with its own objects.
+    /// The port was made again: the old one, with its own objects.
     Restored(Serial<T, EV, W>),
     /// The port stayed: why, and the objects that the restore brought.
     NotRestored(Refused<T, EV, W>),
@@ -66,11 +66,11 @@ pub struct Done<T: Trigger, EV: SerialEvents, W: Write> {
     pub asked: Asked,
     /// The outcome of the byte that it sent.
     pub sent: Sent,
-    /// What it answered.
+    /// What it returned.
     pub reply: Reply<T, EV, W>,
 }
 
-/// Makes the calls in order, and answers a record of each.
+/// Makes the calls in order, and returns a record of each.
 ///
 /// Nothing stops a run early: a refusal of the trigger, a failure of the writer or a refused restore is in the record
 /// of its call, and the next call is made. A restore takes the port's state and makes a port of it with the objects
@@ -151,7 +151,7 @@ fn make<T: Trigger, EV: SerialEvents, W: Write>(
     }
 }
 
-/// Makes the port anew from its own state, with these objects.
+/// Makes the port again from its own state, with these objects.
 fn restore<T: Trigger, EV: SerialEvents, W: Write>(
     alloc: Global,
     serial: &mut Serial<T, EV, W>,

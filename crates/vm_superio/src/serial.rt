@@ -28,7 +28,7 @@ use std::alloc::{AllocError, Global};
 use std::io::Write;
 use std::marker::Model;
 
-/// A 16550 serial port, reduced to what a guest's driver uses: its registers, a receive FIFO of 64 bytes that is always
+/// A 16550 serial port, reduced to what a guest's driver uses: its registers, a rda FIFO of 64 bytes that is always
 /// on, and two interrupt conditions.
 ///
 /// In a contract the port is its state, of ten fields, and the three objects that it owns.
@@ -165,9 +165,9 @@ impl<T: Trigger, EV: SerialEvents, W: Write> Serial<T, EV, W> {
                 out,
             });
         };
-        let transmit = is_asserted(Condition::Thre, state);
-        let receive = is_asserted(Condition::Rda, state);
-        if let Err(refusal) = assert_again(&mut trigger, transmit, receive) {
+        let thre = is_asserted(Condition::Thre, state);
+        let rda = is_asserted(Condition::Rda, state);
+        if let Err(refusal) = assert_again(&mut trigger, thre, rda) {
             return Err(Refused {
                 error: Error::Trigger(refusal),
                 trigger,
@@ -271,7 +271,7 @@ impl<T: Trigger, EV: SerialEvents, W: Write> Serial<T, EV, W> {
         FIFO_SIZE - self.in_buffer.len()
     }
 
-    /// Receives bytes for the guest: the first of them, as many as there is room for. Answers how many.
+    /// Receives bytes for the guest: the first of them, as many as there is room for. Returns how many.
     ///
     /// In loopback nothing is accepted, and the answer is 0.
     ///

@@ -2,7 +2,7 @@
 ghost use Rattle.std.specs.Prelude.{◌≡◌};
 ghost use Rattle.vm_superio.specs.Port.Bits.{has_bits, only_bits, with_bits, without_bits};
 
-// Offsets. DLL and DLM stand in the place of RBR, THR and IER while DLAB is set.
+// Offsets. DLL and DLM stand in place of RBR, THR and IER while DLAB is set.
 pub(super) const DATA_OFFSET: u8 = 0;
 
 pub(super) const IER_OFFSET: u8 = 1;
@@ -52,7 +52,7 @@ pub(super) const MCR_OUT2_BIT: u8 = 0x08;
 
 pub(super) const MCR_LOOP_BIT: u8 = 0x10;
 
-// Modem status: four inputs, above four bits that tell of their changes.
+// Modem status: four inputs, above four bits that show their changes.
 pub(super) const MSR_DELTA_BITS: u8 = 0x0F;
 
 pub(super) const MSR_CTS_BIT: u8 = 0x10;

@@ -73,7 +73,7 @@ impl Condition {
     }
 }
 
-/// The nine register bytes of a port. The received bytes stand beside them.
+/// The nine register bytes of a port, in the order of a saved state. The received bytes stand beside them.
 #[repr(C)]
 #[derive(Clone, Copy)]
 pub(super) struct Registers {
@@ -172,7 +172,7 @@ impl Registers {
 
     /// MSR as it is read: in loopback its high four bits show the outputs of MCR, DTR as DSR, RTS as CTS, OUT1 as RI
     /// and OUT2 as DCD.
-    pub(super) fn modem_status_read(&self) -> u8
+    pub(super) fn read_msr(&self) -> u8
         ensures { result ≡ msr_read self.now.modem_control self.now.modem_status }
     {
         if !self.is_loopback() {

@@ -20,7 +20,7 @@ pub(super) fn is_asserted(condition: Condition, state: &SerialState) -> bool
 
 /// Calls the trigger twice, unless the first call is refused.
 fn trigger_twice<T: Trigger>(trigger: &mut T) -> Result<(), T::E>
-    ensures taken { OnOk result (T.link trigger.old (Ok tt ∷ Ok tt ∷ []) trigger.new) }
+    ensures accepted { OnOk result (T.link trigger.old (Ok tt ∷ Ok tt ∷ []) trigger.new) }
     ensures refused { IfErr result (λ refusal. (answers : List (Result (Unit {0}) T.E))
         × StopsAtRefusal (thre_then_rda true true) refusal answers × T.link trigger.old answers trigger.new) }
 {
@@ -28,17 +28,13 @@ fn trigger_twice<T: Trigger>(trigger: &mut T) -> Result<(), T::E>
     trigger.trigger()
 }
 
-/// Calls the trigger once for each of the two conditions that is asserted, as far as no call is refused.
-pub(super) fn assert_again<T: Trigger>(
-    trigger: &mut T,
-    transmit: bool,
-    receive: bool,
-) -> Result<(), T::E>
-    ensures taken { OnOk result (T.link trigger.old (all_ok (thre_then_rda transmit receive)) trigger.new) }
+/// Calls the trigger once for each of the two conditions that is asserted, as long as no call is refused.
+pub(super) fn assert_again<T: Trigger>(trigger: &mut T, thre: bool, rda: bool) -> Result<(), T::E>
+    ensures accepted { OnOk result (T.link trigger.old (all_ok (thre_then_rda thre rda)) trigger.new) }
     ensures refused { IfErr result (λ refusal. (answers : List (Result (Unit {0}) T.E))
-        × StopsAtRefusal (thre_then_rda transmit receive) refusal answers × T.link trigger.old answers trigger.new) }
+        × StopsAtRefusal (thre_then_rda thre rda) refusal answers × T.link trigger.old answers trigger.new) }
 {
-    match (transmit, receive) {
+    match (thre, rda) {
         (true, true) => trigger_twice(trigger),
         (true, false) | (false, true) => trigger.trigger(),
         (false, false) => Ok(()),

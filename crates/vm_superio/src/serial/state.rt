@@ -16,7 +16,7 @@ use std::alloc::{AllocError, Global};
 pub struct SerialState {
     /// DLL, the low byte of the divisor latch.
     pub baud_divisor_low: u8,
-    /// DLH, the high byte of the divisor latch.
+    /// DLM, the high byte of the divisor latch.
     pub baud_divisor_high: u8,
     /// IER: bit 0x01 enables RDA (received data available), bit 0x02 THRE (transmitter holding register empty).
     pub interrupt_enable: u8,
@@ -64,7 +64,7 @@ impl SerialState {
     /// shows whether any is, IIR is 1, 2, 4 or 6, and RDA is pending only while a byte is held. The other fields are
     /// free.
     ///
-    /// A port that was made of a coherent state stays coherent. With another state each call still meets its contract,
+    /// A port that was made from a coherent state stays coherent. With another state each call still meets its contract,
     /// but the laws that derive a guest's reads from the history do not apply.
     pub fn is_coherent(&self) -> bool
         ensures { IsTrue result ↔ Coherent (state_of self.now) }
@@ -79,8 +79,8 @@ impl SerialState {
 /// Whether IIR shows the two conditions, of which RDA is pending only while bytes are held.
 fn shows_conditions(identification: u8, holds_bytes: bool) -> bool
     ensures { IsTrue result
-        ↔ ((transmit receive : Bool) × (identification ≡ identification_of transmit receive)
-        × (IsTrue receive → IsTrue holds_bytes)) }
+        ↔ ((thre rda : Bool) × (identification ≡ identification_of thre rda)
+        × (IsTrue rda → IsTrue holds_bytes)) }
 {
     match identification {
         0x01 => true,

@@ -99,7 +99,7 @@ impl Registers {
     }
 
     /// Receives the first of these bytes, as many as there is room for, behind those that are held. If there is one,
-    /// data ready is set and RDA is raised. Answers how many were added.
+    /// data ready is set and RDA is raised. Returns how many were added.
     pub(super) fn receive<T: Trigger>(
         &mut self,
         fifo: &mut Fifo,
@@ -191,7 +191,7 @@ impl Registers {
             Register::Lcr => self.line_control,
             Register::Mcr => self.modem_control,
             Register::Lsr => self.line_status,
-            Register::Msr => self.modem_status_read(),
+            Register::Msr => self.read_msr(),
             Register::Scr => self.scratch,
             Register::Unassigned => 0,
         }
