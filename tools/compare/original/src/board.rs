@@ -1,0 +1,111 @@
+//! The devices that a script drives.
+use std::mem;
+use std::sync::Arc;
+
+use vm_superio::serial::{Error, Serial};
+use vm_superio::{I8042Device, Rtc};
+
+use crate::command::Command;
+use crate::moment;
+use crate::objects::{Count, Counts, Line, Output, Refused};
+
+pub struct Board {
+    serial: Serial<Line, Arc<Counts>, Output>,
+    clock: Rtc<Arc<Counts>>,
+    controller: I8042Device<Line>,
+}
+
+impl Board {
+    /// A board of fresh devices, of which the serial port has an interrupt line with this mask.
+    pub fn new(mask: u64) -> Self {
+        Board {
+            serial: Serial::with_events(Line::new(mask), Arc::default(), Output::default()),
+            clock: Rtc::with_events(Arc::default()),
+            controller: fresh_controller(),
+        }
+    }
+
+    /// Carries out a line, and returns the reply without its LF.
+    pub fn carry_out(&mut self, command: Command) -> String {
+        match command {
+            Command::SerialRead { offset } => format!("{:02x}", self.serial.read(offset)),
+            Command::SerialWrite { offset, value } => reply_to(self.serial.write(offset, value)),
+            Command::SerialEnqueue(bytes) => match self.serial.enqueue_raw_bytes(&bytes) {
+                Ok(count) => format!("{count:02x}"),
+                Err(error) => reply_to(Err(error)),
+            },
+            Command::SerialCapacity => format!("{:02x}", self.serial.fifo_capacity()),
+            Command::SerialRestore => reply_to(self.restore_serial()),
+            Command::SerialOutput => self.serial.writer().bytes().iter().map(|byte| format!("{byte:02x}")).collect(),
+            Command::SerialCalls => format!("{:016x}", self.serial.interrupt_evt().calls()),
+            Command::SerialEvents => reported(self.serial.events()),
+            Command::ClockRead { moment, offset } => self.read_clock(moment, offset),
+            Command::ClockWrite { moment, offset, value } => self.write_clock(moment, offset, value),
+            Command::ControllerRead { offset } => format!("{:02x}", self.controller.read(offset)),
+            Command::ControllerWrite { offset, value } => self.write_controller(offset, value),
+        }
+    }
+
+    /// Replaces the port by one that is restored from its state. If that is refused the old port stays.
+    fn restore_serial(&mut self) -> Result<(), Error<Refused>> {
+        let line = self.serial.interrupt_evt().clone();
+        let counts = Arc::clone(self.serial.events());
+        let restored = Serial::from_state(&self.serial.state(), line, counts, Output::default())?;
+        let old = mem::replace(&mut self.serial, restored);
+        *self.serial.writer_mut() = old.into_writer();
+        Ok(())
+    }
+
+    /// Restores the clock from its own state, with fresh counts, at this moment.
+    fn restore_clock(&mut self, moment: u64) {
+        self.clock = Rtc::from_state(&self.clock.state(), Arc::default());
+        moment::set(moment);
+    }
+
+    fn read_clock(&mut self, moment: u64, offset: u16) -> String {
+        let mut data = [0; 4];
+        self.restore_clock(moment);
+        self.clock.read(offset, &mut data);
+        match self.clock.events().invalid_reads.get() {
+            0 => format!("{:08x}", u32::from_le_bytes(data)),
+            _ => "invalid".to_string(),
+        }
+    }
+
+    fn write_clock(&mut self, moment: u64, offset: u16, value: u32) -> String {
+        self.restore_clock(moment);
+        self.clock.write(offset, &value.to_le_bytes());
+        match self.clock.events().invalid_writes.get() {
+            0 => "ok".to_string(),
+            _ => "invalid".to_string(),
+        }
+    }
+
+    fn write_controller(&mut self, offset: u8, value: u8) -> String {
+        self.controller.write(offset, value).expect("the reset line refuses no call");
+        if self.controller.reset_evt().calls() == 0 {
+            return "ok".to_string();
+        }
+        self.controller = fresh_controller();
+        "reset".to_string()
+    }
+}
+
+fn fresh_controller() -> I8042Device<Line> {
+    I8042Device::new(Line::new(0))
+}
+
+fn reply_to(result: Result<(), Error<Refused>>) -> String {
+    let reply = match result {
+        Ok(()) => "ok",
+        Err(Error::Trigger(Refused)) => "trigger",
+        Err(Error::IOError(_)) => "io",
+        Err(Error::FullFifo) => "full",
+    };
+    reply.to_string()
+}
+
+fn reported(counts: &Counts) -> String {
+    let counts = [&counts.buffer_reads, &counts.out_bytes, &counts.tx_lost_bytes, &counts.in_buffer_empties];
+    counts.map(Count::get).map(|count| format!("{count:016x}")).join(" ")
+}
