@@ -141,7 +141,7 @@ module _ (choice later : Choice) (possible : IsPossible choice) where
           short = rest.short;
         }
 
-    trace-after_restore : (refused : Bool) (line : InterruptLine) → (if refused then before else record before { line = line }).trace ≡ before.trace
+    trace-after_restore : (refused : Bool) (line : InterruptLine) → (if refused then before else record before { interrupt_line = line }).trace ≡ before.trace
     trace-after_restore true line = refl
     trace-after_restore false line = refl
 

@@ -177,7 +177,7 @@ pub at-start :
     (mask : ℕ) (port : Port InterruptLine EventCounts Output) →
     port.state ≡ fresh_state → port.trigger ≡ fresh_interrupt_line mask → port.events ≡ no_counts → written_bytes port.out ≡ [] → IsAt (fresh_session mask) port
 unfolding has_bits only_bits
-at-start mask port state line counts output = record { state = state; line = line; counts = counts; output = output }
+at-start mask port state line counts output = record { state = state; interrupt_line = line; counts = counts; output = output }
 
 -- each call of a port that started fresh is a step of its trace
 agrees : StepLaw → (trace : List TraceEntry) → PrefixAgrees fresh_state trace
@@ -185,8 +185,8 @@ agrees law trace = law fresh_state trace fresh_coherent
 
 -- a port at a session
 port-at : (before : Session) (port : Port InterruptLine EventCounts Output) → IsAt before port →
-    port ≡ record { state = state_of_history fresh_state before.trace; trigger = before.line; events = before.counts; out = port.out }
-port-at before port at = λ i. record { state = at.state i; trigger = at.line i; events = at.counts i; out = port.out }
+    port ≡ record { state = state_of_history fresh_state before.trace; trigger = before.interrupt_line; events = before.counts; out = port.out }
+port-at before port at = λ i. record { state = at.state i; trigger = at.interrupt_line i; events = at.counts i; out = port.out }
 
 -- the links of the board's objects
 abbrev pub board_links : PortLinks InterruptLine LineRefused EventCounts Output
@@ -204,7 +204,7 @@ module _ (law : StepLaw) where
     abbrev pub PortStepAt : (before : Session) → Type 0
     PortStepAt before =
         IsPortStep board_links op asked outcome response refusal
-        (record { state = state_of_history fresh_state before.trace; trigger = before.line; events = before.counts; out = old.out }) new
+        (record { state = state_of_history fresh_state before.trace; trigger = before.interrupt_line; events = before.counts; out = old.out }) new
 
     pub port_step-at : (before : Session) → IsAt before old →
         IsPortStep board_links op asked outcome response refusal old new → PortStepAt before
@@ -218,18 +218,18 @@ module _ (law : StepLaw) where
         let entry : TraceEntry = record { op = op; asked = asked; sent = outcome } in
         let step = prefix.steps entry made.admissible in
         let fitted = (and_parts (answers_all (step_calls (state_of_history fresh_state before.trace) op) asked) (beq (is_sent outcome) (session_sends before op)) made.admissible).0 in
-        let so = trigger_answers-from_link before.line new.trigger (step_calls (state_of_history fresh_state before.trace) op) asked refusal fitted (λ h. made.refused ∙ h) made.trigger in
-        let same : asked ≡ session_answers before op = so.0 ∙ ap (trigger_answers before.line) (prefix.calls op) in
+        let so = trigger_answers-from_link before.interrupt_line new.trigger (step_calls (state_of_history fresh_state before.trace) op) asked refusal fitted (λ h. made.refused ∙ h) made.trigger in
+        let same : asked ≡ session_answers before op = so.0 ∙ ap (trigger_answers before.interrupt_line) (prefix.calls op) in
         let P : Asked → Type 0 = λ a. (response_reply response ≡ response_reply (history_response fresh_state before.trace op a outcome)) × IsAt (record {
           trace = record { op = op; asked = a; sent = outcome } ∷ before.trace;
-          line = interrupt_line_after_answers before.line a;
+          interrupt_line = interrupt_line_after_answers before.interrupt_line a;
           counts = fold counts_after_event before.counts (history_events fresh_state before.trace (record { op = op; asked = a; sent = outcome }));
         }) new in
         subst P same (
           ap response_reply (made.response ∙ step.response),
           record {
             state = made.state ∙ step.state;
-            line = so.1;
+            interrupt_line = so.1;
             counts = made.events.folds ∙ ap (fold counts_after_event before.counts) step.events;
             output = subst (λ (known : Option (List ℕ)). IfSome known (λ all. written_bytes new.out ≡ all)) (sym (known_output-after before.trace entry))
                 (written_bytes-after_call (known_output before.trace) outcome (bytes_written op outcome) (sent_by (kind_at fresh_state before.trace op)) old.out new.out made.out step.output at.output);
@@ -292,7 +292,7 @@ module _ (port : Port InterruptLine EventCounts Output) where
 
   pub calls-step : IsSerialLineStep line.Calls (with_lf (count_digits port.trigger.calls)) port port
   calls-step before at =
-      (no_choice, IsPossible-no_choice, ap (λ (l : InterruptLine). with_lf (count_digits l.calls)) at.line, at)
+      (no_choice, IsPossible-no_choice, ap (λ (l : InterruptLine). with_lf (count_digits l.calls)) at.interrupt_line, at)
 
   pub events-step : IsSerialLineStep line.Events (counts_reply port.events) port port
   events-step before at = (no_choice, IsPossible-no_choice, ap counts_reply at.counts, at)
@@ -369,17 +369,17 @@ module _ (law : StepLaw) (old new : Port InterruptLine EventCounts Output) where
       IsSerialLineStep line.Restore (with_lf (codes "ok")) old new
   restore-step state link events out before at =
       let calls = ap restore_calls at.state ∙ (agrees law before.trace).restoring in
-      let linked = subst (λ calls. InterruptLineLink before.line (all_ok calls) new.trigger) calls
-      (subst (λ (l : InterruptLine). InterruptLineLink l (all_ok (restore_calls old.state)) new.trigger) at.line link) in
-      let accepted = restore-accepted before.line new.trigger _ _ linked in
-      let after = interrupt_line_after_answers before.line (trigger_answers before.line (length (restore_calls_due fresh_state before.trace))) in
+      let linked = subst (λ calls. InterruptLineLink before.interrupt_line (all_ok calls) new.trigger) calls
+      (subst (λ (l : InterruptLine). InterruptLineLink l (all_ok (restore_calls old.state)) new.trigger) at.interrupt_line link) in
+      let accepted = restore-accepted before.interrupt_line new.trigger _ _ linked in
+      let after = interrupt_line_after_answers before.interrupt_line (trigger_answers before.interrupt_line (length (restore_calls_due fresh_state before.trace))) in
       let P : Bool → Type 0 = λ refused. (with_lf (codes "ok") ≡ with_lf (if refused then codes "trigger" else codes "ok"))
-      × IsAt (if refused then before else record before { line = after }) new in
+      × IsAt (if refused then before else record before { interrupt_line = after }) new in
       let found : P (is_restore_refused before) = subst P (sym accepted.0) (
         refl,
         record {
           state = state ∙ at.state;
-          line = accepted.1;
+          interrupt_line = accepted.1;
           counts = events ∙ at.counts;
           output = subst (λ (o : Output). IfSome (known_output before.trace) (λ all. written_bytes o ≡ all)) (sym out) at.output;
         },
@@ -398,10 +398,10 @@ refused-restore-step law port after (Trigger refusal) few refuses = λ before at
     let calls = ap restore_calls at.state ∙ (agrees law before.trace).restoring in
     let responses = refuses.1.0 in
     let ends = subst (λ calls. StopsAtRefusal calls refusal responses) calls refuses.1.1 in
-    let linked = subst (λ (l : InterruptLine). InterruptLineLink l responses after) at.line refuses.1.2 in
-    let refused : is_restore_refused before ≡ true = restore-refused before.line after _ _ refusal responses ends linked in (
+    let linked = subst (λ (l : InterruptLine). InterruptLineLink l responses after) at.interrupt_line refuses.1.2 in
+    let refused : is_restore_refused before ≡ true = restore-refused before.interrupt_line after _ _ refusal responses ends linked in (
       no_choice,
       IsPossible-no_choice,
       ap (λ (b : Bool). with_lf (if b then codes "trigger" else codes "ok")) (sym refused),
-      subst (λ (b : Bool). IsAt (if b then before else record before { line = interrupt_line_after_answers before.line (trigger_answers before.line (length (restore_calls_due fresh_state before.trace))) }) port) (sym refused) at,
+      subst (λ (b : Bool). IsAt (if b then before else record before { interrupt_line = interrupt_line_after_answers before.interrupt_line (trigger_answers before.interrupt_line (length (restore_calls_due fresh_state before.trace))) }) port) (sym refused) at,
     )

@@ -27,7 +27,7 @@ pub record Devices : Type 0 where
 -- the board's serial port is at this session: in the state that the trace describes, with the session's objects
 pub record IsAt (session : Session) (port : Port InterruptLine EventCounts Output) : Type 0 where
   pub state : port.state ≡ state_of_history fresh_state session.trace
-  pub line : port.trigger ≡ session.line
+  pub interrupt_line : port.trigger ≡ session.interrupt_line
   pub counts : port.events ≡ session.counts
   pub output : IfSome (known_output session.trace) (λ bytes. written_bytes port.out ≡ bytes)
 

@@ -3,9 +3,7 @@
 use Rattle.std.specs.Prelude.{ℕ, zero, suc, ◌+◌, ◌-◌, ◌≤◌, Bool, nat_le, if◌then◌else◌, List, [], ◌∷◌, length, drop, fold, codes, Option, Some, None, IsTrue}
 use Rattle.std.specs.List.{list_all}
 use Rattle.vm_superio.specs.declared.trace.Asked.{Asked}
-use Rattle.vm_superio.specs.declared.trace.Asked.TheVariants.{Nothing, Took, Refused, TookTook, TookRefused}
 use Rattle.vm_superio.specs.declared.trace.Sent.{Sent}
-use Rattle.vm_superio.specs.declared.trace.Sent.TheVariants as sent
 use Rattle.vm_superio.specs.Port.SavedState.{fresh_state}
 use Rattle.vm_superio.specs.Port.State.{not_empty}
 use Rattle.vm_superio.specs.Port.Operations.{Op, Read, Write, Enqueue, TraceEntry, is_sent, ends_in_refusal}
@@ -31,7 +29,7 @@ pub record Choice : Type 0 where
 
 -- how many bytes go out before the first one is lost
 abbrev pub bytes_before_loss : (outcomes : List Sent) → ℕ
-bytes_before_loss (sent.Out ∷ outcomes) = 1 + bytes_before_loss outcomes
+bytes_before_loss (Sent.Out ∷ outcomes) = 1 + bytes_before_loss outcomes
 bytes_before_loss _ = 0
 
 -- at most 256 bytes
@@ -46,7 +44,7 @@ pub record IsPossible (choice : Choice) : Type 0 where
   pub short : IsTrue (list_all is_short choice.outputs)
 
 abbrev pub first_outcome : (outcomes : List Sent) → Sent
-first_outcome [] = sent.Lost
+first_outcome [] = Sent.Lost
 first_outcome (outcome ∷ outcomes) = outcome
 
 abbrev pub first_output : (outputs : List (List ℕ)) → List ℕ
@@ -59,12 +57,12 @@ first_output (bytes ∷ outputs) = bytes
 pub record Session : Type 0 where
   -- the trace of its calls, newest first. A restore adds no entry, since a restored port goes on as the old one
   pub trace : List TraceEntry
-  pub line : InterruptLine
+  pub interrupt_line : InterruptLine
   pub counts : EventCounts
 
 -- a port that was never called. The mask names the calls that its interrupt line refuses
 abbrev pub fresh_session : (mask : ℕ) → Session
-fresh_session mask = record { trace = []; line = fresh_interrupt_line mask; counts = no_counts }
+fresh_session mask = record { trace = []; interrupt_line = fresh_interrupt_line mask; counts = no_counts }
 
 -- the bytes that went out, which are not known once a byte was lost
 abbrev pub known_output : (trace : List TraceEntry) → Option (List ℕ)
@@ -72,24 +70,24 @@ known_output trace = if none_lost trace then Some (output fresh_state [] trace) 
 
 -- ---- a call of the port
 
--- the interrupt line's responses to so many trigger calls, up to two. A refusal is the last response
+-- the interrupt line's answers to this many trigger calls, up to two. A refusal is the last answer
 abbrev pub trigger_answers : (line : InterruptLine) (calls : ℕ) → Asked
-trigger_answers line zero = Nothing
-trigger_answers line (suc zero) = if is_call_refused line.mask line.calls then Refused else Took
+trigger_answers line zero = Asked.Nothing
+trigger_answers line (suc zero) = if is_call_refused line.mask line.calls then Asked.Refused else Asked.Took
 trigger_answers line (suc (suc more)) =
-    if is_call_refused line.mask line.calls then Refused
-    else (if is_call_refused line.mask (interrupt_line_after_call line).calls then TookRefused else TookTook)
+    if is_call_refused line.mask line.calls then Asked.Refused
+    else (if is_call_refused line.mask (interrupt_line_after_call line).calls then Asked.TookRefused else Asked.TookTook)
 
--- the interrupt line after trigger calls with these responses
-abbrev pub interrupt_line_after_answers : (line : InterruptLine) (responses : Asked) → InterruptLine
-interrupt_line_after_answers line Nothing = line
-interrupt_line_after_answers line Took = interrupt_line_after_call line
-interrupt_line_after_answers line Refused = interrupt_line_after_call line
-interrupt_line_after_answers line TookTook = interrupt_line_after_call (interrupt_line_after_call line)
-interrupt_line_after_answers line TookRefused = interrupt_line_after_call (interrupt_line_after_call line)
+-- the interrupt line after trigger calls with these answers
+abbrev pub interrupt_line_after_answers : (line : InterruptLine) (answers : Asked) → InterruptLine
+interrupt_line_after_answers line Asked.Nothing = line
+interrupt_line_after_answers line Asked.Took = interrupt_line_after_call line
+interrupt_line_after_answers line Asked.Refused = interrupt_line_after_call line
+interrupt_line_after_answers line Asked.TookTook = interrupt_line_after_call (interrupt_line_after_call line)
+interrupt_line_after_answers line Asked.TookRefused = interrupt_line_after_call (interrupt_line_after_call line)
 
 abbrev pub session_answers : (session : Session) (op : Op) → Asked
-session_answers session op = trigger_answers session.line (calls_due fresh_state session.trace op)
+session_answers session op = trigger_answers session.interrupt_line (calls_due fresh_state session.trace op)
 
 -- the trace entry of a call, given the outcome of its byte
 abbrev pub session_entry : (session : Session) (op : Op) (outcome : Sent) → TraceEntry
@@ -103,7 +101,7 @@ call_reply session op outcome =
 abbrev pub session_after_call : (session : Session) (op : Op) (outcome : Sent) → Session
 session_after_call session op outcome = record {
   trace = session_entry session op outcome ∷ session.trace;
-  line = interrupt_line_after_answers session.line (session_answers session op);
+  interrupt_line = interrupt_line_after_answers session.interrupt_line (session_answers session op);
   counts =
       fold counts_after_event session.counts
       (history_events fresh_state session.trace (session_entry session op outcome));
@@ -116,7 +114,7 @@ session_sends session op = not_empty (sent_by (kind_at fresh_state session.trace
 -- the outcome of the byte that a write sends, if it sends one, and the choice for what follows. No other call sends a
 -- byte
 abbrev pub outcome_if_sent : (sends : Bool) (choice : Choice) → Sent
-outcome_if_sent sends choice = if sends then first_outcome choice.outcomes else sent.Nothing
+outcome_if_sent sends choice = if sends then first_outcome choice.outcomes else Sent.Nothing
 
 abbrev pub choice_after_write : (sends : Bool) (choice : Choice) → Choice
 choice_after_write sends choice = record choice { outcomes = if sends then drop 1 choice.outcomes else choice.outcomes }
@@ -127,9 +125,9 @@ session_write_outcome session choice offset value =
 
 -- ---- a restore
 
--- the interrupt line's responses to the calls of a restore, and whether they end the restore with a refusal
+-- the interrupt line's answers to the calls of a restore, and whether they end the restore with a refusal
 abbrev pub restore_answers : (session : Session) → Asked
-restore_answers session = trigger_answers session.line (length (restore_calls_due fresh_state session.trace))
+restore_answers session = trigger_answers session.interrupt_line (length (restore_calls_due fresh_state session.trace))
 
 abbrev pub is_restore_refused : (session : Session) → Bool
 is_restore_refused session = ends_in_refusal (restore_answers session)
@@ -138,7 +136,9 @@ is_restore_refused session = ends_in_refusal (restore_answers session)
 abbrev pub session_after_restore : (session : Session) → Session
 session_after_restore session =
     if is_restore_refused session then session
-    else record session { line = interrupt_line_after_answers session.line (restore_answers session) }
+    else record session {
+      interrupt_line = interrupt_line_after_answers session.interrupt_line (restore_answers session);
+    }
 
 -- ---- the output
 
@@ -155,22 +155,22 @@ choice_after_output None choice = record choice { outputs = drop 1 choice.output
 
 -- the reply to a line, the session after it, and the choice for what follows
 abbrev pub serial_reply : (session : Session) (choice : Choice) (line : SerialLine) → List ℕ
-serial_reply session choice (serial.Read offset) = call_reply session (Read offset) sent.Nothing
+serial_reply session choice (serial.Read offset) = call_reply session (Read offset) Sent.Nothing
 serial_reply session choice (serial.Write offset value) =
     call_reply session (Write offset value) (session_write_outcome session choice offset value)
-serial_reply session choice (serial.Enqueue bytes) = call_reply session (Enqueue bytes) sent.Nothing
+serial_reply session choice (serial.Enqueue bytes) = call_reply session (Enqueue bytes) Sent.Nothing
 serial_reply session choice serial.Capacity = digits_reply ((64 - length (held_bytes fresh_state session.trace)) ∷ [])
 serial_reply session choice serial.Restore =
     with_lf (if is_restore_refused session then codes "trigger" else codes "ok")
 serial_reply session choice serial.Output = digits_reply (output_or_chosen (known_output session.trace) choice)
-serial_reply session choice serial.Calls = with_lf (count_digits session.line.calls)
+serial_reply session choice serial.Calls = with_lf (count_digits session.interrupt_line.calls)
 serial_reply session choice serial.Events = counts_reply session.counts
 
 abbrev pub session_after_line : (session : Session) (choice : Choice) (line : SerialLine) → Session
-session_after_line session choice (serial.Read offset) = session_after_call session (Read offset) sent.Nothing
+session_after_line session choice (serial.Read offset) = session_after_call session (Read offset) Sent.Nothing
 session_after_line session choice (serial.Write offset value) =
     session_after_call session (Write offset value) (session_write_outcome session choice offset value)
-session_after_line session choice (serial.Enqueue bytes) = session_after_call session (Enqueue bytes) sent.Nothing
+session_after_line session choice (serial.Enqueue bytes) = session_after_call session (Enqueue bytes) Sent.Nothing
 session_after_line session choice serial.Restore = session_after_restore session
 session_after_line session choice _ = session
 

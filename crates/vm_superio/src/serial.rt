@@ -1,11 +1,9 @@
 //! A serial port with the registers of a 16550.
 ghost use Rattle.std.specs.Prelude.{◌≡◌, ◌<◌, ◌≤◌, ◌-◌, length, vec_len, IsOk, IsErr, IfOk, IfErr};
-ghost use Rattle.vm_superio.specs.Port.SavedState.{fresh_state};
-ghost use Rattle.vm_superio.specs.Step.Restore.{restore_calls};
 ghost use Rattle.vm_superio.specs.Port.Coherent.{Coherent};
 ghost use Rattle.vm_superio.specs.Port.ObjectLinks.{all_ok};
-ghost use Rattle.vm_superio.specs.Step.Restore.{RefusesRestore};
-ghost use Rattle.vm_superio.specs.Port.SavedState.{state_of};
+ghost use Rattle.vm_superio.specs.Port.SavedState.{fresh_state, state_of};
+ghost use Rattle.vm_superio.specs.Step.Restore.{restore_calls, RefusesRestore};
 
 mod answers;
 mod bits;
@@ -28,7 +26,7 @@ use std::alloc::{AllocError, Global};
 use std::io::Write;
 use std::marker::Model;
 
-/// A 16550 serial port, reduced to what a guest's driver uses: its registers, a rda FIFO of 64 bytes that is always
+/// A 16550 serial port, reduced to what a guest's driver uses: its registers, a receive FIFO of 64 bytes that is always
 /// on, and two interrupt conditions.
 ///
 /// In a contract the port is its state, of ten fields, and the three objects that it owns.
