@@ -1,5 +1,5 @@
 //! Whole scripts: what they print, and how they end.
-use crate::scaffold::{Source, Target, WriteOutcome};
+use crate::scaffold::{FAULT_KINDS, Source, Target, WriteOutcome};
 use std::alloc::Global;
 use std::io::ErrorKind;
 use std::process::Abort;
@@ -291,55 +291,9 @@ fn streams_may_move_bytes_in_pieces_of_any_size(rt: HostRuntime) -> Result<(), F
     Ok(())
 }
 
-/// Every kind of fault that a stream can report.
-const KINDS: [ErrorKind; 42] = [
-    ErrorKind::NotFound,
-    ErrorKind::PermissionDenied,
-    ErrorKind::ConnectionRefused,
-    ErrorKind::ConnectionReset,
-    ErrorKind::HostUnreachable,
-    ErrorKind::NetworkUnreachable,
-    ErrorKind::ConnectionAborted,
-    ErrorKind::NotConnected,
-    ErrorKind::AddrInUse,
-    ErrorKind::AddrNotAvailable,
-    ErrorKind::NetworkDown,
-    ErrorKind::BrokenPipe,
-    ErrorKind::AlreadyExists,
-    ErrorKind::WouldBlock,
-    ErrorKind::NotADirectory,
-    ErrorKind::IsADirectory,
-    ErrorKind::DirectoryNotEmpty,
-    ErrorKind::ReadOnlyFilesystem,
-    ErrorKind::FilesystemLoop,
-    ErrorKind::StaleNetworkFileHandle,
-    ErrorKind::InvalidInput,
-    ErrorKind::InvalidData,
-    ErrorKind::TimedOut,
-    ErrorKind::WriteZero,
-    ErrorKind::StorageFull,
-    ErrorKind::NotSeekable,
-    ErrorKind::QuotaExceeded,
-    ErrorKind::FileTooLarge,
-    ErrorKind::ResourceBusy,
-    ErrorKind::ExecutableFileBusy,
-    ErrorKind::Deadlock,
-    ErrorKind::CrossesDevices,
-    ErrorKind::TooManyLinks,
-    ErrorKind::InvalidFilename,
-    ErrorKind::ArgumentListTooLong,
-    ErrorKind::Interrupted,
-    ErrorKind::Unsupported,
-    ErrorKind::UnexpectedEof,
-    ErrorKind::OutOfMemory,
-    ErrorKind::InProgress,
-    ErrorKind::Other,
-    ErrorKind::Uncategorized,
-];
-
 #[test]
 fn a_read_that_fails_leaves_nothing_written(rt: HostRuntime) -> Result<(), Fail> {
-    for kind in KINDS {
+    for kind in FAULT_KINDS {
         // The script comes in six pieces, and a seventh read finds the end.
         for calls in 0..7 {
             let mut reader = Source {
@@ -405,7 +359,7 @@ fn a_good_script_is_flushed_once(rt: HostRuntime) -> Result<(), Fail> {
     let mut reader = SCRIPT;
     let mut writer = Target {
         piece: 32,
-        ..Target::with_outcomes(rt.alloc(), &[WriteOutcome::FlushFails])?
+        ..Target::with_outcomes(rt.alloc(), &[WriteOutcome::FlushFails(ErrorKind::Other)])?
     };
     assert_eq!(rt;
         run_script(rt.alloc(), &mut reader, &mut writer),
