@@ -1,7 +1,7 @@
 //! Runs: lists of calls of a serial port, each as one call.
 mod memory;
 
-use crate::scaffold::registers::{IER, IIR, LSR, MCR, RBR, THR};
+use crate::scaffold::registers::{IER, IIR, LSR, MCR, RBR, SCR, THR};
 use crate::scaffold::{Failure, Target, failure_of, silent_port, state_with};
 use std::alloc::{AllocError, Global};
 use std::io::ErrorKind;
@@ -131,6 +131,38 @@ fn an_empty_run_changes_nothing(rt: HostRuntime) -> Result<(), Fail> {
     follow(&rt, alloc, &mut serial, &[])?;
     assert_eq!(rt; serial.state(alloc)?, SerialState::default(alloc));
     assert_eq!(rt; serial.interrupt_evt().calls(), 0);
+    Ok(())
+}
+
+#[test]
+fn a_long_run_makes_each_call(rt: HostRuntime) -> Result<(), Fail> {
+    let alloc = rt.alloc();
+    let mut serial = silent_port(alloc, 0, Target::new(alloc))?;
+    let mut rows = Vec::with_capacity(alloc, 10_000)?;
+    for number in 0..5_000u32 {
+        let byte = (number % 251) as u8;
+        rows.push((Write(SCR, byte), Asked::Nothing, Sent::Nothing, Written))?;
+        rows.push((Read(SCR), Asked::Nothing, Sent::Nothing, Byte(byte)))?;
+    }
+    assert_eq!(rt; rows.len(), 10_000);
+    follow(&rt, alloc, &mut serial, &rows)?;
+    Ok(())
+}
+
+#[test]
+fn a_restore_keeps_the_bytes_however_many_are_held(rt: HostRuntime) -> Result<(), Fail> {
+    let alloc = rt.alloc();
+    let mut serial = silent_port(alloc, 0, Target::new(alloc))?;
+    let mut rows = Vec::new(alloc);
+    for _ in 0..64 {
+        rows.push((Enqueue(b"a"), Asked::Nothing, Sent::Nothing, Added(1)))?;
+        rows.push((Restore(0), Asked::Nothing, Sent::Nothing, Restored))?;
+    }
+    for _ in 0..64 {
+        rows.push((Read(RBR), Asked::Nothing, Sent::Nothing, Byte(b'a')))?;
+    }
+    rows.push((Read(LSR), Asked::Nothing, Sent::Nothing, Byte(0x60)))?;
+    follow(&rt, alloc, &mut serial, &rows)?;
     Ok(())
 }
 

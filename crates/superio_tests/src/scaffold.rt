@@ -10,4 +10,4 @@ pub use call_log::CallLog;
 pub use events::{EventCounts, event_counts};
 pub use memory::all_memory;
 pub use ports::{Failure, failure_of, fresh_port, restored_port, silent_port, state_with};
-pub use streams::{Source, Target, WriteOutcome};
+pub use streams::{FAULT_KINDS, Source, Target, WriteOutcome};

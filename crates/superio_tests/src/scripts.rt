@@ -1,5 +1,5 @@
 //! Whole scripts: what they print, and how they end.
-use crate::scaffold::{Source, Target, WriteOutcome};
+use crate::scaffold::{FAULT_KINDS, Source, Target, WriteOutcome};
 use std::alloc::Global;
 use std::io::ErrorKind;
 use std::process::Abort;
@@ -223,6 +223,40 @@ fn a_script_ends_at_its_limit(rt: HostRuntime) -> Result<(), Fail> {
 }
 
 #[test]
+fn a_script_has_as_many_lines_as_fit(rt: HostRuntime) -> Result<(), Fail> {
+    let alloc = rt.alloc();
+    // No good line is shorter than these. One byte more would fit, and is no line.
+    let mut script = b"sc\n".repeat(alloc, 21_845)?;
+    let replies = b"40\n".repeat(alloc, 21_845)?;
+    assert_eq!(rt; script.len(), 65_535);
+    expect_run(&rt, alloc, &script, &replies, Ok(()));
+    script.push(b's')?;
+    expect_run(&rt, alloc, &script, &replies, Err(ScriptFault::Bad(21_846)));
+    Ok(())
+}
+
+#[test]
+fn a_script_that_is_too_long_is_not_read_on(rt: HostRuntime) -> Result<(), Fail> {
+    let alloc = rt.alloc();
+    let script = b"kr 04\n".repeat(alloc, 12_000)?;
+    assert_eq!(rt; script.len(), 72_000);
+    // The bytes that a read gives, and the reads that give 65,537 of them.
+    for (piece, reads) in [(1, 65_537), (4_096, 17), (65_536, 2), (usize::MAX, 1)] {
+        let mut reader = Source::in_pieces(&script, piece);
+        let mut writer = Target::new(alloc);
+        assert_eq!(rt;
+            run_script(alloc, &mut reader, &mut writer),
+            Err(ScriptFault::TooLong),
+            "in pieces of {piece}"
+        );
+        assert_eq!(rt; reader.reads, reads, "in pieces of {piece}");
+        assert_eq!(rt; reader.bytes.len(), 6_463, "in pieces of {piece}");
+        assert_eq!(rt; (writer.writes, writer.flushes), (0, 0));
+    }
+    Ok(())
+}
+
+#[test]
 fn an_enqueue_line_has_at_most_128_bytes(rt: HostRuntime) -> Result<(), Fail> {
     let alloc = rt.alloc();
     let digits = b"01".repeat(alloc, 128)?;
@@ -253,6 +287,15 @@ fn enqueues_stop_at_sixty_four(rt: HostRuntime) -> Result<(), Fail> {
     expect_run(&rt, alloc, &script, &replies, Ok(()));
     script.extend_from_slice(b"s")?;
     expect_run(&rt, alloc, &script, b"", Err(ScriptFault::TooLong));
+    Ok(())
+}
+
+#[test]
+fn a_full_port_is_restored(rt: HostRuntime) -> Result<(), Fail> {
+    let alloc = rt.alloc();
+    let digits = b"61".repeat(alloc, 64)?;
+    let script = [b"sq ".as_slice(), &digits, b"\nss\nsc\nsr 00\nsc\n"].concat(alloc)?;
+    expect_run(&rt, alloc, &script, b"40\nok\n00\n61\n01\n", Ok(()));
     Ok(())
 }
 
@@ -291,55 +334,9 @@ fn streams_may_move_bytes_in_pieces_of_any_size(rt: HostRuntime) -> Result<(), F
     Ok(())
 }
 
-/// Every kind of fault that a stream can report.
-const KINDS: [ErrorKind; 42] = [
-    ErrorKind::NotFound,
-    ErrorKind::PermissionDenied,
-    ErrorKind::ConnectionRefused,
-    ErrorKind::ConnectionReset,
-    ErrorKind::HostUnreachable,
-    ErrorKind::NetworkUnreachable,
-    ErrorKind::ConnectionAborted,
-    ErrorKind::NotConnected,
-    ErrorKind::AddrInUse,
-    ErrorKind::AddrNotAvailable,
-    ErrorKind::NetworkDown,
-    ErrorKind::BrokenPipe,
-    ErrorKind::AlreadyExists,
-    ErrorKind::WouldBlock,
-    ErrorKind::NotADirectory,
-    ErrorKind::IsADirectory,
-    ErrorKind::DirectoryNotEmpty,
-    ErrorKind::ReadOnlyFilesystem,
-    ErrorKind::FilesystemLoop,
-    ErrorKind::StaleNetworkFileHandle,
-    ErrorKind::InvalidInput,
-    ErrorKind::InvalidData,
-    ErrorKind::TimedOut,
-    ErrorKind::WriteZero,
-    ErrorKind::StorageFull,
-    ErrorKind::NotSeekable,
-    ErrorKind::QuotaExceeded,
-    ErrorKind::FileTooLarge,
-    ErrorKind::ResourceBusy,
-    ErrorKind::ExecutableFileBusy,
-    ErrorKind::Deadlock,
-    ErrorKind::CrossesDevices,
-    ErrorKind::TooManyLinks,
-    ErrorKind::InvalidFilename,
-    ErrorKind::ArgumentListTooLong,
-    ErrorKind::Interrupted,
-    ErrorKind::Unsupported,
-    ErrorKind::UnexpectedEof,
-    ErrorKind::OutOfMemory,
-    ErrorKind::InProgress,
-    ErrorKind::Other,
-    ErrorKind::Uncategorized,
-];
-
 #[test]
 fn a_read_that_fails_leaves_nothing_written(rt: HostRuntime) -> Result<(), Fail> {
-    for kind in KINDS {
+    for kind in FAULT_KINDS {
         // The script comes in six pieces, and a seventh read finds the end.
         for calls in 0..7 {
             let mut reader = Source {
@@ -405,7 +402,7 @@ fn a_good_script_is_flushed_once(rt: HostRuntime) -> Result<(), Fail> {
     let mut reader = SCRIPT;
     let mut writer = Target {
         piece: 32,
-        ..Target::with_outcomes(rt.alloc(), &[WriteOutcome::FlushFails])?
+        ..Target::with_outcomes(rt.alloc(), &[WriteOutcome::FlushFails(ErrorKind::Other)])?
     };
     assert_eq!(rt;
         run_script(rt.alloc(), &mut reader, &mut writer),

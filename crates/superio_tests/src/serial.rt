@@ -1,10 +1,12 @@
 //! The serial port under the accesses of a guest, the bytes of a monitor, and objects that fail.
 mod carried;
+mod dropped;
 mod errors;
 mod hostile;
 mod order;
 mod rows;
 mod saved;
+mod sending;
 mod trace;
 
 use crate::scaffold::registers::{IER, IIR, LCR, LSR, MCR, MSR, RBR, SCR, THR};

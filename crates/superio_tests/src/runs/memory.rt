@@ -3,12 +3,14 @@ use super::{
     Added, Byte, Enqueue, Failure, NotRestored, OVER_A_RESTORE, Read, Restore, Restored, Target,
     TraceEntry, Write, Written, calls_of, expect_entries, follow, silent_port,
 };
-use crate::scaffold::all_memory;
-use crate::scaffold::registers::{IER, IIR, RBR};
-use std::alloc::AllocError;
+use crate::scaffold::registers::{IER, IIR, RBR, THR};
+use crate::scaffold::{CallLog, all_memory};
+use std::alloc::{AllocError, Global};
+use std::cell::Cell;
 use std::test::Fail;
-use vm_superio::SerialState;
-use vm_superio::run::{Asked, Reply, Sent, run};
+use vm_superio::run::{Asked, Call, Reply, Sent, run};
+use vm_superio::serial::Refused;
+use vm_superio::{Serial, SerialState};
 
 #[test]
 fn a_run_without_room_for_its_trace_makes_no_call(rt: HostRuntime) -> Result<(), Fail> {
@@ -21,6 +23,30 @@ fn a_run_without_room_for_its_trace_makes_no_call(rt: HostRuntime) -> Result<(),
     assert!(rt; matches!(outcome, Err(AllocError)));
     assert_eq!(rt; serial.state(alloc)?, SerialState::default(alloc));
     assert_eq!(rt; serial.interrupt_evt().calls(), 0);
+    Ok(())
+}
+
+/// Runs writes and restores without memory for their trace. Each object, of the port and of the restores, adds its
+/// calls to one log.
+fn run_without_room(alloc: Global, calls: &Cell<u64>) -> Result<bool, Fail> {
+    let log = CallLog { calls };
+    let mut serial = Serial::with_events(alloc, log, log, log).map_err(Refused::into_error)?;
+    let mut list = Vec::new(alloc);
+    for _ in 0..32 {
+        list.push(Call::Write(THR, b'A'))?;
+        list.push(Call::Restore(log, log, log))?;
+    }
+    let blocks = all_memory(alloc, 1024)?;
+    let outcome = run(alloc, &mut serial, list);
+    drop(blocks);
+    Ok(outcome.is_err())
+}
+
+#[test]
+fn a_run_without_room_for_its_trace_calls_no_object(rt: HostRuntime) -> Result<(), Fail> {
+    let calls = Cell::new(0);
+    assert!(rt; run_without_room(rt.alloc(), &calls)?);
+    assert_eq!(rt; calls.get(), 0);
     Ok(())
 }
 

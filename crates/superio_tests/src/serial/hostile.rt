@@ -52,7 +52,7 @@ fn a_guest_reads_the_same_whatever_the_writer_does(rt: HostRuntime) -> Result<()
     const OUTCOMES: [WriteOutcome; 3] = [
         WriteOutcome::Taken,
         WriteOutcome::WriteFails(ErrorKind::Other),
-        WriteOutcome::FlushFails,
+        WriteOutcome::FlushFails(ErrorKind::Other),
     ];
     for first in OUTCOMES {
         for second in OUTCOMES {

@@ -277,7 +277,7 @@ fn a_refusal_is_returned_in_place_of_a_fault_of_the_writer(rt: HostRuntime) -> R
 
 #[test]
 fn a_flush_that_fails_loses_the_byte(rt: HostRuntime) -> Result<(), Fail> {
-    let writer = Target::with_outcomes(rt.alloc(), &[WriteOutcome::FlushFails])?;
+    let writer = Target::with_outcomes(rt.alloc(), &[WriteOutcome::FlushFails(ErrorKind::Other)])?;
     let mut serial = fresh_port(rt.alloc(), 0, writer)?;
     follow(
         &rt,
