@@ -76,7 +76,8 @@ trigger_answers line zero = Asked.Nothing
 trigger_answers line (suc zero) = if is_call_refused line.mask line.calls then Asked.Refused else Asked.Took
 trigger_answers line (suc (suc more)) =
     if is_call_refused line.mask line.calls then Asked.Refused
-    else (if is_call_refused line.mask (interrupt_line_after_call line).calls then Asked.TookRefused else Asked.TookTook)
+    else (if is_call_refused line.mask (interrupt_line_after_call line).calls then Asked.TookRefused
+    else Asked.TookTook)
 
 -- the interrupt line after trigger calls with these answers
 abbrev pub interrupt_line_after_answers : (line : InterruptLine) (answers : Asked) → InterruptLine

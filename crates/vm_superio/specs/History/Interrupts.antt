@@ -15,7 +15,8 @@ abbrev pub acknowledges : (condition : Condition) (kind : OpKind) → Bool
 acknowledges Rda kind = is_iir_read kind || is_rbr_read kind
 acknowledges Thre kind = is_iir_read kind
 
--- the newest entry that raises or acknowledges the condition raises it; or no entry does, and it was pending at the start
+-- the newest entry that raises or acknowledges the condition raises it; or no entry does, and it was pending at the
+-- start
 abbrev pub pending_since :
     (condition : Condition) (start : State) (raises : Trace → TraceEntry → Bool) (trace : Trace) → Bool
 pending_since condition start raises [] = has_bits start.interrupt_identification (iir_bit condition)
@@ -29,8 +30,8 @@ abbrev pub raises_rda : (kind : OpKind) (held : List ℕ) (enable : ℕ) → Boo
 raises_rda (IerWrite value) held enable = has_bits value (ier_bit Rda) && not_empty held
 raises_rda kind held enable = not_empty (accepted_by kind held) && has_bits enable (ier_bit Rda)
 
--- THRE is raised by a THR write outside loopback while IER has its bit, and by an IER write whose value has the bit unless the trigger
--- refused its call for RDA
+-- THRE is raised by a THR write outside loopback while IER has its bit, and by an IER write whose value has the bit
+-- unless the trigger refused its call for RDA
 abbrev pub raises_thre : (kind : OpKind) (enable : ℕ) (refused : Bool) → Bool
 raises_thre (ThrWrite value) enable refused = has_bits enable (ier_bit Thre)
 raises_thre (IerWrite value) enable refused = has_bits value (ier_bit Thre) && not refused

@@ -65,7 +65,8 @@ ResponsesAre start trace (call ∷ later) =
     (call.1 ≡ history_response start trace call.0.op call.0.asked call.0.sent)
     × ResponsesAre start (call.0 ∷ trace) later
 
--- the output of the newest entries, those in front of `trace`: the values of their THR writes outside loopback, in order
+-- the output of the newest entries, those in front of `trace`: the values of their THR writes outside loopback, in
+-- order
 abbrev pub output : (start : State) (trace newest : Trace) → List ℕ
 output start trace [] = []
 output start trace (entry ∷ newest) =

@@ -33,7 +33,8 @@ TurnedBitsLaw = (s : State) (op : Op) (asked : Asked) (sent : Sent)
     → IsTrue (is_admissible s op asked sent)
     → answer_count asked ≡ turned_on_count s (step s op asked)
 
--- the record of a trigger that is called this many times: the answer to the first call and, if there is one, to the second
+-- the record of a trigger that is called this many times: the answer to the first call and, if there is one, to the
+-- second
 abbrev pub asked_when : (calls : ℕ) (first second : Bool) → Asked
 asked_when zero first second = Asked.Nothing
 asked_when (suc zero) first second = if first then Asked.Took else Asked.Refused

@@ -41,9 +41,9 @@ module _ {E : Type 0} where
       ((answer ≡ Err refusal) × (answers ≡ []))
       ⊎ ((answer ≡ Ok tt) × StopsAtRefusal due refusal answers)
 
--- a port that was not made from another port's state: why, and what became of the trigger. Either the trigger refused one
--- of the calls that are due, or memory was refused and the trigger not called. It is never for too many bytes, since a
--- port holds at most 64
+-- a port that was not made from another port's state: why, and what became of the trigger. Either the trigger refused
+-- one of the calls that are due, or memory was refused and the trigger not called. It is never for too many bytes,
+-- since a port holds at most 64
 abbrev pub RefusesOwnState :
     {T E : Type 0} → (link : Link T (TriggerAnswer E)) (due : List Condition) (error : Error E) (old new : T) → Type 0
 RefusesOwnState {T} {E} link due (Trigger refusal) old new =

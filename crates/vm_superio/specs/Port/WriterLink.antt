@@ -22,8 +22,9 @@ abbrev pub bytes_written : (op : Op) (sent : Sent) → List ℕ
 bytes_written (Write offset value) Sent.Out = value ∷ []
 bytes_written _ _ = []
 
--- a writer before and after calls with these outcomes, in order, in which it took `bytes`. It is unchanged where nothing was sent.
--- Where nothing was lost it grew by these bytes, if its contents are known. Else nothing is stated of it
+-- a writer before and after calls with these outcomes, in order, in which it took `bytes`. It is unchanged where
+-- nothing was sent. Where nothing was lost it grew by these bytes, if its contents are known. Else nothing is stated of
+-- it
 pub record WriterLink
     {W : Type 0} (contents : Contents W) (outcomes : List Sent) (bytes : List ℕ) (old new : W) : Type 0 where
   pub unchanged : IsTrue (list_all (λ outcome. not (is_sent outcome)) outcomes) → new ≡ old

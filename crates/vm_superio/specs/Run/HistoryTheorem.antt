@@ -23,8 +23,8 @@ pub record HistoryTheorem
   pub received_bytes :
       taken_bytes start.state (trace_of records) ++ end.state.in_buffer
       ≡ start.state.in_buffer ++ accepted_bytes start.state (trace_of records)
-  -- each trigger call outside restores is one condition that becomes pending; their number is bounded; and RDA is pending
-  -- while bytes are held and enabled, from an accepted byte or an IER write until IIR or RBR is read
+  -- each trigger call outside restores is one condition that becomes pending; their number is bounded; and RDA is
+  -- pending while bytes are held and enabled, from an accepted byte or an IER write until IIR or RBR is read
   pub trigger_calls : IsTrue (is_well_formed start.state (trace_of records))
   pub bound : IsWithinBound start.state (trace_of records)
   pub waiting : WaitingBytesShow start.state (trace_of records)
@@ -34,7 +34,8 @@ pub record HistoryTheorem
   -- each trigger gave the answers that are recorded: the first from the run's start, each later one from its restore,
   -- which makes the calls that are due. And restores change no later read
   pub restores :
-      TriggersAre trigger_link start.state [] (record { initial = start.trigger; answers = [] }) calls records end.trigger
+      TriggersAre trigger_link start.state [] (record { initial = start.trigger; answers = [] })
+      calls records end.trigger
   pub reads_alone : ReadsAre start.state [] (without_restores records)
   -- the end is the state that the trace leads to, and it is coherent
   pub end_state : end.state ≡ state_of_history start.state (trace_of records)

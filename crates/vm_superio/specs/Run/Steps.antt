@@ -24,8 +24,8 @@ module _ {T E EV W : Type 0} (links : PortLinks T E EV W) where
   OpFollows s op asked sent response =
       IsTrue (is_admissible s op asked sent) × (response ≡ step_response s op asked sent)
 
-  -- one call and its record. A restore records no trigger answers and no sent byte. On success the old port comes back, its
-  -- segment over, and the new trigger is called; else the objects come back
+  -- one call and its record. A restore records no trigger answers and no sent byte. On success the old port comes back,
+  -- its segment over, and the new trigger is called; else the objects come back
   abbrev pub CallFollows :
       (s : State) (segment : Segment T E EV W) (call : Call T EV W) (asked : Asked) (sent : Sent)
       (reply : Reply T EV W E) → Type 0
