@@ -399,15 +399,30 @@ fn a_good_script_is_flushed_once(rt: HostRuntime) -> Result<(), Fail> {
     assert_eq!(rt; writer.bytes.as_slice(), b"00\n".as_slice());
     assert_eq!(rt; writer.flushes, 0);
 
-    let mut reader = SCRIPT;
-    let mut writer = Target {
-        piece: 32,
-        ..Target::with_outcomes(rt.alloc(), &[WriteOutcome::FlushFails(ErrorKind::Other)])?
-    };
-    assert_eq!(rt;
-        run_script(rt.alloc(), &mut reader, &mut writer),
-        Err(ScriptFault::Io)
-    );
+    // A script without a reply is flushed too.
+    let mut reader: &[u8] = b"";
+    let mut writer = Target::in_pieces(rt.alloc(), 32);
+    assert_eq!(rt; run_script(rt.alloc(), &mut reader, &mut writer), Ok(()));
+    assert_eq!(rt; writer.flushes, 1);
+    Ok(())
+}
+
+#[test]
+fn a_flush_that_fails_by_any_kind_is_io(rt: HostRuntime) -> Result<(), Fail> {
+    for kind in FAULT_KINDS {
+        let mut reader: &[u8] = b"kr 04\n";
+        let mut writer = Target {
+            piece: 32,
+            ..Target::with_outcomes(rt.alloc(), &[WriteOutcome::FlushFails(kind)])?
+        };
+        assert_eq!(rt;
+            run_script(rt.alloc(), &mut reader, &mut writer),
+            Err(ScriptFault::Io),
+            "{kind:?}"
+        );
+        assert_eq!(rt; writer.bytes.as_slice(), b"00\n".as_slice());
+        assert_eq!(rt; writer.flushes, 1);
+    }
     Ok(())
 }
 
