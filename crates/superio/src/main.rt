@@ -88,6 +88,7 @@ fn main(rt: HostRuntime) -> ExitCode {
 #[cfg(test)]
 mod tests {
     use super::*;
+    use std::io::ErrorKind;
     use std::test::Fail;
 
     #[test]
@@ -126,6 +127,51 @@ mod tests {
             drop(output);
             assert_eq!(rt; room, *b"00\n");
         }
+        Ok(())
+    }
+
+    /// Keeps the bytes that it takes. Its first `write` fails.
+    #[derive(Drop)]
+    struct FailsOnce {
+        has_failed: bool,
+        bytes: Vec<u8>,
+    }
+
+    impl Write for FailsOnce {
+        fn write(&mut self, buf: &[u8]) -> io::Result<usize> {
+            if !self.has_failed {
+                self.has_failed = true;
+                return Err(io::Error::from(ErrorKind::Other));
+            }
+            self.bytes.extend_from_slice(buf)?;
+            Ok(buf.len())
+        }
+
+        fn flush(&mut self) -> io::Result<()> {
+            Ok(())
+        }
+    }
+
+    #[test]
+    fn the_replies_in_the_buffer_go_out_after_a_fault_too(rt: HostRuntime) -> Result<(), Fail> {
+        let alloc = rt.alloc();
+        // The replies are more than the buffer takes.
+        let script = b"kr 04\n".repeat(alloc, 10_000)?;
+        let mut reader = script.as_slice();
+        let writer = FailsOnce {
+            has_failed: false,
+            bytes: Vec::new(alloc),
+        };
+        let mut output = BufWriter::with_capacity(alloc, 300, writer)?;
+        assert_eq!(rt;
+            run_buffered(alloc, &mut reader, &mut output),
+            Err(ScriptFault::Io)
+        );
+        assert!(rt; output.get_ref().has_failed);
+        assert_eq!(rt;
+            output.get_ref().bytes.as_slice(),
+            b"00\n".repeat(alloc, 100)?.as_slice()
+        );
         Ok(())
     }
 }

@@ -3,7 +3,8 @@ use crate::bus::{Bus, BusError};
 use crate::input::Input;
 use crate::migration::{Saved, restore, save};
 use std::alloc::Global;
-use std::io::sink;
+use std::io;
+use std::io::{ErrorKind, Write, sink};
 use std::test::Fail;
 use superio_script::{Counts, Line, LineRefused, Output};
 use vm_superio::serial::{Error, NoEvents, Refused};
@@ -42,6 +43,86 @@ fn a_bus_reaches_its_devices_by_port(rt: HostRuntime) -> Result<(), Fail> {
     assert_eq!(rt; bus.read(0x3FA), 0xC2);
     let refused = bus.write(0x3F9, 0x02);
     assert!(rt; matches!(refused, Err(BusError::Serial(Error::Trigger(LineRefused)))));
+    Ok(())
+}
+
+/// Counts its calls, and fails with its fault, if it has one.
+#[derive(Drop)]
+struct Counting {
+    fault: Option<ErrorKind>,
+    writes: u32,
+    flushes: u32,
+}
+
+impl Write for Counting {
+    fn write(&mut self, buf: &[u8]) -> io::Result<usize> {
+        self.writes = self.writes.saturating_add(1);
+        match self.fault {
+            Some(kind) => Err(io::Error::from(kind)),
+            None => Ok(buf.len()),
+        }
+    }
+
+    fn flush(&mut self) -> io::Result<()> {
+        self.flushes = self.flushes.saturating_add(1);
+        Ok(())
+    }
+}
+
+#[test]
+fn a_bus_sends_a_byte_once_and_returns_the_fault_of_its_writer(
+    rt: HostRuntime,
+) -> Result<(), Fail> {
+    for (fault, calls) in [
+        (None, (1, 1)),
+        (Some(ErrorKind::BrokenPipe), (1, 0)),
+        (Some(ErrorKind::WouldBlock), (1, 0)),
+    ] {
+        let writer = Counting {
+            fault,
+            writes: 0,
+            flushes: 0,
+        };
+        let serial = Serial::new(rt.alloc(), Line::new(0), writer);
+        let mut bus = Bus {
+            serial: serial.map_err(Refused::into_error)?,
+            controller: I8042Device::new(Line::new(0)),
+        };
+        let sent = match bus.write(0x3F8, b'A') {
+            Ok(()) => None,
+            Err(BusError::Serial(Error::IOError(fault))) => Some(fault.kind()),
+            Err(_) => return Err(Fail::new("not the fault of a writer")),
+        };
+        assert_eq!(rt; sent, fault);
+        let writer = bus.serial.writer();
+        assert_eq!(rt; (writer.writes, writer.flushes), calls, "{fault:?}");
+    }
+    Ok(())
+}
+
+#[test]
+fn devices_are_saved_however_many_bytes_are_held(rt: HostRuntime) -> Result<(), Fail> {
+    let alloc = rt.alloc();
+    let mut serial = Serial::new(alloc, Line::new(0), sink()).map_err(Refused::into_error)?;
+    for count in 0..=64usize {
+        let saved = save(alloc, &serial, &Rtc::new())?;
+        assert_eq!(rt; saved.serial.in_buffer.len(), count);
+        if count < 64 {
+            serial.enqueue_raw_bytes(b"a")?;
+        }
+    }
+    Ok(())
+}
+
+#[test]
+fn input_of_any_size_is_pushed(rt: HostRuntime) -> Result<(), Fail> {
+    let alloc = rt.alloc();
+    let mut input = Input::new(alloc);
+    let bytes = b"a".repeat(alloc, 65_536)?;
+    for pushed in 1..=2usize {
+        input.push(&bytes)?;
+        assert_eq!(rt; input.waiting().len(), pushed * 65_536);
+    }
     Ok(())
 }
 

@@ -3,6 +3,7 @@ mod carried;
 
 use crate::scaffold::{EventCounts, event_counts};
 use std::process::Abort;
+use std::test::Fail;
 use superio_script::Counts;
 use vm_superio::rtc_pl031::{NoEvents, RtcEvents};
 use vm_superio::{Rtc, RtcState, laws};
@@ -76,6 +77,31 @@ fn a_fresh_clock_has_zeros(rt: HostRuntime) {
     assert_eq!(rt; RtcState::default(), zeros);
     assert_eq!(rt; Rtc::new().state(), zeros);
     assert_eq!(rt; Rtc::with_events(Counts::new()).state(), zeros);
+}
+
+#[test]
+fn saved_clocks_are_compared_and_printed_by_all_five_fields(rt: HostRuntime) -> Result<(), Fail> {
+    let state = RtcState {
+        lr: 1,
+        offset: -2,
+        mr: 3,
+        imsc: 4,
+        ris: 5,
+    };
+    assert_eq!(rt;
+        format!(in rt.alloc(); "{state:?}")?.as_str(),
+        "RtcState { lr: 1, offset: -2, mr: 3, imsc: 4, ris: 5 }"
+    );
+    for other in [
+        RtcState { lr: 0, ..state },
+        RtcState { offset: 0, ..state },
+        RtcState { mr: 0, ..state },
+        RtcState { imsc: 0, ..state },
+        RtcState { ris: 0, ..state },
+    ] {
+        assert!(rt; other != state, "{other:?}");
+    }
+    Ok(())
 }
 
 #[test]

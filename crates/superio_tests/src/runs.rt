@@ -2,7 +2,7 @@
 mod memory;
 
 use crate::scaffold::registers::{IER, IIR, LSR, MCR, RBR, SCR, THR};
-use crate::scaffold::{Failure, Target, failure_of, silent_port, state_with};
+use crate::scaffold::{Failure, Target, WriteOutcome, failure_of, silent_port, state_with};
 use std::alloc::{AllocError, Global};
 use std::io::ErrorKind;
 use std::process::Abort;
@@ -92,10 +92,15 @@ fn expect_entries(
 ) -> Result<(), AllocError> {
     assert_eq!(rt; done.len(), rows.len());
     for (entry, (call, asked, sent, want)) in done.iter().zip(rows) {
-        assert_eq!(rt; entry.act, op_of(alloc, *call)?);
-        assert_eq!(rt; entry.asked, *asked, "{call:?}");
-        assert_eq!(rt; entry.sent, *sent, "{call:?}");
-        assert_eq!(rt; response_of(&entry.reply), *want, "{call:?}");
+        assert_eq!(rt;
+            (
+                &entry.act,
+                entry.asked,
+                entry.sent,
+                response_of(&entry.reply)
+            ),
+            (&op_of(alloc, *call)?, *asked, *sent, *want)
+        );
     }
     Ok(())
 }
@@ -124,6 +129,22 @@ fn old_ports(alloc: Global, done: Vec<TraceEntry>) -> Result<Vec<Port>, AllocErr
     Ok(ports)
 }
 
+/// Asserts which bytes a port holds, and how often its trigger was called.
+fn expect_held(
+    rt: &impl Abort,
+    alloc: Global,
+    serial: &Port,
+    held: &[u8],
+    calls: u64,
+) -> Result<(), Fail> {
+    let state = serial.state(alloc)?;
+    assert_eq!(rt;
+        (state.in_buffer.as_slice(), serial.interrupt_evt().calls()),
+        (held, calls)
+    );
+    Ok(())
+}
+
 #[test]
 fn an_empty_run_changes_nothing(rt: HostRuntime) -> Result<(), Fail> {
     let alloc = rt.alloc();
@@ -146,6 +167,49 @@ fn a_long_run_makes_each_call(rt: HostRuntime) -> Result<(), Fail> {
     }
     assert_eq!(rt; rows.len(), 10_000);
     follow(&rt, alloc, &mut serial, &rows)?;
+    Ok(())
+}
+
+#[test]
+fn a_run_of_more_calls_than_16_bits_count_makes_each(rt: HostRuntime) -> Result<(), Fail> {
+    let alloc = rt.alloc();
+    let mut serial = silent_port(alloc, 0, Target::new(alloc))?;
+    let mut calls = Vec::with_capacity(alloc, 70_000)?;
+    for number in 0..70_000u32 {
+        calls.push(Call::Write(THR, (number % 251) as u8))?;
+    }
+    let done = run(alloc, &mut serial, calls)?;
+    assert_eq!(rt; done.len(), 70_000);
+    let writer = serial.writer();
+    assert_eq!(rt; (writer.writes, writer.flushes), (70_000, 70_000));
+    assert_eq!(rt; writer.bytes.len(), 70_000);
+    assert_eq!(rt; writer.bytes.last(), Some(&221));
+    Ok(())
+}
+
+#[test]
+fn a_run_asks_the_writer_once_for_each_byte(rt: HostRuntime) -> Result<(), Fail> {
+    let alloc = rt.alloc();
+    for (outcome, flushes) in [
+        (WriteOutcome::Taken, 3),
+        (WriteOutcome::WriteFails(ErrorKind::Other), 0),
+        (WriteOutcome::FlushFails(ErrorKind::Other), 3),
+    ] {
+        let writer = Target::with_outcomes(alloc, &[outcome])?;
+        let mut serial = silent_port(alloc, 0, writer)?;
+        let mut calls = Vec::new(alloc);
+        for byte in b"abc" {
+            calls.push(Call::Write(THR, *byte))?;
+        }
+        let done = run(alloc, &mut serial, calls)?;
+        assert_eq!(rt; done.len(), 3);
+        let writer = serial.writer();
+        assert_eq!(rt;
+            (writer.writes, writer.flushes),
+            (3, flushes),
+            "{outcome:?}"
+        );
+    }
     Ok(())
 }
 
@@ -181,14 +245,24 @@ fn a_run_goes_on_over_a_restore(rt: HostRuntime) -> Result<(), Fail> {
     let alloc = rt.alloc();
     let mut serial = silent_port(alloc, 0, Target::new(alloc))?;
     let old = old_ports(alloc, follow(&rt, alloc, &mut serial, &OVER_A_RESTORE)?)?;
-    assert_eq!(rt; serial.interrupt_evt().calls(), 0);
-    assert_eq!(rt; serial.state(alloc)?.in_buffer.as_slice(), b"".as_slice());
-
+    expect_held(&rt, alloc, &serial, b"", 0)?;
     // The old port is as the restore found it.
     assert_eq!(rt; old.len(), 1);
-    assert_eq!(rt; old[0].state(alloc)?.in_buffer.as_slice(), b"a".as_slice());
-    assert_eq!(rt; old[0].interrupt_evt().calls(), 1);
-    Ok(())
+    expect_held(&rt, alloc, &old[0], b"a", 1)
+}
+
+/// The mask of a trigger, and how often it was called.
+fn mask_and_calls(trigger: &Line) -> (u64, u64) {
+    (trigger.mask(), trigger.calls())
+}
+
+/// The trigger that a restore returned: that of the old port, or its own where it was refused.
+fn returned_trigger(reply: &Reply<Line, NoEvents, Target>) -> Option<(u64, u64)> {
+    match reply {
+        Reply::Restored(old) => Some(mask_and_calls(old.interrupt_evt())),
+        Reply::NotRestored(refused) => Some(mask_and_calls(&refused.trigger)),
+        _ => None,
+    }
 }
 
 #[test]
@@ -237,21 +311,13 @@ fn a_restore_ends_at_the_first_refusal_and_the_run_goes_on(rt: HostRuntime) -> R
         let done = follow(&rt, alloc, &mut serial, &rows)?;
 
         // The trigger that stays is the old one after a refusal, else the one that the restore brought.
-        let kept = serial.interrupt_evt();
-        assert_eq!(rt; kept.mask(), if is_refused { 0 } else { mask });
-        assert_eq!(rt; kept.calls(), if is_refused { calls_before } else { calls });
+        let (old, new) = ((0, calls_before), (mask, calls));
+        let (kept, returned) = if is_refused { (old, new) } else { (new, old) };
         assert_eq!(rt; done.len(), 3);
-        match &done[0].reply {
-            Reply::Restored(old) => {
-                assert_eq!(rt; old.state(alloc)?, state);
-                assert_eq!(rt; old.interrupt_evt().mask(), 0);
-                assert_eq!(rt; old.interrupt_evt().calls(), calls_before);
-            }
-            Reply::NotRestored(refused) => {
-                assert_eq!(rt; refused.trigger.mask(), mask);
-                assert_eq!(rt; refused.trigger.calls(), calls);
-            }
-            _ => panic!(&rt; "not the reply of a restore"),
+        assert_eq!(rt; mask_and_calls(serial.interrupt_evt()), kept);
+        assert_eq!(rt; returned_trigger(&done[0].reply), Some(returned));
+        if let Reply::Restored(old) = &done[0].reply {
+            assert_eq!(rt; old.state(alloc)?, state);
         }
     }
     Ok(())
@@ -280,9 +346,10 @@ fn each_writer_has_the_bytes_of_its_segment(rt: HostRuntime) -> Result<(), Fail>
     ];
     let old = old_ports(alloc, follow(&rt, alloc, &mut serial, &rows)?)?;
     assert_eq!(rt; old.len(), 2);
-    assert_eq!(rt; old[0].writer().bytes.as_slice(), b"ab".as_slice());
-    assert_eq!(rt; old[1].writer().bytes.as_slice(), b"cd".as_slice());
-    assert_eq!(rt; serial.writer().bytes.as_slice(), b"e".as_slice());
+    let writers = [old[0].writer(), old[1].writer(), serial.writer()];
+    for (writer, written) in writers.iter().zip([b"ab".as_slice(), b"cd", b"e"]) {
+        assert_eq!(rt; writer.bytes.as_slice(), written);
+    }
     Ok(())
 }
 

@@ -17,8 +17,27 @@ pub fn expect_run(
     let mut reader = script;
     let mut writer = Vec::new(alloc);
     let outcome = run_script(alloc, &mut reader, &mut writer);
-    assert_eq!(rt; outcome, end, "{script:?}");
-    assert_eq!(rt; writer.as_slice(), printed, "{script:?}");
+    assert_eq!(rt; (outcome, writer.as_slice()), (end, printed), "{script:?}");
+}
+
+/// Runs a script over this writer, and asserts how the run ends, which bytes the writer has, and how often it was
+/// flushed.
+fn expect_written(
+    rt: &impl Abort,
+    alloc: Global,
+    script: &[u8],
+    mut writer: Target,
+    end: Result<(), ScriptFault>,
+    printed: &[u8],
+    flushes: usize,
+) {
+    let mut reader = script;
+    let outcome = run_script(alloc, &mut reader, &mut writer);
+    assert_eq!(rt;
+        (outcome, writer.bytes.as_slice(), writer.flushes),
+        (end, printed, flushes),
+        "{script:?}"
+    );
 }
 
 #[test]
@@ -244,13 +263,13 @@ fn a_script_that_is_too_long_is_not_read_on(rt: HostRuntime) -> Result<(), Fail>
     for (piece, reads) in [(1, 65_537), (4_096, 17), (65_536, 2), (usize::MAX, 1)] {
         let mut reader = Source::in_pieces(&script, piece);
         let mut writer = Target::new(alloc);
+        let end = run_script(alloc, &mut reader, &mut writer);
+        assert_eq!(rt; end, Err(ScriptFault::TooLong));
         assert_eq!(rt;
-            run_script(alloc, &mut reader, &mut writer),
-            Err(ScriptFault::TooLong),
+            (reader.reads, reader.bytes.len()),
+            (reads, 6_463),
             "in pieces of {piece}"
         );
-        assert_eq!(rt; reader.reads, reads, "in pieces of {piece}");
-        assert_eq!(rt; reader.bytes.len(), 6_463, "in pieces of {piece}");
         assert_eq!(rt; (writer.writes, writer.flushes), (0, 0));
     }
     Ok(())
@@ -278,8 +297,12 @@ fn enqueues_stop_at_sixty_four(rt: HostRuntime) -> Result<(), Fail> {
     ]
     .concat(alloc)?;
     expect_run(&rt, alloc, &script, b"40\n00\nfull\n01\n01\n00\n", Ok(()));
+    Ok(())
+}
 
-    // A script of the greatest length.
+#[test]
+fn a_script_of_the_greatest_length_fills_the_fifo(rt: HostRuntime) -> Result<(), Fail> {
+    let alloc = rt.alloc();
     let mut script = b"sq 6162\n".repeat(alloc, 8_192)?;
     assert_eq!(rt; script.len(), 65_536);
     let mut replies = b"02\n".repeat(alloc, 32)?;
@@ -300,16 +323,28 @@ fn a_full_port_is_restored(rt: HostRuntime) -> Result<(), Fail> {
 }
 
 #[test]
+fn a_port_is_restored_however_often_its_line_was_called(rt: HostRuntime) -> Result<(), Fail> {
+    let alloc = rt.alloc();
+    let calls = b"sq 61\nsr 00\n".repeat(alloc, 300)?;
+    let script = [b"sw 01 01\n".as_slice(), &calls, b"st\nss\nst\n"].concat(alloc)?;
+    let read = b"01\n61\n".repeat(alloc, 300)?;
+    let after: &[u8] = b"000000000000012c\nok\n000000000000012c\n";
+    let replies = [b"ok\n".as_slice(), &read, after].concat(alloc)?;
+    expect_run(&rt, alloc, &script, &replies, Ok(()));
+    Ok(())
+}
+
+#[test]
 fn the_output_takes_256_bytes(rt: HostRuntime) -> Result<(), Fail> {
     let alloc = rt.alloc();
-    let mut script = b"sw 00 41\n".repeat(alloc, 257)?;
+    let mut script = b"sw 00 41\n".repeat(alloc, 259)?;
     script.extend_from_slice(b"so\nsr 02\nse\nss\nso\n")?;
     let written = b"41".repeat(alloc, 256)?;
     let replies = [
         b"ok\n".repeat(alloc, 256)?.as_slice(),
-        b"io\n",
+        b"io\nio\nio\n",
         &written,
-        b"\nc1\n0000000000000000 0000000000000100 0000000000000001 0000000000000000\nok\n",
+        b"\nc1\n0000000000000000 0000000000000100 0000000000000003 0000000000000000\nok\n",
         &written,
         b"\n",
     ]
@@ -325,11 +360,17 @@ const REPLIES: &[u8] = b"reset\n00\nok\n";
 
 #[test]
 fn streams_may_move_bytes_in_pieces_of_any_size(rt: HostRuntime) -> Result<(), Fail> {
-    for piece in 1..=32 {
-        let mut reader = Source::in_pieces(SCRIPT, piece);
-        let mut writer = Target::in_pieces(rt.alloc(), piece);
+    for piece in 1..=32u32 {
+        let mut reader = Source::in_pieces(SCRIPT, piece as usize);
+        let mut writer = Target::in_pieces(rt.alloc(), piece as usize);
         assert_eq!(rt; run_script(rt.alloc(), &mut reader, &mut writer), Ok(()));
         assert_eq!(rt; writer.bytes.as_slice(), REPLIES, "in pieces of {piece}");
+        // One read more finds the end.
+        assert_eq!(rt;
+            reader.reads,
+            24u32.div_ceil(piece) + 1,
+            "in pieces of {piece}"
+        );
     }
     Ok(())
 }
@@ -367,61 +408,55 @@ fn a_write_that_fails_ends_the_run(rt: HostRuntime) -> Result<(), Fail> {
     // The three replies go out in three pieces, two and two.
     let mut outcomes = [WriteOutcome::Taken; 7];
     outcomes[6] = WriteOutcome::WriteFails(ErrorKind::Other);
-    for calls in 0..7 {
-        let mut reader = SCRIPT;
-        let mut writer = Target {
+    for (calls, written) in [0, 2, 4, 6, 8, 9, 11usize].iter().enumerate() {
+        let writer = Target {
             piece: 2,
             ..Target::with_outcomes(rt.alloc(), &outcomes[6 - calls..])?
         };
-        assert_eq!(rt;
-            run_script(rt.alloc(), &mut reader, &mut writer),
+        expect_written(
+            &rt,
+            rt.alloc(),
+            SCRIPT,
+            writer,
             Err(ScriptFault::Io),
-            "at {calls}"
+            &REPLIES[..*written],
+            0,
         );
-        assert_eq!(rt; writer.flushes, 0);
     }
     Ok(())
 }
 
 #[test]
 fn a_good_script_is_flushed_once(rt: HostRuntime) -> Result<(), Fail> {
-    let mut reader = SCRIPT;
-    let mut writer = Target::in_pieces(rt.alloc(), 32);
-    assert_eq!(rt; run_script(rt.alloc(), &mut reader, &mut writer), Ok(()));
-    assert_eq!(rt; writer.flushes, 1);
-
-    let mut reader: &[u8] = b"kr 04\nkr 5\n";
-    let mut writer = Target::in_pieces(rt.alloc(), 32);
-    assert_eq!(rt;
-        run_script(rt.alloc(), &mut reader, &mut writer),
-        Err(ScriptFault::Bad(2))
-    );
-    assert_eq!(rt; writer.bytes.as_slice(), b"00\n".as_slice());
-    assert_eq!(rt; writer.flushes, 0);
-
-    // A script without a reply is flushed too.
-    let mut reader: &[u8] = b"";
-    let mut writer = Target::in_pieces(rt.alloc(), 32);
-    assert_eq!(rt; run_script(rt.alloc(), &mut reader, &mut writer), Ok(()));
-    assert_eq!(rt; writer.flushes, 1);
+    let bad: &[u8] = b"kr 04\nkr 5\n";
+    // Also a script without a reply.
+    let refuse: &[u8] = b"refuse 0000000000000001\n";
+    let rows: [(&[u8], Result<(), ScriptFault>, &[u8], usize); 4] = [
+        (SCRIPT, Ok(()), REPLIES, 1),
+        (b"", Ok(()), b"", 1),
+        (refuse, Ok(()), b"", 1),
+        (bad, Err(ScriptFault::Bad(2)), b"00\n", 0),
+    ];
+    for (script, end, printed, flushes) in rows {
+        let writer = Target::new(rt.alloc());
+        expect_written(&rt, rt.alloc(), script, writer, end, printed, flushes);
+    }
     Ok(())
 }
 
 #[test]
 fn a_flush_that_fails_by_any_kind_is_io(rt: HostRuntime) -> Result<(), Fail> {
     for kind in FAULT_KINDS {
-        let mut reader: &[u8] = b"kr 04\n";
-        let mut writer = Target {
-            piece: 32,
-            ..Target::with_outcomes(rt.alloc(), &[WriteOutcome::FlushFails(kind)])?
-        };
-        assert_eq!(rt;
-            run_script(rt.alloc(), &mut reader, &mut writer),
+        let writer = Target::with_outcomes(rt.alloc(), &[WriteOutcome::FlushFails(kind)])?;
+        expect_written(
+            &rt,
+            rt.alloc(),
+            SCRIPT,
+            writer,
             Err(ScriptFault::Io),
-            "{kind:?}"
+            REPLIES,
+            1,
         );
-        assert_eq!(rt; writer.bytes.as_slice(), b"00\n".as_slice());
-        assert_eq!(rt; writer.flushes, 1);
     }
     Ok(())
 }
@@ -449,8 +484,8 @@ fn faults_have_a_status_and_a_text(rt: HostRuntime) -> Result<(), Fail> {
         (ScriptFault::TooLong, 4, "script too long"),
     ];
     for (fault, status, text) in rows {
-        assert_eq!(rt; fault.status(), status);
-        assert_eq!(rt; fault.to_string(rt.alloc())?.as_str(), text);
+        let printed = fault.to_string(rt.alloc())?;
+        assert_eq!(rt; (fault.status(), printed.as_str()), (status, text));
     }
     assert_eq!(rt; LineRefused.to_string(rt.alloc())?.as_str(), "line refused");
     Ok(())

@@ -21,8 +21,8 @@ use superio_script::{Counts, Line, LineRefused};
 use vm_superio::serial::{Error, NoEvents, Refused, SerialEvents};
 use vm_superio::{Serial, SerialState};
 
-/// A call, and what it must show.
-#[derive(Clone, Copy, Debug)]
+/// A call, and what it shows.
+#[derive(Clone, Copy, Debug, Eq, PartialEq)]
 enum Step<'a> {
     /// A write at an offset, of a value.
     Put(u8, u8),
@@ -49,21 +49,27 @@ fn follow<EV: SerialEvents, W: Write>(
     steps: &[Step<'_>],
 ) {
     for step in steps {
-        match *step {
-            Put(offset, value) => assert_eq!(rt; put(serial, offset, value), None, "{step:?}"),
-            PutFails(offset, value, failure) => {
-                assert_eq!(rt; put(serial, offset, value), Some(failure), "{step:?}")
-            }
-            Get(offset, byte) => assert_eq!(rt; serial.read(offset), byte, "{step:?}"),
-            Enqueue(bytes, count) => {
-                assert_eq!(rt; enqueue(serial, bytes), Ok(count), "{step:?}")
-            }
-            EnqueueFails(bytes, failure) => {
-                assert_eq!(rt; enqueue(serial, bytes), Err(failure), "{step:?}")
-            }
-            Calls(calls) => assert_eq!(rt; serial.interrupt_evt().calls(), calls, "{step:?}"),
-            Room(room) => assert_eq!(rt; serial.fifo_capacity(), room, "{step:?}"),
-        }
+        assert_eq!(rt; made(serial, *step), *step);
+    }
+}
+
+/// Makes the call of a step, and returns the step as it was.
+fn made<'a, EV: SerialEvents, W: Write>(
+    serial: &mut Serial<Line, EV, W>,
+    step: Step<'a>,
+) -> Step<'a> {
+    match step {
+        Put(offset, value) | PutFails(offset, value, _) => match put(serial, offset, value) {
+            None => Put(offset, value),
+            Some(failure) => PutFails(offset, value, failure),
+        },
+        Get(offset, _) => Get(offset, serial.read(offset)),
+        Enqueue(bytes, _) | EnqueueFails(bytes, _) => match enqueue(serial, bytes) {
+            Ok(count) => Enqueue(bytes, count),
+            Err(failure) => EnqueueFails(bytes, failure),
+        },
+        Calls(_) => Calls(serial.interrupt_evt().calls()),
+        Room(_) => Room(serial.fifo_capacity()),
     }
 }
 

@@ -29,7 +29,7 @@ fn a_run_without_room_for_its_trace_makes_no_call(rt: HostRuntime) -> Result<(),
 /// Runs writes and restores without memory for their trace. Each object, of the port and of the restores, adds its
 /// calls to one log.
 fn run_without_room(alloc: Global, calls: &Cell<u64>) -> Result<bool, Fail> {
-    let log = CallLog { calls };
+    let log = CallLog::new(calls);
     let mut serial = Serial::with_events(alloc, log, log, log).map_err(Refused::into_error)?;
     let mut list = Vec::new(alloc);
     for _ in 0..32 {

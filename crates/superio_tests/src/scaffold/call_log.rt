@@ -2,11 +2,13 @@
 ghost use Rattle.std.specs.Prelude.{◌≡◌};
 ghost use Rattle.std.proofs.Common.{◌∙◌};
 
+use super::WriteOutcome;
 use std::cell::Cell;
 use std::io;
 use std::io::Write;
 use superio_script::LineRefused;
 use vm_superio::Trigger;
+use vm_superio::rtc_pl031::RtcEvents;
 use vm_superio::serial::SerialEvents;
 
 const TRIGGER: u64 = 1;
@@ -17,16 +19,28 @@ const FLUSH: u64 = 3;
 
 const OUT_BYTE: u64 = 4;
 
-const OTHER_EVENT: u64 = 5;
+const LOST_BYTE: u64 = 5;
+
+const OTHER_EVENT: u64 = 6;
 
 /// A trigger, an events object or a writer, whose calls add their digits to a number that the test shares with it: 1
-/// for `trigger`, 2 for `write`, 3 for `flush`, 4 for `out_byte`, 5 for another event.
+/// for `trigger`, 2 for `write`, 3 for `flush`, 4 for `out_byte`, 5 for `tx_lost_byte`, 6 for another event.
 #[derive(Clone, Copy)]
 pub struct CallLog<'a> {
     pub calls: &'a Cell<u64>,
+    /// How `write` ends, and the `flush` after it.
+    pub outcome: WriteOutcome,
 }
 
 impl CallLog<'_> {
+    /// A log whose writer takes every byte.
+    pub fn new(calls: &Cell<u64>) -> CallLog<'_> {
+        CallLog {
+            calls,
+            outcome: WriteOutcome::Taken,
+        }
+    }
+
     fn add(&self, call: u64) {
         self.calls
             .set(self.calls.get().wrapping_mul(10).wrapping_add(call));
@@ -64,7 +78,7 @@ impl SerialEvents for CallLog<'_> {
     }
 
     fn tx_lost_byte(&mut self) {
-        self.add(OTHER_EVENT);
+        self.add(LOST_BYTE);
     }
 
     fn in_buffer_empty(&mut self) {
@@ -72,14 +86,36 @@ impl SerialEvents for CallLog<'_> {
     }
 }
 
+impl RtcEvents for CallLog<'_> {
+    ghost link = { λ old _ new. old ≡ new };
+
+    ghost no_event = { λ _ _. (λ same. same, λ same. same) };
+
+    ghost joined = { λ _ _ _ _ _ first second. first ∙ second };
+
+    fn invalid_read(&mut self) {
+        self.add(OTHER_EVENT);
+    }
+
+    fn invalid_write(&mut self) {
+        self.add(OTHER_EVENT);
+    }
+}
+
 impl Write for CallLog<'_> {
     fn write(&mut self, buf: &[u8]) -> io::Result<usize> {
         self.add(WRITE);
-        Ok(buf.len())
+        match self.outcome {
+            WriteOutcome::WriteFails(kind) => Err(io::Error::from(kind)),
+            _ => Ok(buf.len()),
+        }
     }
 
     fn flush(&mut self) -> io::Result<()> {
         self.add(FLUSH);
-        Ok(())
+        match self.outcome {
+            WriteOutcome::FlushFails(kind) => Err(io::Error::from(kind)),
+            _ => Ok(()),
+        }
     }
 }

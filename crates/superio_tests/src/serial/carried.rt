@@ -204,13 +204,11 @@ fn test_fifo_max_size(rt: HostRuntime) -> Result<(), Fail> {
             Enqueue(&[0x01; 65], 64),
             Enqueue(&[], 0),
             EnqueueFails(&[0x01], Failure::Full),
+            Room(0),
+            Get(RBR, 0x01),
+            Enqueue(&[0x01, 0x01], 1),
+            Room(0),
         ],
-    );
-    assert_eq!(rt; serial.state(rt.alloc())?.in_buffer.len(), 64);
-    follow(
-        &rt,
-        &mut serial,
-        &[Get(RBR, 0x01), Enqueue(&[0x01, 0x01], 1), Room(0)],
     );
     assert_eq!(rt; serial.state(rt.alloc())?.in_buffer.len(), 64);
     Ok(())
@@ -219,35 +217,30 @@ fn test_fifo_max_size(rt: HostRuntime) -> Result<(), Fail> {
 #[test]
 fn test_serial_events(rt: HostRuntime) -> Result<(), Fail> {
     let mut serial = fresh_port(rt.alloc(), 0, Target::with_room(rt.alloc(), 1))?;
-    let mut want = EventCounts::default();
-    assert_eq!(rt; event_counts(serial.events()), want);
-
-    follow(&rt, &mut serial, &[Get(RBR, 0x00)]);
-    want.buffer_reads = 1;
-    want.empties = 1;
-    assert_eq!(rt; event_counts(serial.events()), want);
-
-    follow(&rt, &mut serial, &[Put(THR, 0x01)]);
-    want.out_bytes = 1;
-    assert_eq!(rt; event_counts(serial.events()), want);
-
     let lost = PutFails(THR, 0x01, Failure::Io(ErrorKind::WriteZero));
-    follow(&rt, &mut serial, &[lost]);
-    want.lost_bytes = 1;
-    assert_eq!(rt; event_counts(serial.events()), want);
-
-    follow(&rt, &mut serial, &[Get(RBR, 0x00)]);
-    want.buffer_reads = 2;
-    want.empties = 2;
-    assert_eq!(rt; event_counts(serial.events()), want);
-
-    follow(
-        &rt,
-        &mut serial,
-        &[Enqueue(&[0x01, 0x02], 2), Get(RBR, 0x01)],
-    );
-    want.buffer_reads = 3;
-    assert_eq!(rt; event_counts(serial.events()), want);
+    // A step, and the counts after it: RBR reads, bytes that went out, lost bytes, and FIFOs that were read empty.
+    for (step, counts) in [
+        (Calls(0), [0, 0, 0, 0]),
+        (Get(RBR, 0x00), [1, 0, 0, 1]),
+        (Put(THR, 0x01), [1, 1, 0, 1]),
+        (lost, [1, 1, 1, 1]),
+        (Get(RBR, 0x00), [2, 1, 1, 2]),
+        (Enqueue(&[0x01, 0x02], 2), [2, 1, 1, 2]),
+        (Get(RBR, 0x01), [3, 1, 1, 2]),
+    ] {
+        follow(&rt, &mut serial, &[step]);
+        let seen = event_counts(serial.events());
+        assert_eq!(rt;
+            [
+                seen.buffer_reads,
+                seen.out_bytes,
+                seen.lost_bytes,
+                seen.empties
+            ],
+            counts,
+            "{step:?}"
+        );
+    }
     Ok(())
 }
 

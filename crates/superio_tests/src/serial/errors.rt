@@ -1,6 +1,7 @@
 //! What a failed call prints, and an events object that does nothing.
 
 use super::*;
+use std::io;
 use std::test::Fail;
 
 /// What an error prints, to a caller that knows it as an error of std alone.
@@ -45,5 +46,59 @@ fn no_events_accepts_every_event(rt: HostRuntime) -> Result<(), Fail> {
     events.out_byte();
     events.tx_lost_byte();
     events.in_buffer_empty();
+    Ok(())
+}
+
+/// Fails with a fault of its own: of `write`, or else of the `flush` after it.
+#[derive(Drop)]
+struct Faulty {
+    takes_bytes: bool,
+    /// The number of an error of the operating system, or 0 for a fault in words.
+    number: i32,
+}
+
+impl Faulty {
+    fn fault(&self) -> io::Error {
+        match self.number {
+            0 => io::Error::new(ErrorKind::TimedOut, "the far end is silent"),
+            number => io::Error::from_raw_os_error(number),
+        }
+    }
+}
+
+impl Write for Faulty {
+    fn write(&mut self, buf: &[u8]) -> io::Result<usize> {
+        if self.takes_bytes {
+            Ok(buf.len())
+        } else {
+            Err(self.fault())
+        }
+    }
+
+    fn flush(&mut self) -> io::Result<()> {
+        Err(self.fault())
+    }
+}
+
+#[test]
+fn a_lost_byte_has_the_fault_of_the_writer_itself(rt: HostRuntime) -> Result<(), Fail> {
+    let alloc = rt.alloc();
+    for takes_bytes in [false, true] {
+        // An input or output error, a full device, a broken pipe, and a fault in words.
+        for number in [5, 28, 32, 0] {
+            let writer = Faulty {
+                takes_bytes,
+                number,
+            };
+            let fault = writer.fault();
+            let mut serial = fresh_port(alloc, 0, writer)?;
+            let Err(Error::IOError(lost)) = serial.write(THR, b'A') else {
+                return Err(Fail::new("the byte was not lost"));
+            };
+            assert_eq!(rt; lost.raw_os_error(), fault.raw_os_error());
+            assert_eq!(rt; lost.kind(), fault.kind());
+            assert_eq!(rt; text(alloc, &lost)?, text(alloc, &fault)?);
+        }
+    }
     Ok(())
 }

@@ -74,8 +74,12 @@ fn a_guest_reads_the_same_whatever_the_writer_does(rt: HostRuntime) -> Result<()
                     follow(&rt, &mut serial, &[write, Get(IIR, 0xC2)]);
                 }
                 follow(&rt, &mut serial, &[Calls(4)]);
-                assert_eq!(rt; serial.writer().writes, 3, "{outcomes:?}");
-                assert_eq!(rt; serial.writer().flushes, flushes, "{outcomes:?}");
+                let writer = serial.writer();
+                assert_eq!(rt;
+                    (writer.writes, writer.flushes),
+                    (3, flushes),
+                    "{outcomes:?}"
+                );
             }
         }
     }

@@ -132,11 +132,15 @@ fn a_refused_restore_returns_its_objects(rt: HostRuntime) -> Result<(), Fail> {
         let refused = Serial::from_state(alloc, &state, Line::new(mask), events, writer)
             .err()
             .expect(&rt, "a refusal");
-        assert_eq!(rt; refused.trigger.calls(), calls, "{state:?}");
-        assert_eq!(rt; refused.trigger.mask(), mask);
+        let trigger = &refused.trigger;
+        assert_eq!(rt;
+            (trigger.mask(), trigger.calls()),
+            (mask, calls),
+            "{state:?}"
+        );
         assert_eq!(rt; event_counts(&refused.events), three_reads);
         assert_eq!(rt; refused.out.as_slice(), b"kept".as_slice());
-        assert_eq!(rt; failure_of(&refused.into_error()), error, "{state:?}");
+        assert_eq!(rt; failure_of(&refused.into_error()), error);
     }
     Ok(())
 }
@@ -157,9 +161,64 @@ fn a_state_of_any_size_is_copied(rt: HostRuntime) -> Result<(), Fail> {
     let mut state = state_with(alloc, 0x01, 0x00, 0x61, &[])?;
     for count in 0..=64u8 {
         let serial = restored_port(alloc, &state, 0, sink())?;
-        assert_eq!(rt; serial.state(alloc).as_ref(), Ok(&state), "{count} bytes");
-        assert_eq!(rt; state.clone(alloc).as_ref(), Ok(&state), "{count} bytes");
+        for copy in [serial.state(alloc)?, state.clone(alloc)?] {
+            assert!(rt; copy == state, "{count} bytes");
+        }
         state.in_buffer.push(count)?;
+    }
+    Ok(())
+}
+
+#[test]
+fn a_state_of_more_bytes_than_a_port_takes_is_copied(rt: HostRuntime) -> Result<(), Fail> {
+    let alloc = rt.alloc();
+    let mut state = state_with(alloc, 0x01, 0x00, 0x61, &[])?;
+    for count in [65, 128, 255, 256, 65_536] {
+        for number in state.in_buffer.len()..count {
+            state.in_buffer.push((number % 251) as u8)?;
+        }
+        assert!(rt; state.clone(alloc)? == state, "{count} bytes");
+    }
+    Ok(())
+}
+
+#[test]
+fn states_are_compared_and_printed_by_all_ten_fields(rt: HostRuntime) -> Result<(), Fail> {
+    let alloc = rt.alloc();
+    let state = SerialState {
+        baud_divisor_low: 1,
+        baud_divisor_high: 2,
+        interrupt_enable: 3,
+        interrupt_identification: 4,
+        line_control: 5,
+        line_status: 6,
+        modem_control: 7,
+        modem_status: 8,
+        scratch: 9,
+        in_buffer: [10].to_vec(alloc)?,
+    };
+    assert_eq!(rt;
+        format!(in alloc; "{state:?}")?.as_str(),
+        "SerialState { baud_divisor_low: 1, baud_divisor_high: 2, interrupt_enable: 3, \
+         interrupt_identification: 4, line_control: 5, line_status: 6, modem_control: 7, \
+         modem_status: 8, scratch: 9, in_buffer: [10] }"
+    );
+    for field in 0..10 {
+        let mut other = state.clone(alloc)?;
+        assert!(rt; other == state);
+        match field {
+            0 => other.baud_divisor_low = 0,
+            1 => other.baud_divisor_high = 0,
+            2 => other.interrupt_enable = 0,
+            3 => other.interrupt_identification = 0,
+            4 => other.line_control = 0,
+            5 => other.line_status = 0,
+            6 => other.modem_control = 0,
+            7 => other.modem_status = 0,
+            8 => other.scratch = 0,
+            _ => other.in_buffer.clear(),
+        }
+        assert!(rt; other != state, "field {field}");
     }
     Ok(())
 }

@@ -89,11 +89,58 @@ fn a_flush_that_fails_is_returned_and_not_made_again(rt: HostRuntime) -> Result<
 
 #[test]
 fn an_interrupted_byte_is_taken_and_flushed_once(rt: HostRuntime) -> Result<(), Fail> {
-    let mut outcomes = [WriteOutcome::WriteFails(ErrorKind::Interrupted); 4];
-    outcomes[3] = WriteOutcome::Taken;
-    for interruptions in 0..=3usize {
-        let writer = Target::with_outcomes(rt.alloc(), &outcomes[3 - interruptions..])?;
+    let mut outcomes = [WriteOutcome::WriteFails(ErrorKind::Interrupted); 301];
+    outcomes[300] = WriteOutcome::Taken;
+    for interruptions in [0, 1, 2, 3, 300usize] {
+        let writer = Target::with_outcomes(rt.alloc(), &outcomes[300 - interruptions..])?;
         expect_sent(&rt, rt.alloc(), writer, None, (1 + interruptions, 1), b"A")?;
+    }
+    Ok(())
+}
+
+#[test]
+fn each_byte_is_written_once_whatever_it_is_and_whatever_is_pending(
+    rt: HostRuntime,
+) -> Result<(), Fail> {
+    let alloc = rt.alloc();
+    // An outcome, and the calls of `write` and of `flush`.
+    let outcomes = [
+        (WriteOutcome::Taken, (1, 1)),
+        (WriteOutcome::WriteFails(ErrorKind::Other), (1, 0)),
+        (WriteOutcome::FlushFails(ErrorKind::Other), (1, 1)),
+    ];
+    for (identification, enable) in [
+        (0x01, 0x00),
+        (0x01, 0x02),
+        (0x02, 0x02),
+        (0x04, 0x03),
+        (0x06, 0x03),
+    ] {
+        let state = state_with(alloc, identification, enable, 0x61, b"a")?;
+        for (outcome, calls) in outcomes {
+            // The trigger's calls that are refused: none, those of the restore's own, or the data write's.
+            for mask in [0, 1 << 0, 1 << 1, 1 << 2] {
+                for value in 0..=0xFF {
+                    let writer = Target::with_outcomes(alloc, &[outcome])?;
+                    let Ok(mut serial) = Serial::from_state(
+                        alloc,
+                        &state,
+                        Line::new(mask),
+                        NoEvents,
+                        writer,
+                    ) else {
+                        continue;
+                    };
+                    let _ = serial.write(THR, value);
+                    let writer = serial.writer();
+                    assert_eq!(rt;
+                        (writer.writes, writer.flushes),
+                        calls,
+                        "{value} {outcome:?} {mask} {state:?}"
+                    );
+                }
+            }
+        }
     }
     Ok(())
 }
