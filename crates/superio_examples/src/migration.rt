@@ -54,8 +54,8 @@ pub fn save<T: Trigger, EV: SerialEvents, W: Write, CE: RtcEvents>(
 ///
 /// # Errors
 ///
-/// [`NotRestored`], with all objects, where the saved state has more than 64 received bytes or the trigger refuses a
-/// call.
+/// [`NotRestored`], with all objects, where the saved state has more than 64 received bytes, where the memory of the
+/// serial port was refused, or where the trigger refuses a call.
 pub fn restore<T: Trigger, EV: SerialEvents, W: Write, CE: RtcEvents>(
     alloc: Global,
     saved: &Saved,

@@ -1,7 +1,7 @@
 -- A line of the serial port is a step of its session.
 use Rattle.std.proofs.Common.{◌≡◌, ℕ, zero, suc, ◌-◌, ◌≤◌, Bool, true, false, List, [], ◌∷◌, ◌++◌, length, Option, Some, None, Result, Ok, Err, refl, ap, sym, ◌∙◌, subst, arith, append-nil, inl, inr}
 use Rattle.std.specs.Cmp.Derive.{both_true}
-use Rattle.std.specs.Prelude.{◌⊎◌, IsTrue, IsSome, IfSome, if◌then◌else◌, nat_le, not, codes, fold, ◌&&◌}
+use Rattle.std.specs.Prelude.{◌⊎◌, ◌≢◌, IsTrue, IsSome, IfSome, if◌then◌else◌, nat_le, not, codes, fold, ◌&&◌}
 use Rattle.std.specs.Bool.{beq}
 use Rattle.std.proofs.lemmas.Bool.{and_parts, false≢true}
 use Rattle.std.proofs.lemmas.Bool.Decides.{nat_tests}
@@ -389,12 +389,12 @@ module _ (law : StepLaw) (old new : Port InterruptLine EventCounts Output) where
 -- a restore one of whose calls was refused
 pub refused-restore-step :
     (law : StepLaw) (port : Port InterruptLine EventCounts Output) (line_after_calls : InterruptLine) (error : Error LineRefused) → length port.state.in_buffer ≤ 64 →
-    RefusesRestore InterruptLineLink port.state error port.trigger line_after_calls →
+    RefusesRestore InterruptLineLink port.state error port.trigger line_after_calls → error ≢ Memory →
     IsSerialLineStep line.Restore (response_reply (failure_response error)) port port
-refused-restore-step law port after FullFifo few refuses = absurd (omega (arith, refuses.0))
-refused-restore-step law port after (IOError fault) few refuses = absurd refuses
-refused-restore-step law port after Memory few refuses = absurd refuses
-refused-restore-step law port after (Trigger refusal) few refuses = λ before at.
+refused-restore-step law port after FullFifo few refuses other = absurd (omega (arith, refuses.0))
+refused-restore-step law port after (IOError fault) few refuses other = absurd refuses.1
+refused-restore-step law port after Memory few refuses other = absurd (other refl)
+refused-restore-step law port after (Trigger refusal) few refuses other = λ before at.
     let calls = ap restore_calls at.state ∙ (agrees law before.trace).restoring in
     let responses = refuses.1.0 in
     let ends = subst (λ calls. StopsAtRefusal calls refusal responses) calls refuses.1.1 in

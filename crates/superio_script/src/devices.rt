@@ -1,5 +1,5 @@
 //! A board of devices, and the lines that drive it.
-ghost use Rattle.std.specs.Prelude.{◌≡◌, ◌↔◌, IfOk, IsSomeAnd, IsErrOf, IsOk, OnErr};
+ghost use Rattle.std.specs.Prelude.{◌≡◌, ◌↔◌, IfOk, IfErr, IsSomeAnd, IsErrOf, OnErr};
 ghost use Rattle.superio_script.specs.InterruptLine.{fresh_interrupt_line};
 ghost use Rattle.superio_script.specs.Command.{command_of, IsRestoreLine};
 ghost use Rattle.superio_script.specs.Reply.{controller_reply};
@@ -55,9 +55,9 @@ impl Board {
     ///
     /// # Errors
     ///
-    /// None: fresh devices take no memory.
+    /// [`ScriptFault::Memory`] where the memory of the serial port was refused.
     pub fn new(alloc: Global, mask: u64) -> Result<Board, ScriptFault>
-        ensures made { IsOk result }
+        ensures only_memory { IfErr result (λ fault. fault ≡ ScriptFault.Memory) }
         ensures fresh { IfOk result (λ board. IsFresh mask board) }
     {
         let serial = Serial::with_events(alloc, Line::new(mask), Counts::new(), Output::new());

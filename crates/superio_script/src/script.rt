@@ -128,8 +128,8 @@ fn write_replies<W: Write>(
 ///   before it were written, but the writer was not flushed.
 /// - [`ScriptFault::TooLong`], where the reader gave more than 65,536 bytes: nothing was written, and no byte after the
 ///   65,537th was read.
-/// - [`ScriptFault::Memory`], where the allocator refused memory for the script, and nothing was written; or for an
-///   `ss`, and the replies to the lines before it were written.
+/// - [`ScriptFault::Memory`], where the allocator refused memory for the script or the board, and nothing was written;
+///   or for an `ss`, and the replies to the lines before it were written.
 /// - [`ScriptFault::Io`], where a read, a write or the flush failed. After a failed read nothing was written. After a
 ///   failed write or flush, some of the replies may have been written.
 pub fn run_script<R: Read, W: Write>(

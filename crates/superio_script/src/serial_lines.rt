@@ -101,7 +101,7 @@ fn error_reply(error: Error<LineRefused>) -> Reply
         Error::Trigger(LineRefused) => word(b"trigger"),
         Error::IOError(_) => word(b"io"),
         Error::FullFifo => word(b"full"),
-        // No call that a line makes takes memory.
+        // A restore alone takes memory, and is no line with a reply where that was refused.
         Error::Memory => Reply::new(),
     }
 }

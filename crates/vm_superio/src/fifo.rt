@@ -1,18 +1,18 @@
-//! The receive FIFO: at most 64 bytes, oldest first.
-ghost use Rattle.std.specs.Prelude.{◌≡◌, ◌-◌, ◌≤◌, ℕ, List, [], ◌++◌, length, take, drop, slice_get, not, IfOk, IsOk};
+//! The receive FIFO: at most 64 bytes, oldest first, in a ring.
+ghost use Rattle.std.specs.Prelude.{◌≡◌, ◌-◌, ◌≤◌, ℕ, List, [], ◌++◌, length, take, drop, slice_get, not, IfOk};
 ghost use Rattle.vm_superio.specs.Port.State.{not_empty};
 
-use arrayvec::ArrayVec;
+use circular_buffer::HeapCircularBuffer;
 use std::alloc::{AllocError, Global};
 use std::marker::Model;
 
 /// How many bytes the FIFO holds at the most, as that of a 16750 does.
 pub(crate) const FIFO_SIZE: usize = 64;
 
-/// The received bytes that no guest has read, seen as a list.
+/// The received bytes that no guest has read, seen as a list. Their room is taken once, when the FIFO is made.
 #[derive(Drop)]
 pub(crate) struct Fifo {
-    bytes: ArrayVec<u8, FIFO_SIZE>,
+    bytes: HeapCircularBuffer<u8>,
 }
 
 impl Model for Fifo {
@@ -20,29 +20,34 @@ impl Model for Fifo {
 
     ghost view = { λ fifo. fifo.bytes.items };
 
-    ghost invariant = { λ fifo. length fifo.bytes.items ≤ 64 };
+    ghost invariant = { λ fifo. (fifo.bytes.capacity ≡ 64) × (length fifo.bytes.items ≤ 64) };
 }
 
 impl Fifo {
     /// An empty FIFO, with room for 64 bytes.
-    pub(crate) fn new(_alloc: Global) -> Result<Self, AllocError>
-        ensures made { IsOk result }
-        ensures empty { IfOk result (λ fifo. fifo ≡ []) }
+    ///
+    /// # Errors
+    ///
+    /// `AllocError` where memory for the room was refused.
+    pub(crate) fn new(alloc: Global) -> Result<Self, AllocError>
+        ensures { IfOk result (λ fifo. fifo ≡ []) }
     {
-        Ok(Fifo {
-            bytes: ArrayVec::new(),
-        })
+        let bytes = HeapCircularBuffer::with_capacity(alloc, FIFO_SIZE)?;
+        Ok(Fifo { bytes })
     }
 
     /// A FIFO that holds these bytes, at most 64.
-    pub(crate) fn from_slice(_alloc: Global, bytes: &[u8]) -> Result<Self, AllocError>
+    ///
+    /// # Errors
+    ///
+    /// As for `new`.
+    pub(crate) fn from_slice(alloc: Global, bytes: &[u8]) -> Result<Self, AllocError>
         requires { length bytes.now ≤ 64 }
-        ensures made { IsOk result }
-        ensures bytes { IfOk result (λ fifo. fifo ≡ bytes.now) }
+        ensures { IfOk result (λ fifo. fifo ≡ bytes.now) }
     {
-        let mut held = ArrayVec::new();
-        held.try_extend_from_slice(bytes).unwrap();
-        Ok(Fifo { bytes: held })
+        let mut fifo = Self::new(alloc)?;
+        fifo.fill(bytes);
+        Ok(fifo)
     }
 
     /// A copy of the bytes.
@@ -50,7 +55,7 @@ impl Fifo {
         ensures bytes { IfOk result (λ bytes. bytes.items ≡ self.now) }
         ensures bound { length self.now ≤ 64 }
     {
-        self.bytes.as_slice().to_vec(alloc)
+        self.bytes.to_vec(alloc)
     }
 
     /// How many bytes are held.
@@ -73,7 +78,7 @@ impl Fifo {
         ensures byte { result ≡ slice_get self.old 0 }
         ensures rest { self.new ≡ drop 1 self.old }
     {
-        self.bytes.pop_at(0)
+        self.bytes.pop_front()
     }
 
     /// Adds the first of these bytes, as many as there is room for, and returns how many.
@@ -81,8 +86,6 @@ impl Fifo {
         ensures count { result ≡ length (take (64 - length self.old) bytes.now) }
         ensures added { self.new ≡ self.old ++ take (64 - length self.old) bytes.now }
     {
-        let count = bytes.len().min(FIFO_SIZE - self.bytes.len());
-        self.bytes.try_extend_from_slice(&bytes[..count]).unwrap();
-        count
+        self.bytes.fill_from_slice(bytes)
     }
 }

@@ -1,5 +1,5 @@
 //! A serial port with the registers of a 16550.
-ghost use Rattle.std.specs.Prelude.{◌≡◌, ◌<◌, ◌≤◌, ◌-◌, length, vec_len, IsOk, IsErr, IfOk, IfErr};
+ghost use Rattle.std.specs.Prelude.{◌≡◌, ◌<◌, ◌≤◌, ◌-◌, length, vec_len, IsErr, IfOk, IfErr};
 ghost use Rattle.vm_superio.specs.Port.Coherent.{Coherent};
 ghost use Rattle.vm_superio.specs.Port.ObjectLinks.{all_ok};
 ghost use Rattle.vm_superio.specs.Port.SavedState.{fresh_state, state_of};
@@ -57,19 +57,25 @@ impl<T: Trigger, W: Write> Serial<T, NoEvents, W> {
     /// Makes a fresh serial port, which owns the trigger and the writer and reports events to nobody: divisor 12,
     /// 8 bits a character, OUT2 set, and nothing enabled, pending or held. The trigger is not called.
     ///
+    /// The room of the receive FIFO, 64 bytes, is taken from `alloc`. No later call of the port takes memory for a byte.
+    ///
     /// # Errors
     ///
-    /// None: no memory is taken.
+    /// [`Error::Memory`] where that room was refused. The objects are returned as they were given.
     pub fn new(
         alloc: Global,
         trigger: T,
         out: W,
     ) -> Result<Serial<T, NoEvents, W>, Refused<T, NoEvents, W>>
-        ensures made { IsOk result }
         ensures state { IfOk result (λ serial. serial.state ≡ fresh_state) }
         ensures trigger { IfOk result (λ serial. serial.trigger ≡ trigger) }
         ensures out { IfOk result (λ serial. serial.out ≡ out) }
         ensures coherent { IfOk result (λ serial. Coherent serial.state) }
+
+        // Where memory was refused: the objects.
+        ensures only_memory { IfErr result (λ refused. refused.error ≡ Error.Memory) }
+        ensures trigger_back { IfErr result (λ refused. refused.trigger ≡ trigger) }
+        ensures out_back { IfErr result (λ refused. refused.out ≡ out) }
     {
         Self::with_events(alloc, trigger, NoEvents, out)
     }
@@ -93,12 +99,17 @@ impl<T: Trigger, EV: SerialEvents, W: Write> Serial<T, EV, W> {
         serial_evts: EV,
         out: W,
     ) -> Result<Self, Refused<T, EV, W>>
-        ensures made { IsOk result }
         ensures state { IfOk result (λ serial. serial.state ≡ fresh_state) }
         ensures trigger { IfOk result (λ serial. serial.trigger ≡ trigger) }
         ensures events { IfOk result (λ serial. serial.events ≡ serial_evts) }
         ensures out { IfOk result (λ serial. serial.out ≡ out) }
         ensures coherent { IfOk result (λ serial. Coherent serial.state) }
+
+        // Where memory was refused: the objects.
+        ensures only_memory { IfErr result (λ refused. refused.error ≡ Error.Memory) }
+        ensures trigger_back { IfErr result (λ refused. refused.trigger ≡ trigger) }
+        ensures events_back { IfErr result (λ refused. refused.events ≡ serial_evts) }
+        ensures out_back { IfErr result (λ refused. refused.out ≡ out) }
     {
         let Ok(in_buffer) = Fifo::new(alloc) else {
             return Err(Refused {
@@ -119,13 +130,13 @@ impl<T: Trigger, EV: SerialEvents, W: Write> Serial<T, EV, W> {
 
     /// Makes a serial port of a saved state, which it takes as it stands, and of new objects. The trigger is called
     /// once for each condition that is both pending and enabled, so that the interrupts that the guest has not taken
-    /// reach the new trigger. The events object is not called, and the writer not used.
+    /// reach the new trigger. The events object is not called, and the writer not used. Memory is taken as by `new`.
     ///
     /// # Errors
     ///
-    /// In each case the objects are returned. [`Error::FullFifo`] where the state holds more than 64 bytes: the
-    /// trigger was not called then. [`Error::Trigger`] at the first call that the trigger refused. [`Error::Memory`]
-    /// never: no memory is taken.
+    /// In each case the objects are returned. [`Error::FullFifo`] where the state holds more than 64 bytes, or else
+    /// [`Error::Memory`] where the room of the FIFO was refused: the trigger was not called then. [`Error::Trigger`] at
+    /// the first call that the trigger refused.
     pub fn from_state(
         alloc: Global,
         state: &SerialState,

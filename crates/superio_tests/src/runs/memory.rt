@@ -1,7 +1,7 @@
 //! Runs where memory is refused.
 use super::{
-    Added, Byte, Enqueue, Failure, NotRestored, OVER_A_RESTORE, Read, Restore, Restored, Target,
-    TraceEntry, Write, Written, calls_of, expect_entries, follow, silent_port,
+    Added, Byte, Enqueue, Failure, NotRestored, OVER_A_RESTORE, Read, Restore, Target, TraceEntry,
+    Write, Written, calls_of, expect_entries, follow, silent_port,
 };
 use crate::scaffold::registers::{IER, IIR, RBR, THR};
 use crate::scaffold::{CallLog, all_memory};
@@ -65,8 +65,8 @@ fn a_restore_without_memory_keeps_the_port(rt: HostRuntime) -> Result<(), Fail> 
         (Restore(1), Asked::Nothing, Sent::Nothing, without_memory),
         (Read(IIR), Asked::Nothing, Sent::Nothing, Byte(0xC4)),
         (Read(RBR), Asked::Nothing, Sent::Nothing, Byte(0x61)),
-        // The state of a port that holds no byte takes no memory.
-        (Restore(1), Asked::Nothing, Sent::Nothing, Restored),
+        // The state of a port that holds no byte takes no memory, but the FIFO of the new port does.
+        (Restore(1), Asked::Nothing, Sent::Nothing, without_memory),
     ];
     let calls = calls_of(alloc, &rows)?;
     // The run finds this room for its trace, and no other memory.

@@ -86,6 +86,42 @@ fn an_enqueue_accepts_what_fits(rt: HostRuntime) -> Result<(), Fail> {
     Ok(())
 }
 
+/// So many bytes, each one more than the one before.
+fn ascending(alloc: Global, first: u8, count: u8) -> Result<Vec<u8>, AllocError> {
+    let mut bytes = Vec::new(alloc);
+    for number in 0..count {
+        bytes.push(first.wrapping_add(number))?;
+    }
+    Ok(bytes)
+}
+
+#[test]
+fn bytes_wrap_round_the_end_of_the_ring(rt: HostRuntime) -> Result<(), Fail> {
+    let alloc = rt.alloc();
+    let mut serial = fresh_port(alloc, 0, sink())?;
+    follow(&rt, &mut serial, &[Enqueue(&ascending(alloc, 0, 40)?, 40)]);
+    for byte in 0..30 {
+        assert_eq!(rt; serial.read(RBR), byte);
+    }
+    follow(
+        &rt,
+        &mut serial,
+        &[Enqueue(&ascending(alloc, 100, 50)?, 50), Room(4)],
+    );
+    let mut held = ascending(alloc, 30, 10)?;
+    held.extend_from_slice(&ascending(alloc, 100, 50)?)?;
+    assert_eq!(rt; serial.state(alloc)?.in_buffer, held);
+
+    // Four of ten bytes fit.
+    follow(&rt, &mut serial, &[Enqueue(&[0xAA; 10], 4), Room(0)]);
+    held.extend_from_slice(&[0xAA; 4])?;
+    for byte in held.iter() {
+        assert_eq!(rt; serial.read(RBR), *byte);
+    }
+    follow(&rt, &mut serial, &[Get(LSR, 0x60), Room(64)]);
+    Ok(())
+}
+
 #[test]
 fn thre_calls_the_trigger_once_until_iir_is_read(rt: HostRuntime) -> Result<(), Fail> {
     let rows: [&[Step<'_>]; 3] = [

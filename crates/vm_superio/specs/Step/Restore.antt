@@ -1,7 +1,7 @@
 -- The trigger calls of a restore, by the state that is restored, and why a restore is refused.
 use Rattle.std.specs.Prelude.{◌≡◌, ◌<◌, ◌≤◌, Bool, ◌&&◌, List, length}
 use Rattle.vm_superio.specs.declared.serial.errors.Error.{Error}
-use Rattle.vm_superio.specs.declared.serial.errors.Error.TheVariants.{Trigger, FullFifo}
+use Rattle.vm_superio.specs.declared.serial.errors.Error.TheVariants.{FullFifo}
 use Rattle.vm_superio.specs.Port.Bits.{has_bits}
 use Rattle.vm_superio.specs.Port.State.{State}
 use Rattle.vm_superio.specs.Port.Registers.{Condition, Rda, Thre, ier_bit, iir_bit, thre_then_rda}
@@ -17,10 +17,9 @@ abbrev pub restore_calls : (s : State) → List Condition
 restore_calls s = thre_then_rda (is_asserted Thre s) (is_asserted Rda s)
 
 -- a state that was not restored: why, and what became of the trigger. It holds more than 64 bytes, and the trigger was
--- not called; or the trigger refused one of the calls that are due. Nothing else refuses a state
+-- not called; or it holds no more, and is refused as a port's own state is
 abbrev pub RefusesRestore :
     {T E : Type 0} → (link : Link T (TriggerAnswer E)) (s : State) (error : Error E) (old new : T) → Type 0
 RefusesRestore link s FullFifo old new = (64 < length s.in_buffer) × (new ≡ old)
-RefusesRestore link s (Trigger refusal) old new =
-    (length s.in_buffer ≤ 64) × RefusesOwnState link (restore_calls s) (Trigger refusal) old new
-RefusesRestore link s _ old new = ⊥
+RefusesRestore link s error old new =
+    (length s.in_buffer ≤ 64) × RefusesOwnState link (restore_calls s) error old new

@@ -1,5 +1,6 @@
--- A restore is a step of the session, whether its calls were accepted or one was refused.
-use Rattle.std.proofs.Common.{ap, sym, ◌∙◌, subst}
+-- A restore is a step of the session, whether its calls were accepted or one was refused. Without memory it is no reply.
+use Rattle.std.proofs.Common.{◌≡◌, ap, sym, ◌∙◌, subst}
+use Rattle.vm_superio.specs.declared.serial.errors.Error.TheVariants.{Memory}
 use Rattle.vm_superio.specs.Port.State.{State}
 use Rattle.vm_superio.specs.Step.Restore.{restore_calls, RefusesRestore}
 use Rattle.vm_superio.specs.Port.Model.{Port}
@@ -32,5 +33,6 @@ returns c =
     let refused = c.in-Err.ensures.refused in
     let by_state = subst (λ (s : State). RefusesRestore InterruptLineLink s c.in-Err.refused.error c.interrupt_evt-line.result.now c.in-Err.refused.trigger) c.in-Ok.ensures.saved refused in
     let by_line = subst (λ (l : InterruptLine). RefusesRestore InterruptLineLink old.state c.in-Err.refused.error l c.in-Err.refused.trigger) c.interrupt_evt-line.ensures by_state in
-    let step = refused-restore-step c.steps_of_history.ensures old c.in-Err.refused.trigger c.in-Err.refused.error c.state.ensures.few by_line in
+    let other = λ (is : c.in-Err.refused.error ≡ Memory). c.in_default-into_error.not-Memory (c.into_error.ensures ∙ is) in
+    let step = refused-restore-step c.steps_of_history.ensures old c.in-Err.refused.trigger c.in-Err.refused.error c.state.ensures.few by_line other in
     record { step = rw (c.error_reply.ensures, c.into_error.ensures) step; unchanged = tt; only_memory = tt }

@@ -5,4 +5,4 @@ use Rattle.vm_superio.proofs.PublicLemmas.{fresh_coherent}
 use Rattle.vm_superio.proofs.serial.Serial.with_events.Goals as goal
 
 pub returns-clause-coherent : goal.returns-clause-coherent
-returns-clause-coherent g c = rw c.in-Ok.ensures.empty (subst Coherent (sym c.new-2.ensures) fresh_coherent)
+returns-clause-coherent g c = rw c.in-Ok.ensures (subst Coherent (sym c.new-2.ensures) fresh_coherent)
