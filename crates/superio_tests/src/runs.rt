@@ -9,7 +9,7 @@ use std::process::Abort;
 use std::test::Fail;
 use superio_script::Line;
 use vm_superio::run::{Act, Asked, Call, Done, Reply, Sent, run};
-use vm_superio::serial::NoEvents;
+use vm_superio::serial::{NoEvents, Refused};
 use vm_superio::{Serial, SerialState};
 
 type Port = Serial<Line, NoEvents, Target>;
@@ -105,20 +105,26 @@ fn expect_entries(
     Ok(())
 }
 
-/// Runs the calls of the rows, asserts what their trace entries say, and returns these.
+/// Runs the calls of the rows, and asserts what their trace entries say.
 fn follow(
     rt: &impl Abort,
     alloc: Global,
     serial: &mut Port,
     rows: &[Row],
-) -> Result<Vec<TraceEntry>, AllocError> {
+) -> Result<(), AllocError> {
     let done = run(alloc, serial, calls_of(alloc, rows)?)?;
-    expect_entries(rt, alloc, &done, rows)?;
-    Ok(done)
+    expect_entries(rt, alloc, &done, rows)
 }
 
-/// The old ports that the restores of a run returned, in order.
-fn old_ports(alloc: Global, done: Vec<TraceEntry>) -> Result<Vec<Port>, AllocError> {
+/// Follows the rows, and returns the old ports that their restores returned, in order.
+fn follow_restores(
+    rt: &impl Abort,
+    alloc: Global,
+    serial: &mut Port,
+    rows: &[Row],
+) -> Result<Vec<Port>, AllocError> {
+    let done = run(alloc, serial, calls_of(alloc, rows)?)?;
+    expect_entries(rt, alloc, &done, rows)?;
     let mut ports = Vec::new(alloc);
     for entry in done {
         let Done { reply, .. } = entry;
@@ -244,7 +250,7 @@ const OVER_A_RESTORE: [Row; 6] = [
 fn a_run_goes_on_over_a_restore(rt: HostRuntime) -> Result<(), Fail> {
     let alloc = rt.alloc();
     let mut serial = silent_port(alloc, 0, Target::new(alloc))?;
-    let old = old_ports(alloc, follow(&rt, alloc, &mut serial, &OVER_A_RESTORE)?)?;
+    let old = follow_restores(&rt, alloc, &mut serial, &OVER_A_RESTORE)?;
     expect_held(&rt, alloc, &serial, b"", 0)?;
     // The old port is as the restore found it.
     assert_eq!(rt; old.len(), 1);
@@ -265,9 +271,34 @@ fn returned_trigger(reply: &Reply<Line, NoEvents, Target>) -> Option<(u64, u64)>
     }
 }
 
+/// A port with one byte and these interrupt registers.
+fn port_with(alloc: Global, identification: u8, enable: u8) -> Result<Port, Fail> {
+    let state = state_with(alloc, identification, enable, 0x61, b"a")?;
+    let made = Serial::from_state(alloc, &state, Line::new(0), NoEvents, Target::new(alloc));
+    Ok(made.map_err(Refused::into_error)?)
+}
+
+/// Restores a port with this trigger, and reads IIR and RBR: the responses, and the trigger that the restore returned.
+fn restore_and_read(
+    alloc: Global,
+    serial: &mut Port,
+    mask: u64,
+) -> Result<(Vec<Response>, Option<(u64, u64)>), AllocError> {
+    let mut calls = Vec::new(alloc);
+    for call in [Restore(mask), Read(IIR), Read(RBR)] {
+        calls.push(call_of(alloc, call)?)?;
+    }
+    let mut responses = Vec::new(alloc);
+    let mut returned = None;
+    for entry in run(alloc, serial, calls)?.iter() {
+        responses.push(response_of(&entry.reply))?;
+        returned = returned.or(returned_trigger(&entry.reply));
+    }
+    Ok((responses, returned))
+}
+
 #[test]
 fn a_restore_ends_at_the_first_refusal_and_the_run_goes_on(rt: HostRuntime) -> Result<(), Fail> {
-    let alloc = rt.alloc();
     // Identification, interrupt enable, the new trigger's mask and calls, and whether the restore is refused.
     for (identification, enable, mask, calls, is_refused) in [
         // Both conditions are pending and enabled: each of two calls is refused in turn, and a third is not made.
@@ -288,39 +319,31 @@ fn a_restore_ends_at_the_first_refusal_and_the_run_goes_on(rt: HostRuntime) -> R
         (0x04, 0x03, 0b010, 1, false),
         (0x01, 0x03, 0b001, 0, false),
     ] {
-        let state = state_with(alloc, identification, enable, 0x61, b"a")?;
-        let made = Serial::from_state(alloc, &state, Line::new(0), NoEvents, Target::new(alloc));
-        let mut serial = made.ok().ok_or("no port")?;
-        let calls_before = serial.interrupt_evt().calls();
-
+        let mut serial = port_with(rt.alloc(), identification, enable)?;
+        // The trigger that stays is the old one after a refusal, else the one that the restore brought.
+        let (old, new) = (mask_and_calls(serial.interrupt_evt()), (mask, calls));
+        let (kept, returned) = if is_refused { (old, new) } else { (new, old) };
         let restored = if is_refused {
             NotRestored(Failure::Trigger)
         } else {
             Restored
         };
-        let rows = [
-            (Restore(mask), Asked::Nothing, Sent::Nothing, restored),
-            (
-                Read(IIR),
-                Asked::Nothing,
-                Sent::Nothing,
-                Byte(0xC0 | identification),
-            ),
-            (Read(RBR), Asked::Nothing, Sent::Nothing, Byte(0x61)),
-        ];
-        let done = follow(&rt, alloc, &mut serial, &rows)?;
-
-        // The trigger that stays is the old one after a refusal, else the one that the restore brought.
-        let (old, new) = ((0, calls_before), (mask, calls));
-        let (kept, returned) = if is_refused { (old, new) } else { (new, old) };
-        assert_eq!(rt; done.len(), 3);
-        assert_eq!(rt; mask_and_calls(serial.interrupt_evt()), kept);
-        assert_eq!(rt; returned_trigger(&done[0].reply), Some(returned));
-        if let Reply::Restored(old) = &done[0].reply {
-            assert_eq!(rt; old.state(alloc)?, state);
-        }
+        let (responses, trigger) = restore_and_read(rt.alloc(), &mut serial, mask)?;
+        assert_eq!(rt;
+            responses.as_slice(),
+            [restored, Byte(0xC0 | identification), Byte(0x61)].as_slice()
+        );
+        assert_eq!(rt;
+            (mask_and_calls(serial.interrupt_evt()), trigger),
+            (kept, Some(returned))
+        );
     }
     Ok(())
+}
+
+/// Asserts which bytes the writer of a port has.
+fn expect_written(rt: &impl Abort, serial: &Port, bytes: &[u8]) {
+    assert_eq!(rt; serial.writer().bytes.as_slice(), bytes);
 }
 
 #[test]
@@ -344,12 +367,11 @@ fn each_writer_has_the_bytes_of_its_segment(rt: HostRuntime) -> Result<(), Fail>
         (Restore(0), Asked::Nothing, Sent::Nothing, Restored),
         (Write(THR, b'e'), Asked::Nothing, Sent::Out, Written),
     ];
-    let old = old_ports(alloc, follow(&rt, alloc, &mut serial, &rows)?)?;
+    let old = follow_restores(&rt, alloc, &mut serial, &rows)?;
     assert_eq!(rt; old.len(), 2);
-    let writers = [old[0].writer(), old[1].writer(), serial.writer()];
-    for (writer, written) in writers.iter().zip([b"ab".as_slice(), b"cd", b"e"]) {
-        assert_eq!(rt; writer.bytes.as_slice(), written);
-    }
+    expect_written(&rt, &old[0], b"ab");
+    expect_written(&rt, &old[1], b"cd");
+    expect_written(&rt, &serial, b"e");
     Ok(())
 }
 
@@ -392,14 +414,14 @@ fn a_refusal_is_in_its_trace_entry_and_stops_nothing(rt: HostRuntime) -> Result<
     Ok(())
 }
 
-/// The most trigger calls that these operations may make: two, two more for each IIR read and one more for each RBR
-/// read. None of the operations may set DLAB.
-fn trigger_bound(done: &[TraceEntry]) -> u64 {
+/// The most trigger calls that these calls may make: two, two more for each IIR read and one more for each RBR read.
+/// None of the calls may set DLAB.
+fn trigger_bound(rows: &[Row]) -> u64 {
     let mut bound = 2u64;
-    for entry in done {
-        match entry.act {
-            Act::Read(IIR) => bound = bound.saturating_add(2),
-            Act::Read(RBR) => bound = bound.saturating_add(1),
+    for (call, _, _, _) in rows {
+        match call {
+            Read(IIR) => bound = bound.saturating_add(2),
+            Read(RBR) => bound = bound.saturating_add(1),
             _ => {}
         }
     }
@@ -419,11 +441,10 @@ fn a_guest_reads_what_the_trace_implies(rt: HostRuntime) -> Result<(), Fail> {
         (Read(LSR), Asked::Nothing, Sent::Nothing, Byte(0x61)),
         (Read(IIR), Asked::Nothing, Sent::Nothing, Byte(0xC1)),
     ];
-    let done = follow(&rt, alloc, &mut serial, &rows)?;
-    assert_eq!(rt; trigger_bound(&done), 7);
-    assert_eq!(rt; serial.interrupt_evt().calls(), 2);
-    assert_eq!(rt; serial.writer().bytes.as_slice(), b"A".as_slice());
-    Ok(())
+    follow(&rt, alloc, &mut serial, &rows)?;
+    assert_eq!(rt; trigger_bound(&rows), 7);
+    expect_written(&rt, &serial, b"A");
+    expect_held(&rt, alloc, &serial, b"b", 2)
 }
 
 #[test]
@@ -441,12 +462,9 @@ fn a_lost_byte_and_a_restore_change_no_read(rt: HostRuntime) -> Result<(), Fail>
         (Read(LSR), Asked::Nothing, Sent::Nothing, Byte(0x61)),
         (Read(IIR), Asked::Nothing, Sent::Nothing, Byte(0xC1)),
     ];
-    let done = follow(&rt, alloc, &mut serial, &rows)?;
-
+    let old = follow_restores(&rt, alloc, &mut serial, &rows)?;
     // The new trigger was called for both conditions, and no trace entry counts these calls.
-    assert_eq!(rt; serial.interrupt_evt().calls(), 2);
-    let old = old_ports(alloc, done)?;
+    expect_held(&rt, alloc, &serial, b"b", 2)?;
     assert_eq!(rt; old.len(), 1);
-    assert_eq!(rt; old[0].interrupt_evt().calls(), 2);
-    Ok(())
+    expect_held(&rt, alloc, &old[0], b"ab", 2)
 }
