@@ -6,3 +6,4 @@ pub mod Laws
 pub mod Clock
 pub mod I8042
 pub mod Counting
+pub mod Silent

@@ -1,6 +1,5 @@
 //! One log of the calls of several objects.
-ghost use Rattle.std.specs.Prelude.{◌≡◌};
-ghost use Rattle.std.proofs.Common.{◌∙◌};
+ghost use Rattle.vm_superio.specs.Silent.{Silent, Silent-nil, Silent-append};
 
 use super::WriteOutcome;
 use std::cell::Cell;
@@ -50,11 +49,11 @@ impl CallLog<'_> {
 impl Trigger for CallLog<'_> {
     type E = LineRefused;
 
-    ghost link = { λ old _ new. old ≡ new };
+    ghost link = { Silent };
 
-    ghost no_call = { λ _ _. (λ same. same, λ same. same) };
+    ghost no_call = { Silent-nil };
 
-    ghost joined = { λ _ _ _ _ _ first second. first ∙ second };
+    ghost joined = { Silent-append };
 
     fn trigger(&mut self) -> Result<(), LineRefused> {
         self.add(TRIGGER);
@@ -63,11 +62,11 @@ impl Trigger for CallLog<'_> {
 }
 
 impl SerialEvents for CallLog<'_> {
-    ghost link = { λ old _ new. old ≡ new };
+    ghost link = { Silent };
 
-    ghost no_event = { λ _ _. (λ same. same, λ same. same) };
+    ghost no_event = { Silent-nil };
 
-    ghost joined = { λ _ _ _ _ _ first second. first ∙ second };
+    ghost joined = { Silent-append };
 
     fn buffer_read(&mut self) {
         self.add(OTHER_EVENT);
@@ -87,11 +86,11 @@ impl SerialEvents for CallLog<'_> {
 }
 
 impl RtcEvents for CallLog<'_> {
-    ghost link = { λ old _ new. old ≡ new };
+    ghost link = { Silent };
 
-    ghost no_event = { λ _ _. (λ same. same, λ same. same) };
+    ghost no_event = { Silent-nil };
 
-    ghost joined = { λ _ _ _ _ _ first second. first ∙ second };
+    ghost joined = { Silent-append };
 
     fn invalid_read(&mut self) {
         self.add(OTHER_EVENT);

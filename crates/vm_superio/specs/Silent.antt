@@ -1,0 +1,25 @@
+-- A `link` for an object of which contracts say nothing, such as one that signals a file descriptor, with the two laws
+-- that a trait requires. It serves triggers and events objects of any type.
+use Rattle.std.specs.Prelude.{◌≡◌, ◌↔◌, ⊤, List, [], ◌∷◌, ◌++◌}
+use Rattle.std.proofs.Common.{sym, subst}
+
+abbrev pub SameWithoutCall : {Object Call : Type 0} → (old : Object) (calls : List Call) (new : Object) → Type 0
+SameWithoutCall old [] new = old ≡ new
+SameWithoutCall old (call ∷ calls) new = ⊤
+
+-- an object that was not called is the same. Nothing is stated of one that was
+pub record Silent {Object Call : Type 0} (old : Object) (calls : List Call) (new : Object) : Type 0 where
+  pub same : SameWithoutCall old calls new
+
+-- the law `no_call`, or `no_event`
+pub Silent-nil : {Object Call : Type 0} (old new : Object) → Silent {Call = Call} old [] new ↔ (old ≡ new)
+Silent-nil old new = (λ silent. silent.same, λ same. record { same = same })
+
+-- the law `joined`
+pub Silent-append :
+    {Object Call : Type 0} (old between new : Object) (first second : List Call) →
+    Silent old first between → Silent between second new → Silent old (first ++ second) new
+Silent-append old between new [] second to_between to_new = record {
+  same = subst (λ object. SameWithoutCall object second new) (sym to_between.same) to_new.same;
+}
+Silent-append old between new (call ∷ first) second to_between to_new = record { same = tt }
