@@ -2,6 +2,7 @@ mod Raising
 mod Bounds
 mod ByKind
 mod Bytes
+mod BytesRead
 pub mod BitLemmas
 mod ClockExamples
 pub mod ClockLemmas

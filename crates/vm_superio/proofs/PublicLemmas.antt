@@ -1,9 +1,14 @@
 -- Lemmas that other crates' proofs use too.
-use Rattle.std.proofs.Common.{ℕ, List, [], ◌++◌, Option, Some, None, false, refl, sym, ap, ◌∙◌, append_assoc, append-nil, arith}
+use Rattle.std.proofs.Common.{ℕ, ◌≤◌, List, [], ◌++◌, length, Option, Some, None, false, refl, sym, ap, ◌∙◌, append_assoc, append-nil, arith}
 use Rattle.std.specs.Io.KnownBytes.{Appends}
 use Rattle.vm_superio.specs.Port.Bits.{has_bits}
 use Rattle.vm_superio.specs.Port.Coherent.{Coherent}
 use Rattle.vm_superio.specs.Port.SavedState.{fresh_state}
+use Rattle.vm_superio.specs.Port.State.{State}
+use Rattle.vm_superio.specs.Port.ObjectLinks.{Link, TriggerAnswer, RefusesOwnState}
+use Rattle.vm_superio.specs.Step.Restore.{restore_calls, RefusesRestore}
+use Rattle.vm_superio.specs.declared.serial.errors.Error.{Error}
+use Rattle.vm_superio.specs.declared.serial.errors.Error.TheVariants.{Trigger, IOError, FullFifo, Memory}
 
 -- a fresh port is coherent
 pub fresh_coherent : Coherent fresh_state
@@ -27,3 +32,12 @@ Appends-append None middle after xs ys first second = tt
 Appends-append (Some a) None after xs ys first second = absurd first
 Appends-append (Some a) (Some b) None xs ys first second = second
 Appends-append (Some a) (Some b) (Some c) xs ys first second = second ∙ ap (λ bytes. bytes ++ ys) first ∙ append_assoc a xs ys
+
+-- a state of at most 64 bytes is refused as a port's own is
+pub RefusesOwnState-few :
+    {T E : Type 0} (link : Link T (TriggerAnswer E)) (s : State) (error : Error E) (old new : T) →
+    length s.in_buffer ≤ 64 → RefusesRestore link s error old new → RefusesOwnState link (restore_calls s) error old new
+RefusesOwnState-few link s FullFifo old new few refused = absurd (omega (arith, few, refused.0))
+RefusesOwnState-few link s (Trigger refusal) old new few refused = refused.1
+RefusesOwnState-few link s (IOError fault) old new few refused = refused.1
+RefusesOwnState-few link s Memory old new few refused = refused.1

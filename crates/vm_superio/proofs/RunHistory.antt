@@ -29,7 +29,7 @@ use Rattle.vm_superio.specs.Step.Admissible.{is_admissible}
 use Rattle.vm_superio.specs.Step.Restore.{restore_calls}
 use Rattle.vm_superio.specs.History.Registers.{taken_bytes}
 use Rattle.vm_superio.specs.History.Interrupts.{is_well_formed, restore_calls_due}
-use Rattle.vm_superio.specs.History.Reads.{ResponsesAre, history_response, none_lost}
+use Rattle.vm_superio.specs.History.Reads.{ResponsesAre, history_response, bytes_read, none_lost}
 use Rattle.vm_superio.specs.Run.Segments.{Segment, first_segment, extend, IsAfter}
 use Rattle.vm_superio.specs.Run.Steps.{CallFollows, next_segment, IsRun}
 use Rattle.vm_superio.specs.Run.Trace.{IsReplyTo, RecordsOf, act_of, op_of, is_restore, entry_of, response_of, refusal_in_reply, entries_of, trace_of, without_restores}
@@ -40,6 +40,7 @@ use Rattle.vm_superio.specs.Laws.Consequences.{op_and_asked, ops_and_asked, reco
 use Rattle.vm_superio.proofs.WholeRuns.{whole_run_law}
 use Rattle.vm_superio.proofs.Bounds.{trigger_bound_law}
 use Rattle.vm_superio.proofs.HeldBytes.{taken_then_held}
+use Rattle.vm_superio.proofs.BytesRead.{read_then_held}
 use Rattle.vm_superio.proofs.Interrupts.{interrupt_law}
 use Rattle.vm_superio.proofs.PendingByPrefixes.{waiting_bytes_law}
 use Rattle.vm_superio.proofs.SameReads.{same_reads_law}
@@ -352,6 +353,7 @@ module _ {T E EV W : Type 0} (links : PortLinks T E EV W) where
         records_of_calls = of;
         reads = reads;
         responses = agrees.responses;
+        read_bytes = ap (λ (port : State). bytes_read s [] (entries_of records) ++ port.in_buffer) agrees.state ∙ read_then_held s (entries_of records) agrees.responses;
         received_bytes = ap (λ (port : State). taken_bytes s trace ++ port.in_buffer) agrees.state ∙ taken_then_held s trace;
         trigger_calls = agrees.well_formed;
         bound = trigger_bound_law s trace agrees.well_formed;

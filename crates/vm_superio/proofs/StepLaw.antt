@@ -10,7 +10,7 @@ use Rattle.vm_superio.specs.declared.trace.Sent.TheVariants as sent
 use Rattle.vm_superio.specs.Port.State.{State, not_empty}
 use Rattle.vm_superio.specs.Port.Registers.{Register, RbrThr, Ier, Iir, register_at, Rda, Thre}
 use Rattle.vm_superio.specs.Port.Operations.{Op, Read, Write, Enqueue, Restore, TraceEntry, is_sent, one_if}
-use Rattle.vm_superio.specs.Step.Admissible.{answers_all, step_calls, sends_byte}
+use Rattle.vm_superio.specs.Step.Admissible.{answers_all, step_calls, sends_byte, is_admissible}
 use Rattle.vm_superio.specs.Step.Transition.{step_response, step, read_step, read_events, sent_events, step_events}
 use Rattle.vm_superio.specs.Step.Restore.{restore_calls}
 use Rattle.vm_superio.specs.Port.OpKinds.{OpKind, IerWrite, ThrWrite, Arrival, Other, read_kind, write_kind, kind_of, sent_by}
@@ -18,7 +18,7 @@ use Rattle.vm_superio.specs.History.Registers.{kind_at, dlab, loopback, interrup
 use Rattle.vm_superio.specs.History.Interrupts.{raises_rda, is_pending, raises_thre}
 use Rattle.vm_superio.specs.History.Calls.{calls_due, kind_events, history_events}
 use Rattle.vm_superio.specs.History.Reads.{state_of_history}
-use Rattle.vm_superio.specs.Laws.Agreement.{StepLaw}
+use Rattle.vm_superio.specs.Laws.Agreement.{StepLaw, CallLaw}
 use Rattle.vm_superio.proofs.Interrupts.{due_is, interrupt_law}
 use Rattle.vm_superio.proofs.WholeRuns.{state_law, answer_law}
 use Rattle.vm_superio.proofs.Output.{call_written}
@@ -119,7 +119,7 @@ calls_at_point start trace op =
     ∙ ap (λ second. one_if called + one_if second)
     (none_refused k (interrupt_enable start trace) called (is_pending Thre start trace))
 
--- ---- the law
+-- ---- the laws
 
 pub step_law : StepLaw
 step_law start trace coherent =
@@ -141,4 +141,17 @@ step_law start trace coherent =
             output = λ kept.
                 call_written (dlab start trace) (loopback start trace) entry.op entry.sent kept outcome_fits;
           };
+    }
+
+pub call_law : CallLaw
+call_law start trace entry reply old new coherent is admissible replied stepped =
+    let interrupts = interrupt_law start trace coherent.thre coherent.rda coherent.identification in
+    let after = state_law start trace coherent in
+    let here = subst (λ (s : State). IsTrue (is_admissible s entry.op entry.asked entry.sent)) is admissible in
+    let agrees = (step_law start trace coherent).steps entry here in
+    record {
+      well_formed = sym (interrupts.calls entry)
+          ∙ subst (λ (s : State). IsTrue (is_admissible s entry.op entry.asked entry.sent)) (sym after) here;
+      response = replied ∙ ap (λ (s : State). step_response s entry.op entry.asked entry.sent) is ∙ agrees.response;
+      state = stepped ∙ ap (λ (s : State). step s entry.op entry.asked) is ∙ agrees.state;
     }

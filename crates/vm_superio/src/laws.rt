@@ -4,8 +4,8 @@
 //! trace of the calls so far it searches for the last write, for the bytes not yet taken and for a condition that was
 //! raised and not acknowledged. The first laws say that both describe the same port. The others follow from one of the
 //! two alone.
-ghost use Rattle.vm_superio.specs.Laws.Agreement.{RegisterLaw, HeldBytesLaw, LineStatusLaw, InterruptLaw, CoherenceLaw, StateLaw, ResponseLaw, StepLaw, WholeRunLaw};
-ghost use Rattle.vm_superio.specs.Laws.Consequences.{PendingByPrefixesLaw, TriggerBoundLaw, WaitingBytesLaw, SameReadsLaw, TakenThenHeldLaw, OutputLaw};
+ghost use Rattle.vm_superio.specs.Laws.Agreement.{RegisterLaw, HeldBytesLaw, LineStatusLaw, InterruptLaw, CoherenceLaw, StateLaw, ResponseLaw, StepLaw, CallLaw, WholeRunLaw};
+ghost use Rattle.vm_superio.specs.Laws.Consequences.{PendingByPrefixesLaw, TriggerBoundLaw, WaitingBytesLaw, SameReadsLaw, TakenThenHeldLaw, ReadsAreTakenLaw, ReadThenHeldLaw, OutputLaw};
 ghost use Rattle.vm_superio.specs.Laws.OneCall.{OneCallLaw, OutcomeEventsLaw, TurnedBitsLaw, AdmissibilityLaw};
 
 mod clock;
@@ -50,6 +50,12 @@ pub fn steps_of_history()
     ensures { StepLaw }
 {}
 
+/// From a coherent start, a call of a port whose state a trace leads to is well-formed there, replies as the history
+/// says, and leaves the state of the trace with its entry added. The premises are the fields of the call's clause `step`.
+pub fn calls_of_history()
+    ensures { CallLaw }
+{}
+
 /// From a coherent start, entries that follow each other by steps are a well-formed trace with these responses, and end
 /// in the state that it leads to, which is coherent.
 pub fn whole_runs()
@@ -83,6 +89,13 @@ pub fn same_reads()
 /// From any start, the bytes taken and then those held are those held at the start and then those accepted.
 pub fn taken_then_held()
     ensures { TakenThenHeldLaw }
+{}
+
+/// From any start, the bytes that calls give a guest from the FIFO are the bytes that they take, where the calls respond
+/// as the history says. So the bytes read and then those held are those held at the start and then those accepted.
+pub fn reads_are_taken()
+    ensures taken { ReadsAreTakenLaw }
+    ensures held { ReadThenHeldLaw }
 {}
 
 /// From any start, in a segment of a well-formed trace where no byte is lost, the writer took exactly the output.

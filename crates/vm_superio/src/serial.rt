@@ -1,5 +1,5 @@
 //! A serial port with the registers of a 16550.
-ghost use Rattle.std.specs.Prelude.{◌≡◌, ◌<◌, ◌≤◌, ◌-◌, length, vec_len, IsErr, IfOk, IfErr};
+ghost use Rattle.std.specs.Prelude.{◌≡◌, ◌<◌, ◌≤◌, ◌+◌, ◌-◌, length, vec_len, IsErr, IfOk, IfErr};
 ghost use Rattle.vm_superio.specs.Port.Coherent.{Coherent};
 ghost use Rattle.vm_superio.specs.Port.ObjectLinks.{all_ok};
 ghost use Rattle.vm_superio.specs.Port.SavedState.{fresh_state, state_of};
@@ -201,6 +201,7 @@ impl<T: Trigger, EV: SerialEvents, W: Write> Serial<T, EV, W> {
     pub fn state(&self, alloc: Global) -> Result<SerialState, AllocError>
         ensures saved { IfOk result (λ saved. state_of saved ≡ self.now.state) }
         ensures few { length self.now.state.in_buffer ≤ 64 }
+        ensures coherent { IfOk result (λ saved. Coherent self.now.state → Coherent (state_of saved)) }
     {
         let in_buffer = self.in_buffer.to_vec(alloc)?;
         Ok(self.registers.saved(in_buffer))
@@ -276,6 +277,7 @@ impl<T: Trigger, EV: SerialEvents, W: Write> Serial<T, EV, W> {
     pub fn fifo_capacity(&self) -> usize
         ensures value { result ≡ 64 - length self.now.state.in_buffer }
         ensures bound { length self.now.state.in_buffer ≤ 64 }
+        ensures whole { result + length self.now.state.in_buffer ≡ 64 }
     {
         FIFO_SIZE - self.in_buffer.len()
     }

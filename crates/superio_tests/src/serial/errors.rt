@@ -29,6 +29,18 @@ fn errors_print_what_failed_and_why(rt: HostRuntime) -> Result<(), Fail> {
     Ok(())
 }
 
+/// Takes this much memory, as a monitor does that returns the port's own error.
+fn take(alloc: Global, size: usize) -> Result<Vec<u8>, Error<LineRefused>> {
+    Ok(Vec::with_capacity(alloc, size)?)
+}
+
+#[test]
+fn a_refused_allocation_is_an_error_of_the_port(rt: HostRuntime) {
+    assert!(rt; take(rt.alloc(), 64).is_ok());
+    let refused = take(rt.alloc(), usize::MAX).err();
+    assert_eq!(rt; refused.as_ref().map(failure_of), Some(Failure::Memory));
+}
+
 #[test]
 fn no_events_accepts_every_event(rt: HostRuntime) -> Result<(), Fail> {
     let mut serial = silent_port(rt.alloc(), 0, Target::with_room(rt.alloc(), 1))?;

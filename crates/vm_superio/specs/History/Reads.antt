@@ -1,11 +1,12 @@
--- What the history says of a port: its state, what a guest reads, what the other calls respond, and the output.
+-- What the history says of a port: its state, what a guest reads, what the other calls respond, the bytes read from the
+-- FIFO, and the output.
 use Rattle.std.specs.Prelude.{◌≡◌, ⊤, ℕ, Bool, not, ◌==◌, ◌||◌, nat_le, if◌then◌else◌, List, [], ◌∷◌, ◌++◌, length}
 use Rattle.std.specs.List.{list_all}
 use Rattle.vm_superio.specs.Port.Bits.{with_bits, without_bits, lsr_dr_bit}
 use Rattle.vm_superio.specs.Port.State.{State, not_empty}
 use Rattle.vm_superio.specs.Port.Registers.{Rda, Thre, register_at, identification_of, register_read}
 use Rattle.vm_superio.specs.Port.Operations.{Asked, Sent, Op, Read, Write, Enqueue, Restore, TraceEntry, Response, ByteRead, EnqueueOk, TriggerRefused, FifoFull, NoResponse, is_first_refused, is_lost, recorded_write_response, Trace}
-use Rattle.vm_superio.specs.Port.OpKinds.{sent_by}
+use Rattle.vm_superio.specs.Port.OpKinds.{OpKind, RbrRead, sent_by}
 use Rattle.vm_superio.specs.History.Registers.{kind_at, line_control, modem_control, scratch, dlab, loopback, divisor_low, divisor_high, interrupt_enable, accepted_by, held_bytes}
 use Rattle.vm_superio.specs.History.Interrupts.{is_pending}
 
@@ -64,6 +65,17 @@ ResponsesAre start trace [] = ⊤
 ResponsesAre start trace (call ∷ later) =
     (call.1 ≡ history_response start trace call.0.op call.0.asked call.0.sent)
     × ResponsesAre start (call.0 ∷ trace) later
+
+-- the byte that a call gives a guest from the FIFO: the reply to an RBR read that is made while bytes are held
+abbrev pub byte_read : (kind : OpKind) (held : List ℕ) (reply : Response) → List ℕ
+byte_read RbrRead (oldest ∷ held) (ByteRead byte) = byte ∷ []
+byte_read _ held reply = []
+
+-- the bytes that some calls give a guest from the FIFO, oldest first
+abbrev pub bytes_read : (start : State) (trace : Trace) (calls : List (TraceEntry × Response)) → List ℕ
+bytes_read start trace [] = []
+bytes_read start trace (call ∷ later) =
+    byte_read (kind_at start trace call.0.op) (held_bytes start trace) call.1 ++ bytes_read start (call.0 ∷ trace) later
 
 -- the output of the newest entries, those in front of `trace`: the values of their THR writes outside loopback, in
 -- order

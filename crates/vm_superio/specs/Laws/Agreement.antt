@@ -101,6 +101,23 @@ abbrev pub StepLaw : Type 0
 StepLaw = (start : State) (trace : Trace) → Coherent start
     → PrefixAgrees start trace
 
+-- ---- one call of a port whose state is that of a history
+
+-- it is well-formed there, replies as the history says, and leaves the state of the trace with its entry added
+pub record CallAgrees
+    (start : State) (trace : Trace) (entry : TraceEntry) (reply : Response) (new : State) : Type 0 where
+  pub well_formed : IsTrue (is_well_formed_entry start trace entry)
+  pub response : reply ≡ history_response start trace entry.op entry.asked entry.sent
+  pub state : new ≡ state_of_history start (entry ∷ trace)
+
+-- by what its contract says of the step: which answers were possible, the reply, and the state after it
+abbrev pub CallLaw : Type 0
+CallLaw = (start : State) (trace : Trace) (entry : TraceEntry) (reply : Response) (old new : State)
+    → Coherent start → old ≡ state_of_history start trace
+    → IsTrue (is_admissible old entry.op entry.asked entry.sent)
+    → reply ≡ step_response old entry.op entry.asked entry.sent → new ≡ step old entry.op entry.asked
+    → CallAgrees start trace entry reply new
+
 -- ---- a whole run
 
 -- entries, oldest first and each with its response, that follow each other by steps, to an end

@@ -4,11 +4,12 @@ use Rattle.vm_superio.specs.declared.trace.Asked.{Asked}
 use Rattle.vm_superio.specs.Port.Bits.{has_bits}
 use Rattle.vm_superio.specs.Port.State.{State}
 use Rattle.vm_superio.specs.Port.Registers.{Condition, iir_bit}
-use Rattle.vm_superio.specs.Port.Operations.{Op, Restore, TraceEntry, Trace}
+use Rattle.vm_superio.specs.Port.Operations.{Op, Restore, TraceEntry, Response, Trace}
 use Rattle.vm_superio.specs.Port.WriterLink.{bytes_written}
 use Rattle.vm_superio.specs.History.Registers.{accepted_bytes, taken_bytes, held_bytes}
 use Rattle.vm_superio.specs.History.Interrupts.{acknowledges, is_raised, is_pending, is_well_formed, NoneAcknowledges, IsWithinBound, WaitingBytesShow}
-use Rattle.vm_superio.specs.History.Reads.{guest_read, output, none_lost}
+use Rattle.vm_superio.specs.History.Reads.{guest_read, ResponsesAre, bytes_read, output, none_lost}
+use Rattle.vm_superio.specs.Run.Trace.{trace_after}
 
 -- ---- pending
 
@@ -57,6 +58,18 @@ SameReadsLaw = (start : State) (one other : Trace) → ops_and_asked one ≡ ops
 abbrev pub TakenThenHeldLaw : Type 0
 TakenThenHeldLaw = (start : State) (trace : Trace)
     → taken_bytes start trace ++ held_bytes start trace ≡ start.in_buffer ++ accepted_bytes start trace
+
+-- the bytes that calls give a guest from the FIFO are those that they take
+abbrev pub ReadsAreTakenLaw : Type 0
+ReadsAreTakenLaw = (start : State) (trace : Trace) (calls : List (TraceEntry × Response))
+    → ResponsesAre start trace calls
+    → taken_bytes start trace ++ bytes_read start trace calls ≡ taken_bytes start (trace_after trace calls)
+
+-- so the bytes read, then those held, are those held at the start, then those accepted
+abbrev pub ReadThenHeldLaw : Type 0
+ReadThenHeldLaw = (start : State) (calls : List (TraceEntry × Response)) → ResponsesAre start [] calls
+    → bytes_read start [] calls ++ held_bytes start (trace_after [] calls)
+    ≡ start.in_buffer ++ accepted_bytes start (trace_after [] calls)
 
 -- the bytes that are recorded as taken by the writer, in order
 abbrev pub recorded_output : (newest : Trace) → List ℕ

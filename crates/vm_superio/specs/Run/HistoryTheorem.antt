@@ -5,7 +5,7 @@ use Rattle.vm_superio.specs.Port.ObjectLinks.{Link, TriggerAnswer, Contents}
 use Rattle.vm_superio.specs.Port.Model.{Port}
 use Rattle.vm_superio.specs.History.Registers.{taken_bytes, accepted_bytes}
 use Rattle.vm_superio.specs.History.Interrupts.{is_well_formed, IsWithinBound, WaitingBytesShow}
-use Rattle.vm_superio.specs.History.Reads.{ResponsesAre, state_of_history}
+use Rattle.vm_superio.specs.History.Reads.{ResponsesAre, bytes_read, state_of_history}
 use Rattle.vm_superio.specs.Run.Trace.{Call, Done, RecordsOf, entries_of, trace_of, without_restores}
 use Rattle.vm_superio.specs.Run.Observations.{ReadsAre, OutputsAre, TriggersAre}
 
@@ -19,7 +19,11 @@ pub record HistoryTheorem
   pub reads : ReadsAre start.state [] records
   -- so is every other response: that of a write and of an enqueue, given the outcome of the byte that a write sends
   pub responses : ResponsesAre start.state [] (entries_of records)
-  -- bytes taken, then those held, are those held at the start, then those accepted
+  -- the bytes that a guest reads from the FIFO, then those held, are those held at the start, then those accepted
+  pub read_bytes :
+      bytes_read start.state [] (entries_of records) ++ end.state.in_buffer
+      ≡ start.state.in_buffer ++ accepted_bytes start.state (trace_of records)
+  -- bytes taken, then those held, are the same
   pub received_bytes :
       taken_bytes start.state (trace_of records) ++ end.state.in_buffer
       ≡ start.state.in_buffer ++ accepted_bytes start.state (trace_of records)

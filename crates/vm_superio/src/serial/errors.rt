@@ -2,6 +2,7 @@
 ghost use Rattle.std.specs.Prelude.{◌≡◌};
 
 use crate::Trigger;
+use std::alloc::AllocError;
 use std::error::Error as StdError;
 use std::{fmt, io};
 
@@ -37,6 +38,17 @@ impl<E: fmt::Display> fmt::Display for Error<E> {
 }
 
 impl<E: StdError> StdError for Error<E> {}
+
+/// So that `?` turns a refused allocation into [`Error::Memory`].
+impl<E> From<AllocError> for Error<E> {
+    ghost use Rattle.vm_superio.specs.declared.serial.errors.Error.TheVariants.{Memory};
+
+    ghost from_gives = { λ _ error. error ≡ Memory };
+
+    fn from(_refused: AllocError) -> Self {
+        Self::Memory
+    }
+}
 
 /// A serial port that was not made: why, and the objects that were passed in for it.
 #[derive(Drop)]

@@ -1,0 +1,69 @@
+-- The bytes that a guest reads from the FIFO are the bytes taken.
+use Rattle.std.proofs.Common.{◌≡◌, ℕ, Bool, true, false, List, [], ◌∷◌, ◌++◌, refl, ap, sym, ◌∙◌, append_assoc, append-nil}
+use Rattle.std.specs.Prelude.{slice_index}
+use Rattle.vm_superio.specs.declared.trace.Asked.{Asked}
+use Rattle.vm_superio.specs.declared.trace.Sent.{Sent}
+use Rattle.vm_superio.specs.Port.State.{State}
+use Rattle.vm_superio.specs.Port.Registers.{Register, RbrThr, Ier, Iir, register_at, register_read}
+use Rattle.vm_superio.specs.Port.Operations.{Op, Read, Write, Enqueue, Restore, TraceEntry, Response, ByteRead}
+use Rattle.vm_superio.specs.Port.OpKinds.{RbrRead, read_kind, write_kind, kind_of}
+use Rattle.vm_superio.specs.History.Registers.{kind_at, dlab, loopback, taken_by, taken_bytes, held_bytes}
+use Rattle.vm_superio.specs.History.Reads.{state_of_history, history_response, byte_read, bytes_read}
+use Rattle.vm_superio.specs.Run.Trace.{trace_after}
+use Rattle.vm_superio.specs.Laws.Consequences.{ReadsAreTakenLaw, ReadThenHeldLaw}
+use Rattle.vm_superio.proofs.HeldBytes.{taken_then_held}
+
+-- an RBR read replies with the byte that it takes
+first_byte : (held : List ℕ) → byte_read RbrRead held (ByteRead (slice_index held 0)) ≡ taken_by RbrRead held
+first_byte [] = refl
+first_byte (byte ∷ held) = refl
+
+-- of a read of any register
+of_read : (register : Register) (s : State)
+    → byte_read (read_kind register) s.in_buffer (ByteRead (register_read register s))
+    ≡ taken_by (read_kind register) s.in_buffer
+of_read RbrThr s = first_byte s.in_buffer
+of_read Iir s = refl
+of_read _ s = refl
+
+-- a write takes no byte, and gives none
+of_write : (register : Register) (in_loopback : Bool) (value : ℕ) (held : List ℕ) (reply : Response)
+    → byte_read (write_kind register in_loopback value) held reply
+    ≡ taken_by (write_kind register in_loopback value) held
+of_write RbrThr false value held reply = refl
+of_write RbrThr true value held reply = refl
+of_write Ier in_loopback value held reply = refl
+of_write _ in_loopback value held reply = refl
+
+of_enqueue : (latch in_loopback : Bool) (bytes held : List ℕ) (reply : Response)
+    → byte_read (kind_of latch in_loopback (Enqueue bytes)) held reply
+    ≡ taken_by (kind_of latch in_loopback (Enqueue bytes)) held
+of_enqueue latch true bytes held reply = refl
+of_enqueue latch false bytes held reply = refl
+
+of_call : (start : State) (trace : List TraceEntry) (op : Op) (asked : Asked) (sent : Sent) (reply : Response)
+    → reply ≡ history_response start trace op asked sent
+    → byte_read (kind_at start trace op) (held_bytes start trace) reply
+    ≡ taken_by (kind_at start trace op) (held_bytes start trace)
+of_call start trace (Read offset) asked sent reply is =
+    ap (byte_read (kind_at start trace (Read offset)) (held_bytes start trace)) is
+    ∙ of_read (register_at (dlab start trace) offset) (state_of_history start trace)
+of_call start trace (Write offset value) asked sent reply is =
+    of_write (register_at (dlab start trace) offset) (loopback start trace) value (held_bytes start trace) reply
+of_call start trace (Enqueue bytes) asked sent reply is =
+    of_enqueue (dlab start trace) (loopback start trace) bytes (held_bytes start trace) reply
+of_call start trace Restore asked sent reply is = refl
+
+pub reads_are_taken : ReadsAreTakenLaw
+reads_are_taken start trace [] are = append-nil (taken_bytes start trace)
+reads_are_taken start trace (call ∷ later) are =
+    let rest = bytes_read start (call.0 ∷ trace) later in
+    ap (λ byte. taken_bytes start trace ++ (byte ++ rest))
+    (of_call start trace call.0.op call.0.asked call.0.sent call.1 are.0)
+    ∙ sym (append_assoc (taken_bytes start trace) _ rest)
+    ∙ reads_are_taken start (call.0 ∷ trace) later are.1
+
+pub read_then_held : ReadThenHeldLaw
+read_then_held start calls are =
+    ap (λ bytes. bytes ++ held_bytes start (trace_after [] calls)) (reads_are_taken start [] calls are)
+    ∙ taken_then_held start (trace_after [] calls)

@@ -1,0 +1,5 @@
+use Rattle.vm_superio.proofs.StepLaw.{call_law}
+use Rattle.vm_superio.proofs.laws.calls_of_history.Goals as goal
+
+pub returns : goal.returns
+returns c = call_law
