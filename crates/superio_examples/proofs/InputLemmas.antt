@@ -1,5 +1,5 @@
 -- The bytes that a serial port takes are the first of those that it is given.
-use Rattle.std.proofs.Common.{◌≡◌, ℕ, ◌-◌, ◌+◌, ◌≤◌, Bool, true, false, List, [], ◌∷◌, ◌++◌, None, length, take, drop, refl, sym, ap, ◌∙◌, append-nil, append_assoc, arith, length-append}
+use Rattle.std.proofs.Common.{◌≡◌, ℕ, ◌-◌, ◌+◌, ◌≤◌, Bool, true, false, List, [], ◌∷◌, ◌++◌, None, length, take, drop, refl, sym, ap, ◌∙◌, append_assoc, arith, length-append}
 use Rattle.std.specs.Prelude.{if◌then◌else◌}
 use Rattle.std.proofs.lemmas.List.{take-append-drop, length-take, drop_min}
 use Rattle.vm_superio.specs.declared.serial.errors.Error.{Error}
@@ -8,12 +8,8 @@ use Rattle.vm_superio.specs.Port.State.{State}
 use Rattle.vm_superio.specs.Port.Registers.{is_loopback}
 use Rattle.vm_superio.specs.Step.Raising.{enqueued_bytes, receive_bytes}
 use Rattle.vm_superio.specs.Port.Model.{refusal_in_error}
+use Rattle.vm_superio.specs.Laws.OneCall.{ReceivedLaw}
 use Rattle.superio_examples.specs.Input.{room_in}
-
--- bytes that come in stand behind the others
-in_buffer-receive : (bytes : List ℕ) (s : State) → (receive_bytes bytes s).in_buffer ≡ s.in_buffer ++ bytes
-in_buffer-receive [] s = sym (append-nil s.in_buffer)
-in_buffer-receive (byte ∷ bytes) s = refl
 
 -- none, or as many of the first as there is room for, and then the bytes behind so many
 taken-rest : (none : Bool) (room : ℕ) (bytes : List ℕ) →
@@ -24,23 +20,22 @@ taken-rest false room bytes =
     ∙ ap (λ rest. take room bytes ++ rest) (drop_min room bytes) ∙ take-append-drop room bytes
 
 -- the room that an enqueue of these bytes took is how many it accepted
-pub room-taken : (old new : State) (bytes : List ℕ) (room left : ℕ) →
+pub room-taken : ReceivedLaw → (old new : State) (bytes : List ℕ) (room left : ℕ) →
     new ≡ receive_bytes (enqueued_bytes old bytes) old → room ≡ 64 - length old.in_buffer → left ≡ 64 - length new.in_buffer →
     length new.in_buffer ≤ 64 → room - left ≡ length (enqueued_bytes old bytes)
-room-taken old new bytes room left state room_is left_is few =
+room-taken law old new bytes room left state room_is left_is few =
     let accepted = enqueued_bytes old bytes in
-    let held : new.in_buffer ≡ old.in_buffer ++ accepted = ap (λ (s : State). s.in_buffer) state ∙ in_buffer-receive accepted old in
+    let held : new.in_buffer ≡ old.in_buffer ++ accepted = ap (λ (s : State). s.in_buffer) (state ∙ law old accepted) in
     let count : length new.in_buffer ≡ length old.in_buffer + length accepted = ap length held ∙ length-append old.in_buffer accepted in
     omega arith
 
 -- the bytes held, then those that wait, are those that were held, and then those that waited
-pub held-waiting : (old new : State) (bytes rest : List ℕ) →
+pub held-waiting : ReceivedLaw → (old new : State) (bytes rest : List ℕ) →
     new ≡ receive_bytes (enqueued_bytes old bytes) old → rest ≡ drop (length (enqueued_bytes old bytes)) bytes →
     new.in_buffer ++ rest ≡ old.in_buffer ++ bytes
-held-waiting old new bytes rest state rest_is =
+held-waiting law old new bytes rest state rest_is =
     let accepted = enqueued_bytes old bytes in
-    ap (λ (s : State). s.in_buffer ++ rest) state
-    ∙ ap (λ held. held ++ rest) (in_buffer-receive accepted old)
+    ap (λ (s : State). s.in_buffer ++ rest) (state ∙ law old accepted)
     ∙ append_assoc old.in_buffer accepted rest
     ∙ ap (λ behind. old.in_buffer ++ (accepted ++ behind)) rest_is
     ∙ ap (λ all. old.in_buffer ++ all) (taken-rest (is_loopback old.modem_control) (64 - length old.in_buffer) bytes)

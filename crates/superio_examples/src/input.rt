@@ -7,7 +7,7 @@ use std::alloc::{AllocError, Global};
 use std::io::Write;
 use std::marker::Model;
 use vm_superio::serial::{Error, SerialEvents};
-use vm_superio::{Serial, Trigger};
+use vm_superio::{Serial, Trigger, laws};
 
 /// The bytes that the guest has yet to be given, oldest first. In a contract it is the list of them.
 #[derive(Drop)]
@@ -66,6 +66,7 @@ impl Input {
         ensures step { ForwardsEnqueue T.link EV.link W.contents self.old result serial.old serial.new }
         ensures coherent { Coherent serial.old.state → Coherent serial.new.state }
     {
+        laws::one_call();
         let room = serial.fifo_capacity();
         let enqueued = serial.enqueue_raw_bytes(&self.waiting);
         // The room that is left shows what went in, after a refusal too.

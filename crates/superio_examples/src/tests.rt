@@ -1,8 +1,9 @@
-//! The three modules at work, over the objects of a script's board.
+//! The modules at work, over the objects of a script's board.
 use crate::bus::{Bus, BusError};
+use crate::first_claim::read_back;
 use crate::input::Input;
-use crate::migration::{Saved, restore, save};
-use std::alloc::Global;
+use crate::migration::{restore, save};
+use crate::monitor::saved_devices;
 use std::io;
 use std::io::{ErrorKind, Write, sink};
 use std::test::Fail;
@@ -126,16 +127,6 @@ fn input_of_any_size_is_pushed(rt: HostRuntime) -> Result<(), Fail> {
     Ok(())
 }
 
-/// A serial port with three bytes and an interrupt that the guest has not acknowledged, and a clock that was set.
-fn saved_devices(alloc: Global) -> Result<Saved, Fail> {
-    let mut serial = Serial::new(alloc, Line::new(0), sink()).map_err(Refused::into_error)?;
-    serial.write(1, 0x01)?;
-    serial.enqueue_raw_bytes(b"abc")?;
-    let mut clock = Rtc::new();
-    clock.write(0x008, &1_000u32.to_le_bytes(), 5_000_000);
-    Ok(save(alloc, &serial, &clock)?)
-}
-
 #[test]
 fn devices_go_on_on_another_machine(rt: HostRuntime) -> Result<(), Fail> {
     let saved = saved_devices(rt.alloc())?;
@@ -164,6 +155,17 @@ fn a_refused_restore_returns_its_objects(rt: HostRuntime) -> Result<(), Fail> {
     assert!(rt; matches!(refused.serial.error, Error::Trigger(LineRefused)));
     assert_eq!(rt; refused.serial.trigger.calls(), 1);
     assert_eq!(rt; refused.clock_events.invalid_read_count(), 0);
+    Ok(())
+}
+
+#[test]
+fn input_is_read_back_as_far_as_there_is_room(rt: HostRuntime) -> Result<(), Fail> {
+    let alloc = rt.alloc();
+    let input = b"guest ".repeat(alloc, 16)?;
+    for count in [0, 1, 63, 64, 65, 96] {
+        let read = read_back(alloc, Line::new(0), sink(), &input[..count])?;
+        assert_eq!(rt; read.as_slice(), &input[..count.min(64)]);
+    }
     Ok(())
 }
 

@@ -1,17 +1,22 @@
 -- The bytes that a guest reads from the FIFO are the bytes taken.
-use Rattle.std.proofs.Common.{◌≡◌, ℕ, Bool, true, false, List, [], ◌∷◌, ◌++◌, refl, ap, sym, ◌∙◌, append_assoc, append-nil}
+use Rattle.std.proofs.Common.{◌≡◌, ℕ, ◌<◌, Bool, true, false, List, [], ◌∷◌, ◌++◌, length, refl, ap, sym, subst, ◌∙◌, append_assoc, append-nil, arith}
 use Rattle.std.specs.Prelude.{slice_index}
 use Rattle.vm_superio.specs.declared.trace.Asked.{Asked}
+use Rattle.vm_superio.specs.declared.trace.Asked.TheVariants.{Nothing}
 use Rattle.vm_superio.specs.declared.trace.Sent.{Sent}
+use Rattle.vm_superio.specs.declared.trace.Sent.TheVariants as sent
 use Rattle.vm_superio.specs.Port.State.{State}
-use Rattle.vm_superio.specs.Port.Registers.{Register, RbrThr, Ier, Iir, register_at, register_read}
+use Rattle.vm_superio.specs.Port.Registers.{Register, RbrThr, Ier, Iir, register_at, is_dlab, is_loopback, register_read}
 use Rattle.vm_superio.specs.Port.Operations.{Op, Read, Write, Enqueue, Restore, TraceEntry, Response, ByteRead}
 use Rattle.vm_superio.specs.Port.OpKinds.{RbrRead, read_kind, write_kind, kind_of}
-use Rattle.vm_superio.specs.History.Registers.{kind_at, dlab, loopback, taken_by, taken_bytes, held_bytes}
+use Rattle.vm_superio.specs.Step.Admissible.{kind_in_state}
+use Rattle.vm_superio.specs.Step.Transition.{read_step, step, step_response}
+use Rattle.vm_superio.specs.History.Registers.{kind_at, dlab, loopback, accepted_by, taken_by, taken_bytes, held_bytes}
 use Rattle.vm_superio.specs.History.Reads.{state_of_history, history_response, byte_read, bytes_read}
 use Rattle.vm_superio.specs.Run.Trace.{trace_after}
 use Rattle.vm_superio.specs.Laws.Consequences.{ReadsAreTakenLaw, ReadThenHeldLaw}
-use Rattle.vm_superio.proofs.HeldBytes.{taken_then_held}
+use Rattle.vm_superio.specs.Laws.OneCall.{OneReadLaw, RbrReadLaw}
+use Rattle.vm_superio.proofs.HeldBytes.{one_call, taken_then_held}
 
 -- an RBR read replies with the byte that it takes
 first_byte : (held : List ℕ) → byte_read RbrRead held (ByteRead (slice_index held 0)) ≡ taken_by RbrRead held
@@ -40,6 +45,45 @@ of_enqueue : (latch in_loopback : Bool) (bytes held : List ℕ) (reply : Respons
     ≡ taken_by (kind_of latch in_loopback (Enqueue bytes)) held
 of_enqueue latch true bytes held reply = refl
 of_enqueue latch false bytes held reply = refl
+
+of_step : (s : State) (op : Op) (asked : Asked) (sent : Sent)
+    → byte_read (kind_in_state s op) s.in_buffer (step_response s op asked sent)
+    ≡ taken_by (kind_in_state s op) s.in_buffer
+of_step s (Read offset) asked sent = of_read (register_at (is_dlab s.line_control) offset) s
+of_step s (Write offset value) asked sent =
+    of_write (register_at (is_dlab s.line_control) offset) (is_loopback s.modem_control) value s.in_buffer _
+of_step s (Enqueue bytes) asked sent =
+    of_enqueue (is_dlab s.line_control) (is_loopback s.modem_control) bytes s.in_buffer _
+of_step s Restore asked sent = refl
+
+pub one_read : OneReadLaw
+one_read s op asked sent =
+    ap (λ byte. byte ++ (step s op asked).in_buffer) (of_step s op asked sent) ∙ one_call s op asked
+
+-- where the latch is hidden
+is_oldest : (held left : List ℕ) (byte : ℕ) → 0 < length held
+    → byte_read RbrRead held (ByteRead byte) ++ left ≡ held ++ [] → byte ∷ left ≡ held
+is_oldest [] left byte some is = absurd (omega (arith, some))
+is_oldest (oldest ∷ held) left byte some is = is ∙ append-nil (oldest ∷ held)
+
+-- a read changes no register but LSR and IIR
+kept : (register : Register) (s : State) → read_step register s ≡ record s {
+  in_buffer = (read_step register s).in_buffer;
+  line_status = (read_step register s).line_status;
+  interrupt_identification = (read_step register s).interrupt_identification;
+}
+kept RbrThr s = refl
+kept Iir s = refl
+kept _ s = refl
+
+pub rbr_read : RbrReadLaw
+rbr_read s byte hidden some response = record {
+  bytes = is_oldest s.in_buffer _ byte some
+      (subst (λ kind. byte_read kind s.in_buffer (ByteRead byte) ++ (step s (Read 0) Nothing).in_buffer
+      ≡ s.in_buffer ++ accepted_by kind s.in_buffer) (ap (λ latch. read_kind (register_at latch 0)) hidden)
+      (rw response (one_read s (Read 0) Nothing sent.Nothing)));
+  others = kept (register_at (is_dlab s.line_control) 0) s;
+}
 
 of_call : (start : State) (trace : List TraceEntry) (op : Op) (asked : Asked) (sent : Sent) (reply : Response)
     → reply ≡ history_response start trace op asked sent

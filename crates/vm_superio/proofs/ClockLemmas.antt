@@ -8,10 +8,8 @@ use Rattle.std.proofs.lemmas.Grind.{common_steps}
 use Rattle.std.proofs.lemmas.Int.{ints}
 use Rattle.std.proofs.lemmas.Nat.Bits.{bit_at_or, bit_at-lt, bit_at-zero}
 use Rattle.vm_superio.specs.declared.rtc_pl031.RtcState.{RtcState}
-use Rattle.vm_superio.specs.declared.rtc_pl031.registers.ClockRegister.{ClockRegister}
-use Rattle.vm_superio.specs.declared.rtc_pl031.registers.ClockRegister.TheVariants.{Dr, Mr, Lr, Cr, Imsc, Ris, Mis, Icr, Id, Reserved}
 use Rattle.vm_superio.specs.Port.Bits.{without_bits}
-use Rattle.vm_superio.specs.Clock.Registers.{Access, read, write, clock_register_at, host_time, guest_time, clock_register_read}
+use Rattle.vm_superio.specs.Clock.Registers.{ClockRegister, Dr, Mr, Lr, Cr, Imsc, Ris, Mis, Icr, Id, Reserved, Access, read, write, clock_register_at, host_time, guest_time, clock_register_read}
 use Rattle.vm_superio.specs.Clock.Step.{after_write, clock_step, clock_response, state_after_accesses}
 use Rattle.vm_superio.specs.Clock.History.{clock_of_history, clock_history_response, counter, cleared_bits, cleared_by}
 use Rattle.vm_superio.specs.Clock.Laws.{GoesOnByHistory, is_cleared}

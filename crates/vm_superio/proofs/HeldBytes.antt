@@ -14,7 +14,7 @@ use Rattle.vm_superio.specs.History.Registers.{accepted_by, taken_by, kind_at, r
 use Rattle.vm_superio.specs.Step.Transition.{step}
 use Rattle.vm_superio.specs.Laws.Agreement.{state_after, HeldBytesLaw, LineStatusLaw}
 use Rattle.vm_superio.specs.Laws.Consequences.{TakenThenHeldLaw}
-use Rattle.vm_superio.specs.Laws.OneCall.{OneCallLaw}
+use Rattle.vm_superio.specs.Laws.OneCall.{OneCallLaw, ReceivedLaw}
 use Rattle.vm_superio.proofs.Bytes.{data_ready_right, data_ready_twice}
 use Rattle.vm_superio.proofs.ByKind.{by_kind, next_by_kind, next_at_point}
 
@@ -28,9 +28,12 @@ taken_first RbrRead (byte ∷ bytes) new = refl
 taken_first IirRead bytes new = refl
 taken_first _ bytes new = refl
 
+pub received : ReceivedLaw
+received s [] = ap (λ bytes. record s { in_buffer = bytes }) (sym (append-nil s.in_buffer))
+received s (byte ∷ bytes) = refl
+
 received_bytes : (new : List ℕ) (s : State) → (receive_bytes new s).in_buffer ≡ s.in_buffer ++ new
-received_bytes [] s = sym (append-nil s.in_buffer)
-received_bytes (byte ∷ bytes) s = refl
+received_bytes new s = ap (λ (left : State). left.in_buffer) (received s new)
 
 first_gone : (bytes : List ℕ) → drop 1 bytes ≡ drop (length (taken_by RbrRead bytes)) (bytes ++ [])
 first_gone [] = refl

@@ -1,6 +1,7 @@
 -- The PL031 clock: its registers, the step of one access, its history, and the laws that join the two.
 pub mod Events
 pub mod Registers
+pub mod CodeNames
 pub mod Step
 pub mod History
 pub mod Laws

@@ -6,7 +6,7 @@
 //! two alone.
 ghost use Rattle.vm_superio.specs.Laws.Agreement.{RegisterLaw, HeldBytesLaw, LineStatusLaw, InterruptLaw, CoherenceLaw, StateLaw, ResponseLaw, StepLaw, CallLaw, WholeRunLaw};
 ghost use Rattle.vm_superio.specs.Laws.Consequences.{PendingByPrefixesLaw, TriggerBoundLaw, WaitingBytesLaw, SameReadsLaw, TakenThenHeldLaw, ReadsAreTakenLaw, ReadThenHeldLaw, OutputLaw};
-ghost use Rattle.vm_superio.specs.Laws.OneCall.{OneCallLaw, OutcomeEventsLaw, TurnedBitsLaw, AdmissibilityLaw};
+ghost use Rattle.vm_superio.specs.Laws.OneCall.{OneCallLaw, OneReadLaw, ReceivedLaw, RbrReadLaw, OutcomeEventsLaw, TurnedBitsLaw, AdmissibilityLaw};
 
 mod clock;
 
@@ -103,9 +103,14 @@ pub fn output()
     ensures { OutputLaw }
 {}
 
-/// One call in any state: what it takes and then what is held after it is what was held and then what it accepts.
+/// One call in any state: what it takes and then what is held after it is what was held and then what it accepts. What
+/// it takes is the byte that it gives a guest. Bytes that are received, and an RBR read, change nothing but the FIFO, LSR
+/// and IIR.
 pub fn one_call()
-    ensures { OneCallLaw }
+    ensures taken { OneCallLaw }
+    ensures read { OneReadLaw }
+    ensures received { ReceivedLaw }
+    ensures rbr_read { RbrReadLaw }
 {}
 
 /// One call in any state: a THR write reports exactly one of `out_byte` and `tx_lost_byte`, once, and no other call

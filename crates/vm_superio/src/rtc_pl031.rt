@@ -7,6 +7,7 @@ ghost use Rattle.std.specs.Prelude.{◌≡◌, ◌↔◌, List, [], ◌∷◌, �
 ghost use Rattle.std.specs.Bool.{OnTrue, OnFalse};
 ghost use Rattle.std.proofs.Common.{◌∙◌};
 ghost use Rattle.vm_superio.specs.Clock.Events.{RtcEvent, invalid_read, invalid_write};
+ghost use Rattle.vm_superio.specs.Clock.CodeNames.{clock_register_of};
 ghost use Rattle.vm_superio.specs.Clock.Registers.{read, write_of, clock_register_at, is_readable, is_writable};
 ghost use Rattle.vm_superio.specs.Clock.Registers.{host_time, guest_time, clock_register_read, bytes_left};
 ghost use Rattle.vm_superio.specs.Clock.Step.{ClockDevice, clock_response, after_write, clock_step, clock_events};
@@ -91,7 +92,8 @@ impl RtcState {
 
     /// The number that a read of `register` shows where the host's time is `time`, or `None` where it shows nothing.
     fn read_register(&self, register: ClockRegister, time: u32) -> Option<u32>
-        ensures { result ≡ clock_register_read register (guest_time (pos time +ℤ self.now.offset) time) self.now }
+        ensures { let guest = guest_time (pos time +ℤ self.now.offset) time in
+            result ≡ clock_register_read (clock_register_of register) guest self.now }
     {
         match register {
             ClockRegister::Dr => Some(self.guest_time(time)),
@@ -110,8 +112,8 @@ impl RtcState {
     /// Where it takes none nothing changes.
     #[tactic(auto, using(crate::proofs::BitLemmas::and_not_is_without))]
     fn store(&mut self, register: ClockRegister, value: u32, time: u32) -> bool
-        ensures state { self.new ≡ after_write self.old register value time }
-        ensures taken { result ≡ is_writable register }
+        ensures state { self.new ≡ after_write self.old (clock_register_of register) value time }
+        ensures taken { result ≡ is_writable (clock_register_of register) }
     {
         match register {
             ClockRegister::Mr => self.mr = value,

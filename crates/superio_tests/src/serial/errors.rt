@@ -1,6 +1,7 @@
 //! What a failed call prints, and an events object that does nothing.
 
 use super::*;
+use std::alloc::AllocFailed;
 use std::io;
 use std::test::Fail;
 
@@ -34,11 +35,22 @@ fn take(alloc: Global, size: usize) -> Result<Vec<u8>, Error<LineRefused>> {
     Ok(Vec::with_capacity(alloc, size)?)
 }
 
+/// Keeps a byte, likewise.
+fn keep(bytes: &mut Vec<u8>, byte: u8) -> Result<(), Error<LineRefused>> {
+    Ok(bytes.push(byte)?)
+}
+
 #[test]
 fn a_refused_allocation_is_an_error_of_the_port(rt: HostRuntime) {
     assert!(rt; take(rt.alloc(), 64).is_ok());
     let refused = take(rt.alloc(), usize::MAX).err();
     assert_eq!(rt; refused.as_ref().map(failure_of), Some(Failure::Memory));
+
+    // A push gives the byte back, which `?` drops.
+    let mut bytes = Vec::new(rt.alloc());
+    assert!(rt; keep(&mut bytes, b'a').is_ok());
+    let refused = Error::<LineRefused>::from(AllocFailed { value: b'b' });
+    assert_eq!(rt; (failure_of(&refused), bytes.len()), (Failure::Memory, 1));
 }
 
 #[test]

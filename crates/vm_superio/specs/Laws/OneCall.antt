@@ -1,20 +1,54 @@
 -- The laws of one call, in any state.
-use Rattle.std.specs.Prelude.{◌≡◌, ◌↔◌, ℕ, zero, suc, Bool, true, false, if◌then◌else◌, ◌++◌, length, count_by, IsTrue}
+use Rattle.std.specs.Prelude.{◌≡◌, ◌↔◌, ℕ, zero, suc, Bool, true, false, if◌then◌else◌, List, ◌∷◌, ◌++◌, ◌<◌, length, count_by, IsTrue}
 use Rattle.vm_superio.specs.declared.trace.Asked.{Asked}
 use Rattle.vm_superio.specs.declared.trace.Sent.{Sent}
 use Rattle.vm_superio.specs.Port.State.{State}
-use Rattle.vm_superio.specs.Port.Operations.{Op, Event, out_byte, tx_lost_byte, answer_count}
+use Rattle.vm_superio.specs.Port.Registers.{is_dlab}
+use Rattle.vm_superio.specs.Port.Operations.{Op, Read, ByteRead, Event, out_byte, tx_lost_byte, answer_count}
 use Rattle.vm_superio.specs.Port.OpKinds.{sent_by}
-use Rattle.vm_superio.specs.Step.Transition.{step, step_events}
+use Rattle.vm_superio.specs.Step.Raising.{receive_bytes}
+use Rattle.vm_superio.specs.Step.Transition.{step, step_response, step_events}
 use Rattle.vm_superio.specs.Step.Admissible.{kind_in_state, step_calls, sends_byte, is_admissible}
 use Rattle.vm_superio.specs.Step.PortStep.{turned_on_count}
 use Rattle.vm_superio.specs.History.Registers.{accepted_by, taken_by}
+use Rattle.vm_superio.specs.History.Reads.{byte_read}
 
 -- the bytes that a call takes, then those held after it, are those held before it, then those it accepts
 abbrev pub OneCallLaw : Type 0
 OneCallLaw = (s : State) (op : Op) (asked : Asked)
     → taken_by (kind_in_state s op) s.in_buffer ++ (step s op asked).in_buffer
     ≡ s.in_buffer ++ accepted_by (kind_in_state s op) s.in_buffer
+
+-- the byte that a call gives a guest from the FIFO, then the bytes held after the call, are those held before it, then
+-- those it accepts
+abbrev pub OneReadLaw : Type 0
+OneReadLaw = (s : State) (op : Op) (asked : Asked) (sent : Sent)
+    → byte_read (kind_in_state s op) s.in_buffer (step_response s op asked sent) ++ (step s op asked).in_buffer
+    ≡ s.in_buffer ++ accepted_by (kind_in_state s op) s.in_buffer
+
+-- bytes that are received go behind those held, and nothing else changes but LSR and IIR
+abbrev pub ReceivedLaw : Type 0
+ReceivedLaw = (s : State) (bytes : List ℕ)
+    → receive_bytes bytes s ≡ record s {
+      in_buffer = s.in_buffer ++ bytes;
+      line_status = (receive_bytes bytes s).line_status;
+      interrupt_identification = (receive_bytes bytes s).interrupt_identification;
+    }
+
+-- an RBR read in a state that holds bytes gives the oldest, and leaves the others; and nothing else changes but LSR and
+-- IIR
+pub record GivesOldest (s new : State) (byte : ℕ) : Type 0 where
+  pub bytes : byte ∷ new.in_buffer ≡ s.in_buffer
+  pub others : new ≡ record s {
+    in_buffer = new.in_buffer;
+    line_status = new.line_status;
+    interrupt_identification = new.interrupt_identification;
+  }
+
+abbrev pub RbrReadLaw : Type 0
+RbrReadLaw = (s : State) (byte : ℕ) → is_dlab s.line_control ≡ false → 0 < length s.in_buffer
+    → ByteRead byte ≡ step_response s (Read 0) Asked.Nothing Sent.Nothing
+    → GivesOldest s (step s (Read 0) Asked.Nothing) byte
 
 -- the events that report the outcome of a byte
 abbrev pub reports_outcome : (event : Event) → Bool

@@ -1,5 +1,6 @@
 //! The PL031's register map.
 ghost use Rattle.std.specs.Prelude.{◌≡◌};
+ghost use Rattle.vm_superio.specs.Clock.CodeNames.{clock_register_of};
 ghost use Rattle.vm_superio.specs.Clock.Registers.{clock_register_at};
 
 /// The data register: guest time. Read only.
@@ -63,7 +64,7 @@ pub(super) enum ClockRegister {
 impl ClockRegister {
     /// The register at `offset`.
     pub(super) fn at(offset: u16) -> ClockRegister
-        ensures { result ≡ clock_register_at offset }
+        ensures { clock_register_of result ≡ clock_register_at offset }
     {
         match offset {
             RTCDR => ClockRegister::Dr,

@@ -2,7 +2,7 @@
 ghost use Rattle.std.specs.Prelude.{◌≡◌};
 
 use crate::Trigger;
-use std::alloc::AllocError;
+use std::alloc::{AllocError, AllocFailed};
 use std::error::Error as StdError;
 use std::{fmt, io};
 
@@ -47,6 +47,17 @@ impl<E> From<AllocError> for Error<E> {
 
     fn from(_refused: AllocError) -> Self {
         Self::Memory
+    }
+}
+
+/// So that `?` does the same where the refusal gives back what found no room, as that of [`Vec::push`] does.
+impl<V: Drop, E> From<AllocFailed<V>> for Error<E> {
+    ghost use Rattle.vm_superio.specs.declared.serial.errors.Error.TheVariants.{Memory};
+
+    ghost from_gives = { λ _ error. error ≡ Memory };
+
+    fn from(refused: AllocFailed<V>) -> Self {
+        Self::from(AllocError::from(refused))
     }
 }
 

@@ -1,5 +1,6 @@
 //! The trigger calls of a restore.
 ghost use Rattle.std.specs.Prelude.{◌≡◌, List, [], ◌∷◌, Result, true, OnOk, IfErr};
+ghost use Rattle.vm_superio.specs.Port.CodeNames.{condition_of};
 ghost use Rattle.vm_superio.specs.Port.Registers.{thre_then_rda};
 ghost use Rattle.vm_superio.specs.Step.Restore.{is_asserted};
 ghost use Rattle.vm_superio.specs.Port.ObjectLinks.{all_ok, StopsAtRefusal};
@@ -12,7 +13,7 @@ use crate::Trigger;
 
 /// Whether a condition is pending and enabled.
 pub(super) fn is_asserted(condition: Condition, state: &SerialState) -> bool
-    ensures { result ≡ is_asserted condition (state_of state.now) }
+    ensures { result ≡ is_asserted (condition_of condition) (state_of state.now) }
 {
     has_bits(state.interrupt_identification, condition.iir_bit())
         && has_bits(state.interrupt_enable, condition.ier_bit())

@@ -6,7 +6,8 @@ ghost use Rattle.std.specs.Bool.{beq};
 ghost use Rattle.std.specs.Option.{option_to_list};
 ghost use Rattle.vm_superio.specs.Port.State.{not_empty};
 ghost use Rattle.vm_superio.specs.Port.Bits.{only_bits};
-ghost use Rattle.vm_superio.specs.Port.Registers.{is_loopback, register_read};
+ghost use Rattle.vm_superio.specs.Port.CodeNames.{register_of, condition_of};
+ghost use Rattle.vm_superio.specs.Port.Registers.{RbrThr, is_loopback, register_read};
 ghost use Rattle.vm_superio.specs.Port.Operations.{Write, out_byte, tx_lost_byte, in_buffer_empty, buffer_read, is_sent, one_if};
 ghost use Rattle.vm_superio.specs.Port.OpKinds.{write_kind, sent_by};
 ghost use Rattle.vm_superio.specs.Port.ObjectLinks.{answers_of};
@@ -37,9 +38,10 @@ impl Registers {
         condition: Condition,
     ) -> Option<Result<(), T::E>>
         ensures called { is_some result
-            ≡ becomes_pending condition self.old.interrupt_enable self.old.interrupt_identification }
+            ≡ becomes_pending (condition_of condition) self.old.interrupt_enable self.old.interrupt_identification }
         ensures registers { self.new ≡ record self.old {
-          interrupt_identification = raise condition self.old.interrupt_enable self.old.interrupt_identification;
+          interrupt_identification =
+              raise (condition_of condition) self.old.interrupt_enable self.old.interrupt_identification;
         } }
         ensures trigger { T.link trigger.old (option_to_list result) trigger.new }
     {
@@ -125,7 +127,7 @@ impl Registers {
     fn read_rbr<EV: SerialEvents>(&mut self, fifo: &mut Fifo, events: &mut EV) -> u8
         ensures value { result ≡ slice_index fifo.old 0 }
         ensures state { state_with self.new fifo.new ≡ rbr_read (state_with self.old fifo.old) }
-        ensures events { EV.link events.old (read_events Register.RbrThr fifo.old) events.new }
+        ensures events { EV.link events.old (read_events RbrThr fifo.old) events.new }
     {
         let others = without_bits(self.interrupt_identification, IIR_RDA_BIT);
         self.interrupt_identification = if others == 0 { IIR_NONE_BIT } else { others };
@@ -147,9 +149,9 @@ impl Registers {
         out: &mut W,
         value: u8,
     ) -> (TriggerAnswers<T::E>, Option<io::Result<()>>)
-        ensures asked { let kind = write_kind Register.RbrThr (is_loopback self.old.modem_control) value in
+        ensures asked { let kind = write_kind RbrThr (is_loopback self.old.modem_control) value in
             IsTrue (answers_all (kind_calls kind (state_with self.old fifo.old)) (asked_of result.0)) }
-        ensures sent { let kind = write_kind Register.RbrThr (is_loopback self.old.modem_control) value in
+        ensures sent { let kind = write_kind RbrThr (is_loopback self.old.modem_control) value in
             IsTrue (beq (is_sent (sent_of result.1)) (not_empty (sent_by kind))) }
         ensures state { state_with self.new fifo.new ≡ thr_write value (state_with self.old fifo.old) }
         ensures trigger { let answers = answers_of (asked_of result.0) (refusal_in_answers result.0) in
@@ -174,9 +176,9 @@ impl Registers {
         events: &mut EV,
         register: Register,
     ) -> u8
-        ensures value { result ≡ register_read register (state_with self.old fifo.old) }
-        ensures state { state_with self.new fifo.new ≡ read_step register (state_with self.old fifo.old) }
-        ensures events { EV.link events.old (read_events register fifo.old) events.new }
+        ensures value { result ≡ register_read (register_of register) (state_with self.old fifo.old) }
+        ensures state { state_with self.new fifo.new ≡ read_step (register_of register) (state_with self.old fifo.old) }
+        ensures events { EV.link events.old (read_events (register_of register) fifo.old) events.new }
     {
         match register {
             Register::Dll => self.baud_divisor_low,
@@ -207,12 +209,12 @@ impl Registers {
         register: Register,
         value: u8,
     ) -> (TriggerAnswers<T::E>, Option<io::Result<()>>)
-        ensures asked { let kind = write_kind register (is_loopback self.old.modem_control) value in
+        ensures asked { let kind = write_kind (register_of register) (is_loopback self.old.modem_control) value in
             IsTrue (answers_all (kind_calls kind (state_with self.old fifo.old)) (asked_of result.0)) }
-        ensures sent { let kind = write_kind register (is_loopback self.old.modem_control) value in
+        ensures sent { let kind = write_kind (register_of register) (is_loopback self.old.modem_control) value in
             IsTrue (beq (is_sent (sent_of result.1)) (not_empty (sent_by kind))) }
         ensures state { state_with self.new fifo.new
-            ≡ write_step register value (asked_of result.0) (state_with self.old fifo.old) }
+            ≡ write_step (register_of register) value (asked_of result.0) (state_with self.old fifo.old) }
         ensures trigger { let answers = answers_of (asked_of result.0) (refusal_in_answers result.0) in
             T.link trigger.old answers trigger.new }
         ensures events { EV.link events.old (sent_events (sent_of result.1)) events.new }

@@ -1,5 +1,15 @@
-use Rattle.vm_superio.proofs.HeldBytes.{one_call}
+use Rattle.vm_superio.proofs.HeldBytes.{one_call, received}
+use Rattle.vm_superio.proofs.BytesRead.{one_read, rbr_read}
 use Rattle.vm_superio.proofs.laws.one_call.Goals as goal
 
-pub returns : goal.returns
-returns c = one_call
+pub returns-clause-taken : goal.returns-clause-taken
+returns-clause-taken c = one_call
+
+pub returns-clause-read : goal.returns-clause-read
+returns-clause-read c = one_read
+
+pub returns-clause-received : goal.returns-clause-received
+returns-clause-received c = received
+
+pub returns-clause-rbr_read : goal.returns-clause-rbr_read
+returns-clause-rbr_read c = rbr_read

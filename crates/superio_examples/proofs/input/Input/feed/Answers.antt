@@ -23,7 +23,7 @@ count : (g : Over) (c : goal.Joined-enqueued g) →
 count g c =
     let room = c.fifo_capacity-room in
     let left = c.fifo_capacity in
-    room-taken c.args.serial.now.state c.enqueue_raw_bytes-enqueued.new.self.state c.args.self.now room.result left.result (state g c)
+    room-taken c.one_call.ensures.received c.args.serial.now.state c.enqueue_raw_bytes-enqueued.new.self.state c.args.self.now room.result left.result (state g c)
     room.ensures.value left.ensures.value left.ensures.bound
 
 -- so the others wait
@@ -35,7 +35,7 @@ rest g c =
     drained ∙ ap (λ count. drop count bytes) (count g c)
 
 pub returns-clause-kept : goal.returns-clause-kept
-returns-clause-kept g c = held-waiting c.args.serial.now.state _ c.args.self.now _ (state g c) (rest g c)
+returns-clause-kept g c = held-waiting c.one_call.ensures.received c.args.serial.now.state _ c.args.self.now _ (state g c) (rest g c)
 
 pub returns-clause-room : goal.returns-clause-room
 returns-clause-room g c = rest g c ∙ drop-accepted c.args.serial.now.state c.args.self.now
