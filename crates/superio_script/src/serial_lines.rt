@@ -101,7 +101,7 @@ fn error_reply(error: Error<LineRefused>) -> Reply
         Error::Trigger(LineRefused) => word(b"trigger"),
         Error::IOError(_) => word(b"io"),
         Error::FullFifo => word(b"full"),
-        // A restore alone takes memory, and is no line with a reply where that was refused.
+        // Of the lines only a restore takes memory, and one that is refused it has no reply.
         Error::Memory => Reply::new(),
     }
 }

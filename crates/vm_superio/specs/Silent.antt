@@ -3,6 +3,7 @@
 use Rattle.std.specs.Prelude.{◌≡◌, ◌↔◌, ⊤, List, [], ◌∷◌, ◌++◌}
 use Rattle.std.proofs.Common.{sym, subst}
 
+-- without a call the object is the same, and after one it may be any
 abbrev pub SameWithoutCall : {Object Call : Type 0} → (old : Object) (calls : List Call) (new : Object) → Type 0
 SameWithoutCall old [] new = old ≡ new
 SameWithoutCall old (call ∷ calls) new = ⊤
