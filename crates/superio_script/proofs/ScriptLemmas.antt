@@ -16,7 +16,7 @@ use Rattle.vm_superio.specs.Clock.Registers.{Access, fresh_clock}
 use Rattle.vm_superio.specs.Clock.History.{clock_of_history}
 use Rattle.vm_superio.specs.Clock.Step.{ClockDevice}
 use Rattle.vm_superio.specs.Port.Model.{Port}
-use Rattle.vm_superio.proofs.PublicLemmas.{Appends-nothing, Appends-append}
+use Rattle.vm_superio.proofs.PublicLemmas.{Appends-nothing, Appends-append, fresh_clock-history}
 use Rattle.superio_script.specs.InterruptLine.{InterruptLine}
 use Rattle.superio_script.specs.Counts.{EventCounts}
 use Rattle.superio_script.specs.Output.{written_bytes}
@@ -203,7 +203,7 @@ module _ (mask : ℕ) (start : Option (List ℕ)) where
     fresh_session mask,
     [],
     is_fresh.serial,
-    ap (λ (c : ClockDevice EventCounts). c.state) is_fresh.clock,
+    ap (λ (c : ClockDevice EventCounts). c.state) is_fresh.clock ∙ fresh_clock-history,
     λ commands choice rest_possible end text. (choice, record { sent = rest_possible.sent; room = omega (arith, rest_possible.room); short = rest_possible.short }, text),
   )
 

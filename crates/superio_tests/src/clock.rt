@@ -1,4 +1,5 @@
 //! The clock, at times that the tests pass to it.
+mod alarm;
 mod carried;
 
 use crate::scaffold::{EventCounts, event_counts};
@@ -67,30 +68,18 @@ fn with_interrupts(ris: u32, imsc: u32) -> Rtc<Counts> {
 
 #[test]
 fn a_fresh_clock_has_zeros(rt: HostRuntime) {
-    let zeros = RtcState {
-        lr: 0,
-        offset: 0,
-        mr: 0,
-        imsc: 0,
-        ris: 0,
-    };
+    let zeros = RtcState::from_five(0, 0, 0, 0, 0);
     assert_eq!(rt; RtcState::default(), zeros);
     assert_eq!(rt; Rtc::new().state(), zeros);
     assert_eq!(rt; Rtc::with_events(Counts::new()).state(), zeros);
 }
 
 #[test]
-fn saved_clocks_are_compared_and_printed_by_all_five_fields(rt: HostRuntime) -> Result<(), Fail> {
-    let state = RtcState {
-        lr: 1,
-        offset: -2,
-        mr: 3,
-        imsc: 4,
-        ris: 5,
-    };
+fn saved_clocks_are_compared_and_printed_by_all_six_fields(rt: HostRuntime) -> Result<(), Fail> {
+    let state = RtcState::from_five(1, -2, 3, 4, 5);
     assert_eq!(rt;
         format!(in rt.alloc(); "{state:?}")?.as_str(),
-        "RtcState { lr: 1, offset: -2, mr: 3, imsc: 4, ris: 5 }"
+        "RtcState { lr: 1, offset: -2, mr: 3, imsc: 4, ris: 5, armed: false }"
     );
     for other in [
         RtcState { lr: 0, ..state },
@@ -98,6 +87,10 @@ fn saved_clocks_are_compared_and_printed_by_all_five_fields(rt: HostRuntime) -> 
         RtcState { mr: 0, ..state },
         RtcState { imsc: 0, ..state },
         RtcState { ris: 0, ..state },
+        RtcState {
+            armed: true,
+            ..state
+        },
     ] {
         assert!(rt; other != state, "{other:?}");
     }

@@ -102,5 +102,19 @@ without-or number bits =
     let small = bit_at-lt bits k in
     grind arith)
 
+-- to clear bits of two numbers is to clear them in each
+pub without-of-or : (number other bits : ℕ) → without_bits (bit_or number other) bits ≡ bit_or (without_bits number bits) (without_bits other bits)
+without-of-or number other bits =
+    same_from_bits _ _ (λ k.
+    let both = bit_at_or number other k in
+    let after = bit_at-without (bit_or number other) bits k in
+    let left = bit_at-without number bits k in
+    let left_other = bit_at-without other bits k in
+    let joined = bit_at_or (without_bits number bits) (without_bits other bits) k in
+    let small_number = bit_at-lt number k in
+    let small_other = bit_at-lt other k in
+    let small = bit_at-lt bits k in
+    grind arith)
+
 -- for the goals of a write to the interrupt clear register
 pub ruleset clearing = (and_not_is_without, without-twice)

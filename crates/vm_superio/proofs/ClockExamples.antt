@@ -1,6 +1,7 @@
 -- Worked examples of the clock, each computed by the steps of the accesses and by the history.
-use Rattle.std.specs.Prelude.{◌≡◌, ℕ, pos, List, [], ◌∷◌, ◌++◌, Option, Some, None, refl}
+use Rattle.std.specs.Prelude.{◌≡◌, ℕ, Bool, true, false, pos, List, [], ◌∷◌, ◌++◌, Option, Some, None, refl}
 use Rattle.vm_superio.specs.declared.rtc_pl031.RtcState.{RtcState}
+use Rattle.vm_superio.specs.Port.Bits.{with_bits}
 use Rattle.vm_superio.specs.Clock.Events.{RtcEvent, invalid_read, invalid_write}
 use Rattle.vm_superio.specs.Clock.Registers.{Access, read, write, bytes_left, fresh_clock}
 use Rattle.vm_superio.specs.Clock.Step.{clock_response, clock_step, clock_events, state_after_accesses}
@@ -48,7 +49,7 @@ guest_time_before_the_first_second_is_the_host_time = record { steps = refl; his
 
 -- the offset at which the host's time 65172 makes the sum 2 ^ 63
 abbrev far_ahead : RtcState
-far_ahead = record { lr = 65535; offset = pos 9223372036854710636; mr = 0; imsc = 0; ris = 0 }
+far_ahead = record { lr = 65535; offset = pos 9223372036854710636; mr = 0; imsc = 0; ris = 0; armed = false }
 
 a_sum_past_64_bits_is_the_host_time : Gives far_ahead
     (read 0x000 65172 ∷ read 0x000 4294967301 ∷ [])
@@ -77,19 +78,104 @@ the_offset_is_the_load_less_the_host_time = (refl, refl)
 
 -- a restored clock whose interrupt is raised and not masked
 abbrev raised : RtcState
-raised = record { lr = 0; offset = pos 0; mr = 0; imsc = 1; ris = 1 }
+raised = record { lr = 0; offset = pos 0; mr = 0; imsc = 1; ris = 1; armed = false }
 
 the_mask_is_one_bit_and_a_clear_takes_bits_away : Gives raised
     (read 0x014 1000 ∷ read 0x018 1000 ∷ write 0x010 2 1000 ∷ read 0x010 1000 ∷ read 0x018 1000 ∷ write 0x01C 1 1000 ∷ read 0x014 1000 ∷ [])
     (Some 1 ∷ Some 1 ∷ None ∷ Some 0 ∷ Some 0 ∷ None ∷ Some 0 ∷ [])
     []
+unfolding with_bits
 the_mask_is_one_bit_and_a_clear_takes_bits_away = record { steps = refl; history = refl; reports = refl }
 
 the_match_register_shows_what_was_written : Gives fresh_clock
     (write 0x004 123 1000 ∷ read 0x004 1000 ∷ read 0x014 1000 ∷ [])
     (None ∷ Some 123 ∷ Some 0 ∷ [])
     []
+unfolding with_bits
 the_match_register_shows_what_was_written = record { steps = refl; history = refl; reports = refl }
+
+-- ---- the alarm
+
+-- after a trace, newest first, the raw status and whether an alarm is set, by the steps and by the history
+record Leaves (start : RtcState) (trace : List Access) (ris : ℕ) (armed : Bool) : Type 0 where
+  steps : ((state_after_accesses start trace).ris ≡ ris) × ((state_after_accesses start trace).armed ≡ armed)
+  history : ((clock_of_history start trace).ris ≡ ris) × ((clock_of_history start trace).armed ≡ armed)
+
+a_match_to_come_raises_once : Gives fresh_clock
+    (write 0x004 105 100 ∷ read 0x014 104 ∷ read 0x014 105 ∷ read 0x018 105 ∷ write 0x010 1 105 ∷ read 0x018 105 ∷ write 0x01C 1 106 ∷ read 0x014 107 ∷ [])
+    (None ∷ Some 0 ∷ Some 1 ∷ Some 0 ∷ None ∷ Some 1 ∷ None ∷ Some 0 ∷ [])
+    []
+unfolding with_bits
+a_match_to_come_raises_once = record { steps = refl; history = refl; reports = refl }
+
+and_the_alarm_is_off : Leaves fresh_clock
+    (read 0x014 107 ∷ write 0x01C 1 106 ∷ read 0x014 105 ∷ read 0x014 104 ∷ write 0x004 105 100 ∷ []) 0 false
+unfolding with_bits
+and_the_alarm_is_off = record { steps = (refl, refl); history = (refl, refl) }
+
+a_match_of_guest_time_raises_at_once : Leaves fresh_clock (write 0x004 100 100 ∷ []) 1 false
+unfolding with_bits
+a_match_of_guest_time_raises_at_once = record { steps = (refl, refl); history = (refl, refl) }
+
+a_match_that_is_past_raises_nothing : Leaves fresh_clock (read 0x014 200 ∷ write 0x004 99 100 ∷ []) 0 false
+unfolding with_bits
+a_match_that_is_past_raises_nothing = record { steps = (refl, refl); history = (refl, refl) }
+
+an_invalid_access_finds_the_alarm : Gives fresh_clock
+    (write 0x004 200 100 ∷ read 0x020 200 ∷ read 0x014 150 ∷ [])
+    (None ∷ None ∷ Some 1 ∷ [])
+    (invalid_read ∷ [])
+unfolding with_bits
+an_invalid_access_finds_the_alarm = record { steps = refl; history = refl; reports = refl }
+
+a_clear_at_the_match_clears_its_raise : Leaves fresh_clock (read 0x014 201 ∷ write 0x01C 1 200 ∷ write 0x004 200 100 ∷ []) 0 false
+unfolding with_bits
+a_clear_at_the_match_clears_its_raise = record { steps = (refl, refl); history = (refl, refl) }
+
+a_load_past_the_match_is_found_at_the_next_access : Leaves fresh_clock (write 0x008 300 101 ∷ write 0x004 200 100 ∷ []) 0 true
+unfolding with_bits
+a_load_past_the_match_is_found_at_the_next_access = record { steps = (refl, refl); history = (refl, refl) }
+
+and_raises_there : Leaves fresh_clock (read 0x014 101 ∷ write 0x008 300 101 ∷ write 0x004 200 100 ∷ []) 1 false
+unfolding with_bits
+and_raises_there = record { steps = (refl, refl); history = (refl, refl) }
+
+a_later_match_finds_the_earlier_reached : Leaves fresh_clock (write 0x004 300 250 ∷ write 0x004 200 100 ∷ []) 1 true
+unfolding with_bits
+a_later_match_finds_the_earlier_reached = record { steps = (refl, refl); history = (refl, refl) }
+
+a_match_past_32_bits_is_found_by_the_host_time : Leaves fresh_clock
+    (read 0x014 1001 ∷ write 0x004 1001 1001 ∷ write 0x008 4294967295 1000 ∷ []) 1 false
+unfolding with_bits
+a_match_past_32_bits_is_found_by_the_host_time = record { steps = (refl, refl); history = (refl, refl) }
+
+-- a restored clock whose match is 105, without an alarm and with one
+abbrev matching : (armed : Bool) → RtcState
+matching armed = record { lr = 0; offset = pos 0; mr = 105; imsc = 1; ris = 0; armed = armed }
+
+a_restored_match_without_an_alarm_raises_nothing : Leaves (matching false) (read 0x014 200 ∷ []) 0 false
+unfolding with_bits
+a_restored_match_without_an_alarm_raises_nothing = record { steps = (refl, refl); history = (refl, refl) }
+
+a_restored_alarm_raises : Leaves (matching true) (read 0x014 200 ∷ []) 1 false
+unfolding with_bits
+a_restored_alarm_raises = record { steps = (refl, refl); history = (refl, refl) }
+
+-- guest time is loaded back, and comes to the match later
+a_restored_alarm_waits_for_guest_time : Gives (matching true)
+    (write 0x008 50 101 ∷ read 0x014 155 ∷ read 0x014 156 ∷ [])
+    (None ∷ Some 0 ∷ Some 1 ∷ [])
+    []
+unfolding with_bits
+a_restored_alarm_waits_for_guest_time = record { steps = refl; history = refl; reports = refl }
+
+-- a reset puts guest time past the match, and a moment that goes back before it
+a_restored_alarm_follows_resets_and_moments_that_go_back : Gives (matching true)
+    (write 0x008 50 200 ∷ write 0x00C 1 200 ∷ read 0x014 104 ∷ read 0x014 4294967400 ∷ read 0x014 4294967401 ∷ [])
+    (None ∷ None ∷ Some 1 ∷ Some 1 ∷ Some 1 ∷ [])
+    []
+unfolding with_bits
+a_restored_alarm_follows_resets_and_moments_that_go_back = record { steps = refl; history = refl; reports = refl }
 
 an_invalid_read_answers_nothing_and_is_reported : Gives fresh_clock
     (read 0x01C 1000 ∷ read 0xFE5 1000 ∷ read 0xFFF 1000 ∷ read 0x1003 1000 ∷ [])
@@ -101,6 +187,7 @@ an_invalid_write_changes_nothing_and_is_reported : Gives raised
     (write 0x000 7 1000 ∷ write 0x014 0 1000 ∷ write 0x018 0 1000 ∷ write 0xFE0 7 1000 ∷ write 0x009 7 1000 ∷ read 0x018 1000 ∷ read 0x000 1000 ∷ [])
     (None ∷ None ∷ None ∷ None ∷ None ∷ Some 1 ∷ Some 1000 ∷ [])
     (invalid_write ∷ invalid_write ∷ invalid_write ∷ invalid_write ∷ invalid_write ∷ [])
+unfolding with_bits
 an_invalid_write_changes_nothing_and_is_reported = record { steps = refl; history = refl; reports = refl }
 
 -- the four bytes of each kind of read, into the bytes of 123

@@ -1,7 +1,9 @@
 -- Lemmas that other crates' proofs use too.
-use Rattle.std.proofs.Common.{ℕ, ◌≤◌, List, [], ◌++◌, length, Option, Some, None, false, refl, sym, ap, ◌∙◌, append_assoc, append-nil, arith}
+use Rattle.std.proofs.Common.{◌≡◌, ℕ, ◌≤◌, List, [], ◌++◌, length, Option, Some, None, false, refl, sym, ap, ◌∙◌, append_assoc, append-nil, arith}
 use Rattle.std.specs.Io.KnownBytes.{Appends}
-use Rattle.vm_superio.specs.Port.Bits.{has_bits}
+use Rattle.vm_superio.specs.Clock.Registers.{fresh_clock}
+use Rattle.vm_superio.specs.Clock.History.{clock_of_history}
+use Rattle.vm_superio.specs.Port.Bits.{has_bits, with_bits}
 use Rattle.vm_superio.specs.Port.Coherent.{Coherent}
 use Rattle.vm_superio.specs.Port.SavedState.{fresh_state}
 use Rattle.vm_superio.specs.Port.State.{State}
@@ -21,6 +23,11 @@ fresh_coherent = record {
   data_ready = refl;
   few = omega arith;
 }
+
+-- a fresh clock is that of no access
+pub fresh_clock-history : fresh_clock ≡ clock_of_history fresh_clock []
+unfolding with_bits
+fresh_clock-history = refl
 
 -- a writer that took nothing
 pub Appends-nothing : (known : Option (List ℕ)) → Appends known known []

@@ -3,14 +3,15 @@
 //! The clock does not read the host's clock: the monitor passes each access its moment, in seconds since 1970. The low
 //! 32 bits of a moment are the host's time. Guest time is the host's time and the clock's offset together where 32
 //! bits hold the sum, and the host's time elsewhere; it does not wrap.
-ghost use Rattle.std.specs.Prelude.{◌≡◌, ◌↔◌, List, [], ◌∷◌, ◌++◌, pos, ◌+ℤ◌};
+ghost use Rattle.std.specs.Prelude.{◌≡◌, ◌↔◌, List, [], ◌∷◌, ◌++◌, false};
+ghost use Rattle.vm_superio.specs.Port.Bits.{with_bits};
 ghost use Rattle.std.specs.Bool.{OnTrue, OnFalse};
 ghost use Rattle.std.proofs.Common.{◌∙◌};
 ghost use Rattle.vm_superio.specs.Clock.Events.{RtcEvent, invalid_read, invalid_write};
 ghost use Rattle.vm_superio.specs.Clock.CodeNames.{clock_register_of};
 ghost use Rattle.vm_superio.specs.Clock.Registers.{read, write_of, clock_register_at, is_readable, is_writable};
-ghost use Rattle.vm_superio.specs.Clock.Registers.{host_time, guest_time, clock_register_read, bytes_left};
-ghost use Rattle.vm_superio.specs.Clock.Step.{ClockDevice, clock_response, after_write, clock_step, clock_events};
+ghost use Rattle.vm_superio.specs.Clock.Registers.{host_time, clock_register_read, bytes_left};
+ghost use Rattle.vm_superio.specs.Clock.Step.{ClockDevice, guest_time_in, after_alarm, match_write, clock_response, after_write, clock_step, clock_events};
 ghost use Rattle.vm_superio.specs.Clock.Registers.{fresh_clock};
 ghost use Rattle.vm_superio.specs.Clock.Laws.{ReadsByHistory, GoesOnByHistory};
 
@@ -71,18 +72,34 @@ pub struct RtcState {
     pub lr: u32,
     /// How far guest time is ahead of the host's time, in seconds.
     pub offset: i64,
-    /// The match register, RTCMR. It has no effect but its own reading.
+    /// The match register, RTCMR: the guest time for which the alarm was set last.
     pub mr: u32,
     /// The interrupt mask, RTCIMSC. A write stores bit 0 of its value, and clears the others.
     pub imsc: u32,
-    /// The raw interrupt status, RTCRIS. No access sets a bit.
+    /// The raw interrupt status, RTCRIS. The alarm sets bit 0, and nothing sets another.
     pub ris: u32,
+    /// Whether the alarm is set: guest time has yet to come to `mr`.
+    pub armed: bool,
 }
 
 impl RtcState {
+    /// A state that was saved without `armed`, by a clock that had no alarm: none is set.
+    pub fn from_five(lr: u32, offset: i64, mr: u32, imsc: u32, ris: u32) -> RtcState
+        ensures { result ≡ record { lr = lr; offset = offset; mr = mr; imsc = imsc; ris = ris; armed = false } }
+    {
+        RtcState {
+            lr,
+            offset,
+            mr,
+            imsc,
+            ris,
+            armed: false,
+        }
+    }
+
     /// Guest time where the host's time is `time`.
     fn guest_time(&self, time: u32) -> u32
-        ensures { result ≡ guest_time (pos time +ℤ self.now.offset) time }
+        ensures { result ≡ guest_time_in self.now time }
     {
         match i64::from(time).checked_add(self.offset) {
             Some(counter) => u32::try_from(counter).unwrap_or(time),
@@ -90,10 +107,34 @@ impl RtcState {
         }
     }
 
+    /// Where the alarm is set and guest time has come to the match, raises the interrupt and unsets the alarm.
+    #[tactic(auto, unfolding(crate::specs::Port::Bits::with_bits))]
+    fn check_alarm(&mut self, time: u32)
+        ensures { self.new ≡ after_alarm self.old time }
+    {
+        if self.armed && self.guest_time(time) >= self.mr {
+            self.ris |= 1;
+            self.armed = false;
+        }
+    }
+
+    /// Stores a match. The alarm is set where guest time has yet to come to it, and the interrupt is raised at once
+    /// where guest time is the match.
+    #[tactic(auto, unfolding(crate::specs::Port::Bits::with_bits))]
+    fn write_match(&mut self, value: u32, time: u32)
+        ensures { self.new ≡ match_write self.old value time }
+    {
+        let guest_time = self.guest_time(time);
+        self.mr = value;
+        self.armed = guest_time < value;
+        if value == guest_time {
+            self.ris |= 1;
+        }
+    }
+
     /// The number that a read of `register` shows where the host's time is `time`, or `None` where it shows nothing.
     fn read_register(&self, register: ClockRegister, time: u32) -> Option<u32>
-        ensures { let guest = guest_time (pos time +ℤ self.now.offset) time in
-            result ≡ clock_register_read (clock_register_of register) guest self.now }
+        ensures { result ≡ clock_register_read (clock_register_of register) (guest_time_in self.now time) self.now }
     {
         match register {
             ClockRegister::Dr => Some(self.guest_time(time)),
@@ -116,7 +157,7 @@ impl RtcState {
         ensures taken { result ≡ is_writable (clock_register_of register) }
     {
         match register {
-            ClockRegister::Mr => self.mr = value,
+            ClockRegister::Mr => self.write_match(value, time),
             ClockRegister::Lr => {
                 self.lr = value;
                 self.offset = i64::from(value) - i64::from(time);
@@ -203,14 +244,16 @@ impl<EV: RtcEvents> Rtc<EV> {
         &self.events
     }
 
-    /// Begins an access at the moment `now`, and gives the host's time.
-    ///
-    /// Every access begins here, before it has its own effect, a read as well as a write and an invalid one too.
+    /// Begins an access at the moment `now`, and gives the host's time. Every access may find that the alarm is reached,
+    /// before it has its own effect, an invalid one too.
     fn begin_access(&mut self, now: u64) -> u32
         ensures time { result ≡ host_time now }
-        ensures unchanged { self.new ≡ self.old }
+        ensures state { self.new.state ≡ after_alarm self.old.state (host_time now) }
+        ensures events { self.new.events ≡ self.old.events }
     {
-        (now % (1 << 32)) as u32
+        let time = (now % (1 << 32)) as u32;
+        self.state.check_alarm(time);
+        time
     }
 
     /// Writes `bytes`, lowest byte first, at `offset` from the clock's base address, at the moment `now` in seconds
@@ -223,7 +266,8 @@ impl<EV: RtcEvents> Rtc<EV> {
     /// A write at any other offset changes no register and calls `invalid_write` of the events object once.
     pub fn write(&mut self, offset: u16, bytes: &[u8; 4], now: u64)
         ensures state { self.new.state ≡ clock_step self.old.state (write_of offset bytes.now now) }
-        ensures invalid { OnFalse (is_writable (clock_register_at offset)) (self.new.state ≡ self.old.state) }
+        ensures invalid { OnFalse (is_writable (clock_register_at offset))
+            (self.new.state ≡ after_alarm self.old.state (host_time now)) }
         ensures history { GoesOnByHistory self.old.state (write_of offset bytes.now now) self.new.state }
 
         // The events object hears of an invalid write, and of nothing else.
@@ -251,7 +295,7 @@ impl<EV: RtcEvents> Rtc<EV> {
         ensures invalid { OnFalse (is_readable (clock_register_at offset)) (bytes.new ≡ bytes.old) }
         ensures response_by_history { ReadsByHistory self.old.state offset now bytes.old bytes.new }
 
-        ensures unchanged { self.new.state ≡ self.old.state }
+        ensures state { self.new.state ≡ after_alarm self.old.state (host_time now) }
         ensures history { GoesOnByHistory self.old.state (read offset now) self.new.state }
 
         // The events object hears of an invalid read, and of nothing else.

@@ -1,9 +1,10 @@
 -- The history of a clock: what its registers hold, by a search of its accesses alone. A trace is a list of accesses,
 -- newest first. No state is kept along it.
-use Rattle.std.specs.Prelude.{ℕ, ◌+◌, ◌%◌, ℤ, pos, ◌+ℤ◌, ◌-ℤ◌, ◌==◌, ◌&&◌, if◌then◌else◌, List, [], ◌∷◌, Option, Some, None, unwrap_or, bit_or}
+use Rattle.std.specs.Prelude.{ℕ, ◌+◌, ◌%◌, ℤ, pos, ◌+ℤ◌, ◌-ℤ◌, Bool, false, not, ◌==◌, ◌&&◌, ◌||◌, nat_lt, nat_le, is_some, if◌then◌else◌, List, [], ◌∷◌, Option, Some, None, unwrap_or, bit_or}
 use Rattle.std.specs.Option.{option_or, option_map_or}
 use Rattle.vm_superio.specs.declared.rtc_pl031.RtcState.{RtcState}
-use Rattle.vm_superio.specs.Port.Bits.{without_bits}
+use Rattle.std.specs.Int.{bit_at}
+use Rattle.vm_superio.specs.Port.Bits.{with_bits, without_bits}
 use Rattle.vm_superio.specs.Clock.Registers.{Access, read, write, clock_register_at, host_time, guest_time, clock_register_read}
 
 -- the value of the newest access for which `find` gives one
@@ -58,23 +59,73 @@ abbrev pub cleared_bits : (trace : List Access) → ℕ
 cleared_bits [] = 0
 cleared_bits (access ∷ trace) = bit_or (cleared_by access) (cleared_bits trace)
 
+-- ---- the alarm
+
+-- the host's time at an access
+abbrev pub time_of : (access : Access) → ℕ
+time_of (read _ now) = host_time now
+time_of (write _ _ now) = host_time now
+
+-- guest time at an access, before its own effect
+abbrev pub guest_time_at : (start : RtcState) (trace : List Access) (access : Access) → ℕ
+guest_time_at start trace access = guest_time (counter start trace (time_of access)) (time_of access)
+
+-- a match write: the value that an access writes to RTCMR, at 0x004
+abbrev pub match_written : (access : Access) → Option ℕ
+match_written access = value_written 0x004 access
+
+-- the match: the value of the last match write, or the start's
+abbrev pub match_value : (start : RtcState) (trace : List Access) → ℕ
+match_value start trace = unwrap_or (newest_found match_written trace) start.mr
+
+-- the last match write wrote a value that guest time was yet to come to; or with none, the start has an alarm
+abbrev pub is_alarm_set : (start : RtcState) (trace : List Access) → Bool
+is_alarm_set start [] = start.armed
+is_alarm_set start (access ∷ trace) =
+    option_map_or (λ value. nat_lt (guest_time_at start trace access) value) (match_written access)
+    (is_alarm_set start trace)
+
+-- guest time had come to the match at some access since the last match write
+abbrev pub is_match_passed : (start : RtcState) (trace : List Access) → Bool
+is_match_passed start [] = false
+is_match_passed start (access ∷ trace) =
+    not (is_some (match_written access))
+    && (nat_le (match_value start trace) (guest_time_at start trace access) || is_match_passed start trace)
+
+-- an alarm was not reached, and is set
+abbrev pub is_armed : (start : RtcState) (trace : List Access) → Bool
+is_armed start trace = not (is_match_passed start trace) && is_alarm_set start trace
+
+-- an access raises the interrupt where it is a match write of guest time itself, or reaches the alarm
+abbrev pub raises_alarm : (start : RtcState) (trace : List Access) (access : Access) → Bool
+raises_alarm start trace access =
+    option_map_or (λ value. value == guest_time_at start trace access) (match_written access) false
+    || (is_armed start trace && nat_le (match_value start trace) (guest_time_at start trace access))
+
+-- some access raised the interrupt, and no write to RTCICR cleared bit 0 there or later
+abbrev pub is_alarm_raised : (start : RtcState) (trace : List Access) → Bool
+is_alarm_raised start [] = false
+is_alarm_raised start (access ∷ trace) =
+    not (bit_at (cleared_by access) 0 == 1) && (raises_alarm start trace access || is_alarm_raised start trace)
+
 -- ---- the clock
 
--- the offset is how far the counter is ahead of the host's time, so the counter at host's time 0; the match register is
--- the last write to RTCMR, at 0x004, and the mask bit 0 of the last write to RTCIMSC, at 0x010; a raw bit is set where
--- the start has it and no write to RTCICR had it
+-- the offset is how far the counter is ahead of the host's time, so the counter at host's time 0; the mask is bit 0 of
+-- the last write to RTCIMSC, at 0x010; a raw bit is set where the start has it and no write to RTCICR had it, and bit 0
+-- where the alarm raised it too
 abbrev pub clock_of_history : (start : RtcState) (trace : List Access) → RtcState
 clock_of_history start trace = record {
   lr = load_by (newest_found setting_of trace) start;
   offset = counter start trace 0;
-  mr = unwrap_or (newest_found (value_written 0x004) trace) start.mr;
+  mr = match_value start trace;
   imsc = option_map_or (λ value. value % 2) (newest_found (value_written 0x010) trace) start.imsc;
-  ris = without_bits start.ris (cleared_bits trace);
+  ris = with_bits (without_bits start.ris (cleared_bits trace)) (if is_alarm_raised start trace then 1 else 0);
+  armed = is_armed start trace;
 }
 
--- the number that a read shows at its moment; a write responds nothing
+-- the number that a read shows at its moment, at which it may have reached an alarm itself; a write responds nothing
 abbrev pub clock_history_response : (start : RtcState) (trace : List Access) (access : Access) → Option ℕ
 clock_history_response start trace (read offset now) =
-    clock_register_read (clock_register_at offset)
-    (guest_time (counter start trace (host_time now)) (host_time now)) (clock_of_history start trace)
+    clock_register_read (clock_register_at offset) (guest_time_at start trace (read offset now))
+    (clock_of_history start (read offset now ∷ trace))
 clock_history_response start trace (write _ _ _) = None

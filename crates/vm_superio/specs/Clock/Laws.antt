@@ -1,11 +1,11 @@
 -- The laws by which the steps and the history of a clock agree.
-use Rattle.std.specs.Prelude.{◌≡◌, ℕ, Bool, ◌==◌, if◌then◌else◌, List, ◌∷◌, Option, pos, ◌+ℤ◌}
+use Rattle.std.specs.Prelude.{◌≡◌, ℕ, Bool, ◌==◌, ◌&&◌, if◌then◌else◌, List, ◌∷◌, Option, pos, ◌+ℤ◌}
 use Rattle.std.specs.Int.{bit_at}
 use Rattle.std.specs.List.{list_any}
 use Rattle.vm_superio.specs.declared.rtc_pl031.RtcState.{RtcState}
 use Rattle.vm_superio.specs.Clock.Registers.{Access, read, bytes_left}
 use Rattle.vm_superio.specs.Clock.Step.{clock_response, clock_step, state_after_accesses}
-use Rattle.vm_superio.specs.Clock.History.{counter, clock_of_history, clock_history_response, cleared_by}
+use Rattle.vm_superio.specs.Clock.History.{counter, clock_of_history, clock_history_response, cleared_by, is_alarm_raised}
 
 -- for each history of the state before an access, the access responds as the history says
 abbrev pub RespondsByHistory : (state : RtcState) (access : Access) (response : Option ℕ) → Type 0
@@ -44,8 +44,11 @@ pub record ClockIsHistory : Type 0 where
 abbrev pub is_cleared : (trace : List Access) (bit : ℕ) → Bool
 is_cleared trace bit = list_any (λ access. bit_at (cleared_by access) bit == 1) trace
 
--- a raw interrupt bit is that of the start, unless an access of the trace cleared it
+-- a raw interrupt bit is that of the start, unless an access of the trace cleared it; and bit 0 is set where the alarm
+-- raised it
 abbrev pub RawBitsByHistory : Type 0
 RawBitsByHistory =
     (start : RtcState) (trace : List Access) (bit : ℕ)
-    → bit_at (clock_of_history start trace).ris bit ≡ (if is_cleared trace bit then 0 else bit_at start.ris bit)
+    → bit_at (clock_of_history start trace).ris bit
+    ≡ (if (bit == 0) && is_alarm_raised start trace then 1
+    else (if is_cleared trace bit then 0 else bit_at start.ris bit))

@@ -6,7 +6,7 @@ use Rattle.vm_superio.specs.declared.rtc_pl031.RtcState.{RtcState}
 
 -- the state of a fresh clock
 abbrev pub fresh_clock : RtcState
-fresh_clock = record { lr = 0; offset = pos 0; mr = 0; imsc = 0; ris = 0 }
+fresh_clock = record { lr = 0; offset = pos 0; mr = 0; imsc = 0; ris = 0; armed = false }
 
 -- an access by the guest: its offset, for a write the value, and its moment in seconds since 1970
 pub data Access : Type 0 where

@@ -1,17 +1,21 @@
 -- No call and no access led to fresh devices.
-use Rattle.std.proofs.Common.{rules, []}
+use Rattle.std.proofs.Common.{rules, ◌≡◌, [], ◌∙◌}
+use Rattle.vm_superio.specs.Clock.Registers.{fresh_clock}
+use Rattle.vm_superio.proofs.PublicLemmas.{fresh_clock-history}
 use Rattle.superio_script.specs.SerialScript.{fresh_session}
 use Rattle.superio_script.proofs.SerialScriptLemmas.{at-start}
 use Rattle.superio_script.proofs.devices.Board.new.Goals as goal
 
 pub invariant_of-result : goal.invariant_of-result
-invariant_of-result c = record {
-  session = fresh_session c.args.mask;
-  serial = at-start c.args.mask _ (search rules) (search rules) (search rules) (search rules);
-  accesses = [];
-  clock = search rules;
-  controller = search rules;
-}
+invariant_of-result c =
+    let fresh : c.with_events.result.state ≡ fresh_clock = search rules in
+    record {
+      session = fresh_session c.args.mask;
+      serial = at-start c.args.mask _ (search rules) (search rules) (search rules) (search rules);
+      accesses = [];
+      clock = fresh ∙ fresh_clock-history;
+      controller = search rules;
+    }
 
 pub returns-clause-fresh : goal.returns-clause-fresh
 returns-clause-fresh c = record {
