@@ -3,6 +3,9 @@
 //! The clock does not read the host's clock: the monitor passes each access its moment, in seconds since 1970. The low
 //! 32 bits of a moment are the host's time. Guest time is the host's time and the clock's offset together where 32
 //! bits hold the sum, and the host's time elsewhere; it does not wrap.
+//!
+//! The match register is an alarm, which raises bit 0 of the raw interrupt status at the first access at which guest
+//! time has come to it. No trigger is called: a monitor asks [`Rtc::state`].
 ghost use Rattle.std.specs.Prelude.{◌≡◌, ◌↔◌, List, [], ◌∷◌, ◌++◌, false};
 ghost use Rattle.vm_superio.specs.Port.Bits.{with_bits};
 ghost use Rattle.std.specs.Bool.{OnTrue, OnFalse};
@@ -244,8 +247,8 @@ impl<EV: RtcEvents> Rtc<EV> {
         &self.events
     }
 
-    /// Begins an access at the moment `now`, and gives the host's time. Every access may find that the alarm is reached,
-    /// before it has its own effect, an invalid one too.
+    /// Begins an access at the moment `now`, and gives the host's time. Every access may find that the alarm is
+    /// reached, before it has its own effect, an invalid one too.
     fn begin_access(&mut self, now: u64) -> u32
         ensures time { result ≡ host_time now }
         ensures state { self.new.state ≡ after_alarm self.old.state (host_time now) }
@@ -259,11 +262,15 @@ impl<EV: RtcEvents> Rtc<EV> {
     /// Writes `bytes`, lowest byte first, at `offset` from the clock's base address, at the moment `now` in seconds
     /// since 1970, of which the low 32 bits count.
     ///
-    /// RTCMR (0x004) stores the value. RTCLR (0x008) stores it and makes it guest time. RTCCR (0x00C) resets the load
+    /// Before anything else, an alarm that is set and that guest time has come to raises bit 0 of the raw interrupt
+    /// status, and is over.
+    ///
+    /// RTCMR (0x004) stores the value. It sets the alarm where guest time is less than the value, and raises at once
+    /// where guest time is the value. RTCLR (0x008) stores it and makes it guest time. RTCCR (0x00C) resets the load
     /// register and guest time where the value is 1, and else changes nothing. RTCIMSC (0x010) stores bit 0 alone.
     /// RTCICR (0x01C) clears in the raw interrupt status the bits that the value has.
     ///
-    /// A write at any other offset changes no register and calls `invalid_write` of the events object once.
+    /// A write at any other offset stores nothing and calls `invalid_write` of the events object once.
     pub fn write(&mut self, offset: u16, bytes: &[u8; 4], now: u64)
         ensures state { self.new.state ≡ clock_step self.old.state (write_of offset bytes.now now) }
         ensures invalid { OnFalse (is_writable (clock_register_at offset))
@@ -282,7 +289,8 @@ impl<EV: RtcEvents> Rtc<EV> {
     }
 
     /// Reads into `bytes`, lowest byte first, at `offset` from the clock's base address, at the moment `now` in
-    /// seconds since 1970, of which the low 32 bits count. No read changes a register.
+    /// seconds since 1970, of which the low 32 bits count. A read changes a register only where it finds the alarm, as a
+    /// write does first of all.
     ///
     /// RTCDR (0x000) shows guest time, RTCCR (0x00C) shows 1, RTCMIS (0x018) shows the raw interrupt status under the
     /// mask, and RTCMR (0x004), RTCLR (0x008), RTCIMSC (0x010) and RTCRIS (0x014) show what the state has. The offsets

@@ -25,7 +25,10 @@ fn a_match_to_come_raises_once(rt: HostRuntime) {
     );
     follow(&rt, &mut clock, 106, &[Write(RTCICR, 1)]);
     follow(&rt, &mut clock, 107, &[Read(RTCRIS, 0)]);
-    assert_eq!(rt; (interrupt(&clock), event_counts(clock.events())), ((0, false), EventCounts::default()));
+    assert_eq!(rt;
+        (interrupt(&clock), event_counts(clock.events())),
+        ((0, false), EventCounts::default())
+    );
 }
 
 #[test]
