@@ -1,4 +1,7 @@
 //! A reader and a writer that move their bytes in small pieces, and fail at calls of one's choice.
+ghost use Rattle.std.specs.Prelude.{◌≡◌, ◌+◌, ◌++◌, [], min, take, IfOk, OnErr, None};
+ghost use Rattle.std.specs.Io.{WritesAtMost};
+
 use std::alloc::{AllocError, Global};
 use std::io;
 use std::io::{ErrorKind, Read, Write};
@@ -49,19 +52,41 @@ pub const FAULT_KINDS: [ErrorKind; 42] = [
     ErrorKind::Uncategorized,
 ];
 
-/// Gives its bytes in pieces of at most `piece`, and fails from one call on.
+/// The kinds of fault for tests that try many places. `write_all` makes an interrupted write again.
+pub const FEW_KINDS: [ErrorKind; 3] = [
+    ErrorKind::Interrupted,
+    ErrorKind::WouldBlock,
+    ErrorKind::Other,
+];
+
+/// How many bytes a call of `read` gives, at most.
+#[derive(Clone, Copy, Debug, Eq, PartialEq)]
+pub enum Piece {
+    /// This many.
+    Bytes(usize),
+    /// Those up to the next LF, with it.
+    Line,
+}
+
+/// Gives its bytes in pieces, and fails at one call.
 #[derive(Drop)]
 pub struct Source<'a> {
     pub bytes: &'a [u8],
-    pub piece: usize,
-    /// The number of the first call that fails, from 0, and how it fails. `None`: no call fails.
+    pub piece: Piece,
+    /// The number of the call that fails, from 0, and how it fails. The next call gives what this one did not. `None`:
+    /// no call fails.
     pub fault: Option<(u32, ErrorKind)>,
     pub reads: u32,
 }
 
 impl Source<'_> {
     /// A source that does not fail.
-    pub fn in_pieces(bytes: &[u8], piece: usize) -> Source<'_> {
+    pub fn in_pieces(bytes: &[u8], piece: Piece) -> Source<'_>
+        ensures bytes { result.bytes.now ≡ bytes.now }
+        ensures piece { result.piece ≡ piece }
+        ensures fault { result.fault ≡ None }
+        ensures reads { result.reads ≡ 0 }
+    {
         Source {
             bytes,
             piece,
@@ -75,12 +100,19 @@ impl Read for Source<'_> {
     fn read(&mut self, buf: &mut [u8]) -> io::Result<usize> {
         let number = self.reads;
         self.reads = number.saturating_add(1);
-        if let Some((first, kind)) = self.fault
-            && number >= first
+        if let Some((failing, kind)) = self.fault
+            && number == failing
         {
             return Err(io::Error::from(kind));
         }
-        let count = self.piece.min(buf.len()).min(self.bytes.len());
+        let most = match self.piece {
+            Piece::Bytes(most) => most,
+            Piece::Line => match self.bytes.iter().position(|byte| *byte == b'\n') {
+                Some(end) => end.saturating_add(1),
+                None => usize::MAX,
+            },
+        };
+        let count = most.min(buf.len()).min(self.bytes.len());
         buf[..count].copy_from_slice(&self.bytes[..count]);
         self.bytes = &self.bytes[count..];
         Ok(count)
@@ -112,7 +144,13 @@ pub struct Target {
 
 impl Target {
     /// A target that takes every byte.
-    pub fn new(alloc: Global) -> Target {
+    pub fn new(alloc: Global) -> Target
+        ensures bytes { result.bytes.items ≡ [] }
+        ensures piece { result.piece ≡ usize.MAX }
+        ensures room { result.room ≡ usize.MAX }
+        ensures outcomes { result.outcomes.items ≡ [] }
+        ensures calls { (result.writes ≡ 0) × (result.flushes ≡ 0) }
+    {
         Target {
             bytes: Vec::new(alloc),
             piece: usize::MAX,
@@ -124,15 +162,27 @@ impl Target {
     }
 
     /// A target that takes every byte, in pieces.
-    pub fn in_pieces(alloc: Global, piece: usize) -> Target {
+    pub fn in_pieces(alloc: Global, most: usize) -> Target
+        ensures bytes { result.bytes.items ≡ [] }
+        ensures piece { result.piece ≡ most }
+        ensures room { result.room ≡ usize.MAX }
+        ensures outcomes { result.outcomes.items ≡ [] }
+        ensures calls { (result.writes ≡ 0) × (result.flushes ≡ 0) }
+    {
         Target {
-            piece,
+            piece: most,
             ..Target::new(alloc)
         }
     }
 
     /// A target that takes so many bytes, and none after them.
-    pub fn with_room(alloc: Global, room: usize) -> Target {
+    pub fn with_room(alloc: Global, room: usize) -> Target
+        ensures bytes { result.bytes.items ≡ [] }
+        ensures piece { result.piece ≡ usize.MAX }
+        ensures room { result.room ≡ room }
+        ensures outcomes { result.outcomes.items ≡ [] }
+        ensures calls { (result.writes ≡ 0) × (result.flushes ≡ 0) }
+    {
         Target {
             room,
             ..Target::new(alloc)
@@ -140,7 +190,13 @@ impl Target {
     }
 
     /// A target whose calls of `write` have these outcomes.
-    pub fn with_outcomes(alloc: Global, outcomes: &[WriteOutcome]) -> Result<Target, AllocError> {
+    pub fn with_outcomes(alloc: Global, outcomes: &[WriteOutcome]) -> Result<Target, AllocError>
+        ensures bytes { IfOk result (λ target. target.bytes.items ≡ []) }
+        ensures piece { IfOk result (λ target. target.piece ≡ usize.MAX) }
+        ensures room { IfOk result (λ target. target.room ≡ usize.MAX) }
+        ensures outcomes { IfOk result (λ target. target.outcomes.items ≡ outcomes.now) }
+        ensures calls { IfOk result (λ target. (target.writes ≡ 0) × (target.flushes ≡ 0)) }
+    {
         Ok(Target {
             outcomes: outcomes.to_vec(alloc)?,
             ..Target::new(alloc)
@@ -161,7 +217,12 @@ impl Target {
 }
 
 impl Write for Target {
-    fn write(&mut self, buf: &[u8]) -> io::Result<usize> {
+    fn write(&mut self, buf: &[u8]) -> io::Result<usize>
+        ensures bound { WritesAtMost result buf.now }
+        ensures taken { IfOk result (λ count. self.new.bytes.items ≡ self.old.bytes.items ++ take count buf.now) }
+        ensures kept { OnErr result (self.new.bytes.items ≡ self.old.bytes.items) }
+        ensures counted { self.new.writes ≡ min (self.old.writes + 1) usize.MAX }
+    {
         self.writes = self.writes.saturating_add(1);
         if let WriteOutcome::WriteFails(kind) = self.outcome() {
             return Err(io::Error::from(kind));
@@ -172,7 +233,10 @@ impl Write for Target {
         Ok(count)
     }
 
-    fn flush(&mut self) -> io::Result<()> {
+    fn flush(&mut self) -> io::Result<()>
+        ensures kept { self.new.bytes.items ≡ self.old.bytes.items }
+        ensures counted { self.new.flushes ≡ min (self.old.flushes + 1) usize.MAX }
+    {
         self.flushes = self.flushes.saturating_add(1);
         if let WriteOutcome::FlushFails(kind) = self.outcome() {
             return Err(io::Error::from(kind));
