@@ -5,8 +5,6 @@
 #[cfg(test)]
 mod broken;
 #[cfg(test)]
-mod memory;
-#[cfg(test)]
 mod objects;
 #[cfg(test)]
 mod sample;
@@ -14,3 +12,5 @@ mod sample;
 mod scripts;
 #[cfg(test)]
 mod streams;
+#[cfg(test)]
+mod without_memory;
