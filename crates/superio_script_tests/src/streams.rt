@@ -166,44 +166,53 @@ fn a_read_that_fails_comes_before_what_the_script_has(rt: HostRuntime) -> Result
     Ok(())
 }
 
-/// Lets a `write` fail, before which the writer took so many bytes of the replies. It takes at most `piece` bytes in one
-/// call, in `writes` calls if none fails.
-fn expect_write_fault(
-    rt: &impl Abort,
-    alloc: Global,
-    (kind, number): (ErrorKind, usize),
-    (piece, writes): (usize, usize),
+/// A `write` that fails.
+#[derive(Clone, Copy)]
+struct WriteFault {
+    kind: ErrorKind,
+    /// The most bytes that the writer takes in one call.
+    piece: usize,
+    /// How many calls of `write` there are if none fails.
+    writes: usize,
+    /// The number of the call that fails, from 0.
+    number: usize,
+    /// How many bytes the writer took before it.
     before: usize,
-) -> Result<(), AllocError> {
+}
+
+/// What must be seen of a run whose writer fails, and whose replies are this text.
+fn seen_after(fault: WriteFault, text: &[u8]) -> Seen<'_> {
+    match fault.kind {
+        // `write_all` makes it again.
+        ErrorKind::Interrupted => Seen {
+            end: Ok(()),
+            printed: text,
+            reads: 2,
+            writes: fault.writes.saturating_add(1),
+            flushes: 1,
+        },
+        _ => Seen {
+            end: Err(ScriptFault::Io),
+            printed: &text[..fault.before.min(text.len())],
+            reads: 2,
+            writes: fault.number.saturating_add(1),
+            flushes: 0,
+        },
+    }
+}
+
+/// Runs the script of each form to a writer that fails.
+fn expect_write_fault(rt: &impl Abort, alloc: Global, fault: WriteFault) -> Result<(), AllocError> {
     let text = EVERY_REPLY.concat(alloc)?;
-    let mut outcomes = vec![in alloc; WriteOutcome::Taken; number]?;
-    outcomes.push(WriteOutcome::WriteFails(kind))?;
+    let mut outcomes = vec![in alloc; WriteOutcome::Taken; fault.number]?;
+    outcomes.push(WriteOutcome::WriteFails(fault.kind))?;
     outcomes.push(WriteOutcome::Taken)?;
     let writer = Target {
-        piece,
+        piece: fault.piece,
         ..Target::with_outcomes(alloc, &outcomes)?
     };
-    let failed = Seen {
-        end: Err(ScriptFault::Io),
-        printed: &text[..before.min(text.len())],
-        reads: 2,
-        writes: number.saturating_add(1),
-        flushes: 0,
-    };
-    // `write_all` makes an interrupted write again.
-    let retried = Seen {
-        end: Ok(()),
-        printed: &text,
-        reads: 2,
-        writes: writes.saturating_add(1),
-        flushes: 1,
-    };
-    let want = match kind {
-        ErrorKind::Interrupted => retried,
-        _ => failed,
-    };
     let reader = Source::in_pieces(EVERY_FORM, Piece::Bytes(usize::MAX));
-    expect_seen(rt, alloc, reader, writer, want);
+    expect_seen(rt, alloc, reader, writer, seen_after(fault, &text));
     Ok(())
 }
 
@@ -212,21 +221,42 @@ fn a_write_that_fails_ends_the_run(rt: HostRuntime) -> Result<(), Fail> {
     let mut faults = 0u32;
     for kind in FAULT_KINDS {
         // Each reply goes out whole.
-        let mut before = 0usize;
-        for (number, reply) in EVERY_REPLY.iter().enumerate() {
-            expect_write_fault(&rt, rt.alloc(), (kind, number), (usize::MAX, 17), before)?;
-            before = before.saturating_add(reply.len());
+        let mut fault = WriteFault {
+            kind,
+            piece: usize::MAX,
+            writes: EVERY_REPLY.len(),
+            number: 0,
+            before: 0,
+        };
+        for reply in EVERY_REPLY {
+            expect_write_fault(&rt, rt.alloc(), fault)?;
+            fault.number = fault.number.saturating_add(1);
+            fault.before = fault.before.saturating_add(reply.len());
             faults = faults.saturating_add(1);
         }
     }
+    assert_eq!(rt; faults, 42 * 17);
+    Ok(())
+}
+
+#[test]
+fn a_write_of_a_part_of_a_reply_that_fails_ends_the_run(rt: HostRuntime) -> Result<(), Fail> {
+    let mut faults = 0u32;
     for kind in FEW_KINDS {
-        // One byte of it at a time.
+        // One byte goes out at a time.
         for number in 0..149 {
-            expect_write_fault(&rt, rt.alloc(), (kind, number), (1, 149), number)?;
+            let fault = WriteFault {
+                kind,
+                piece: 1,
+                writes: 149,
+                number,
+                before: number,
+            };
+            expect_write_fault(&rt, rt.alloc(), fault)?;
             faults = faults.saturating_add(1);
         }
     }
-    assert_eq!(rt; faults, 42 * 17 + 3 * 149);
+    assert_eq!(rt; faults, 3 * 149);
     Ok(())
 }
 
