@@ -141,11 +141,7 @@ mod tests {
         // The replies are more than the buffer takes.
         let script = b"kr 04\n".repeat(alloc, 10_000)?;
         let mut reader = script.as_slice();
-        let outcomes = [
-            WriteOutcome::WriteFails(ErrorKind::Other),
-            WriteOutcome::Taken,
-        ];
-        let writer = Target::with_outcomes(alloc, &outcomes)?;
+        let writer = Target::failing_once(alloc, 0, ErrorKind::Other)?;
         let mut output = BufWriter::with_capacity(alloc, 300, writer)?;
         assert_eq!(rt;
             run_buffered(alloc, &mut reader, &mut output),
@@ -223,10 +219,7 @@ mod tests {
                 _ => Err(ScriptFault::Io),
             };
             for number in 0..8usize {
-                let mut outcomes = vec![in alloc; WriteOutcome::Taken; number]?;
-                outcomes.push(WriteOutcome::WriteFails(kind))?;
-                outcomes.push(WriteOutcome::Taken)?;
-                let writer = Target::with_outcomes(alloc, &outcomes)?;
+                let writer = Target::failing_once(alloc, number, kind)?;
                 let (len, _) = expect_end(&rt, alloc, in_pieces(Piece::Line), writer, end)?;
                 if end.is_ok() {
                     assert_eq!(rt; len, 149);

@@ -204,12 +204,9 @@ fn seen_after(fault: WriteFault, text: &[u8]) -> Seen<'_> {
 /// Runs the script of each form to a writer that fails.
 fn expect_write_fault(rt: &impl Abort, alloc: Global, fault: WriteFault) -> Result<(), AllocError> {
     let text = EVERY_REPLY.concat(alloc)?;
-    let mut outcomes = vec![in alloc; WriteOutcome::Taken; fault.number]?;
-    outcomes.push(WriteOutcome::WriteFails(fault.kind))?;
-    outcomes.push(WriteOutcome::Taken)?;
     let writer = Target {
         piece: fault.piece,
-        ..Target::with_outcomes(alloc, &outcomes)?
+        ..Target::failing_once(alloc, fault.number, fault.kind)?
     };
     let reader = Source::in_pieces(EVERY_FORM, Piece::Bytes(usize::MAX));
     expect_seen(rt, alloc, reader, writer, seen_after(fault, &text));

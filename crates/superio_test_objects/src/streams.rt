@@ -1,5 +1,5 @@
 //! A reader and a writer that move their bytes in small pieces, and fail at calls of one's choice.
-ghost use Rattle.std.specs.Prelude.{◌≡◌, ◌+◌, ◌++◌, [], min, take, IfOk, OnErr, None};
+ghost use Rattle.std.specs.Prelude.{◌≡◌, ◌+◌, ◌++◌, [], min, take, vec_len, IfOk, OnErr, None};
 ghost use Rattle.std.specs.Io.{WritesAtMost};
 
 use std::alloc::{AllocError, Global};
@@ -199,6 +199,23 @@ impl Target {
     {
         Ok(Target {
             outcomes: outcomes.to_vec(alloc)?,
+            ..Target::new(alloc)
+        })
+    }
+
+    /// A target that takes every byte. The call of `write` of this number, from 0, fails.
+    pub fn failing_once(alloc: Global, number: usize, kind: ErrorKind) -> Result<Target, AllocError>
+        ensures bytes { IfOk result (λ target. target.bytes.items ≡ []) }
+        ensures piece { IfOk result (λ target. target.piece ≡ usize.MAX) }
+        ensures room { IfOk result (λ target. target.room ≡ usize.MAX) }
+        ensures outcomes { IfOk result (λ target. vec_len target.outcomes ≡ number + 2) }
+        ensures calls { IfOk result (λ target. (target.writes ≡ 0) × (target.flushes ≡ 0)) }
+    {
+        let mut outcomes = vec![in alloc; WriteOutcome::Taken; number]?;
+        outcomes.push(WriteOutcome::WriteFails(kind))?;
+        outcomes.push(WriteOutcome::Taken)?;
+        Ok(Target {
+            outcomes,
             ..Target::new(alloc)
         })
     }
