@@ -89,7 +89,12 @@ fn main(rt: HostRuntime) -> ExitCode {
 mod tests {
     use super::*;
     use std::io::ErrorKind;
+    use std::process::Abort;
     use std::test::Fail;
+    use superio_test_objects::{
+        ARRIVALS, EVERY_FORM, EVERY_REPLY, FAULT_KINDS, FEW_KINDS, Piece, Source, Target,
+        WriteOutcome,
+    };
 
     #[test]
     fn replies_go_out_however_the_run_ends(rt: HostRuntime) -> Result<(), Fail> {
@@ -130,48 +135,103 @@ mod tests {
         Ok(())
     }
 
-    /// Keeps the bytes that it takes. Its first `write` fails.
-    #[derive(Drop)]
-    struct FailsOnce {
-        has_failed: bool,
-        bytes: Vec<u8>,
-    }
-
-    impl Write for FailsOnce {
-        fn write(&mut self, buf: &[u8]) -> io::Result<usize> {
-            if !self.has_failed {
-                self.has_failed = true;
-                return Err(io::Error::from(ErrorKind::Other));
-            }
-            self.bytes.extend_from_slice(buf)?;
-            Ok(buf.len())
-        }
-
-        fn flush(&mut self) -> io::Result<()> {
-            Ok(())
-        }
-    }
-
     #[test]
     fn the_replies_in_the_buffer_go_out_after_a_fault_too(rt: HostRuntime) -> Result<(), Fail> {
         let alloc = rt.alloc();
         // The replies are more than the buffer takes.
         let script = b"kr 04\n".repeat(alloc, 10_000)?;
         let mut reader = script.as_slice();
-        let writer = FailsOnce {
-            has_failed: false,
-            bytes: Vec::new(alloc),
-        };
+        let writer = Target::failing_once(alloc, 0, ErrorKind::Other)?;
         let mut output = BufWriter::with_capacity(alloc, 300, writer)?;
         assert_eq!(rt;
             run_buffered(alloc, &mut reader, &mut output),
             Err(ScriptFault::Io)
         );
-        assert!(rt; output.get_ref().has_failed);
         assert_eq!(rt;
-            output.get_ref().bytes.as_slice(),
-            b"00\n".repeat(alloc, 100)?.as_slice()
+            (output.get_ref().writes, output.get_ref().bytes.as_slice()),
+            (2, b"00\n".repeat(alloc, 100)?.as_slice())
         );
+        Ok(())
+    }
+
+    /// Runs the script of each form through a buffer of 16 bytes, and asserts how the run ends, and that what went out
+    /// is the start of its replies. Returns how many bytes that was, and the number of writes.
+    fn expect_end(
+        rt: &impl Abort,
+        alloc: Global,
+        mut reader: Source<'_>,
+        writer: Target,
+        end: Result<(), ScriptFault>,
+    ) -> Result<(usize, usize), Fail> {
+        let text = EVERY_REPLY.concat(alloc)?;
+        let mut output = BufWriter::with_capacity(alloc, 16, writer)?;
+        let got = run_buffered(alloc, &mut reader, &mut output);
+        let printed = output.get_ref().bytes.as_slice();
+        assert_eq!(rt;
+            (got, printed),
+            (end, &text[..printed.len().min(text.len())]),
+            "{:?}, {:?}",
+            reader.piece,
+            reader.fault
+        );
+        Ok((printed.len(), output.get_ref().writes))
+    }
+
+    /// A source of the script of each form.
+    fn in_pieces(piece: Piece) -> Source<'static> {
+        Source::in_pieces(EVERY_FORM, piece)
+    }
+
+    #[test]
+    fn nothing_goes_out_after_a_read_that_fails(rt: HostRuntime) -> Result<(), Fail> {
+        let alloc = rt.alloc();
+        let mut faults = 0u32;
+        for (piece, reads) in ARRIVALS {
+            for kind in FEW_KINDS {
+                for number in 0..reads {
+                    let reader = Source {
+                        fault: Some((number, kind)),
+                        ..in_pieces(piece)
+                    };
+                    let io = Err(ScriptFault::Io);
+                    let seen = expect_end(&rt, alloc, reader, Target::new(alloc), io)?;
+                    assert_eq!(rt; seen, (0, 0));
+                    faults = faults.saturating_add(1);
+                }
+            }
+            let seen = expect_end(&rt, alloc, in_pieces(piece), Target::new(alloc), Ok(()))?;
+            assert_eq!(rt; seen, (149, 8));
+        }
+        assert_eq!(rt; faults, 3 * 245);
+        Ok(())
+    }
+
+    #[test]
+    fn a_write_or_a_flush_that_fails_ends_a_run_through_the_buffer(
+        rt: HostRuntime,
+    ) -> Result<(), Fail> {
+        let alloc = rt.alloc();
+        let mut interrupted = 0u32;
+        for kind in FAULT_KINDS {
+            // An interrupted write is made again.
+            let end = match kind {
+                ErrorKind::Interrupted => Ok(()),
+                _ => Err(ScriptFault::Io),
+            };
+            for number in 0..8usize {
+                let writer = Target::failing_once(alloc, number, kind)?;
+                let (len, _) = expect_end(&rt, alloc, in_pieces(Piece::Line), writer, end)?;
+                if end.is_ok() {
+                    assert_eq!(rt; len, 149);
+                    interrupted = interrupted.saturating_add(1);
+                }
+            }
+            let writer = Target::with_outcomes(alloc, &[WriteOutcome::FlushFails(kind)])?;
+            let io = Err(ScriptFault::Io);
+            let (len, _) = expect_end(&rt, alloc, in_pieces(Piece::Line), writer, io)?;
+            assert_eq!(rt; len, 149);
+        }
+        assert_eq!(rt; interrupted, 8);
         Ok(())
     }
 }

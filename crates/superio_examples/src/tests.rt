@@ -2,12 +2,19 @@
 use crate::bus::{Bus, BusError};
 use crate::first_claim::read_back;
 use crate::input::Input;
+<<<<<<< HEAD
 use crate::migration::{restore, save};
 use crate::monitor::saved_devices;
 use std::io;
 use std::io::{ErrorKind, Write, sink};
+=======
+use crate::migration::{Saved, restore, save};
+use std::alloc::Global;
+use std::io::{ErrorKind, sink};
+>>>>>>> f6cd85157beba0253899d7967893f6cb243db687
 use std::test::Fail;
 use superio_script::{Counts, Line, LineRefused, Output};
+use superio_test_objects::{Target, WriteOutcome};
 use vm_superio::serial::{Error, NoEvents, Refused};
 use vm_superio::{I8042Device, Rtc, Serial};
 
@@ -47,29 +54,6 @@ fn a_bus_reaches_its_devices_by_port(rt: HostRuntime) -> Result<(), Fail> {
     Ok(())
 }
 
-/// Counts its calls, and fails with its fault, if it has one.
-#[derive(Drop)]
-struct Counting {
-    fault: Option<ErrorKind>,
-    writes: u32,
-    flushes: u32,
-}
-
-impl Write for Counting {
-    fn write(&mut self, buf: &[u8]) -> io::Result<usize> {
-        self.writes = self.writes.saturating_add(1);
-        match self.fault {
-            Some(kind) => Err(io::Error::from(kind)),
-            None => Ok(buf.len()),
-        }
-    }
-
-    fn flush(&mut self) -> io::Result<()> {
-        self.flushes = self.flushes.saturating_add(1);
-        Ok(())
-    }
-}
-
 #[test]
 fn a_bus_sends_a_byte_once_and_returns_the_fault_of_its_writer(
     rt: HostRuntime,
@@ -79,11 +63,8 @@ fn a_bus_sends_a_byte_once_and_returns_the_fault_of_its_writer(
         (Some(ErrorKind::BrokenPipe), (1, 0)),
         (Some(ErrorKind::WouldBlock), (1, 0)),
     ] {
-        let writer = Counting {
-            fault,
-            writes: 0,
-            flushes: 0,
-        };
+        let outcome = fault.map_or(WriteOutcome::Taken, WriteOutcome::WriteFails);
+        let writer = Target::with_outcomes(rt.alloc(), &[outcome])?;
         let serial = Serial::new(rt.alloc(), Line::new(0), writer);
         let mut bus = Bus {
             serial: serial.map_err(Refused::into_error)?,

@@ -7,16 +7,10 @@ mod clock;
 #[cfg(test)]
 mod memory;
 #[cfg(test)]
-mod objects;
-#[cfg(test)]
 mod reset_controller;
 #[cfg(test)]
 mod runs;
 #[cfg(test)]
-mod sample;
-#[cfg(test)]
 mod scaffold;
-#[cfg(test)]
-mod scripts;
 #[cfg(test)]
 mod serial;

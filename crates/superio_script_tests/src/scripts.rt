@@ -1,7 +1,5 @@
 //! Whole scripts: what they print, and how they end.
-use crate::scaffold::{FAULT_KINDS, Source, Target, WriteOutcome};
 use std::alloc::Global;
-use std::io::ErrorKind;
 use std::process::Abort;
 use std::test::Fail;
 use superio_script::{Board, Line, LineFault, LineRefused, ScriptFault, run_script};
@@ -18,26 +16,6 @@ pub fn expect_run(
     let mut writer = Vec::new(alloc);
     let outcome = run_script(alloc, &mut reader, &mut writer);
     assert_eq!(rt; (outcome, writer.as_slice()), (end, printed), "{script:?}");
-}
-
-/// Runs a script over this writer, and asserts how the run ends, which bytes the writer has, and how often it was
-/// flushed.
-fn expect_written(
-    rt: &impl Abort,
-    alloc: Global,
-    script: &[u8],
-    mut writer: Target,
-    end: Result<(), ScriptFault>,
-    printed: &[u8],
-    flushes: usize,
-) {
-    let mut reader = script;
-    let outcome = run_script(alloc, &mut reader, &mut writer);
-    assert_eq!(rt;
-        (outcome, writer.bytes.as_slice(), writer.flushes),
-        (end, printed, flushes),
-        "{script:?}"
-    );
 }
 
 #[test]
@@ -255,27 +233,6 @@ fn a_script_has_as_many_lines_as_fit(rt: HostRuntime) -> Result<(), Fail> {
 }
 
 #[test]
-fn a_script_that_is_too_long_is_not_read_on(rt: HostRuntime) -> Result<(), Fail> {
-    let alloc = rt.alloc();
-    let script = b"kr 04\n".repeat(alloc, 12_000)?;
-    assert_eq!(rt; script.len(), 72_000);
-    // The bytes that a read gives, and the reads that give 65,537 of them.
-    for (piece, reads) in [(1, 65_537), (4_096, 17), (65_536, 2), (usize::MAX, 1)] {
-        let mut reader = Source::in_pieces(&script, piece);
-        let mut writer = Target::new(alloc);
-        let end = run_script(alloc, &mut reader, &mut writer);
-        assert_eq!(rt; end, Err(ScriptFault::TooLong));
-        assert_eq!(rt;
-            (reader.reads, reader.bytes.len()),
-            (reads, 6_463),
-            "in pieces of {piece}"
-        );
-        assert_eq!(rt; (writer.writes, writer.flushes), (0, 0));
-    }
-    Ok(())
-}
-
-#[test]
 fn an_enqueue_line_has_at_most_128_bytes(rt: HostRuntime) -> Result<(), Fail> {
     let alloc = rt.alloc();
     let digits = b"01".repeat(alloc, 128)?;
@@ -350,114 +307,6 @@ fn the_output_takes_256_bytes(rt: HostRuntime) -> Result<(), Fail> {
     ]
     .concat(alloc)?;
     expect_run(&rt, alloc, &script, &replies, Ok(()));
-    Ok(())
-}
-
-/// Three accesses of the controller, in 24 bytes, and their replies, in 12.
-const SCRIPT: &[u8] = b"kw 04 fe\nkr 04\nkw 04 ff\n";
-
-const REPLIES: &[u8] = b"reset\n00\nok\n";
-
-#[test]
-fn streams_may_move_bytes_in_pieces_of_any_size(rt: HostRuntime) -> Result<(), Fail> {
-    for piece in 1..=32u32 {
-        let mut reader = Source::in_pieces(SCRIPT, piece as usize);
-        let mut writer = Target::in_pieces(rt.alloc(), piece as usize);
-        assert_eq!(rt; run_script(rt.alloc(), &mut reader, &mut writer), Ok(()));
-        assert_eq!(rt; writer.bytes.as_slice(), REPLIES, "in pieces of {piece}");
-        // One read more finds the end.
-        assert_eq!(rt;
-            reader.reads,
-            24u32.div_ceil(piece) + 1,
-            "in pieces of {piece}"
-        );
-    }
-    Ok(())
-}
-
-#[test]
-fn a_read_that_fails_leaves_nothing_written(rt: HostRuntime) -> Result<(), Fail> {
-    for kind in FAULT_KINDS {
-        // The script comes in six pieces, and a seventh read finds the end.
-        for calls in 0..7 {
-            let mut reader = Source {
-                fault: Some((calls, kind)),
-                ..Source::in_pieces(SCRIPT, 4)
-            };
-            let mut writer = Target::in_pieces(rt.alloc(), 32);
-            assert_eq!(rt;
-                run_script(rt.alloc(), &mut reader, &mut writer),
-                Err(ScriptFault::Io),
-                "{kind:?} at {calls}"
-            );
-            assert_eq!(rt; writer.writes, 0);
-            assert_eq!(rt; writer.flushes, 0);
-        }
-        let mut reader = Source {
-            fault: Some((7, kind)),
-            ..Source::in_pieces(SCRIPT, 4)
-        };
-        let mut writer = Target::in_pieces(rt.alloc(), 32);
-        assert_eq!(rt; run_script(rt.alloc(), &mut reader, &mut writer), Ok(()));
-    }
-    Ok(())
-}
-
-#[test]
-fn a_write_that_fails_ends_the_run(rt: HostRuntime) -> Result<(), Fail> {
-    // The three replies go out in three pieces, two and two.
-    let mut outcomes = [WriteOutcome::Taken; 7];
-    outcomes[6] = WriteOutcome::WriteFails(ErrorKind::Other);
-    for (calls, written) in [0, 2, 4, 6, 8, 9, 11usize].iter().enumerate() {
-        let writer = Target {
-            piece: 2,
-            ..Target::with_outcomes(rt.alloc(), &outcomes[6 - calls..])?
-        };
-        expect_written(
-            &rt,
-            rt.alloc(),
-            SCRIPT,
-            writer,
-            Err(ScriptFault::Io),
-            &REPLIES[..*written],
-            0,
-        );
-    }
-    Ok(())
-}
-
-#[test]
-fn a_good_script_is_flushed_once(rt: HostRuntime) -> Result<(), Fail> {
-    let bad: &[u8] = b"kr 04\nkr 5\n";
-    // Also a script without a reply.
-    let refuse: &[u8] = b"refuse 0000000000000001\n";
-    let rows: [(&[u8], Result<(), ScriptFault>, &[u8], usize); 4] = [
-        (SCRIPT, Ok(()), REPLIES, 1),
-        (b"", Ok(()), b"", 1),
-        (refuse, Ok(()), b"", 1),
-        (bad, Err(ScriptFault::Bad(2)), b"00\n", 0),
-    ];
-    for (script, end, printed, flushes) in rows {
-        let writer = Target::new(rt.alloc());
-        expect_written(&rt, rt.alloc(), script, writer, end, printed, flushes);
-    }
-    Ok(())
-}
-
-#[test]
-fn a_flush_that_fails_by_any_kind_is_io(rt: HostRuntime) -> Result<(), Fail> {
-    for kind in FAULT_KINDS {
-        let writer = Target::with_outcomes(rt.alloc(), &[WriteOutcome::FlushFails(kind)])?;
-        expect_written(
-            &rt,
-            rt.alloc(),
-            SCRIPT,
-            writer,
-            Err(ScriptFault::Io),
-            REPLIES,
-            1,
-        );
-    }
     Ok(())
 }
 

@@ -1,0 +1,84 @@
+//! The calls of the board and of scripts that take memory.
+use std::alloc::{AllocError, Global};
+use superio_script::{Board, LineFault, ScriptFault, run_script};
+use superio_test_objects::{EVERY_FORM, EVERY_REPLY};
+
+pub fn new(alloc: Global) -> &'static str {
+    match Board::new(alloc, 0) {
+        Ok(_) => "made",
+        Err(ScriptFault::Memory) => "Memory",
+        Err(_) => "another refusal",
+    }
+}
+
+/// Whether the lines have these replies.
+fn has_replies(alloc: Global, board: &mut Board, rows: &[(&[u8], &[u8])]) -> bool {
+    for (line, want) in rows {
+        match board.line(alloc, line) {
+            Ok(reply) if reply.as_slice() == *want => {}
+            _ => return false,
+        }
+    }
+    true
+}
+
+/// A byte is held, one went out, and RDA is pending.
+const BEFORE: [(&[u8], &[u8]); 3] = [
+    (b"sw 01 01", b"ok\n"),
+    (b"sq 61", b"01\n"),
+    (b"sw 00 41", b"ok\n"),
+];
+
+/// What a board then shows, besides the calls of its interrupt line.
+const AFTER: [(&[u8], &[u8]); 4] = [
+    (b"so", b"41\n"),
+    (b"sr 02", b"c4\n"),
+    (b"sr 00", b"61\n"),
+    (
+        b"se",
+        b"0000000000000001 0000000000000001 0000000000000000 0000000000000001\n",
+    ),
+];
+
+pub fn restore_line(alloc: Global) -> Result<&'static str, AllocError> {
+    let Ok(mut board) = Board::new(alloc, 0) else {
+        return Err(AllocError);
+    };
+    if !has_replies(alloc, &mut board, &BEFORE) {
+        return Ok("other replies");
+    }
+    // A restore calls the interrupt line for RDA.
+    let (outcome, calls): (&'static str, &[u8]) = match board.line(alloc, b"ss") {
+        Ok(_) => ("restored", b"0000000000000002\n"),
+        Err(LineFault::Memory) => ("Memory, and the board as it was", b"0000000000000001\n"),
+        Err(LineFault::Bad) => return Ok("a bad line"),
+    };
+    let is_as_told = has_replies(alloc, &mut board, &[(b"st", calls)])
+        && has_replies(alloc, &mut board, &AFTER);
+    Ok(if is_as_told { outcome } else { "another board" })
+}
+
+/// How many replies of the script of each form a text has, if it has no more than that.
+fn reply_count(mut text: &[u8]) -> Option<usize> {
+    for (number, reply) in EVERY_REPLY.iter().enumerate() {
+        if text.is_empty() {
+            return Some(number);
+        }
+        text = text.strip_prefix(*reply)?;
+    }
+    text.is_empty().then_some(EVERY_REPLY.len())
+}
+
+pub fn script(alloc: Global) -> &'static str {
+    let mut reader = EVERY_FORM;
+    let mut room = [0; 256];
+    let mut writer = room.as_mut_slice();
+    let end = run_script(alloc, &mut reader, &mut writer);
+    let printed = 256usize.saturating_sub(writer.len());
+    match (end, reply_count(&room[..printed])) {
+        (Ok(()), Some(17)) => "each reply",
+        (Err(ScriptFault::Memory), Some(0)) => "Memory, and no reply",
+        (Err(ScriptFault::Memory), Some(9)) => "Memory, and the replies before `ss`",
+        _ => "other replies",
+    }
+}
