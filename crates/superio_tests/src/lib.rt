@@ -9,8 +9,6 @@ mod memory;
 #[cfg(test)]
 mod objects;
 #[cfg(test)]
-mod reset_controller;
-#[cfg(test)]
 mod runs;
 #[cfg(test)]
 mod sample;
