@@ -1,5 +1,11 @@
 //! Numbers without a pattern, the same in each run of a test.
 
+/// How many runs a random test makes.
+pub const RUNS: u32 = 100_000;
+
+/// How many calls or accesses a run has.
+pub const CALLS: usize = 40;
+
 /// The generator SplitMix64. What was drawn last is all that it has.
 #[derive(Clone, Copy, Debug)]
 pub struct Random {

@@ -1,5 +1,5 @@
 //! The i8042 controller under the accesses of a guest.
-use crate::random::Random;
+use crate::random::{CALLS, RUNS, Random};
 use std::process::Abort;
 use superio_script::{Line, LineRefused};
 use vm_superio::I8042Device;
@@ -30,13 +30,9 @@ fn one_of_all_writes_resets(rt: HostRuntime) {
         for value in 0..=255u8 {
             assert_eq!(rt; controller.write(offset, value), Ok(()), "{offset} {value}");
             writes = writes.saturating_add(1);
-            // The reset command is the last one that this table has not reached or just reached.
-            let is_past = (offset, value) >= (4, 0xFE);
-            assert_eq!(rt;
-                controller.reset_evt().calls(),
-                u64::from(is_past),
-                "{offset} {value}"
-            );
+            // The writes come in order, so the reset command was made from here on.
+            let calls = u64::from((offset, value) >= (4, 0xFE));
+            assert_eq!(rt; controller.reset_evt().calls(), calls, "{offset} {value}");
         }
     }
     assert_eq!(rt; writes, 65_536);
@@ -51,14 +47,14 @@ fn a_refused_reset_is_returned(rt: HostRuntime) {
     assert_eq!(rt; controller.reset_evt().mask(), 1);
 }
 
-/// Makes forty accesses, of which many are the reset command, and asserts that each reset command, and nothing else,
+/// Makes a run of accesses, of which many are the reset command, and asserts that each reset command, and nothing else,
 /// calls the trigger. Returns how many resets were refused.
 fn run(rt: &impl Abort, random: &mut Random) -> u32 {
     let seed = *random;
     let mask = random.sparse_mask();
     let mut controller = I8042Device::new(Line::new(mask));
     let (mut resets, mut refused) = (0u64, 0u32);
-    for _ in 0..40 {
+    for _ in 0..CALLS {
         let offset = if random.one_in(2) { 4 } else { random.byte() };
         let value = if random.one_in(2) {
             0xFE
@@ -91,7 +87,7 @@ fn run(rt: &impl Abort, random: &mut Random) -> u32 {
 fn any_accesses_reset_by_the_command_alone(rt: HostRuntime) {
     let mut random = Random::new(6);
     let mut refused = 0u32;
-    for _ in 0..100_000 {
+    for _ in 0..RUNS {
         refused = refused.saturating_add(run(&rt, &mut random));
     }
     assert!(rt; refused > 100_000, "{refused}");

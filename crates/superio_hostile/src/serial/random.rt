@@ -1,13 +1,9 @@
-//! Long runs of calls without a pattern.
+//! Long runs of random calls. Each call shows what the oracle says.
 
 use super::*;
-use crate::random::Random;
+use crate::random::{CALLS, RUNS, Random};
 use std::process::Abort;
 use std::test::Fail;
-
-const RUNS: u32 = 100_000;
-
-const CALLS: usize = 40;
 
 /// What may happen in the runs of a test.
 #[derive(Clone, Copy)]
@@ -93,6 +89,12 @@ fn call(random: &mut Random, hazards: Hazards) -> Call {
     }
 }
 
+/// An identification: of the bits that a port sets, or any.
+fn identification(random: &mut Random) -> u8 {
+    let byte = random.byte();
+    if random.one_in(2) { byte % 8 } else { byte }
+}
+
 /// A state of any ten fields, with no bytes, some or 64.
 fn any_state(alloc: Global, random: &mut Random) -> Result<SerialState, AllocError> {
     let bytes = ascending(random.byte());
@@ -106,7 +108,7 @@ fn any_state(alloc: Global, random: &mut Random) -> Result<SerialState, AllocErr
         baud_divisor_low: random.byte(),
         baud_divisor_high: random.byte(),
         interrupt_enable: random.byte(),
-        interrupt_identification: random.byte(),
+        interrupt_identification: identification(random),
         line_control: random.byte(),
         line_status: random.byte(),
         modem_control: random.byte(),
@@ -190,31 +192,31 @@ const NO_HAZARDS: Hazards = Hazards {
 };
 
 #[test]
-fn a_trigger_that_refuses_changes_what_the_past_implies(rt: HostRuntime) -> Result<(), Fail> {
+fn calls_over_a_trigger_that_refuses(rt: HostRuntime) -> Result<(), Fail> {
     let hazards = Hazards {
         refusals: true,
         ..NO_HAZARDS
     };
     let tally = runs(&rt, rt.alloc(), 1, hazards)?;
     assert_eq!(rt; tally.calls, 4_000_000);
-    assert!(rt; tally.refused > 100_000 && tally.full > 10_000, "{tally:?}");
+    assert!(rt; tally.refused > 10_000 && tally.full > 10_000, "{tally:?}");
     Ok(())
 }
 
 #[test]
-fn a_writer_that_fails_changes_what_the_past_implies(rt: HostRuntime) -> Result<(), Fail> {
+fn calls_over_a_writer_that_fails(rt: HostRuntime) -> Result<(), Fail> {
     let hazards = Hazards {
         faults: true,
         ..NO_HAZARDS
     };
     let tally = runs(&rt, rt.alloc(), 2, hazards)?;
     assert_eq!(rt; (tally.calls, tally.refused), (4_000_000, 0));
-    assert!(rt; tally.lost > 100_000 && tally.full > 10_000, "{tally:?}");
+    assert!(rt; tally.lost > 10_000 && tally.full > 10_000, "{tally:?}");
     Ok(())
 }
 
 #[test]
-fn a_port_that_is_restored_shows_what_the_past_implies(rt: HostRuntime) -> Result<(), Fail> {
+fn calls_and_restores(rt: HostRuntime) -> Result<(), Fail> {
     let hazards = Hazards {
         refusals: true,
         restores: true,
@@ -223,14 +225,14 @@ fn a_port_that_is_restored_shows_what_the_past_implies(rt: HostRuntime) -> Resul
     let tally = runs(&rt, rt.alloc(), 3, hazards)?;
     assert_eq!(rt; (tally.calls, tally.lost), (4_000_000, 0));
     assert!(rt;
-        tally.restored > 100_000 && tally.restores_refused > 10_000,
+        tally.restored > 10_000 && tally.restores_refused > 10_000,
         "{tally:?}"
     );
     Ok(())
 }
 
 #[test]
-fn any_state_shows_what_the_past_implies(rt: HostRuntime) -> Result<(), Fail> {
+fn calls_from_any_state(rt: HostRuntime) -> Result<(), Fail> {
     let hazards = Hazards {
         refusals: true,
         faults: true,
@@ -239,12 +241,9 @@ fn any_state_shows_what_the_past_implies(rt: HostRuntime) -> Result<(), Fail> {
     };
     let tally = runs(&rt, rt.alloc(), 4, hazards)?;
     assert!(rt; tally.calls > 3_000_000, "{tally:?}");
+    assert!(rt; tally.refused > 10_000 && tally.lost > 10_000, "{tally:?}");
     assert!(rt;
-        tally.refused > 100_000 && tally.lost > 100_000,
-        "{tally:?}"
-    );
-    assert!(rt;
-        tally.restored > 100_000 && tally.restores_refused > 10_000,
+        tally.restored > 10_000 && tally.restores_refused > 10_000,
         "{tally:?}"
     );
     Ok(())
