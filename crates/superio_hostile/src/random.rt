@@ -1,6 +1,6 @@
 //! Numbers without a pattern, the same in each run of a test.
 
-/// How many runs a random test makes.
+/// How many runs a random test makes. Without optimization a test of so many takes minutes: try planted bugs with fewer.
 pub const RUNS: u32 = 100_000;
 
 /// How many calls or accesses a run has.

@@ -7,10 +7,10 @@ use vm_superio::I8042Device;
 #[test]
 fn reads_zero_and_resets_once(rt: HostRuntime) {
     let mut controller = I8042Device::new(Line::new(0));
-    assert_eq!(rt; controller.read(0), 0);
-    assert_eq!(rt; controller.reset_evt().calls(), 0);
-    assert_eq!(rt; controller.write(4, 0xFE), Ok(()));
-    assert_eq!(rt; controller.reset_evt().calls(), 1);
+    let byte = controller.read(0);
+    assert_eq!(rt; (byte, controller.reset_evt().calls()), (0, 0));
+    let reset = controller.write(4, 0xFE);
+    assert_eq!(rt; (reset, controller.reset_evt().calls()), (Ok(()), 1));
 }
 
 #[test]
@@ -28,11 +28,15 @@ fn one_of_all_writes_resets(rt: HostRuntime) {
     for offset in 0..=255u8 {
         assert_eq!(rt; controller.read(offset), 0, "{offset}");
         for value in 0..=255u8 {
-            assert_eq!(rt; controller.write(offset, value), Ok(()), "{offset} {value}");
-            writes = writes.saturating_add(1);
-            // The writes come in order, so the reset command was made from here on.
+            let written = controller.write(offset, value);
+            // The writes come in order: the reset command is this one or an earlier one.
             let calls = u64::from((offset, value) >= (4, 0xFE));
-            assert_eq!(rt; controller.reset_evt().calls(), calls, "{offset} {value}");
+            assert_eq!(rt;
+                (written, controller.reset_evt().calls()),
+                (Ok(()), calls),
+                "{offset} {value}"
+            );
+            writes = writes.saturating_add(1);
         }
     }
     assert_eq!(rt; writes, 65_536);

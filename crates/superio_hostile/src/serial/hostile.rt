@@ -23,8 +23,11 @@ fn follow(
     assert_eq!(rt; seen(&port, Restored), first, "{start:?}");
     for (call, reply) in steps {
         let judged = judge(alloc, &mut port, &mut oracle, *call)?;
-        assert_eq!(rt; judged.port.reply, *reply, "{call:?} of {steps:?}");
-        assert_eq!(rt; judged.port, judged.oracle, "{call:?} of {steps:?}");
+        assert_eq!(rt;
+            (judged.port.reply, judged.port),
+            (*reply, judged.oracle),
+            "{call:?} of {steps:?}"
+        );
     }
     Ok(port)
 }
