@@ -2,16 +2,9 @@
 use crate::bus::{Bus, BusError};
 use crate::first_claim::read_back;
 use crate::input::Input;
-<<<<<<< HEAD
 use crate::migration::{restore, save};
 use crate::monitor::saved_devices;
-use std::io;
-use std::io::{ErrorKind, Write, sink};
-=======
-use crate::migration::{Saved, restore, save};
-use std::alloc::Global;
 use std::io::{ErrorKind, sink};
->>>>>>> f6cd85157beba0253899d7967893f6cb243db687
 use std::test::Fail;
 use superio_script::{Counts, Line, LineRefused, Output};
 use superio_test_objects::{Target, WriteOutcome};

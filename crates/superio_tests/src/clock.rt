@@ -191,20 +191,6 @@ fn a_clear_removes_its_bits_alone(rt: HostRuntime) {
 }
 
 #[test]
-fn an_identification_byte_stands_at_four_offsets(rt: HostRuntime) {
-    let mut clock = Rtc::with_events(Counts::new());
-    let mut offset = 0xFE0;
-    for byte in [0x31, 0x10, 0x04, 0x00, 0x0D, 0xF0, 0x05, 0xB1] {
-        for _ in 0..4 {
-            follow(&rt, &mut clock, 1000, &[Read(offset, byte)]);
-            offset = offset.saturating_add(1);
-        }
-    }
-    assert_eq!(rt; offset, 0x1000);
-    assert_eq!(rt; event_counts(clock.events()), EventCounts::default());
-}
-
-#[test]
 fn an_invalid_read_leaves_the_bytes(rt: HostRuntime) {
     let mut clock = Rtc::with_events(Counts::new());
     let mut bytes = 123u32.to_le_bytes();
@@ -222,21 +208,6 @@ fn an_invalid_read_leaves_the_bytes(rt: HostRuntime) {
             "{offset}"
         );
     }
-}
-
-#[test]
-fn offsets_between_the_registers_are_invalid(rt: HostRuntime) {
-    let mut clock = Rtc::with_events(Counts::new());
-    for offset in [0x001, 0x002, 0x01D, 0x020, 0xFDC, 0xFDF, 0x1000, 0xFFFF] {
-        follow(&rt, &mut clock, 1000, &[Invalid(offset), Write(offset, 7)]);
-    }
-    let eight = EventCounts {
-        invalid_reads: 8,
-        invalid_writes: 8,
-        ..EventCounts::default()
-    };
-    assert_eq!(rt; event_counts(clock.events()), eight);
-    assert_eq!(rt; clock.state(), RtcState::default());
 }
 
 #[test]

@@ -7,8 +7,6 @@ mod clock;
 #[cfg(test)]
 mod memory;
 #[cfg(test)]
-mod reset_controller;
-#[cfg(test)]
 mod runs;
 #[cfg(test)]
 mod scaffold;

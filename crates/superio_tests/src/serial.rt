@@ -2,12 +2,10 @@
 mod carried;
 mod dropped;
 mod errors;
-mod hostile;
 mod order;
 mod rows;
 mod saved;
 mod sending;
-mod trace;
 
 use crate::scaffold::registers::{IER, IIR, LCR, LSR, MCR, MSR, RBR, SCR, THR};
 use crate::scaffold::{

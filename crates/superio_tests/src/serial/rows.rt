@@ -190,7 +190,7 @@ fn rda_calls_the_trigger_once_until_it_is_acknowledged(rt: HostRuntime) -> Resul
 
 #[test]
 fn a_refused_first_call_is_not_made_again(rt: HostRuntime) -> Result<(), Fail> {
-    let rows: [&[Step<'_>]; 3] = [
+    let rows: [&[Step<'_>]; 2] = [
         &[
             Enqueue(b"a", 1),
             Calls(0),
@@ -199,17 +199,6 @@ fn a_refused_first_call_is_not_made_again(rt: HostRuntime) -> Result<(), Fail> {
             Get(IER, 0x03),
             Put(IER, 0x03),
             Calls(2),
-            Get(IIR, 0xC6),
-        ],
-        // It is once the condition was acknowledged.
-        &[
-            Enqueue(b"a", 1),
-            Calls(0),
-            PutFails(IER, 0x03, Failure::Trigger),
-            Calls(1),
-            Get(IIR, 0xC4),
-            Put(IER, 0x03),
-            Calls(3),
             Get(IIR, 0xC6),
         ],
         // The bytes are kept.
