@@ -335,9 +335,7 @@ fn run(rt: &impl Abort, alloc: Global, random: &mut Random, seen: &mut Seen) -> 
             shown_last(&start, &past),
             "the last of {past:?} of {seed:?}"
         );
-        seen.backward = seen
-            .backward
-            .saturating_add(u32::from(access.now < before));
+        seen.backward = seen.backward.saturating_add(u32::from(access.now < before));
         seen.raises = seen.raises.saturating_add(u32::from(done.raises));
         before = access.now;
         if random.one_in(8) {
@@ -359,7 +357,10 @@ fn accesses_at_any_moments(rt: HostRuntime) -> Result<(), Fail> {
     for _ in 0..RUNS {
         run(&rt, rt.alloc(), &mut random, &mut seen)?;
     }
-    assert!(rt; seen.backward > 1_000_000 && seen.raises > 100_000, "{seen:?}");
+    assert!(rt;
+        seen.backward > 1_000_000 && seen.raises > 100_000,
+        "{seen:?}"
+    );
     Ok(())
 }
 
