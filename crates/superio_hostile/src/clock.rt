@@ -358,7 +358,7 @@ fn accesses_at_any_moments(rt: HostRuntime) -> Result<(), Fail> {
         run(&rt, rt.alloc(), &mut random, &mut seen)?;
     }
     assert!(rt;
-        seen.backward > 1_000_000 && seen.raises > 100_000,
+        seen.backward > 1_000_000 && seen.raises > 50_000,
         "{seen:?}"
     );
     Ok(())

@@ -12,7 +12,6 @@ use superio_script::ScriptFault;
 const SAMPLE: &[u8] = b"\
 \xFF\xFF0\xFF\
 sr 76\x94\ncr ffffffffffffffff 0018\xFF\xFF1\xFF\
-refuse 0000000000000008\ncw 00000000000003e8 0004 8e61041d\ncr 68ed3b0906979c94 ee38\ncw 8000000000000000 0ffe 7fffffff\ncr 0000000000000000 001c\ncr 00000000834a657e 0fe1\n\xFFok\ninvalid\ninvalid\ninvalid\n00000031\n\xFF0\xFF\
 refuse 0000000000000000\nse\xFB\nsw 03 80\nsq\ncw 000000006f73cc54 0fe5 2a14999a\n\xFF\xFF2\xFF\
 kr 04\nkw 04 fe\nkw 44 fe\nkw 04 D3\nkw 04 70\n\xFF00\nreset\nok\nok\nok\n\xFF0\xFF\
 \n\xFF\xFF1\xFF\
@@ -45,7 +44,6 @@ refuse 0000000000000006\nsw 01 03\nsq 41\nss\nst\nsr 02\nss\nst\n\xFFok\ntrigger
 sw 04 10\xFFok\n\xFF0\xFF\
 refuse 0000000000000008\nsr 00\nsw 01 01\nsw 05 de\nsw 00 7d\nsw 00 d7\nsr b6\nse\nsw 00 e1\n\xFF00\nok\nok\nok\nok\n00\n0000000000000001 0000000000000002 0000000000000000 0000000000000001\nok\n\xFF0\xFF\
 cr 00000001be37a5f6 0000\nsw e0 d7\ncr 5a4e2dcd9a5f09a9 0010\nsw 99 0c\r\nkw 04 fe\nso\n\xFFbe37a5f6\nok\n00000000\n\xFF4\xFF\
-refuse 6d21cd63fc952e68\ncw 0000000179f01d23 0004 ee16c5e1\nsw 01 01\xBA\nsq a82865\nsq c1c5e42c51\n\xFFok\n\xFF3\xFF\
 cw 8727afe4dcc2e86a db9a 00000001\nse\nsq 3ea14Cb34f16a9a549f301bef7a5734292BB2960e754a6b642aa9134b7d0e14d90cb83756bd39f0D0bd0ac2bdd1f88604a8124d6CAe205c0771cc011df33c0\nsr 00\nse\n\xFFinvalid\n0000000000000000 0000000000000000 0000000000000000 0000000000000000\n3f\n3e\n0000000000000001 0000000000000000 0000000000000000 0000000000000000\n\xFF0\xFF\
 sw 06 12\nso\nsc\nsr 01\nsr 00\nsw 00 e6\nsw 01 01\nsr 00\nsr 02\nsr 05\nst\nsw 07 79\nsw 04 08\nsw 00 1\nsw 03 03\nss\nsw 01 02\nss\nsc\nsr 05\nsr 06\nsw 07 e0\n\xFFok\n\n40\n00\n00\nok\nok\n00\nc1\n60\n0000000000000000\nok\nok\n\xFF14\xFF\
 sc\ncw 402561dd42ece078 0000 0A7D6A54\nsw 00 EB\nsr 00\nsr 00\xFF40\ninvalid\nok\n00\n00\n\xFF0\xFF\
@@ -169,7 +167,6 @@ ss\nrefuse 4860ccabdd9d5bd1\nsc\nsr 02\nss\nsq 770ae930b7\nsr 02\nsr 03\nsw 04 1
 cw 8000000000000000 0008 ffffffff\ncr 0000000000000000 0000\ncr 0000000000000001 0000\ncr 0000000000000000 0000\ncr 0000000000000001 0000\n\xFFok\nffffffff\n00000001\nffffffff\n00000001\n\xFF0\xFF\
 refuse 0000000000000004\nst\ncw 00000001de02b1eb 0008 4f7c19d5\ncw 000000016d74ecd1 2604 80000000\ncr 0000000100000007 0012\ncw 20cb2efb00e11042 0000 491196d8\nsw 00 x0\n\xFF0000000000000000\nok\ninvalid\ninvalid\ninvalid\n\xFF7\xFF\
 cw 00000000a53be561 0008 5ceb08fb\ncr 000000004850dc65 0000\ncr 000000004850dc66 0000\ncr 000000004850dc65 0000\ncr 000000004850dc66 0000\xFFok\n4850dc65\n00000000\n4850dc65\n00000000\n\xFF0\xFF\
-ss\ncw 00000000918035f4 0004 d93282ca\ncw 353495b1df3209c3 0ffd 00000002\nsw 01 02\ncw ffffffffffffffff 0000 000003e8\nsw 00 35\nsc\nso\nsq\ncw 04997a2b4f5ee106 0010 c0495cc1\nsr 00\nsw 04 08\nsr 02\n\xFFok\nok\ninvalid\nok\ninvalid\nok\n40\n35\n00\nok\n00\nok\nc2\n\xFF0\xFF\
 sr 02\r\nsw 03 03\n\xFF\xFF1\xFF\
 sq 76CD\nsr 00\nss\nss\nsw 00 1d\nsr 01\nso\nsr 00\nsw 01 02\nss\nsr 00\nsw 01 01\nsr 07\n\xFF02\n76\nok\nok\nok\n00\n1d\ncd\nok\nok\n00\nok\n00\n\xFF0\xFF\
 refuse 0000000000000000\ncr 0000000080000000 3560\xAB\n\xFF\xFF2\xFF\
@@ -220,7 +217,6 @@ refuse abfedb45ccd14ac9\nsr a1\nsr 01\nsq db06\n\xFF00\n00\n02\n\xFF0\xFF\
 cw dc157bc831630f83 000F 00000003\nsw 00 01\nkw 04 fe\nkw 04 fe\ncr 050d1df617e0f49e 000c\nsr 03\nse\nss\n\xFFinvalid\nok\nreset\nreset\n00000001\n03\n0000000000000000 0000000000000001 0000000000000000 0000000000000000\nok\n\xFF0\xFF\
 cr f205edb37f3aea0c 0011\ncr 00000000E25013F8 1003\n\xFFinvalid\ninvalid\n\xFF0\xFF\
 refuse ffffffffffffffff\n\xFF\xFF0\xFF\
-cr 000000003604f6af 9d59\ncw 0000000008addb9f 0004 ab6471ba\ncr 00000000ffffffff 0014\n\xFFinvalid\nok\n00000000\n\xFF0\xFF\
 se\nsw 01 03\nsc\nsr 00\nsr 02\nsw 00 20\nso\nsr 7a\nsr 00\nsr 04\nst\nsr 00\nsr 00\xFF0000000000000000 0000000000000000 0000000000000000 0000000000000000\nok\n40\n00\nc2\nok\n20\n00\n00\n08\n0000000000000002\n00\n00\n\xFF0\xFF\
 refuse 718cb7b4f345791c\xFF\xFF0\xFF\
 refuse 61E852B524A34443\ncw ffffffffffffffff 0008 61c0347f\ncr 000000009e3fcb7f 0000\ncr 000000009e3fcb80 0000\ncr 000000009e3fcb7f 0000\ncr 000000009e3fcb80 0000\n\xFFok\n9e3fcb7f\n00000000\n9e3fcb7f\n00000000\n\xFF0\xFF\
@@ -309,7 +305,11 @@ sx\nrefuse 0000000000000004\nsw 01 03\nsq 41\nss\nst\nsr 02\nss\nst\nsr 21\nst\n
 refuse 0000000000000000\ncw c7489360bf3320dd 51bf f2d3cd8b\nss\nsw 00 50\n\xFFinvalid\nok\nok\n\xFF0\xFF\
 sw 00 93\nsw 07 fc\nsr 00\nsr 05\nss\n\xFFok\nok\n00\n60\nok\n\xFF0\xFF\
 \n\xFF\xFF1\xFF\
-refuse 0000000000000006\ncw 8000000000000000 0008 000003e8\ncr 00000000fffffc17 0000\ncr 00000000fffffc18 0000\ncr 00000000fffffc17 0000\ncr 00000000fffffc18 0000\n\xFFok\nffffffff\nfffffc18\nffffffff\nfffffc18\n\xFF0\xFF";
+refuse 0000000000000006\ncw 8000000000000000 0008 000003e8\ncr 00000000fffffc17 0000\ncr 00000000fffffc18 0000\ncr 00000000fffffc17 0000\ncr 00000000fffffc18 0000\n\xFFok\nffffffff\nfffffc18\nffffffff\nfffffc18\n\xFF0\xFF\
+refuse 0000000000000000\ncw 0000000080000000 0008 00000003\ncr 000000007ffffffc 0000\ncr 000000007ffffffd 0000\ncr 000000007ffffffc 0000\ncr 000000007ffffffd 0000\n\xFFok\n7ffffffc\n00000000\n7ffffffc\n00000000\n\xFF0\xFF\
+refuse 0000000000000001\n\xFF\xFF0\xFF\
+refuse 0000000000000000\nsq e76763cf88\n\xFF05\n\xFF0\xFF\
+\n\xFF\xFF1\xFF";
 
 #[test]
 fn replies_as_the_original(rt: HostRuntime) -> Result<(), Fail> {

@@ -20,7 +20,7 @@ pub fn expect_run(
 
 #[test]
 fn scripts_print_their_replies(rt: HostRuntime) {
-    let rows: [(&[u8], &[u8], Result<(), ScriptFault>); 27] = [
+    let rows: [(&[u8], &[u8], Result<(), ScriptFault>); 29] = [
         // An empty script has no line, and a script of one LF has one, which is bad.
         (b"", b"", Ok(())),
         (b"\n", b"", Err(ScriptFault::Bad(1))),
@@ -117,6 +117,17 @@ fn scripts_print_their_replies(rt: HostRuntime) {
         (
             b"cr 0000000000000000 001C\ncr 0000000000000000 0fe5\ncr 0000000000000000 1003\ncr ffffffffffffffff 0000\n",
             b"invalid\n00000010\ninvalid\nffffffff\n",
+            Ok(()),
+        ),
+        // An alarm stays set from line to line, until guest time comes to the match. An invalid line may be the first.
+        (
+            b"cw 0000000000000064 0004 00000069\ncr 0000000000000068 0014\ncr 0000000000000069 0014\n",
+            b"ok\n00000000\n00000001\n",
+            Ok(()),
+        ),
+        (
+            b"cw 0000000000000064 0004 00000069\ncr 0000000000000070 0020\nss\ncr 0000000000000064 0014\n",
+            b"ok\ninvalid\nok\n00000001\n",
             Ok(()),
         ),
         // Each device goes by its own lines, and the reset line's calls are not the serial port's.
