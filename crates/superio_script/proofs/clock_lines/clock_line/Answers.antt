@@ -9,18 +9,22 @@ pub returns-then-invalid_write_count-eq1 : goal.returns-then-invalid_write_count
 returns-then-invalid_write_count-eq1 c =
     let value : from_le_bytes w32 c.to_le_bytes.result ≡ c.in-Write.value = search rules in
     let state : c.from_state.result.state ≡ c.args.clock.now.state = search rules in
-    record { step = λ trace at. (
-      search rules,
-      rw c.in-Write.is (c.write.ensures.history fresh_clock trace (state ∙ at)
-      ∙ ap (λ value. clock_of_history fresh_clock (write c.in-Write.offset value c.in-Write.moment ∷ trace)) value),
-    ) }
+    record {
+      step = λ trace at. (
+        search rules,
+        rw c.in-Write.is (c.write.ensures.history fresh_clock trace (state ∙ at)
+            ∙ ap (λ value. clock_of_history fresh_clock (write c.in-Write.offset value c.in-Write.moment ∷ trace)) value),
+      );
+    }
 
 pub returns-else-invalid_write_count-eq1 : goal.returns-else-invalid_write_count-eq1
 returns-else-invalid_write_count-eq1 c =
     let value : from_le_bytes w32 c.to_le_bytes.result ≡ c.in-Write.value = search rules in
     let state : c.from_state.result.state ≡ c.args.clock.now.state = search rules in
-    record { step = λ trace at. (
-      search rules,
-      rw c.in-Write.is (c.write.ensures.history fresh_clock trace (state ∙ at)
-      ∙ ap (λ value. clock_of_history fresh_clock (write c.in-Write.offset value c.in-Write.moment ∷ trace)) value),
-    ) }
+    record {
+      step = λ trace at. (
+        search rules,
+        rw c.in-Write.is (c.write.ensures.history fresh_clock trace (state ∙ at)
+            ∙ ap (λ value. clock_of_history fresh_clock (write c.in-Write.offset value c.in-Write.moment ∷ trace)) value),
+      );
+    }
