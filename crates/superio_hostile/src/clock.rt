@@ -151,14 +151,14 @@ fn raw_status(start: &RtcState, past: &[Done]) -> u32 {
 }
 
 /// What a search of the accesses before finds of one.
-fn done(start: &RtcState, past: &[Done], access: Access) -> Done {
+fn found(start: &RtcState, past: &[Done], access: Access) -> Done {
     let guest_time = guest_time(start, past, access.now);
-    let found = is_armed(start, past) && guest_time >= match_value(start, past);
+    let reached = is_armed(start, past) && guest_time >= match_value(start, past);
     let matched = access.offset == 0x004 && access.written == Some(guest_time);
     Done {
         access,
         guest_time,
-        raises: found || matched,
+        raises: reached || matched,
     }
 }
 
@@ -328,7 +328,7 @@ fn run(rt: &impl Abort, alloc: Global, random: &mut Random, seen: &mut Seen) -> 
     for _ in 0..CALLS {
         let access = any_access(random);
         let shown = made(&mut clock, &access);
-        let done = done(&start, &past, access);
+        let done = found(&start, &past, access);
         past.push(done)?;
         assert_eq!(rt;
             Some(shown),
@@ -382,7 +382,7 @@ fn every_offset(rt: &impl Abort, written: Option<u32>) -> (Shown, RtcState) {
             written,
             now: 1000,
         };
-        let alone = shown_last(&start, &[done(&start, &[], access)]).expect(rt, "an access");
+        let alone = shown_last(&start, &[found(&start, &[], access)]).expect(rt, "an access");
         invalid_reads = invalid_reads.saturating_add(alone.invalid_reads);
         invalid_writes = invalid_writes.saturating_add(alone.invalid_writes);
         last = made(&mut clock, &access);

@@ -75,18 +75,18 @@ pub struct RtcState {
     pub lr: u32,
     /// How far guest time is ahead of the host's time, in seconds.
     pub offset: i64,
-    /// The match register, RTCMR: the guest time for which the alarm was set last.
+    /// The match register, RTCMR: the guest time that an alarm waits for.
     pub mr: u32,
     /// The interrupt mask, RTCIMSC. A write stores bit 0 of its value, and clears the others.
     pub imsc: u32,
     /// The raw interrupt status, RTCRIS. The alarm sets bit 0, and nothing sets another.
     pub ris: u32,
-    /// Whether the alarm is set: guest time has yet to come to `mr`.
+    /// Whether an alarm is set that no access has found reached.
     pub armed: bool,
 }
 
 impl RtcState {
-    /// A state that was saved without `armed`, by a clock that had no alarm: none is set.
+    /// The state of these five fields, as a clock without an alarm saved it: no alarm is set.
     pub fn from_five(lr: u32, offset: i64, mr: u32, imsc: u32, ris: u32) -> RtcState
         ensures { result ≡ record { lr = lr; offset = offset; mr = mr; imsc = imsc; ris = ris; armed = false } }
     {
@@ -110,7 +110,7 @@ impl RtcState {
         }
     }
 
-    /// Where the alarm is set and guest time has come to the match, raises the interrupt and unsets the alarm.
+    /// Where an alarm is set and guest time has come to the match, raises the interrupt and ends the alarm.
     #[tactic(auto, unfolding(crate::specs::Port::Bits::with_bits))]
     fn check_alarm(&mut self, time: u32)
         ensures { self.new ≡ after_alarm self.old time }
