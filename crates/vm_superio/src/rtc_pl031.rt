@@ -281,8 +281,8 @@ impl<EV: RtcEvents> Rtc<EV> {
         ensures events { EV.link self.old.events (clock_events (write_of offset bytes.now now)) self.new.events }
         ensures quiet { OnTrue (is_writable (clock_register_at offset)) (self.new.events ≡ self.old.events) }
     {
-        let time = self.begin_access(now);
         let value = u32::from_le_bytes(*bytes);
+        let time = self.begin_access(now);
         if !self.state.store(ClockRegister::at(offset), value, time) {
             self.events.invalid_write();
         }
