@@ -8,8 +8,8 @@ reads any number of scripts, each after its length in four bytes, low byte first
 and with its standard output and standard error, each after its length.
 
 A script with an effective match is left out: the match register of the original has no effect, and that of the program
-is an alarm. Prints each script on which the two differ, up to ten, and how often each case was reached. With `--sample` it also
-writes the first N short scripts with the original's answers into FILE, as tests that replay them.
+is an alarm. Prints each script on which the two differ, up to ten, and how often each case was reached. With `--sample`
+it also writes the first N short scripts with the original's answers into FILE, as tests that replay them.
 
 The program of tools/compare/original is such an ORIGINAL, for 64-bit Linux. To build it with Cargo, and to run both:
 

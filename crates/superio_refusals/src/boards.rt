@@ -58,7 +58,7 @@ pub fn restore_line(alloc: Global) -> Result<&'static str, AllocError> {
     Ok(if is_as_told { outcome } else { "another board" })
 }
 
-/// How many replies of the script of each form a text has, if it has no more than that.
+/// How many of the first replies of the script of each form make up a text, or `None` if it is another text.
 fn reply_count(mut text: &[u8]) -> Option<usize> {
     for (number, reply) in EVERY_REPLY.iter().enumerate() {
         if text.is_empty() {

@@ -92,7 +92,7 @@ fn scripts_print_their_replies(rt: HostRuntime) {
         ),
         (b"refuse FFFFFFFFFFFFFFFF", b"", Ok(())),
         (b"refuse ffffffffffffffff\nkw 04 fe\n", b"reset\n", Ok(())),
-        // `refuse` is for the first line alone, and the first line may be bad.
+        // `refuse` is for the first line alone.
         (
             b"sr 02\nrefuse 0000000000000001\n",
             b"c1\n",
@@ -119,7 +119,8 @@ fn scripts_print_their_replies(rt: HostRuntime) {
             b"invalid\n00000010\ninvalid\nffffffff\n",
             Ok(()),
         ),
-        // An alarm stays set from line to line, until guest time comes to the match. An invalid line may be the first.
+        // An alarm stays set from line to line, until an access finds that guest time has come to the match, an invalid
+        // access too.
         (
             b"cw 0000000000000064 0004 00000069\ncr 0000000000000068 0014\ncr 0000000000000069 0014\n",
             b"ok\n00000000\n00000001\n",

@@ -144,10 +144,10 @@ a_later_match_finds_the_earlier_reached : Leaves fresh_clock (write 0x004 300 25
 unfolding with_bits
 a_later_match_finds_the_earlier_reached = record { steps = (refl, refl); history = (refl, refl) }
 
-a_match_past_32_bits_is_found_by_the_host_time : Leaves fresh_clock
+a_counter_past_32_bits_is_matched_by_the_host_time : Leaves fresh_clock
     (read 0x014 1001 ∷ write 0x004 1001 1001 ∷ write 0x008 4294967295 1000 ∷ []) 1 false
 unfolding with_bits
-a_match_past_32_bits_is_found_by_the_host_time = record { steps = (refl, refl); history = (refl, refl) }
+a_counter_past_32_bits_is_matched_by_the_host_time = record { steps = (refl, refl); history = (refl, refl) }
 
 -- a restored clock whose match is 105, without an alarm and with one
 abbrev matching : (armed : Bool) → RtcState
@@ -169,10 +169,10 @@ a_restored_alarm_waits_for_guest_time : Gives (matching true)
 unfolding with_bits
 a_restored_alarm_waits_for_guest_time = record { steps = refl; history = refl; reports = refl }
 
--- a reset puts guest time past the match, and a moment that goes back before it
+-- a reset would put guest time past the match, and before another access finds that, the moment goes back
 a_restored_alarm_follows_resets_and_moments_that_go_back : Gives (matching true)
-    (write 0x008 50 200 ∷ write 0x00C 1 200 ∷ read 0x014 104 ∷ read 0x014 4294967400 ∷ read 0x014 4294967401 ∷ [])
-    (None ∷ None ∷ Some 1 ∷ Some 1 ∷ Some 1 ∷ [])
+    (write 0x008 50 100 ∷ write 0x00C 1 110 ∷ read 0x014 104 ∷ read 0x014 4294967400 ∷ read 0x014 4294967401 ∷ [])
+    (None ∷ None ∷ Some 0 ∷ Some 0 ∷ Some 1 ∷ [])
     []
 unfolding with_bits
 a_restored_alarm_follows_resets_and_moments_that_go_back = record { steps = refl; history = refl; reports = refl }

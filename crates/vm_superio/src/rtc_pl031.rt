@@ -4,8 +4,8 @@
 //! 32 bits of a moment are the host's time. Guest time is the host's time and the clock's offset together where 32
 //! bits hold the sum, and the host's time elsewhere; it does not wrap.
 //!
-//! The match register is an alarm, which raises bit 0 of the raw interrupt status at the first access at which guest
-//! time has come to it. No trigger is called: a monitor asks [`Rtc::state`].
+//! The match register is an alarm. It raises bit 0 of the raw interrupt status at the first access at which guest time
+//! has come to a match that was not past when it was written. No trigger is called: a monitor asks [`Rtc::state`].
 ghost use Rattle.std.specs.Prelude.{◌≡◌, ◌↔◌, List, [], ◌∷◌, ◌++◌, false};
 ghost use Rattle.vm_superio.specs.Port.Bits.{with_bits};
 ghost use Rattle.std.specs.Bool.{OnTrue, OnFalse};
@@ -68,7 +68,7 @@ impl RtcEvents for NoEvents {
 
 /// What a clock's registers hold: enough to make the same clock again.
 ///
-/// Any numbers may be restored, and reads show them as they are. The default state has zeros.
+/// Any numbers may be restored, and reads show them as they are. The default state has zeros, and no alarm.
 #[derive(Clone, Copy, Debug, Default, Eq, PartialEq)]
 pub struct RtcState {
     /// The load register, RTCLR: the value that was loaded last, or 0 after a reset.
@@ -265,8 +265,9 @@ impl<EV: RtcEvents> Rtc<EV> {
     /// Before anything else, an alarm that is set and that guest time has come to raises bit 0 of the raw interrupt
     /// status, and is over.
     ///
-    /// RTCMR (0x004) stores the value. It sets the alarm where guest time is less than the value, and raises at once
-    /// where guest time is the value. RTCLR (0x008) stores it and makes it guest time. RTCCR (0x00C) resets the load
+    /// RTCMR (0x004) stores the value, and an alarm that was set before is given up. It sets the alarm where guest time
+    /// is less than the value, raises at once where guest time is the value, and does neither where the value is past.
+    /// RTCLR (0x008) stores it and makes it guest time. RTCCR (0x00C) resets the load
     /// register and guest time where the value is 1, and else changes nothing. RTCIMSC (0x010) stores bit 0 alone.
     /// RTCICR (0x01C) clears in the raw interrupt status the bits that the value has.
     ///

@@ -113,7 +113,7 @@ fn a_refused_first_call_is_that_of_the_ier_write(rt: HostRuntime) -> Result<(), 
     Ok(())
 }
 
-/// How the writer fails at three bytes.
+/// What may become of a byte: it goes out, its `write` fails, or its `flush` fails.
 const OUTCOMES: [Option<ErrorKind>; 3] = [None, Some(WRITE_FAULT), Some(FLUSH_FAULT)];
 
 /// The faults of a writer that fails so at its first bytes.

@@ -47,6 +47,14 @@ fn a_match_that_is_past_raises_nothing(rt: HostRuntime) {
 }
 
 #[test]
+fn a_past_match_gives_up_the_alarm(rt: HostRuntime) {
+    let mut clock = Rtc::new();
+    follow(&rt, &mut clock, 100, &[Write(RTCMR, 200), Write(RTCMR, 50)]);
+    assert_eq!(rt; interrupt(&clock), (0, false));
+    follow(&rt, &mut clock, 200, &[Read(RTCRIS, 0)]);
+}
+
+#[test]
 fn an_invalid_access_finds_the_alarm(rt: HostRuntime) {
     let mut clock = Rtc::with_events(Counts::new());
     follow(&rt, &mut clock, 100, &[Write(RTCMR, 200)]);
@@ -108,7 +116,7 @@ fn a_state_of_five_numbers_has_no_alarm(rt: HostRuntime) {
 }
 
 #[test]
-fn a_match_past_32_bits_of_guest_time_is_found_by_the_host_time(rt: HostRuntime) {
+fn a_counter_past_32_bits_is_matched_by_the_host_time(rt: HostRuntime) {
     let mut clock = Rtc::new();
     follow(&rt, &mut clock, 1000, &[Write(RTCLR, 0xFFFF_FFFF)]);
     follow(

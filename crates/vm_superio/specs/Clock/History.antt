@@ -85,14 +85,14 @@ is_alarm_set start (access ∷ trace) =
     option_map_or (λ value. nat_lt (guest_time_at start trace access) value) (match_written access)
     (is_alarm_set start trace)
 
--- guest time had come to the match at some access since the last match write
+-- guest time had come to the match at some access since the last match write, or with none since the start
 abbrev pub is_match_passed : (start : RtcState) (trace : List Access) → Bool
 is_match_passed start [] = false
 is_match_passed start (access ∷ trace) =
     not (is_some (match_written access))
     && (nat_le (match_value start trace) (guest_time_at start trace access) || is_match_passed start trace)
 
--- an alarm was not reached, and is set
+-- an alarm is set and was not reached
 abbrev pub is_armed : (start : RtcState) (trace : List Access) → Bool
 is_armed start trace = not (is_match_passed start trace) && is_alarm_set start trace
 

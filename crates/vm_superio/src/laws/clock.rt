@@ -7,8 +7,8 @@ pub fn clock_is_history()
     ensures { ClockIsHistory }
 {}
 
-/// A raw interrupt bit is set exactly where the start has it and no access so far cleared it; and bit 0 where the alarm
-/// raised it and no access cleared it then or later.
+/// A raw interrupt bit is set where the start has it and no access so far cleared it, and bit 0 also where the alarm
+/// raised it and no access cleared it then or later; no other bit is set.
 #[tactic(auto, using(crate::proofs::ClockLemmas::raw_bits))]
 pub fn raw_bits_by_history()
     ensures { RawBitsByHistory }
