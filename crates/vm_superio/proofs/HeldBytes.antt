@@ -65,7 +65,7 @@ drop_more all taken_bytes remaining_bytes more new parts =
     ∙ drop-append-add taken_bytes (remaining_bytes ++ new) (length more)
 
 -- the held bytes after one more entry, where those taken and those held are all bytes
-held_more : (start : State) (trace : List TraceEntry) (entry : TraceEntry)
+pub held_more : (start : State) (trace : List TraceEntry) (entry : TraceEntry)
     → taken_bytes start trace ++ held_bytes start trace ≡ start.in_buffer ++ accepted_bytes start trace
     → let k = kind_at start trace entry.op in
     held_bytes start (entry ∷ trace)

@@ -6,6 +6,7 @@
 //! two alone.
 ghost use Rattle.vm_superio.specs.Laws.Agreement.{RegisterLaw, HeldBytesLaw, LineStatusLaw, InterruptLaw, CoherenceLaw, StateLaw, ResponseLaw, StepLaw, CallLaw, WholeRunLaw};
 ghost use Rattle.vm_superio.specs.Laws.Consequences.{PendingByPrefixesLaw, TriggerBoundLaw, WaitingBytesLaw, SameReadsLaw, TakenThenHeldLaw, ReadsAreTakenLaw, ReadThenHeldLaw, OutputLaw};
+ghost use Rattle.vm_superio.specs.Laws.PollingDriver.{PollingDriverLaw, PollsBySightLaw};
 ghost use Rattle.vm_superio.specs.Laws.OneCall.{OneCallLaw, OneReadLaw, ReceivedLaw, RbrReadLaw, OutcomeEventsLaw, TurnedBitsLaw, AdmissibilityLaw};
 
 mod clock;
@@ -96,6 +97,14 @@ pub fn taken_then_held()
 pub fn reads_are_taken()
     ensures taken { ReadsAreTakenLaw }
     ensures held { ReadThenHeldLaw }
+{}
+
+/// From any start, where only a driver that polls reads data: what the driver has got and then what is held is what was
+/// held at the start and then what was accepted. So it gets every byte, in order. A driver polls that reads RBR only where
+/// a read of LSR has shown data ready since its RBR read before; what else is called in between plays no part.
+pub fn polling_driver()
+    ensures bytes { PollingDriverLaw }
+    ensures by_sight { PollsBySightLaw }
 {}
 
 /// From any start, in a segment of a well-formed trace where no byte is lost, the writer took exactly the output.

@@ -86,6 +86,9 @@ impl<T: Trigger, EV: SerialEvents, W: Write> Serial<T, EV, W> {
     ghost use Rattle.vm_superio.specs.contracts.serial.Serial.{the_row};
     ghost use Rattle.vm_superio.specs.Step.PortStep.{with_writer};
     ghost use Rattle.vm_superio.specs.Step.PortStep.{IsReadStep, IsWriteStep, IsEnqueueStep};
+    ghost use Rattle.vm_superio.specs.Step.Admissible.{kind_in_state};
+    ghost use Rattle.vm_superio.specs.Port.Operations.{Read};
+    ghost use Rattle.vm_superio.specs.Port.OpKinds.{Other};
 
     /// Makes a serial port as `new` does, which reports its events to `serial_evts`. Neither the trigger nor the events
     /// object is called.
@@ -266,11 +269,16 @@ impl<T: Trigger, EV: SerialEvents, W: Write> Serial<T, EV, W> {
     /// Reads the byte at `offset`, as a guest does. The trigger is not called and the writer not used.
     pub fn read(&mut self, offset: u8) -> u8
         ensures step { IsReadStep T.link EV.link W.contents offset result self.old self.new }
+        // A read of another register than RBR and IIR.
+        ensures other { kind_in_state self.old.state (Read offset) ≡ Other → self.new ≡ self.old }
+        ensures few { length self.new.state.in_buffer ≤ 64 }
         ensures trigger { self.new.trigger ≡ self.old.trigger }
         ensures out { self.new.out ≡ self.old.out }
         ensures coherent { Coherent self.old.state → Coherent self.new.state }
     {
-        self.traced_read(offset).reply
+        let byte = self.traced_read(offset).reply;
+        prove!(self.fifo_capacity() <= FIFO_SIZE);
+        byte
     }
 
     /// How many bytes may still be enqueued: 64 less the number of bytes that are held.

@@ -5,4 +5,4 @@ use Rattle.vm_superio.proofs.serial.Serial.read.Goals as goal
 
 pub returns-clause-coherent : goal.returns-clause-coherent
 returns-clause-coherent g c = λ before.
-    rw c.traced_read.ensures.state (coherence_law c.args.self.now.state (Read c.args.offset) c.traced_read.result.asked before)
+    rw c.traced_read-byte.ensures.state (coherence_law c.args.self.now.state (Read c.args.offset) c.traced_read-byte.result.asked before)
