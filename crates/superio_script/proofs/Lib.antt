@@ -1,4 +1,5 @@
 pub mod SplittingLemmas
 pub mod ReadLemmas
 pub mod SerialScriptLemmas
+pub mod DriverLemmas
 pub mod ScriptLemmas

@@ -1,5 +1,5 @@
 -- What one good line adds to what was written, whatever is still to come.
-use Rattle.std.proofs.Common.{◌≡◌, ℕ, ◌+◌, ◌≤◌, Bool, true, false, List, [], ◌∷◌, ◌++◌, length, Option, Some, None, refl, ap, sym, ◌∙◌, subst, arith, append_assoc, append-nil, length-append}
+use Rattle.std.proofs.Common.{◌≡◌, ℕ, zero, suc, ◌+◌, ◌≤◌, Bool, true, false, List, [], ◌∷◌, ◌++◌, length, Option, Some, None, refl, ap, sym, ◌∙◌, subst, arith, append_assoc, append-nil, length-append}
 use Rattle.std.specs.Cmp.Derive.{both_true}
 use Rattle.std.proofs.lemmas.Bool.{and_parts, false≢true}
 use Rattle.std.specs.Io.KnownBytes.{Appends}
@@ -22,7 +22,7 @@ use Rattle.superio_script.specs.Counts.{EventCounts}
 use Rattle.superio_script.specs.Output.{written_bytes}
 use Rattle.superio_script.specs.Command.{command_of, IsRestoreLine}
 use Rattle.superio_script.specs.Reply.{digits_reply, access_of}
-use Rattle.superio_script.specs.SerialScript.{Session, fresh_session, known_output, Choice, IsPossible, first_outcome, first_output, bytes_before_loss, is_short, session_entry, session_sends, outcome_if_sent, choice_after_write, output_or_chosen, choice_after_output, call_reply, session_after_call, serial_reply, session_after_line, choice_after_line}
+use Rattle.superio_script.specs.SerialScript.{Session, fresh_session, known_output, Choice, IsPossible, first_outcome, first_output, bytes_before_loss, is_short, session_entry, session_sends, outcome_if_sent, choice_after_write, output_or_chosen, choice_after_output, call_reply, session_after_call, session_after_reads, drained_bytes, serial_reply, session_after_line, choice_after_line}
 use Rattle.superio_script.specs.Board.{Devices, IsAt, IsFresh, IsSerialLineStep, IsLineStep}
 use Rattle.superio_script.specs.Script.{has_form, prepend_if_good, good_commands, first_bad_line, text_from, PrintsLines, StopsAtRestore}
 use Rattle.superio_script.proofs.SerialScriptLemmas.{no_choice, output_after, known_output-after}
@@ -122,6 +122,23 @@ module _ (choice later : Choice) (possible : IsPossible choice) where
         refl,
       )
 
+  after-joins : (before : Session) (op : Op) (outcome : Sent) → IsPossibleFrom (known_output (session_after_call before op outcome).trace) later →
+      IsPossibleFrom (output_after (known_output before.trace) outcome (sent_by (kind_at fresh_state before.trace op))) later
+  after-joins before op outcome rest_possible = subst (λ output. IsPossibleFrom output later) (known_output-after before.trace (session_entry before op outcome)) rest_possible
+
+  unsent-joins : (before : Session) (op : Op) → IsPossibleFrom (known_output (session_after_call before op sent.Nothing).trace) later → IsPossibleFrom (known_output before.trace) later
+  unsent-joins before op rest_possible =
+      let rest = after-joins before op sent.Nothing rest_possible in record {
+        sent = rest.sent;
+        room = room-unsent (known_output before.trace) sent.Nothing (sent_by (kind_at fresh_state before.trace op)) later.outcomes refl rest.room;
+        short = rest.short;
+      }
+
+  reads-join : (count : ℕ) (before : Session) → IsPossibleFrom (known_output (session_after_reads count before).trace) later → IsPossibleFrom (known_output before.trace) later
+  reads-join zero before rest_possible = rest_possible
+  reads-join (suc count) before rest_possible =
+      unsent-joins before (Read 0) (reads-join count (session_after_call before (Read 0) sent.Nothing) rest_possible)
+
   module _ (before : Session) (few : IfSome (known_output before.trace) (λ all. length all ≤ 256)) where
     -- a choice for a line, and for what follows it
     abbrev LineJoins : (line : SerialLine) → Type 0
@@ -129,31 +146,20 @@ module _ (choice later : Choice) (possible : IsPossible choice) where
         (whole : Choice) × IsPossibleFrom (known_output before.trace) whole × (serial_reply before whole line ≡ serial_reply before choice line)
         × (session_after_line before whole line ≡ session_after_line before choice line) × (choice_after_line before whole line ≡ later)
 
-    after-joins : (op : Op) (outcome : Sent) → IsPossibleFrom (known_output (session_after_call before op outcome).trace) later →
-        IsPossibleFrom (output_after (known_output before.trace) outcome (sent_by (kind_at fresh_state before.trace op))) later
-    after-joins op outcome rest_possible = subst (λ output. IsPossibleFrom output later) (known_output-after before.trace (session_entry before op outcome)) rest_possible
-
-    unsent-joins : (op : Op) → IsPossibleFrom (known_output (session_after_call before op sent.Nothing).trace) later → IsPossibleFrom (known_output before.trace) later
-    unsent-joins op rest_possible =
-        let rest = after-joins op sent.Nothing rest_possible in record {
-          sent = rest.sent;
-          room = room-unsent (known_output before.trace) sent.Nothing (sent_by (kind_at fresh_state before.trace op)) later.outcomes refl rest.room;
-          short = rest.short;
-        }
-
     trace-after_restore : (refused : Bool) (line : InterruptLine) → (if refused then before else record before { interrupt_line = line }).trace ≡ before.trace
     trace-after_restore true line = refl
     trace-after_restore false line = refl
 
     line-joins : (line : SerialLine) → IsPossibleFrom (known_output (session_after_line before choice line).trace) later → LineJoins line
-    line-joins (line.Read offset) rest_possible = (later, unsent-joins (Read offset) rest_possible, refl, refl, refl)
+    line-joins (line.Read offset) rest_possible = (later, unsent-joins before (Read offset) rest_possible, refl, refl, refl)
     line-joins (line.Write offset value) rest_possible =
         let op = Write offset value in
         let k = kind_at fresh_state before.trace op in
-        let found = write-joins (session_sends before op) (known_output before.trace) (sent_by k) (one-sent k) few (after-joins op _ rest_possible) in
+        let found = write-joins (session_sends before op) (known_output before.trace) (sent_by k) (one-sent k) few (after-joins before op _ rest_possible) in
         (found.0, found.1, ap (call_reply before op) found.2, ap (session_after_call before op) found.2, found.3)
-    line-joins (line.Enqueue bytes) rest_possible = (later, unsent-joins (Enqueue bytes) rest_possible, refl, refl, refl)
+    line-joins (line.Enqueue bytes) rest_possible = (later, unsent-joins before (Enqueue bytes) rest_possible, refl, refl, refl)
     line-joins line.Capacity rest_possible = (later, rest_possible, refl, refl, refl)
+    line-joins line.Drain rest_possible = (later, reads-join (length (drained_bytes before)) before rest_possible, refl, refl, refl)
     line-joins line.Restore rest_possible =
         (later, subst (λ (trace : List TraceEntry). IsPossibleFrom (known_output trace) later) (trace-after_restore _ _) rest_possible, refl, refl, refl)
     line-joins line.Output rest_possible =

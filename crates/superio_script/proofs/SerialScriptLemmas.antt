@@ -12,8 +12,9 @@ use Rattle.vm_superio.specs.declared.trace.Sent.TheVariants as sent
 use Rattle.vm_superio.specs.Port.State.{State, not_empty}
 use Rattle.vm_superio.specs.Port.SavedState.{fresh_state}
 use Rattle.vm_superio.specs.Port.Bits.{has_bits, only_bits}
-use Rattle.vm_superio.specs.Port.Registers.{thre_then_rda}
-use Rattle.vm_superio.specs.Port.Operations.{Op, Read, Write, Enqueue, TraceEntry, Response, is_sent, is_lost, ends_in_refusal}
+use Rattle.vm_superio.specs.Port.Coherent.{Coherent}
+use Rattle.vm_superio.specs.Port.Registers.{is_dlab, thre_then_rda}
+use Rattle.vm_superio.specs.Port.Operations.{Op, Read, Write, Enqueue, TraceEntry, Response, ByteRead, is_sent, is_lost, ends_in_refusal}
 use Rattle.vm_superio.specs.Port.OpKinds.{Arrival, Other, sent_by}
 use Rattle.vm_superio.specs.Step.Admissible.{answers_all, step_calls}
 use Rattle.vm_superio.specs.Step.Restore.{restore_calls, RefusesRestore}
@@ -21,7 +22,7 @@ use Rattle.vm_superio.specs.History.Registers.{kind_at, loopback}
 use Rattle.vm_superio.specs.History.Interrupts.{restore_calls_due}
 use Rattle.vm_superio.specs.History.Reads.{none_lost, history_response, output, state_of_history}
 use Rattle.vm_superio.specs.History.Calls.{history_events}
-use Rattle.vm_superio.specs.Laws.Agreement.{PrefixAgrees, StepLaw}
+use Rattle.vm_superio.specs.Laws.Agreement.{state_after, CoherenceLaw, StateLaw, PrefixAgrees, StepLaw}
 use Rattle.vm_superio.specs.Port.ObjectLinks.{answers_of, all_ok, StopsAtRefusal}
 use Rattle.vm_superio.specs.Port.WriterLink.{PortLinks, port_links, bytes_written, WriterLink}
 use Rattle.vm_superio.specs.Port.Model.{Port, failure_response}
@@ -34,7 +35,8 @@ use Rattle.vm_superio.specs.Counting.{Folds}
 use Rattle.superio_script.specs.Counts.{EventCounts, no_counts, counts_after_event}
 use Rattle.superio_script.specs.Output.{written_bytes}
 use Rattle.superio_script.specs.Reply.{with_lf, response_reply, digits_reply, count_digits, counts_reply}
-use Rattle.superio_script.specs.SerialScript.{Session, fresh_session, known_output, Choice, IsPossible, trigger_answers, interrupt_line_after_answers, session_answers, session_sends, outcome_if_sent, call_reply, session_after_call, output_or_chosen, is_restore_refused}
+use Rattle.superio_script.specs.SerialScript.{Session, fresh_session, known_output, Choice, IsPossible, trigger_answers, interrupt_line_after_answers, session_answers, session_sends, outcome_if_sent, call_reply, session_after_call, session_after_reads, output_or_chosen, is_restore_refused}
+use Rattle.superio_script.specs.Driver.{ReadsWhileReady, TakesAll}
 use Rattle.superio_script.specs.Board.{IsAt, IsSerialLineStep}
 use Rattle.superio_script.specs.declared.output.Output.{Output}
 use Rattle.superio_script.specs.declared.trigger.LineRefused.{LineRefused}
@@ -273,6 +275,50 @@ module _ (law : StepLaw) where
         let here = port_step-at (Read offset) Nothing sent.Nothing response refusal old new before at made in
         let found = session_step-from_port_step (Read offset) Nothing sent.Nothing response refusal old new before at here in
         (no_choice, IsPossible-no_choice, found.0, found.1)
+
+-- ---- a drain
+
+-- a port that started fresh is in a coherent state
+state_coherent : CoherenceLaw → (trace : List TraceEntry) → Coherent (state_after fresh_state trace)
+state_coherent law [] = fresh_coherent
+state_coherent law (entry ∷ trace) = law (state_after fresh_state trace) entry.op entry.asked (state_coherent law trace)
+
+pub session_coherent : CoherenceLaw → StateLaw → (session : Session) (port : Port InterruptLine EventCounts Output)
+    → IsAt session port → Coherent port.state
+session_coherent coherence states session port at =
+    subst Coherent (states fresh_state session.trace fresh_coherent ∙ sym at.state) (state_coherent coherence session.trace)
+
+-- what is drained, by whether DLAB is set
+drained : (latch : Bool) (bytes held : List ℕ) → (latch ≡ true → bytes ≡ []) → (latch ≡ false → bytes ≡ held)
+    → bytes ≡ (if latch then [] else held)
+drained true bytes held set clear = set refl
+drained false bytes held set clear = clear refl
+
+module _ (law : StepLaw) where
+  reads-step : (bytes : List ℕ) (old new : Port InterruptLine EventCounts Output) (before : Session) → IsAt before old
+      → ReadsWhileReady InterruptLineLink (Folds counts_after_event) (λ output. Some (written_bytes output)) bytes old new
+      → IsAt (session_after_reads (length bytes) before) new
+  reads-step [] old new before at same = subst (IsAt before) (sym same) at
+  reads-step (byte ∷ bytes) old new before at (ready, (middle, made, later)) =
+      let read = read-step law old middle (ByteRead byte) None 0 made before at in
+      reads-step bytes middle new (session_after_call before (Read 0) sent.Nothing) read.3 later
+
+  pub drain-step :
+      CoherenceLaw → StateLaw → (bytes : List ℕ) (old new : Port InterruptLine EventCounts Output)
+      → ReadsWhileReady InterruptLineLink (Folds counts_after_event) (λ output. Some (written_bytes output)) bytes old new
+      → (IsTrue (is_dlab old.state.line_control) → bytes ≡ [])
+      → (Coherent old.state → is_dlab old.state.line_control ≡ false → TakesAll (Folds counts_after_event) bytes old new)
+      → IsSerialLineStep line.Drain (digits_reply bytes) old new
+  drain-step coherence states bytes old new reads latch all before at =
+      let is = session_coherent coherence states before old at in
+      let taken : bytes ≡ (if is_dlab old.state.line_control then [] else old.state.in_buffer) =
+      drained (is_dlab old.state.line_control) bytes old.state.in_buffer latch (λ clear. (all is clear).bytes) in
+      let same = taken ∙ ap (λ (s : State). if is_dlab s.line_control then [] else s.in_buffer) at.state in (
+        no_choice,
+        IsPossible-no_choice,
+        ap digits_reply same,
+        subst (λ (bytes : List ℕ). IsAt (session_after_reads (length bytes) before) new) same (reads-step bytes old new before at reads),
+      )
 
 -- ---- the lines that make none
 

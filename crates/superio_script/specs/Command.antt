@@ -72,15 +72,16 @@ one_number64 _ = None
 
 -- ---- the forms
 
--- `sc`, `ss`, `so`, `st` and `se`, which take no field
+-- `sc`, `sd`, `ss`, `so`, `st` and `se`, which take no field
 abbrev pub line_of_name : (name : List ℕ) → Option SerialLine
 line_of_name name =
     if bytes_eq name (codes "sc") then Some serial.Capacity
+    else (if bytes_eq name (codes "sd") then Some serial.Drain
     else (if bytes_eq name (codes "ss") then Some serial.Restore
     else (if bytes_eq name (codes "so") then Some serial.Output
     else (if bytes_eq name (codes "st") then Some serial.Calls
     else (if bytes_eq name (codes "se") then Some serial.Events
-    else None))))
+    else None)))))
 
 -- `sr OO`, `sw OO VV`, `sq`, `sq HH..`, `cr NNNNNNNNNNNNNNNN OOOO`, `cw NNNNNNNNNNNNNNNN OOOO VVVVVVVV`, `kr OO`,
 -- `kw OO VV`, and the names that take no field

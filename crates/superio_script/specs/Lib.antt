@@ -2,6 +2,7 @@ pub mod Splitting
 pub mod Command
 pub mod InterruptLine
 pub mod Counts
+pub mod Driver
 pub mod Output
 pub mod Reply
 pub mod SerialScript

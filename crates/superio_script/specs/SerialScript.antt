@@ -8,7 +8,7 @@ use Rattle.vm_superio.specs.Port.SavedState.{fresh_state}
 use Rattle.vm_superio.specs.Port.State.{not_empty}
 use Rattle.vm_superio.specs.Port.Operations.{Op, Read, Write, Enqueue, TraceEntry, is_sent, ends_in_refusal}
 use Rattle.vm_superio.specs.Port.OpKinds.{sent_by}
-use Rattle.vm_superio.specs.History.Registers.{kind_at, held_bytes}
+use Rattle.vm_superio.specs.History.Registers.{kind_at, dlab, held_bytes}
 use Rattle.vm_superio.specs.History.Calls.{calls_due, history_events}
 use Rattle.vm_superio.specs.History.Interrupts.{restore_calls_due}
 use Rattle.vm_superio.specs.History.Reads.{none_lost, history_response, output}
@@ -124,6 +124,22 @@ abbrev pub session_write_outcome : (session : Session) (choice : Choice) (offset
 session_write_outcome session choice offset value =
     outcome_if_sent (session_sends session (Write offset value)) choice
 
+-- ---- a drain
+
+-- the session after this many reads at offset 0
+abbrev pub session_after_reads : (count : ℕ) (session : Session) → Session
+session_after_reads zero session = session
+session_after_reads (suc count) session = session_after_reads count (session_after_call session (Read 0) Sent.Nothing)
+
+-- a driver reads as many bytes as are held, and replies with them; with DLAB set it makes no such read, and replies with
+-- none
+abbrev pub drained_bytes : (session : Session) → List ℕ
+drained_bytes session =
+    if dlab fresh_state session.trace then [] else held_bytes fresh_state session.trace
+
+abbrev pub session_after_drain : (session : Session) → Session
+session_after_drain session = session_after_reads (length (drained_bytes session)) session
+
 -- ---- a restore
 
 -- the interrupt line's answers to the calls of a restore, and whether they end the restore with a refusal
@@ -161,6 +177,7 @@ serial_reply session choice (serial.Write offset value) =
     call_reply session (Write offset value) (session_write_outcome session choice offset value)
 serial_reply session choice (serial.Enqueue bytes) = call_reply session (Enqueue bytes) Sent.Nothing
 serial_reply session choice serial.Capacity = digits_reply ((64 - length (held_bytes fresh_state session.trace)) ∷ [])
+serial_reply session choice serial.Drain = digits_reply (drained_bytes session)
 serial_reply session choice serial.Restore =
     with_lf (if is_restore_refused session then codes "trigger" else codes "ok")
 serial_reply session choice serial.Output = digits_reply (output_or_chosen (known_output session.trace) choice)
@@ -172,6 +189,7 @@ session_after_line session choice (serial.Read offset) = session_after_call sess
 session_after_line session choice (serial.Write offset value) =
     session_after_call session (Write offset value) (session_write_outcome session choice offset value)
 session_after_line session choice (serial.Enqueue bytes) = session_after_call session (Enqueue bytes) Sent.Nothing
+session_after_line session choice serial.Drain = session_after_drain session
 session_after_line session choice serial.Restore = session_after_restore session
 session_after_line session choice _ = session
 

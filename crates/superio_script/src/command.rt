@@ -33,6 +33,8 @@ pub(crate) enum SerialLine {
     Enqueue { bytes: Arrival },
     /// `sc`: how many more bytes the FIFO has room for.
     Capacity,
+    /// `sd`: a driver reads the bytes that the port holds.
+    Drain,
     /// `ss`: a save and a restore of the port.
     Restore,
     /// `so`: the bytes that the port wrote.
@@ -271,6 +273,7 @@ fn line_of_name(name: &[u8]) -> Option<SerialLine>
 {
     match name {
         b"sc" => Some(SerialLine::Capacity),
+        b"sd" => Some(SerialLine::Drain),
         b"ss" => Some(SerialLine::Restore),
         b"so" => Some(SerialLine::Output),
         b"st" => Some(SerialLine::Calls),

@@ -5,6 +5,7 @@ mod clock_lines;
 mod command;
 mod counts;
 mod devices;
+mod driver;
 mod fault;
 mod output;
 mod replies;
@@ -15,6 +16,7 @@ mod trigger;
 
 pub use counts::Counts;
 pub use devices::{Board, LineFault};
+pub use driver::drain;
 pub use fault::ScriptFault;
 pub use output::Output;
 pub use replies::Reply;

@@ -8,6 +8,7 @@ ghost use Rattle.superio_script.specs.declared.command.SerialLine.TheVariants.{R
 use crate::command::SerialLine;
 use crate::counts::Counts;
 use crate::devices::LineFault;
+use crate::driver::drain;
 use crate::output::Output;
 use crate::replies::{Reply, byte, digits, event_counts, number, word};
 use crate::trigger::{Line, LineRefused};
@@ -33,6 +34,8 @@ pub(crate) fn serial_line(
 {
     // The port's contracts speak of its state, and a session of the trace of its calls.
     laws::steps_of_history();
+    laws::states_of_history();
+    laws::coherence();
     match line {
         SerialLine::Read { offset } => Ok(byte(serial.read(offset))),
         SerialLine::Write { offset, value } => Ok(write_result_reply(serial.write(offset, value))),
@@ -40,6 +43,7 @@ pub(crate) fn serial_line(
             Ok(enqueue_result_reply(serial.enqueue_raw_bytes(bytes.as_slice())))
         }
         SerialLine::Capacity => Ok(byte(serial.fifo_capacity() as u8)),
+        SerialLine::Drain => Ok(digits(&drain(serial))),
         SerialLine::Restore => restore(alloc, serial),
         SerialLine::Output => Ok(digits(serial.writer().bytes())),
         SerialLine::Calls => Ok(number(serial.interrupt_evt().calls())),

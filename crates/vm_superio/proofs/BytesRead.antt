@@ -1,11 +1,13 @@
 -- The bytes that a guest reads from the FIFO are the bytes taken.
 use Rattle.std.proofs.Common.{◌≡◌, ℕ, ◌<◌, Bool, true, false, List, [], ◌∷◌, ◌++◌, length, refl, ap, sym, subst, ◌∙◌, append_assoc, append-nil, arith}
-use Rattle.std.specs.Prelude.{slice_index}
+use Rattle.std.proofs.Math.Bool.{and-true, and-false}
+use Rattle.std.specs.Prelude.{slice_index, drop, if◌then◌else◌, ◌&&◌}
+use Rattle.vm_superio.specs.Port.Bits.{has_bits, without_bits}
 use Rattle.vm_superio.specs.declared.trace.Asked.{Asked}
 use Rattle.vm_superio.specs.declared.trace.Asked.TheVariants.{Nothing}
 use Rattle.vm_superio.specs.declared.trace.Sent.{Sent}
 use Rattle.vm_superio.specs.declared.trace.Sent.TheVariants as sent
-use Rattle.vm_superio.specs.Port.State.{State}
+use Rattle.vm_superio.specs.Port.State.{State, not_empty}
 use Rattle.vm_superio.specs.Port.Registers.{Register, RbrThr, Ier, Iir, register_at, is_dlab, is_loopback, register_read}
 use Rattle.vm_superio.specs.Port.Operations.{Op, Read, Write, Enqueue, Restore, TraceEntry, Response, ByteRead}
 use Rattle.vm_superio.specs.Port.OpKinds.{RbrRead, read_kind, write_kind, kind_of}
@@ -15,7 +17,8 @@ use Rattle.vm_superio.specs.History.Registers.{kind_at, dlab, loopback, accepted
 use Rattle.vm_superio.specs.History.Reads.{state_of_history, history_response, byte_read, bytes_read}
 use Rattle.vm_superio.specs.Run.Trace.{trace_after}
 use Rattle.vm_superio.specs.Laws.Consequences.{ReadsAreTakenLaw, ReadThenHeldLaw}
-use Rattle.vm_superio.specs.Laws.OneCall.{OneReadLaw, RbrReadLaw}
+use Rattle.vm_superio.specs.Laws.OneCall.{OneReadLaw, RbrReadLaw, RbrDataReadyLaw}
+use Rattle.vm_superio.proofs.Bytes.{data_ready_cleared}
 use Rattle.vm_superio.proofs.HeldBytes.{one_call, taken_then_held}
 
 -- an RBR read replies with the byte that it takes
@@ -84,6 +87,19 @@ rbr_read s byte hidden some response = record {
       (rw response (one_read s (Read 0) Nothing sent.Nothing)));
   others = kept (register_at (is_dlab s.line_control) 0) s;
 }
+
+-- LSR after a read that leaves these bytes
+ready_where : (left : List ℕ) (line_status : ℕ)
+    → has_bits (if not_empty left then line_status else without_bits line_status 0x01) 0x01
+    ≡ (has_bits line_status 0x01 && not_empty left)
+ready_where [] line_status = data_ready_cleared line_status ∙ sym (and-false (has_bits line_status 0x01))
+ready_where (byte ∷ left) line_status = sym (and-true (has_bits line_status 0x01))
+
+pub rbr_data_ready : RbrDataReadyLaw
+rbr_data_ready s hidden = subst
+    (λ latch. let new = read_step (register_at latch 0) s in
+    has_bits new.line_status 0x01 ≡ (has_bits s.line_status 0x01 && not_empty new.in_buffer))
+    (sym hidden) (ready_where (drop 1 s.in_buffer) s.line_status)
 
 of_call : (start : State) (trace : List TraceEntry) (op : Op) (asked : Asked) (sent : Sent) (reply : Response)
     → reply ≡ history_response start trace op asked sent

@@ -7,7 +7,7 @@
 ghost use Rattle.vm_superio.specs.Laws.Agreement.{RegisterLaw, HeldBytesLaw, LineStatusLaw, InterruptLaw, CoherenceLaw, StateLaw, ResponseLaw, StepLaw, CallLaw, WholeRunLaw};
 ghost use Rattle.vm_superio.specs.Laws.Consequences.{PendingByPrefixesLaw, TriggerBoundLaw, WaitingBytesLaw, SameReadsLaw, TakenThenHeldLaw, ReadsAreTakenLaw, ReadThenHeldLaw, OutputLaw};
 ghost use Rattle.vm_superio.specs.Laws.PollingDriver.{PollingDriverLaw, PollsBySightLaw};
-ghost use Rattle.vm_superio.specs.Laws.OneCall.{OneCallLaw, OneReadLaw, ReceivedLaw, RbrReadLaw, OutcomeEventsLaw, TurnedBitsLaw, AdmissibilityLaw};
+ghost use Rattle.vm_superio.specs.Laws.OneCall.{OneCallLaw, OneReadLaw, ReceivedLaw, RbrReadLaw, RbrDataReadyLaw, OutcomeEventsLaw, TurnedBitsLaw, AdmissibilityLaw};
 
 mod clock;
 
@@ -114,12 +114,13 @@ pub fn output()
 
 /// One call in any state: what it takes and then what is held after it is what was held and then what it accepts. What
 /// it takes is the byte that it gives a guest. Bytes that are received, and an RBR read, change nothing but the FIFO, LSR
-/// and IIR.
+/// and IIR. After an RBR read LSR shows data ready where it did before and a byte is left.
 pub fn one_call()
     ensures taken { OneCallLaw }
     ensures read { OneReadLaw }
     ensures received { ReceivedLaw }
     ensures rbr_read { RbrReadLaw }
+    ensures data_ready { RbrDataReadyLaw }
 {}
 
 /// One call in any state: a THR write reports exactly one of `out_byte` and `tx_lost_byte`, once, and no other call

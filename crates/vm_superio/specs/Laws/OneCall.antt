@@ -1,8 +1,9 @@
 -- The laws of one call, in any state.
-use Rattle.std.specs.Prelude.{◌≡◌, ◌↔◌, ℕ, zero, suc, Bool, true, false, if◌then◌else◌, List, ◌∷◌, ◌++◌, ◌<◌, length, count_by, IsTrue}
+use Rattle.std.specs.Prelude.{◌≡◌, ◌↔◌, ℕ, zero, suc, Bool, true, false, if◌then◌else◌, List, ◌∷◌, ◌++◌, ◌<◌, ◌&&◌, length, count_by, IsTrue}
 use Rattle.vm_superio.specs.declared.trace.Asked.{Asked}
 use Rattle.vm_superio.specs.declared.trace.Sent.{Sent}
-use Rattle.vm_superio.specs.Port.State.{State}
+use Rattle.vm_superio.specs.Port.Bits.{has_bits, lsr_dr_bit}
+use Rattle.vm_superio.specs.Port.State.{State, not_empty}
 use Rattle.vm_superio.specs.Port.Registers.{is_dlab}
 use Rattle.vm_superio.specs.Port.Operations.{Op, Read, ByteRead, Event, out_byte, tx_lost_byte, answer_count}
 use Rattle.vm_superio.specs.Port.OpKinds.{sent_by}
@@ -49,6 +50,12 @@ abbrev pub RbrReadLaw : Type 0
 RbrReadLaw = (s : State) (byte : ℕ) → is_dlab s.line_control ≡ false → 0 < length s.in_buffer
     → ByteRead byte ≡ step_response s (Read 0) Asked.Nothing Sent.Nothing
     → GivesOldest s (step s (Read 0) Asked.Nothing) byte
+
+-- after an RBR read LSR shows data ready where it did before and a byte is left
+abbrev pub RbrDataReadyLaw : Type 0
+RbrDataReadyLaw = (s : State) → is_dlab s.line_control ≡ false
+    → let new = step s (Read 0) Asked.Nothing in
+    has_bits new.line_status lsr_dr_bit ≡ (has_bits s.line_status lsr_dr_bit && not_empty new.in_buffer)
 
 -- the events that report the outcome of a byte
 abbrev pub reports_outcome : (event : Event) → Bool

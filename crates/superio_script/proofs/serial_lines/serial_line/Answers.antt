@@ -2,7 +2,7 @@
 use Rattle.std.proofs.Common.{None}
 use Rattle.vm_superio.specs.Port.Model.{write_response, enqueue_response, refusal_in_result}
 use Rattle.vm_superio.specs.Port.Operations.{ByteRead}
-use Rattle.superio_script.proofs.SerialScriptLemmas.{read-step, write-step, enqueue-step, capacity-step, output-step, calls-step, events-step}
+use Rattle.superio_script.proofs.SerialScriptLemmas.{read-step, drain-step, write-step, enqueue-step, capacity-step, output-step, calls-step, events-step}
 use Rattle.superio_script.proofs.serial_lines.serial_line.Goals as goal
 
 pub returns-in-Read-clause-step : goal.returns-in-Read-clause-step
@@ -26,10 +26,17 @@ pub returns-in-Capacity-clause-step : goal.returns-in-Capacity-clause-step
 returns-in-Capacity-clause-step c = rw (c.in-Capacity.is, c.byte-in-Capacity.ensures, c.fifo_capacity.ensures.value) (capacity-step c.args.serial.now)
 
 pub returns-in-Output-clause-step : goal.returns-in-Output-clause-step
-returns-in-Output-clause-step c = rw (c.in-Output.is, c.digits.ensures, c.bytes.ensures, c.writer.ensures) (output-step c.args.serial.now)
+returns-in-Output-clause-step c = rw (c.in-Output.is, c.digits-in-Output.ensures, c.bytes.ensures, c.writer.ensures) (output-step c.args.serial.now)
 
 pub returns-in-Calls-clause-step : goal.returns-in-Calls-clause-step
 returns-in-Calls-clause-step c = rw (c.in-Calls.is, c.number.ensures, c.calls.ensures, c.interrupt_evt.ensures) (calls-step c.args.serial.now)
 
 pub returns-in-Events-clause-step : goal.returns-in-Events-clause-step
 returns-in-Events-clause-step c = rw (c.in-Events.is, c.event_counts.ensures, c.events.ensures) (events-step c.args.serial.now)
+
+pub returns-in-Drain-clause-step : goal.returns-in-Drain-clause-step
+returns-in-Drain-clause-step c =
+    let made = c.drain.ensures in
+    rw (c.in-Drain.is, c.digits.ensures, c.deref.ensures.0)
+    (drain-step c.steps_of_history.ensures c.coherence.ensures c.states_of_history.ensures.state c.drain.result.items c.args.serial.now c.drain.new.serial
+    made.reads made.latch made.all)

@@ -1,5 +1,5 @@
 use Rattle.vm_superio.proofs.HeldBytes.{one_call, received}
-use Rattle.vm_superio.proofs.BytesRead.{one_read, rbr_read}
+use Rattle.vm_superio.proofs.BytesRead.{one_read, rbr_read, rbr_data_ready}
 use Rattle.vm_superio.proofs.laws.one_call.Goals as goal
 
 pub returns-clause-taken : goal.returns-clause-taken
@@ -13,3 +13,6 @@ returns-clause-received c = received
 
 pub returns-clause-rbr_read : goal.returns-clause-rbr_read
 returns-clause-rbr_read c = rbr_read
+
+pub returns-clause-data_ready : goal.returns-clause-data_ready
+returns-clause-data_ready c = rbr_data_ready

@@ -1,0 +1,104 @@
+-- A read of LCR or LSR changes nothing, and a read of RBR is the next one of those that take all bytes.
+use Rattle.std.proofs.Common.{◌≡◌, ◌≤◌, ◌+◌, ◌<◌, [], ◌∷◌, ◌++◌, length, true, false, sym, ap, ◌∙◌, subst, append_assoc, append-nil, refl, arith}
+use Rattle.std.proofs.lemmas.Bool.{false≢true}
+use Rattle.vm_superio.specs.Port.Bits.{has_bits}
+use Rattle.vm_superio.specs.Port.State.{State}
+use Rattle.vm_superio.specs.Port.Model.{Port}
+use Rattle.vm_superio.specs.Port.Registers.{is_dlab}
+use Rattle.vm_superio.specs.Step.PortStep.{IsReadStep}
+use Rattle.superio_script.specs.Driver.{IsReady, ReadsWhileReady}
+use Rattle.superio_script.proofs.DriverLemmas.{reads_left-few, lcr_read, lsr_read, pass, coherent_after, takes_all}
+use Rattle.superio_script.proofs.driver.drain.Goals as goal
+
+pub loop-bytes-init : goal.loop-bytes-init
+loop-bytes-init g c =
+    let T = g.row.T.Denot in
+    let EV = g.row.EV.Denot in
+    let W = g.row.W.Denot in
+    let same = c.read.ensures.other refl in
+    let value = lcr_read g.T.Trigger.link g.EV.SerialEvents.link g.W.Write.contents c.read.result c.args.serial.now c.read.new.self c.read.ensures.step in
+    record {
+      hidden = ap (λ (port : Port T EV W). is_dlab port.state.line_control) same
+          ∙ ap (λ byte. has_bits byte 0x80) (sym value) ∙ sym c.shows_latch.ensures ∙ c.if-shows_latch.false;
+      room = rw c.new-bytes.ensures (omega (arith, reads_left-few c.read.new.self.state c.read.ensures.few));
+      whole = λ later end h. rw c.new-bytes.ensures
+          (subst (λ (port : Port T EV W). ReadsWhileReady g.T.Trigger.link g.EV.SerialEvents.link g.W.Write.contents later port end) same h);
+      trigger = c.read.ensures.trigger;
+      out = c.read.ensures.out;
+    }
+
+pub push-requires : goal.push-requires
+push-requires g c =
+    let one = pass g.T.Trigger.link g.EV.SerialEvents.link g.W.Write.contents c.one_call.ensures.data_ready c.read-in-loop-bytes.result
+    c.read-in-loop-bytes-2.result c.loop-bytes.serial c.read-in-loop-bytes.new.self c.read-in-loop-bytes-2.new.self
+    c.loop-bytes.invariant.hidden c.read-in-loop-bytes.ensures.step (c.read-in-loop-bytes.ensures.other refl)
+    (sym c.shows_data.ensures ∙ c.loop-bytes-test.true) c.read-in-loop-bytes-2.ensures.step in
+    (omega arith, omega (arith, c.loop-bytes.invariant.room, one.less))
+
+pub loop-bytes-smaller : goal.loop-bytes-smaller
+loop-bytes-smaller g c =
+    let one = pass g.T.Trigger.link g.EV.SerialEvents.link g.W.Write.contents c.one_call.ensures.data_ready c.read-in-loop-bytes.result
+    c.read-in-loop-bytes-2.result c.loop-bytes.serial c.read-in-loop-bytes.new.self c.read-in-loop-bytes-2.new.self
+    c.loop-bytes.invariant.hidden c.read-in-loop-bytes.ensures.step (c.read-in-loop-bytes.ensures.other refl)
+    (sym c.shows_data.ensures ∙ c.loop-bytes-test.true) c.read-in-loop-bytes-2.ensures.step in
+    omega (arith, one.less)
+
+pub loop-bytes-preserved : goal.loop-bytes-preserved
+loop-bytes-preserved g c =
+    let before = c.loop-bytes.invariant in
+    let one = pass g.T.Trigger.link g.EV.SerialEvents.link g.W.Write.contents c.one_call.ensures.data_ready c.read-in-loop-bytes.result
+    c.read-in-loop-bytes-2.result c.loop-bytes.serial c.read-in-loop-bytes.new.self c.read-in-loop-bytes-2.new.self
+    c.loop-bytes.invariant.hidden c.read-in-loop-bytes.ensures.step (c.read-in-loop-bytes.ensures.other refl)
+    (sym c.shows_data.ensures ∙ c.loop-bytes-test.true) c.read-in-loop-bytes-2.ensures.step in
+    record {
+      hidden = one.hidden;
+      room = omega (arith, before.room, c.push.ensures.len, one.less);
+      whole = λ later end h. rw (c.push.ensures.items, append_assoc)
+          (before.whole (c.read-in-loop-bytes-2.result ∷ later) end (one.ready, (c.read-in-loop-bytes-2.new.self, one.made, h)));
+      trigger = c.read-in-loop-bytes-2.ensures.trigger ∙ c.read-in-loop-bytes.ensures.trigger ∙ before.trigger;
+      out = c.read-in-loop-bytes-2.ensures.out ∙ c.read-in-loop-bytes.ensures.out ∙ before.out;
+    }
+
+pub returns-clause-reads : goal.returns-clause-reads
+returns-clause-reads g c = rw (← append-nil c.loop-bytes.bytes.items)
+    (c.loop-bytes.invariant.whole [] c.read-in-loop-bytes.new.self (c.read-in-loop-bytes.ensures.other refl))
+
+pub returns-clause-few : goal.returns-clause-few
+returns-clause-few g c = omega (arith, c.loop-bytes.invariant.room)
+
+pub returns-clause-latch : goal.returns-clause-latch
+returns-clause-latch g c = λ set.
+    let value = lcr_read g.T.Trigger.link g.EV.SerialEvents.link g.W.Write.contents c.read.result c.args.serial.now c.read.new.self c.read.ensures.step in
+    let clear = ap (λ byte. has_bits byte 0x80) (sym value) ∙ sym c.shows_latch.ensures ∙ c.if-shows_latch.false in
+    absurd (false≢true (sym clear ∙ set))
+
+pub returns-clause-ends : goal.returns-clause-ends
+returns-clause-ends g c = λ hidden.
+    let value = lsr_read g.T.Trigger.link g.EV.SerialEvents.link g.W.Write.contents c.read-in-loop-bytes.result c.loop-bytes.serial c.read-in-loop-bytes.new.self
+    c.read-in-loop-bytes.ensures.step in
+    ap (λ (port : Port g.row.T.Denot g.row.EV.Denot g.row.W.Denot). has_bits port.state.line_status 0x01) (c.read-in-loop-bytes.ensures.other refl)
+    ∙ ap (λ byte. has_bits byte 0x01) (sym value) ∙ sym c.shows_data.ensures ∙ c.loop-bytes-test.false
+
+pub returns-clause-trigger : goal.returns-clause-trigger
+returns-clause-trigger g c = c.read-in-loop-bytes.ensures.trigger ∙ c.loop-bytes.invariant.trigger
+
+pub returns-clause-out : goal.returns-clause-out
+returns-clause-out g c = c.read-in-loop-bytes.ensures.out ∙ c.loop-bytes.invariant.out
+
+pub returns-clause-all : goal.returns-clause-all
+returns-clause-all g c = λ is hidden.
+    takes_all g.T.Trigger.link g.EV.SerialEvents.link g.W.Write.contents g.met.EV.SerialEvents.no_event g.met.EV.SerialEvents.joined
+    c.coherence.ensures c.loop-bytes.bytes.items c.args.serial.now c.read-in-loop-bytes.new.self is hidden (returns-clause-reads g c)
+    (returns-clause-ends g c hidden)
+
+pub returns-clause-no_loss : goal.returns-clause-no_loss
+returns-clause-no_loss g c = λ is.
+    let value = lcr_read g.T.Trigger.link g.EV.SerialEvents.link g.W.Write.contents c.read.result c.args.serial.now c.read.new.self c.read.ensures.step in
+    let clear = ap (λ byte. has_bits byte 0x80) (sym value) ∙ sym c.shows_latch.ensures ∙ c.if-shows_latch.false in
+    let all = returns-clause-all g c is clear in
+    ap (λ (s : State). c.loop-bytes.bytes.items ++ s.in_buffer) all.state ∙ append-nil c.loop-bytes.bytes.items ∙ all.bytes
+
+pub returns-clause-coherent : goal.returns-clause-coherent
+returns-clause-coherent g c = λ is.
+    coherent_after g.T.Trigger.link g.EV.SerialEvents.link g.W.Write.contents g.met.EV.SerialEvents.no_event g.met.EV.SerialEvents.joined
+    c.coherence.ensures c.loop-bytes.bytes.items c.args.serial.now c.read-in-loop-bytes.new.self is (returns-clause-reads g c)

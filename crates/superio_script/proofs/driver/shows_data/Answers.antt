@@ -1,0 +1,7 @@
+use Rattle.std.proofs.Common.{refl}
+use Rattle.vm_superio.specs.Port.Bits.{has_bits}
+use Rattle.superio_script.proofs.driver.shows_data.Goals as goal
+
+pub returns : goal.returns
+unfolding has_bits
+returns c = refl

@@ -1,0 +1,74 @@
+//! A driver on the guest's side of a serial port.
+ghost use Rattle.std.specs.Prelude.{◌≡◌, ◌≤◌, [], ◌++◌, length, false, IsTrue};
+ghost use Rattle.vm_superio.specs.Port.Bits.{has_bits, lcr_dlab_bit, lsr_dr_bit};
+ghost use Rattle.vm_superio.specs.Port.Coherent.{Coherent};
+ghost use Rattle.vm_superio.specs.Port.Registers.{is_dlab};
+ghost use Rattle.superio_script.specs.Driver.{ReadsWhileReady, TakesAll};
+
+use arrayvec::ArrayVec;
+use std::io::Write;
+use vm_superio::serial::SerialEvents;
+use vm_superio::{Serial, Trigger, laws};
+
+/// The offset of RBR, while DLAB is clear.
+const RBR_OFFSET: u8 = 0;
+/// The offset of LCR.
+const LCR_OFFSET: u8 = 3;
+/// The offset of LSR.
+const LSR_OFFSET: u8 = 5;
+
+/// LCR: the divisor latch is at offsets 0 and 1.
+const LCR_DLAB_BIT: u8 = 0x80;
+/// LSR: data ready.
+const LSR_DATA_READY_BIT: u8 = 0x01;
+
+/// Reads the bytes that a serial port holds, as a guest's driver does that polls: while LSR shows data ready, it reads
+/// RBR. Returns the bytes, oldest first. Where LCR has DLAB set, RBR cannot be reached: it returns no byte then, and makes
+/// no further access.
+///
+/// Of a port in a coherent state, with DLAB clear, these are all bytes that it holds. In any other state the driver stops
+/// after at most 64 reads of RBR too. It takes no memory.
+pub fn drain<T: Trigger, EV: SerialEvents, W: Write>(
+    serial: &mut Serial<T, EV, W>,
+) -> ArrayVec<u8, 64>
+    // In any state.
+    ensures reads { ReadsWhileReady T.link EV.link W.contents result.items serial.old serial.new }
+    ensures few { length result.items ≤ 64 }
+    ensures latch { IsTrue (is_dlab serial.old.state.line_control) → result.items ≡ [] }
+    ensures ends { is_dlab serial.old.state.line_control ≡ false
+        → has_bits serial.new.state.line_status lsr_dr_bit ≡ false }
+    ensures trigger { serial.new.trigger ≡ serial.old.trigger }
+    ensures out { serial.new.out ≡ serial.old.out }
+
+    // From a coherent state.
+    ensures all { Coherent serial.old.state → is_dlab serial.old.state.line_control ≡ false
+        → TakesAll EV.link result.items serial.old serial.new }
+    ensures no_loss { Coherent serial.old.state
+        → result.items ++ serial.new.state.in_buffer ≡ serial.old.state.in_buffer }
+    ensures coherent { Coherent serial.old.state → Coherent serial.new.state }
+{
+    laws::coherence();
+    laws::one_call();
+    let mut bytes = ArrayVec::new();
+    if shows_latch(serial.read(LCR_OFFSET)) {
+        return bytes;
+    }
+    while shows_data(serial.read(LSR_OFFSET)) {
+        bytes.push(serial.read(RBR_OFFSET));
+    }
+    bytes
+}
+
+/// Whether LCR has DLAB set.
+fn shows_latch(line_control: u8) -> bool
+    ensures { result ≡ has_bits line_control lcr_dlab_bit }
+{
+    line_control & LCR_DLAB_BIT == LCR_DLAB_BIT
+}
+
+/// Whether LSR has data ready set.
+fn shows_data(line_status: u8) -> bool
+    ensures { result ≡ has_bits line_status lsr_dr_bit }
+{
+    line_status & LSR_DATA_READY_BIT == LSR_DATA_READY_BIT
+}
