@@ -111,6 +111,9 @@ def count_cases(cases, script, answer):
             cases[f"{name} at offset {int(fields[0], 16)}, DLAB {'set' if line_control & 0x80 else 'clear'}"] += 1
             if fields[0] == b"00" and not line_control & 0x80:
                 cases[f"data {name}, loopback {'set' if modem_control & 0x10 else 'clear'}"] += 1
+        if name == "sd":
+            cases["sd replies no byte" if reply == b"" else "sd replies bytes"] += 1
+            cases[f"sd, DLAB {'set' if line_control & 0x80 else 'clear'}"] += 1
         if name == "sq":
             cases[f"sq, loopback {'set' if modem_control & 0x10 else 'clear'}"] += 1
         if name == "sw" and fields[0] == b"00" and not line_control & 0x80 and not modem_control & 0x10:
@@ -148,7 +151,7 @@ KINDS = {
     "129 bytes": lambda line: line.startswith(b"sq ") and len(line) > 259,
     "upper-case name": lambda line: line.split(b" ")[0] != line.split(b" ")[0].lower(),
     "unknown name": lambda line: line.split(b" ")[0] not in
-        (b"sr", b"sw", b"sq", b"sc", b"ss", b"so", b"st", b"se", b"cr", b"cw", b"kr", b"kw", b"refuse"),
+        (b"sr", b"sw", b"sq", b"sc", b"sd", b"ss", b"so", b"st", b"se", b"cr", b"cw", b"kr", b"kw", b"refuse"),
     "field too many": lambda line: line.count(b" ") > WANTED[line.split(b" ")[0]],
     "field too few": lambda line: line.count(b" ") < WANTED[line.split(b" ")[0]],
     "no digit": lambda line: any(byte not in b"0123456789abcdefABCDEF " for byte in line.partition(b" ")[2]),
@@ -156,7 +159,7 @@ KINDS = {
 }
 
 # How many fields stand behind a name, at the most.
-WANTED = {b"sr": 1, b"sw": 2, b"sq": 1, b"sc": 0, b"ss": 0, b"so": 0, b"st": 0, b"se": 0, b"cr": 2, b"cw": 3, b"kr": 1,
+WANTED = {b"sr": 1, b"sw": 2, b"sq": 1, b"sc": 0, b"sd": 0, b"ss": 0, b"so": 0, b"st": 0, b"se": 0, b"cr": 2, b"cw": 3, b"kr": 1,
           b"kw": 2, b"refuse": 1}
 
 

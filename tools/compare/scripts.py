@@ -33,7 +33,7 @@ MALFORMED = {
     "tab": lambda r: b"sr\t00",
     "upper-case name": lambda r: r.choice([b"SR 00", b"Sw 00 00", b"sQ 61", b"SC", b"SS", b"SO", b"ST", b"SE", b"KR 04",
                                            b"KW 04 fe", b"CR 0000000000000000 0000", b"cW 0000000000000000 0000 00000000"]),
-    "unknown name": lambda r: r.choice([b"s", b"sd", b"sx", b"srr 00", b"xr 00", b"k", b"cq", b"hello", b"refused"]),
+    "unknown name": lambda r: r.choice([b"s", b"sb", b"sx", b"srr 00", b"xr 00", b"k", b"cq", b"hello", b"refused"]),
     "129 bytes": lambda r: b"sq " + b"41" * 129,
     "later refuse": lambda r: b"refuse %016x" % r.getrandbits(64),
 }
@@ -68,9 +68,9 @@ def serial_enqueue(r):
 
 def serial_line(r):
     return r.choices([
-        serial_read, serial_write, serial_enqueue, lambda r: b"sc", lambda r: b"ss", lambda r: b"so", lambda r: b"st",
-        lambda r: b"se",
-    ], [30, 30, 10, 6, 8, 4, 6, 6])[0](r)
+        serial_read, serial_write, serial_enqueue, lambda r: b"sc", lambda r: b"sd", lambda r: b"ss", lambda r: b"so",
+        lambda r: b"st", lambda r: b"se",
+    ], [30, 30, 10, 6, 4, 8, 4, 6, 6])[0](r)
 
 
 def moment(r):

@@ -3,6 +3,7 @@
 #![tactic(auto)]
 
 pub mod bus;
+pub mod driver;
 pub mod first_claim;
 pub mod input;
 pub mod migration;

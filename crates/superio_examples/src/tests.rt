@@ -1,5 +1,6 @@
 //! The modules at work, over the objects of a script's board.
 use crate::bus::{Bus, BusError};
+use crate::driver::{receive_all, run_polled};
 use crate::first_claim::read_back;
 use crate::input::Input;
 use crate::migration::{restore, save};
@@ -8,6 +9,7 @@ use std::io::{ErrorKind, sink};
 use std::test::Fail;
 use superio_script::{Counts, Line, LineRefused, Output};
 use superio_test_objects::{Target, WriteOutcome};
+use vm_superio::run::{Call, Reply};
 use vm_superio::serial::{Error, NoEvents, Refused};
 use vm_superio::{I8042Device, Rtc, Serial};
 
@@ -178,5 +180,40 @@ fn every_byte_of_the_input_is_read_once(rt: HostRuntime) -> Result<(), Fail> {
     }
     assert_eq!(rt; serial.read(5), 0x60);
     assert_eq!(rt; input.waiting(), [].as_slice());
+    Ok(())
+}
+
+#[test]
+fn a_driver_that_drains_receives_all_input(rt: HostRuntime) -> Result<(), Fail> {
+    let alloc = rt.alloc();
+    let serial = Serial::new(alloc, Line::new(0), Output::new());
+    let mut serial = serial.map_err(Refused::into_error)?;
+    serial.enqueue_raw_bytes(b"held")?;
+    let input = [b'x'; 150];
+    let got = receive_all(alloc, &mut serial, &input)?;
+    let want = [b"held".as_slice(), &input].concat(alloc)?;
+    assert_eq!(rt; got.as_slice(), want.as_slice());
+    assert_eq!(rt; serial.fifo_capacity(), 64);
+    Ok(())
+}
+
+#[test]
+fn a_run_of_a_driver_that_polls_reads_what_was_enqueued(rt: HostRuntime) -> Result<(), Fail> {
+    let alloc = rt.alloc();
+    let serial = Serial::new(alloc, Line::new(0), Output::new());
+    let mut serial = serial.map_err(Refused::into_error)?;
+    let mut calls = Vec::new(alloc);
+    calls.push(Call::Enqueue(b"ab".to_vec(alloc)?))?;
+    for offset in [5, 0, 5, 0, 5] {
+        calls.push(Call::Read(offset))?;
+    }
+    let done = run_polled(alloc, &mut serial, calls)?;
+    let mut read = Vec::new(alloc);
+    for done in &done {
+        if let Reply::Byte(byte) = done.reply {
+            read.push(byte)?;
+        }
+    }
+    assert_eq!(rt; read.as_slice(), b"\x61a\x61b\x60".as_slice());
     Ok(())
 }

@@ -8,11 +8,12 @@ use superio_script::{ScriptFault, run_script};
 use superio_test_objects::{EVERY_FORM, EVERY_REPLY};
 
 /// The forms of a line, with a `#` for each digit. Those of `sq` with bytes are not here, nor `refuse`.
-const FORMS: [&[u8]; 12] = [
+const FORMS: [&[u8]; 13] = [
     b"sr ##",
     b"sw ## ##",
     b"sq",
     b"sc",
+    b"sd",
     b"ss",
     b"so",
     b"st",
@@ -174,7 +175,7 @@ fn every_prefix_of_a_script_ends_as_the_forms_say(rt: HostRuntime) -> Result<(),
         expect_prefixes(&rt, alloc, TWO_INTERRUPTS, TWO_INTERRUPTS_REPLIES),
         expect_prefixes(&rt, alloc, FULL, FULL_REPLIES),
     ];
-    assert_eq!(rt; judged, [195, 262, 357]);
+    assert_eq!(rt; judged, [198, 262, 357]);
     Ok(())
 }
 

@@ -5,6 +5,8 @@
 #[cfg(test)]
 mod broken;
 #[cfg(test)]
+mod driver;
+#[cfg(test)]
 mod objects;
 #[cfg(test)]
 mod sample;

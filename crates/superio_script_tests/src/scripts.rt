@@ -20,7 +20,7 @@ pub fn expect_run(
 
 #[test]
 fn scripts_print_their_replies(rt: HostRuntime) {
-    let rows: [(&[u8], &[u8], Result<(), ScriptFault>); 29] = [
+    let rows: [(&[u8], &[u8], Result<(), ScriptFault>); 33] = [
         // An empty script has no line, and a script of one LF has one, which is bad.
         (b"", b"", Ok(())),
         (b"\n", b"", Err(ScriptFault::Bad(1))),
@@ -61,6 +61,27 @@ fn scripts_print_their_replies(rt: HostRuntime) {
         (
             b"sr 00\nsw 00 41\nse\n",
             b"00\nok\n0000000000000001 0000000000000001 0000000000000000 0000000000000001\n",
+            Ok(()),
+        ),
+        // Drained: a driver reads RBR while LSR shows data ready, and no other register that a read changes.
+        (
+            b"sw 01 01\nsq 616263\nsd\nsd\nse\nsr 02\n",
+            b"ok\n03\n616263\n\n0000000000000003 0000000000000000 0000000000000000 0000000000000001\nc1\n",
+            Ok(()),
+        ),
+        (
+            b"sq 61\nsw 03 80\nsd\nsw 03 03\nsd\n",
+            b"01\nok\n\nok\n61\n",
+            Ok(()),
+        ),
+        (
+            b"sq 41414141414141414141414141414141414141414141414141414141414141414141414141414141414141414141414141414141414141414141414141414141\nsd\nsc\n",
+            b"40\n41414141414141414141414141414141414141414141414141414141414141414141414141414141414141414141414141414141414141414141414141414141\n40\n",
+            Ok(()),
+        ),
+        (
+            b"sw 01 02\nsq 41\nsd\nst\nsr 02\n",
+            b"ok\n01\n41\n0000000000000001\nc2\n",
             Ok(()),
         ),
         // Saved and restored: the line is called again for each condition that is pending and enabled.
@@ -145,7 +166,7 @@ fn scripts_print_their_replies(rt: HostRuntime) {
 
 #[test]
 fn lines_without_a_form_are_bad(rt: HostRuntime) -> Result<(), Fail> {
-    let lines: [&[u8]; 58] = [
+    let lines: [&[u8]; 59] = [
         b"sr 5",
         b"sr 005",
         b"sr 0g",
@@ -182,8 +203,9 @@ fn lines_without_a_form_are_bad(rt: HostRuntime) -> Result<(), Fail> {
         b"st 00",
         b"se 00",
         b"se ",
-        b"sd",
+        b"sb",
         b"sd 00",
+        b"sd ",
         b"cr 0000000000000000",
         b"cr 000000000000000 0000",
         b"cr 00000000000000000 0000",

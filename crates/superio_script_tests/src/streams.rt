@@ -46,7 +46,7 @@ fn a_script_may_come_in_pieces_of_any_size(rt: HostRuntime) -> Result<(), Fail> 
             end: Ok(()),
             printed: &text,
             reads,
-            writes: 17,
+            writes: EVERY_REPLY.len(),
             flushes: 1,
         };
         let reader = Source::in_pieces(EVERY_FORM, piece);
@@ -143,7 +143,7 @@ fn a_read_that_fails_leaves_nothing_written(rt: HostRuntime) {
         let failed = expect_read_faults(&rt, rt.alloc(), kind, bytes.0, bytes.1);
         faults = faults.saturating_add(failed);
     }
-    assert_eq!(rt; faults, 42 * 50 + 3 * 195);
+    assert_eq!(rt; faults, 42 * 52 + 3 * 198);
 }
 
 #[test]
@@ -232,7 +232,7 @@ fn a_write_that_fails_ends_the_run(rt: HostRuntime) -> Result<(), Fail> {
             faults = faults.saturating_add(1);
         }
     }
-    assert_eq!(rt; faults, 42 * 17);
+    assert_eq!(rt; faults, 42 * 18);
     Ok(())
 }
 
@@ -241,11 +241,11 @@ fn a_write_of_a_part_of_a_reply_that_fails_ends_the_run(rt: HostRuntime) -> Resu
     let mut faults = 0u32;
     for kind in FEW_KINDS {
         // One byte goes out at a time.
-        for number in 0..149 {
+        for number in 0..158 {
             let fault = WriteFault {
                 kind,
                 piece: 1,
-                writes: 149,
+                writes: 158,
                 number,
                 before: number,
             };
@@ -253,7 +253,7 @@ fn a_write_of_a_part_of_a_reply_that_fails_ends_the_run(rt: HostRuntime) -> Resu
             faults = faults.saturating_add(1);
         }
     }
-    assert_eq!(rt; faults, 3 * 149);
+    assert_eq!(rt; faults, 3 * 158);
     Ok(())
 }
 

@@ -35,8 +35,9 @@ impl Board {
                 Err(error) => reply_to(Err(error)),
             },
             Command::SerialCapacity => format!("{:02x}", self.serial.fifo_capacity()),
+            Command::SerialDrain => digits(&self.drain_serial()),
             Command::SerialRestore => reply_to(self.restore_serial()),
-            Command::SerialOutput => self.serial.writer().bytes().iter().map(|byte| format!("{byte:02x}")).collect(),
+            Command::SerialOutput => digits(self.serial.writer().bytes()),
             Command::SerialCalls => format!("{:016x}", self.serial.interrupt_evt().calls()),
             Command::SerialEvents => reported(self.serial.events()),
             Command::ClockRead { moment, offset } => self.read_clock(moment, offset),
@@ -44,6 +45,18 @@ impl Board {
             Command::ControllerRead { offset } => format!("{:02x}", self.controller.read(offset)),
             Command::ControllerWrite { offset, value } => self.write_controller(offset, value),
         }
+    }
+
+    /// Reads RBR while LSR shows data ready, as a driver does. With DLAB set it makes no such read.
+    fn drain_serial(&mut self) -> Vec<u8> {
+        let mut bytes = Vec::new();
+        if self.serial.read(3) & 0x80 != 0 {
+            return bytes;
+        }
+        while self.serial.read(5) & 0x01 != 0 {
+            bytes.push(self.serial.read(0));
+        }
+        bytes
     }
 
     /// Replaces the port by one that is restored from its state. If that is refused the old port stays.
@@ -93,6 +106,10 @@ impl Board {
 
 fn fresh_controller() -> I8042Device<Line> {
     I8042Device::new(Line::new(0))
+}
+
+fn digits(bytes: &[u8]) -> String {
+    bytes.iter().map(|byte| format!("{byte:02x}")).collect()
 }
 
 fn reply_to(result: Result<(), Error<Refused>>) -> String {

@@ -1,0 +1,65 @@
+//! A guest's claims: a driver that polls gets every byte, in order.
+ghost use Rattle.std.specs.Prelude.{◌≡◌, [], ◌++◌, false, IfOk, IsTrue};
+ghost use Rattle.vm_superio.specs.History.Registers.{accepted_bytes};
+ghost use Rattle.vm_superio.specs.Laws.PollingDriver.{driver_bytes, polls_by_sight};
+ghost use Rattle.vm_superio.specs.Port.Coherent.{Coherent};
+ghost use Rattle.vm_superio.specs.Port.Registers.{is_dlab, is_loopback};
+ghost use Rattle.vm_superio.specs.Run.Trace.{entries_of, trace_of, RecordsOf};
+
+use std::alloc::{AllocError, Global};
+use std::io::Write;
+use superio_script::drain;
+use vm_superio::run::{Call, Done, run};
+use vm_superio::serial::{Error, SerialEvents};
+use vm_superio::{Serial, Trigger, laws};
+
+/// Makes the calls of a host and of a guest, in order, and returns a record of each. Where the guest polls, its driver
+/// gets all bytes that the port holds at first and then all that it accepts, in order, but those that are still held.
+///
+/// # Errors
+///
+/// `AllocError` where memory for the records was refused. No call was made then.
+pub fn run_polled<T: Trigger + Drop, EV: SerialEvents + Drop, W: Write + Drop>(
+    alloc: Global,
+    serial: &mut Serial<T, EV, W>,
+    calls: Vec<Call<T, EV, W>>,
+) -> Result<Vec<Done<T, EV, W>>, AllocError>
+    ensures records { Coherent serial.old.state → IfOk result (λ done. RecordsOf calls.items done.items) }
+    ensures in_order { Coherent serial.old.state → IfOk result (λ done.
+        IsTrue (polls_by_sight serial.old.state [] false (entries_of done.items))
+        → driver_bytes serial.old.state [] (entries_of done.items) ++ serial.new.state.in_buffer
+        ≡ serial.old.state.in_buffer ++ accepted_bytes serial.old.state (trace_of done.items)) }
+{
+    laws::polling_driver();
+    run(alloc, serial, calls)
+}
+
+/// Passes input to a guest whose driver drains the port after each piece. Returns what the driver got: the bytes that
+/// were held, and then all of the input.
+///
+/// # Errors
+///
+/// [`Error::Trigger`] where the trigger refused an interrupt: the guest may not have got all input then.
+/// [`Error::Memory`] where memory for the bytes was refused.
+pub fn receive_all<T: Trigger, EV: SerialEvents, W: Write>(
+    alloc: Global,
+    serial: &mut Serial<T, EV, W>,
+    input: &[u8],
+) -> Result<Vec<u8>, Error<T::E>>
+    requires coherent { Coherent serial.old.state }
+    requires latch { is_dlab serial.old.state.line_control ≡ false }
+    requires loopback { is_loopback serial.old.state.modem_control ≡ false }
+    ensures in_order { IfOk result (λ got. got.items ≡ serial.old.state.in_buffer ++ input.now) }
+{
+    laws::one_call();
+    let mut got = drain(serial).to_vec(alloc)?;
+    let mut rest = input;
+    while !rest.is_empty() {
+        // A drained port has room for 64 bytes.
+        let (piece, later) = rest.split_at(rest.len().min(64));
+        serial.enqueue_raw_bytes(piece)?;
+        got.extend_from_slice(&drain(serial))?;
+        rest = later;
+    }
+    Ok(got)
+}
