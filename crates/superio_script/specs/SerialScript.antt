@@ -131,8 +131,8 @@ abbrev pub session_after_reads : (count : ℕ) (session : Session) → Session
 session_after_reads zero session = session
 session_after_reads (suc count) session = session_after_reads count (session_after_call session (Read 0) Sent.Nothing)
 
--- a driver reads as many bytes as are held, and replies with them; with DLAB set it makes no such read, and replies with
--- none
+-- a driver reads as many bytes as are held, and replies with them; with DLAB set it makes no such read, and replies
+-- with none
 abbrev pub drained_bytes : (session : Session) → List ℕ
 drained_bytes session =
     if dlab fresh_state session.trace then [] else held_bytes fresh_state session.trace

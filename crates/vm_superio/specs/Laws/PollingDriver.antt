@@ -20,15 +20,15 @@ driver_bytes start trace (call ∷ later) =
 
 -- ---- data ready shows at each RBR read
 
--- each RBR read is made where a read of LSR would show data ready. Everything else, arrivals among it, comes as it likes
+-- each RBR read is made where a read of LSR would show data ready. What else is called plays no part
 abbrev pub polls : (start : State) (trace : Trace) (calls : List (TraceEntry × Response)) → Bool
 polls start trace [] = true
 polls start trace (call ∷ later) =
     (not (is_rbr_read (kind_at start trace call.0.op)) || has_bits (guest_read start trace 5) lsr_dr_bit)
     && polls start (call.0 ∷ trace) later
 
--- what the driver has got, then what is held, is what was held at the start, then what was accepted: it gets every byte,
--- in order, and no other
+-- what the driver has got, then what is held, is what was held at the start, then what was accepted: it gets every
+-- byte, in order, and no other
 abbrev pub PollingDriverLaw : Type 0
 PollingDriverLaw = (start : State) (calls : List (TraceEntry × Response)) → ResponsesAre start [] calls
     → IsTrue (polls start [] calls)
