@@ -76,17 +76,26 @@ impl Condition {
 
 /// The nine register bytes of a port, in the order of a saved state. The received bytes stand beside them.
 #[repr(C)]
-#[derive(Clone, Copy)]
-pub(super) struct Registers {
-    pub(super) baud_divisor_low: u8,
-    pub(super) baud_divisor_high: u8,
-    pub(super) interrupt_enable: u8,
-    pub(super) interrupt_identification: u8,
-    pub(super) line_control: u8,
-    pub(super) line_status: u8,
-    pub(super) modem_control: u8,
-    pub(super) modem_status: u8,
-    pub(super) scratch: u8,
+#[derive(Clone, Copy, Debug, Eq, PartialEq)]
+pub struct Registers {
+    /// DLL, the low byte of the divisor latch.
+    pub baud_divisor_low: u8,
+    /// DLM, the high byte of the divisor latch.
+    pub baud_divisor_high: u8,
+    /// IER.
+    pub interrupt_enable: u8,
+    /// IIR without bits 0xC0.
+    pub interrupt_identification: u8,
+    /// LCR.
+    pub line_control: u8,
+    /// LSR.
+    pub line_status: u8,
+    /// MCR.
+    pub modem_control: u8,
+    /// MSR.
+    pub modem_status: u8,
+    /// SCR.
+    pub scratch: u8,
 }
 
 impl Registers {
@@ -170,6 +179,12 @@ impl Registers {
         ensures { result ≡ is_loopback self.now.modem_control }
     {
         has_bits(self.modem_control, MCR_LOOP_BIT)
+    }
+
+    /// Whether a condition is pending and enabled.
+    pub(super) fn is_asserted(&self, condition: Condition) -> bool {
+        has_bits(self.interrupt_identification, condition.iir_bit())
+            && has_bits(self.interrupt_enable, condition.ier_bit())
     }
 
     /// MSR as it is read: in loopback its high four bits show the outputs of MCR, DTR as DSR, RTS as CTS, OUT1 as RI
