@@ -1,6 +1,9 @@
 -- Sixty-four places in a ring, as a list from the oldest byte's place on.
-use Rattle.std.proofs.Common.{◌≡◌, ℕ, zero, suc, ◌+◌, ◌-◌, ◌<◌, ◌≤◌, ◌%◌, ◌⊎◌, List, [], ◌∷◌, ◌++◌, length, take, drop, set, get_or, refl, sym, ap, ◌∙◌, subst, inl, inr, arith, length-append, length-take, length-drop, append-nil}
-use Rattle.std.proofs.lemmas.List.{drop-set-lt, drop-set-add, take-set-le, set-append_left, set-append_right, take-append-le, take_more_set, drop_all}
+use Rattle.std.proofs.Common.{◌≡◌, ℕ, suc, ◌+◌, ◌-◌, ◌<◌, ◌≤◌, ◌%◌, List, [], ◌∷◌, ◌++◌, length, take, drop, set, get_or, sym, ap, ◌∙◌, inl, inr, arith, length-append, length-take, length-drop, append-nil, slice_get, Some}
+use Rattle.std.proofs.lemmas.List.{drop-set-lt, drop-set-add, take-set-le, set-append_left, set-append_right, take-append-le, take_more_set, drop_all, append_assoc, take-take}
+use Rattle.std.proofs.lemmas.Bool.{cases_lt}
+use Rattle.std.proofs.lemmas.Nat.{mod_below}
+use Rattle.std.proofs.Math.Nat.{mod-mod}
 use Rattle.std.proofs.Math.Seq.{take-set-lt, drop-cons, take-suc}
 
 abbrev from : (start : ℕ) (places : List ℕ) → List ℕ
@@ -38,9 +41,66 @@ from-set p d j xs b long pn dn jn (after at) =
     ∙ sym (set-append_right (drop p xs) (take p xs) (64 - p) d b far (omega arith))
 
 -- one more byte behind those that are held
-pub take-from-set :
+take-from-set :
     (p d j : ℕ) (xs : List ℕ) (b : ℕ) → length xs ≡ 64 → p < 64 → d < 64 → j < 64
     → Lies p d j → take (d + 1) (from p (set xs j b)) ≡ take d (from p xs) ++ b ∷ []
 take-from-set p d j xs b long pn dn jn at =
     let inside : d < length (from p xs) = omega (arith, length-from p xs (omega arith)) in
     ap (take (d + 1)) (from-set p d j xs b long pn dn jn at) ∙ take_more_set (from p xs) d b inside
+
+lies : (f d : ℕ) → d < 64 → Lies (f % 64) d ((f + d) % 64)
+lies f d dn =
+    let pn : f % 64 < 64 = mod_below f 64 (omega arith) in
+    let jn : (f + d) % 64 < 64 = mod_below (f + d) 64 (omega arith) in
+    elim (cases_lt (f % 64 + d) 64) [
+      | inl near ↦ before (omega arith)
+      | inr far ↦ after (omega arith)
+    ]
+
+-- a byte in the first place past the ring's first d bytes
+pub take-ring-set :
+    (f d : ℕ) (xs : List ℕ) (b : ℕ) → length xs ≡ 64 → d < 64
+    → take (d + 1) (from (f % 64) (set xs ((f + d) % 64) b)) ≡ take d (from (f % 64) xs) ++ b ∷ []
+take-ring-set f d xs b long dn =
+    take-from-set (f % 64) d ((f + d) % 64) xs b long (mod_below f 64 (omega arith)) dn
+    (mod_below (f + d) 64 (omega arith)) (lies f d dn)
+
+-- the ring without its oldest byte
+ring-rest :
+    (p q n : ℕ) (xs : List ℕ) → length xs ≡ 64 → p < 64 → n < 64 → Lies p 1 q
+    → take n (from q xs) ≡ drop 1 (take (suc n) (from p xs))
+ring-rest p q n xs long pn le (before at) =
+    let r = drop (suc p) xs ++ take p xs in
+    let head : drop p xs ≡ get_or xs p 0 ∷ drop (suc p) xs = drop-cons xs p 0 (omega arith) in
+    let last : take (suc p) xs ≡ take p xs ++ get_or xs p 0 ∷ [] = take-suc xs p 0 (omega arith) in
+    let fits : n ≤ length r =
+        omega (arith, length-append (drop (suc p) xs) (take p xs), length-drop (suc p) xs, length-take p xs) in
+    let next : q ≡ suc p = omega arith in
+    ap (λ k. take n (from k xs)) next
+    ∙ ap (λ l. take n (drop (suc p) xs ++ l)) last
+    ∙ ap (take n) (sym (append_assoc (drop (suc p) xs) (take p xs) (get_or xs p 0 ∷ [])))
+    ∙ take-append-le n r (get_or xs p 0 ∷ []) fits
+    ∙ sym (ap (λ l. drop 1 (take (suc n) (l ++ take p xs))) head)
+ring-rest p q n xs long pn le (after at) =
+    let head : drop p xs ≡ get_or xs p 0 ∷ drop (suc p) xs = drop-cons xs p 0 (omega arith) in
+    let none : drop (suc p) xs ≡ [] = drop_all (suc p) xs (omega arith) in
+    let begin : q ≡ 0 = omega arith in
+    ap (λ k. take n (from k xs)) begin
+    ∙ ap (take n) (append-nil xs)
+    ∙ sym (take-take n p xs (omega arith))
+    ∙ sym (ap (λ l. drop 1 (take (suc n) (l ++ take p xs))) head ∙ ap (λ l. take n (l ++ take p xs)) none)
+
+pub take-ring-rest :
+    (f n : ℕ) (xs : List ℕ) → length xs ≡ 64 → n < 64
+    → take n (from ((f + 1) % 64 % 64) xs) ≡ drop 1 (take (suc n) (from (f % 64) xs))
+take-ring-rest f n xs long le =
+    ap (λ k. take n (from k xs)) (mod-mod (f + 1) 64)
+    ∙ ring-rest (f % 64) ((f + 1) % 64) n xs long (mod_below f 64 (omega arith)) le (lies f 1 (omega arith))
+
+-- the oldest byte
+pub ring-first :
+    (f n : ℕ) (xs : List ℕ) → length xs ≡ 64
+    → slice_get (take (suc n) (from (f % 64) xs)) 0 ≡ Some (get_or xs (f % 64) 0)
+ring-first f n xs long =
+    let pn : f % 64 < 64 = mod_below f 64 (omega arith) in
+    ap (λ l. slice_get (take (suc n) (l ++ take (f % 64) xs)) 0) (drop-cons xs (f % 64) 0 (omega arith))

@@ -1,6 +1,6 @@
 -- The trigger of a port without objects: each call is answered as the caller told beforehand.
 use Rattle.std.specs.Prelude.{◌≡◌, ◌↔◌, if◌then◌else◌, List, [], ◌∷◌, ◌++◌, Result, Ok, Err}
-use Rattle.std.proofs.Common.{sym, ◌∙◌, subst}
+use Rattle.std.proofs.Common.{sym, subst}
 use Rattle.vm_superio.specs.declared.serial.fields.Told.{Told}
 
 -- the answer to each call

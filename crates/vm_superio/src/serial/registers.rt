@@ -181,12 +181,6 @@ impl Registers {
         has_bits(self.modem_control, MCR_LOOP_BIT)
     }
 
-    /// Whether a condition is pending and enabled.
-    pub(super) fn is_asserted(&self, condition: Condition) -> bool {
-        has_bits(self.interrupt_identification, condition.iir_bit())
-            && has_bits(self.interrupt_enable, condition.ier_bit())
-    }
-
     /// MSR as it is read: in loopback its high four bits show the outputs of MCR, DTR as DSR, RTS as CTS, OUT1 as RI
     /// and OUT2 as DCD.
     pub(super) fn read_msr(&self) -> u8
