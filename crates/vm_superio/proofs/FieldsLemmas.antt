@@ -147,9 +147,10 @@ enqueue-response s bytes effects asked new is answered =
     ap (λ full. if full then FifoFull else (if refused then TriggerRefused else EnqueueOk effects.taken)) is.full
     ∙ ap (λ n. if not idle && nat_le 64 (length s.in_buffer) then FifoFull else (if refused then TriggerRefused else EnqueueOk n))
     is.taken
-    ∙ response-by-effects idle (nat_le 64 (length s.in_buffer)) refused taken (λ nothing.
-    (none-refused asked (subst (λ n. IsTrue (answers_all n asked)) (none-asked loopback bytes s nothing) answered),
-    ap (λ l. length l) (none-taken loopback bytes s.in_buffer nothing)))
+    ∙ response-by-effects idle (nat_le 64 (length s.in_buffer)) refused taken (λ nothing. (
+      none-refused asked (subst (λ n. IsTrue (answers_all n asked)) (none-asked loopback bytes s nothing) answered),
+      ap (λ l. length l) (none-taken loopback bytes s.in_buffer nothing),
+    ))
 
 step-of-call : (call : FieldsCall) (old new : State) → IsFieldsCall call old new → IsStepOf (entry_of_call call) (response_of_call call) old new
 step-of-call (FieldsRead offset effects) old new is = record {
@@ -160,9 +161,9 @@ step-of-call (FieldsRead offset effects) old new is = record {
 step-of-call (FieldsWrite offset value refuses effects asked sent) old new is =
     let op = Write offset value in
     let answered : IsTrue (answers_all (step_calls old op) asked) =
-        told-possible (step_calls old op) effects.interrupts refuses asked is.0.interrupts is.1 in
+    told-possible (step_calls old op) effects.interrupts refuses asked is.0.interrupts is.1 in
     let outcome : IsTrue (beq (is_sent sent) (sends_byte old op)) =
-        subst (λ b. IsTrue (beq (is_sent sent) b)) (is.2 ∙ is.0.sends) (beq-same (is_sent sent)) in
+    subst (λ b. IsTrue (beq (is_sent sent) b)) (is.2 ∙ is.0.sends) (beq-same (is_sent sent)) in
     record {
       admissible = both_true answered outcome;
       answered = refl;
@@ -171,7 +172,7 @@ step-of-call (FieldsWrite offset value refuses effects asked sent) old new is =
 step-of-call (FieldsEnqueue bytes effects asked) old new is =
     let op = Enqueue bytes in
     let answered : IsTrue (answers_all (step_calls old op) asked) =
-        told-possible (step_calls old op) effects.interrupts false asked is.0.interrupts is.1 in
+    told-possible (step_calls old op) effects.interrupts false asked is.0.interrupts is.1 in
     record {
       admissible = both_true answered (enqueue-sends-none bytes (is_loopback old.modem_control));
       answered = enqueue-response old bytes effects asked new is.0 answered;
