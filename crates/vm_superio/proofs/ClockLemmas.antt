@@ -1,5 +1,5 @@
 -- Lemmas on the clock's history.
-use Rattle.std.proofs.Common.{◌≡◌, ℕ, zero, suc, ◌+◌, ◌-◌, ◌*◌, ◌/◌, ◌^◌, ◌<◌, Bool, true, false, ap, sym, ◌∙◌, arith}
+use Rattle.std.proofs.Common.{◌≡◌, ℕ, zero, suc, ◌+◌, ◌-◌, ◌/◌, ◌^◌, ◌<◌, Bool, true, false, ap, sym, ◌∙◌, arith}
 use Rattle.std.specs.Prelude.{◌%◌, ◌==◌, if◌then◌else◌, not, ◌&&◌, ◌||◌, nat_le, nat_lt, bit_and, bit_or, Option, Some, None, is_some, unwrap_or, List, [], ◌∷◌, ℤ, pos, ◌+ℤ◌, ◌-ℤ◌, refl}
 use Rattle.std.specs.Int.{bit_at}
 use Rattle.std.specs.Option.{option_or, option_map_or}
@@ -12,8 +12,8 @@ use Rattle.std.proofs.lemmas.Nat.Bits.{bit_at_or, bit_at_ones_above, bit_at-lt, 
 use Rattle.vm_superio.specs.declared.rtc_pl031.RtcState.{RtcState}
 use Rattle.vm_superio.specs.Port.Bits.{with_bits, without_bits}
 use Rattle.vm_superio.specs.Clock.Registers.{ClockRegister, Dr, Mr, Lr, Cr, Imsc, Ris, Mis, Icr, Id, Reserved, Access, read, write, clock_register_at, host_time, guest_time, clock_register_read, bytes_left}
-use Rattle.vm_superio.specs.Clock.Step.{guest_time_in, after_alarm, match_write, after_write, clock_step, clock_response, state_after_accesses}
-use Rattle.vm_superio.specs.Clock.History.{Setting, load, reset, setting_of, load_by, counter_by, newest_found, value_written, clock_of_history, clock_history_response, counter, cleared_bits, cleared_by, guest_time_at, match_value, match_written, is_alarm_set, is_match_passed, is_armed, raises_alarm, is_alarm_raised}
+use Rattle.vm_superio.specs.Clock.Step.{guest_time_in, after_alarm, after_write, clock_step, clock_response, state_after_accesses}
+use Rattle.vm_superio.specs.Clock.History.{Setting, load, reset, setting_of, load_by, counter_by, newest_found, value_written, clock_of_history, clock_history_response, counter, cleared_bits, cleared_by, guest_time_at, match_value, match_written, is_alarm_set, is_match_passed, is_armed, is_alarm_raised}
 use Rattle.vm_superio.specs.Clock.Laws.{ReadsByHistory, GoesOnByHistory, is_cleared}
 use Rattle.vm_superio.proofs.BitLemmas.{bit_at-without, without-twice, without-of-or, or-twice}
 
@@ -191,10 +191,10 @@ goes_on start trace (write offset value now) =
     ∙ by_register start trace offset value now (clock_register_at offset)
     ∙ sym (rw (is.setting, is.matched, is.masked, is.cleared) refl)
 
--- a write that leaves the state of its case continues each history of the state before it
-pub GoesOnByHistory-written : (offset value now : ℕ) {old held new : RtcState} {time stored : ℕ} {register : ClockRegister} → held ≡ after_alarm old (host_time now) → register ≡ clock_register_at offset → stored ≡ value → time ≡ host_time now → new ≡ after_write held register stored time → GoesOnByHistory old (write offset value now) new
-GoesOnByHistory-written offset value now is_held is_register is_value is_time case start trace same =
-    case ∙ rw (is_held, same, is_register, is_value, is_time) (goes_on start trace (write offset value now))
+-- a step continues each history of the state before it
+pub GoesOnByHistory-step : (access : Access) {old new : RtcState} → new ≡ clock_step old access → GoesOnByHistory old access new
+GoesOnByHistory-step access is start trace same =
+    is ∙ ap (λ state. clock_step state access) same ∙ goes_on start trace access
 
 -- a read answers by the history
 pub answers : (start : RtcState) (trace : List Access) (access : Access) → clock_response (clock_of_history start trace) access ≡ clock_history_response start trace access
@@ -204,11 +204,7 @@ answers start trace (read offset now) =
     (guest_time-history start (read offset now ∷ trace) (host_time now))
 answers start trace (write offset value now) = refl
 
--- a read that leaves the state of its case, and the bytes of its response, does so by each history
-pub GoesOnByHistory-read : (offset now : ℕ) {old new : RtcState} → new ≡ after_alarm old (host_time now) → GoesOnByHistory old (read offset now) new
-GoesOnByHistory-read offset now case start trace same =
-    case ∙ ap (λ state. after_alarm state (host_time now)) same ∙ read_goes_on start trace offset now
-
+-- a read that leaves the bytes of its response does so by each history
 pub ReadsByHistory-read : (offset now : ℕ) (state : RtcState) (old new : List ℕ) → new ≡ bytes_left (clock_response state (read offset now)) old → ReadsByHistory state offset now old new
 ReadsByHistory-read offset now state old new shown start trace same =
     shown ∙ ap (λ response. bytes_left response old) (ap (λ state. clock_response state (read offset now)) same ∙ answers start trace (read offset now))

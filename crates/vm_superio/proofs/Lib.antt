@@ -7,11 +7,13 @@ pub mod BitLemmas
 mod ClockExamples
 pub mod ClockLemmas
 mod Examples
+mod FieldsLemmas
 mod HeldBytes
 mod OneCall
 mod Interrupts
 mod PendingByPrefixes
 mod PollingDriver
+mod PlacesLemmas
 mod PortLemmas
 mod RegisterSteps
 mod RunExamples

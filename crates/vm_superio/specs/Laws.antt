@@ -3,3 +3,4 @@ pub mod Agreement
 pub mod Consequences
 pub mod OneCall
 pub mod PollingDriver
+pub mod FieldsRun

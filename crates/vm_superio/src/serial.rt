@@ -7,8 +7,11 @@ ghost use Rattle.vm_superio.specs.Step.Restore.{restore_calls, RefusesRestore};
 
 mod answers;
 mod bits;
+mod effects;
 mod errors;
 mod events;
+pub mod fields;
+mod places;
 mod registers;
 mod restoring;
 mod state;
@@ -16,7 +19,7 @@ mod steps;
 mod traced;
 
 use crate::Trigger;
-use crate::fifo::{FIFO_SIZE, Fifo};
+use crate::fifo::{FIFO_SIZE, Fifo, ReceiveFifo};
 pub use errors::{Error, Refused};
 pub use events::{NoEvents, SerialEvents};
 use registers::Registers;

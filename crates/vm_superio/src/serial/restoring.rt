@@ -12,7 +12,7 @@ use crate::Trigger;
 
 impl Registers {
     /// Whether a condition is pending and enabled.
-    fn is_asserted(&self, condition: Condition) -> bool
+    pub(super) fn is_asserted(&self, condition: Condition) -> bool
         ensures { result ≡ is_asserted (condition_of condition) (state_with self.now []) }
     {
         has_bits(self.interrupt_identification, condition.iir_bit())
