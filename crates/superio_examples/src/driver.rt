@@ -3,14 +3,13 @@ ghost use Rattle.std.specs.Prelude.{◌≡◌, [], ◌++◌, false, IfOk, IsTrue
 ghost use Rattle.vm_superio.specs.History.Registers.{accepted_bytes};
 ghost use Rattle.vm_superio.specs.Laws.PollingDriver.{driver_bytes, polls_by_sight};
 ghost use Rattle.vm_superio.specs.Port.Coherent.{Coherent};
-ghost use Rattle.vm_superio.specs.Port.Registers.{is_dlab, is_loopback};
 ghost use Rattle.vm_superio.specs.Run.Trace.{entries_of, trace_of, RecordsOf};
 
 use std::alloc::{AllocError, Global};
 use std::io::Write;
 use superio_script::drain;
 use vm_superio::run::{Call, Done, run};
-use vm_superio::serial::{Error, SerialEvents};
+use vm_superio::serial::{Error, Refused, SerialEvents};
 use vm_superio::{Serial, Trigger, laws};
 
 /// Makes the calls of a host and of a guest, in order, and returns a record of each. Where the guest polls, its driver
@@ -34,31 +33,30 @@ pub fn run_polled<T: Trigger + Drop, EV: SerialEvents + Drop, W: Write + Drop>(
     run(alloc, serial, calls)
 }
 
-/// Passes input to a guest whose driver drains the port after each piece. Returns what the driver got: the bytes that
-/// were held, and then all of the input.
+/// Passes input through a new serial port to a guest whose driver drains the port after each piece. Returns what the
+/// driver got: all of the input.
 ///
 /// # Errors
 ///
 /// [`Error::Trigger`] where the trigger refused an interrupt: the guest may not have got all input then.
-/// [`Error::Memory`] where memory for the bytes was refused.
-pub fn receive_all<T: Trigger, EV: SerialEvents, W: Write>(
+/// [`Error::Memory`] where memory was refused.
+pub fn receive_all<T: Trigger + Drop, W: Write + Drop>(
     alloc: Global,
-    serial: &mut Serial<T, EV, W>,
+    trigger: T,
+    out: W,
     input: &[u8],
 ) -> Result<Vec<u8>, Error<T::E>>
-    requires coherent { Coherent serial.old.state }
-    requires latch { is_dlab serial.old.state.line_control ≡ false }
-    requires loopback { is_loopback serial.old.state.modem_control ≡ false }
-    ensures in_order { IfOk result (λ got. got.items ≡ serial.old.state.in_buffer ++ input.now) }
+    ensures in_order { IfOk result (λ got. got.items ≡ input.now) }
 {
     laws::one_call();
-    let mut got = drain(serial).to_vec(alloc)?;
+    let mut serial = Serial::new(alloc, trigger, out).map_err(Refused::into_error)?;
+    let mut got = Vec::new(alloc);
     let mut rest = input;
     while !rest.is_empty() {
         // A drained port has room for 64 bytes.
         let (piece, later) = rest.split_at(rest.len().min(64));
         serial.enqueue_raw_bytes(piece)?;
-        got.extend_from_slice(&drain(serial))?;
+        got.extend_from_slice(&drain(&mut serial))?;
         rest = later;
     }
     Ok(got)

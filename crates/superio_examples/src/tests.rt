@@ -186,14 +186,11 @@ fn every_byte_of_the_input_is_read_once(rt: HostRuntime) -> Result<(), Fail> {
 #[test]
 fn a_driver_that_drains_receives_all_input(rt: HostRuntime) -> Result<(), Fail> {
     let alloc = rt.alloc();
-    let serial = Serial::new(alloc, Line::new(0), Output::new());
-    let mut serial = serial.map_err(Refused::into_error)?;
-    serial.enqueue_raw_bytes(b"held")?;
-    let input = [b'x'; 150];
-    let got = receive_all(alloc, &mut serial, &input)?;
-    let want = [b"held".as_slice(), &input].concat(alloc)?;
-    assert_eq!(rt; got.as_slice(), want.as_slice());
-    assert_eq!(rt; serial.fifo_capacity(), 64);
+    for size in [0, 1, 64, 65, 150] {
+        let input = vec![in alloc; b'x'; size]?;
+        let got = receive_all(alloc, Line::new(0), Output::new(), &input)?;
+        assert_eq!(rt; got.as_slice(), input.as_slice());
+    }
     Ok(())
 }
 

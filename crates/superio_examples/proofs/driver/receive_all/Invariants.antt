@@ -1,4 +1,4 @@
--- What the driver got, then what is left of the input, is what was held, then the input. The port holds no byte.
+-- What the driver got, then what is left of the input, is the input. The port holds no byte.
 use Rattle.std.proofs.Common.{◌≡◌, false, [], ◌++◌, length}
 use Rattle.vm_superio.specs.Port.Coherent.{Coherent}
 use Rattle.vm_superio.specs.Port.Registers.{is_dlab, is_loopback}
@@ -10,7 +10,7 @@ invariant-loop-rest g l = record {
   latch : is_dlab l.serial.state.line_control ≡ false;
   loopback : is_loopback l.serial.state.modem_control ≡ false;
   none_held : l.serial.state.in_buffer ≡ [];
-  in_order : l.got.items ++ l.rest ≡ l.fn.serial.state.in_buffer ++ l.fn.input;
+  in_order : l.got.items ++ l.rest ≡ l.fn.input;
 }
 
 abbrev pub decreases-loop-rest : goal.decreases-loop-rest
