@@ -2,3 +2,4 @@ pub mod SplittingLemmas
 pub mod ReadLemmas
 pub mod SerialScriptLemmas
 pub mod ScriptLemmas
+pub mod FlawLemmas

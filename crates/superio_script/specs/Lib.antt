@@ -8,3 +8,4 @@ pub mod SerialScript
 pub mod Board
 pub mod Script
 pub mod ScriptFault
+pub mod Flaw

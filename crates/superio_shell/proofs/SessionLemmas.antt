@@ -1,0 +1,1 @@
+-- A session of a text, line by line.
