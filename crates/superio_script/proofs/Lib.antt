@@ -3,3 +3,4 @@ pub mod ReadLemmas
 pub mod SerialScriptLemmas
 pub mod ScriptLemmas
 pub mod FlawLemmas
+pub mod ShellLemmas

@@ -9,3 +9,4 @@ pub mod Board
 pub mod Script
 pub mod ScriptFault
 pub mod Flaw
+pub mod Shell

@@ -2,16 +2,19 @@
 //! those that have no form.
 #![tactic(auto)]
 
-mod arguments;
 mod notes;
 mod session;
 
-use std::fs::File;
 use std::io;
-use std::io::{BufReader, IsTerminal, Read};
 use std::process::ExitCode;
-use superio_script::ScriptFault;
 
 fn main(rt: HostRuntime) -> ExitCode {
-    ExitCode::SUCCESS
+    let mut reader = rt.reader();
+    let mut output = io::writer(&rt);
+    let mut notes = rt.stderr();
+    match session::run_session(rt.alloc(), &mut reader, &mut output, &mut notes, "") {
+        Ok(true) => ExitCode::from(0),
+        Ok(false) => ExitCode::from(1),
+        Err(fault) => ExitCode::from(fault.status()),
+    }
 }

@@ -1,1 +1,0 @@
--- A session of a text, line by line.
