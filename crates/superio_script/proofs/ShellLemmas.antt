@@ -1,15 +1,15 @@
 -- A session of a text, line by line.
 use Rattle.std.proofs.Common.{◌≡◌, ℕ, ◌+◌, Bool, true, false, List, [], ◌∷◌, ◌++◌, Option, Some, None, refl, ap, sym, ◌∙◌, subst, append_assoc, append-nil}
 use Rattle.std.proofs.lemmas.Bool.{false≢true}
-use Rattle.std.specs.Io.KnownBytes.{Appends}
+use Rattle.std.specs.Io.KnownBytes.{Appends, IsAtEnd}
 use Rattle.std.specs.Prelude.{IfSome, is_some, if◌then◌else◌, ◌&&◌, ◌||◌, option_to_list}
 use Rattle.superio_script.specs.Splitting.{lines_of}
 use Rattle.superio_script.specs.Command.{command_of, mask_of}
 use Rattle.superio_script.specs.Board.{Devices, IsFresh, IsLineStep}
-use Rattle.superio_script.specs.Script.{body_of, body_from, body_of_lines, prepend_if_good, good_commands, first_bad_line, first_bad_line_of, PrintsLines}
+use Rattle.superio_script.specs.Script.{has_form, body_of, body_from, body_of_lines, prepend_if_good, good_commands, first_bad_line, first_bad_line_of, PrintsLines}
 use Rattle.superio_script.specs.declared.command.Command.{Command}
 use Rattle.superio_script.proofs.ScriptLemmas.{Continues, Continues-at_start, Continues-after_command, Prints-so_far}
-use Rattle.superio_script.specs.Shell.{Plan, commands_of, plan_from, plan_of, is_carried_out, is_aside, are_in_order, PrintsPlan, PrintsSession, IsStepBy, IsSessionStep}
+use Rattle.superio_script.specs.Shell.{TakesLine, is_in_order, Plan, commands_of, plan_from, plan_of, is_carried_out, is_aside, are_in_order, PrintsPlan, PrintsSession, IsStepBy, IsSessionStep}
 
 -- ---- a session of a script
 
@@ -167,3 +167,79 @@ module _ (start : Option (List ℕ)) (all : List (List ℕ)) (before : Option (L
   pub order-at_end : (is_fresh in_order : Bool) → Leads start all [] before board is_fresh in_order → are_in_order true all ≡ in_order
   order-at_end is_fresh true leads = leads.order
   order-at_end is_fresh false leads = leads.order
+
+-- ---- a text that a reader gives
+
+-- the lines that a reader of a known text gave so far led to this board
+abbrev pub Reached : (start text left before : Option (List ℕ)) (board : Devices) (is_fresh in_order : Bool) → Type 0
+Reached start text left before board is_fresh in_order =
+    IfSome text (λ all. (rest : List ℕ) × (left ≡ Some rest) × Leads start (lines_of all) (lines_of rest) before board is_fresh in_order)
+
+pub Reached-at_start : (start text : Option (List ℕ)) (board : Devices) → IsFresh 0 board → Reached start text text start board true true
+Reached-at_start start None board fresh = tt
+Reached-at_start start (Some all) board fresh = (all, refl, Leads-at_start start (lines_of all) board fresh)
+
+module _ (start text left next before after : Option (List ℕ)) (board new : Devices) (is_fresh in_order found : Bool) (line : List ℕ) (taken : IfSome left (λ all. TakesLine found all next line)) where
+  -- the next line
+  abbrev Takes : Type 0
+  Takes = IfSome text (λ all. (rest : List ℕ) × (next ≡ Some rest) × Leads start (lines_of all) (line ∷ lines_of rest) before board is_fresh in_order)
+
+  takes-line : found ≡ true → Reached start text left before board is_fresh in_order → Takes
+  takes-line is_found = by-text text
+    where
+      by-text : (text : Option (List ℕ)) → Reached start text left before board is_fresh in_order →
+          IfSome text (λ all. (rest : List ℕ) × (next ≡ Some rest) × Leads start (lines_of all) (line ∷ lines_of rest) before board is_fresh in_order)
+      by-text None reached = tt
+      by-text (Some all) (rest, is, leads) =
+          let takes = subst (λ f. TakesLine f rest next line) is_found (subst (λ known. IfSome known (λ all. TakesLine found all next line)) is taken) in
+          (takes.0, takes.1, subst (λ lines. Leads start (lines_of all) lines before board is_fresh in_order) takes.2 leads)
+
+  module _ (is_found : found ≡ true) (step : IsSessionStep is_fresh line board new before after) where
+    pub Reached-carried : is_carried_out is_fresh line ≡ true → Reached start text left before board is_fresh in_order → Reached start text next after new false in_order
+    Reached-carried carried reached = by-text text (takes-line is_found reached)
+      where
+        by-text : (text : Option (List ℕ)) → IfSome text (λ all. (rest : List ℕ) × (next ≡ Some rest) × Leads start (lines_of all) (line ∷ lines_of rest) before board is_fresh in_order) →
+            Reached start text next after new false in_order
+        by-text None takes = tt
+        by-text (Some all) (rest, is, leads) =
+            (rest, is, Leads-carried start (lines_of all) line (lines_of rest) before after board new is_fresh in_order carried step leads)
+
+    pub Reached-passed : is_carried_out is_fresh line ≡ false → Reached start text left before board is_fresh in_order →
+        Reached start text next after new is_fresh (in_order && is_aside line)
+    Reached-passed passed reached = by-text text (takes-line is_found reached)
+      where
+        by-text : (text : Option (List ℕ)) → IfSome text (λ all. (rest : List ℕ) × (next ≡ Some rest) × Leads start (lines_of all) (line ∷ lines_of rest) before board is_fresh in_order) →
+            Reached start text next after new is_fresh (in_order && is_aside line)
+        by-text None takes = tt
+        by-text (Some all) (rest, is, leads) =
+            (rest, is, Leads-passed start (lines_of all) line (lines_of rest) before after board new is_fresh in_order passed step leads)
+
+  -- what holds at the end of a text
+  abbrev pub Ends : (all : List ℕ) → Type 0
+  Ends all = (next ≡ Some []) × PrintsSession all start before × (is_in_order all ≡ in_order)
+
+  pub Reached-end : found ≡ false → Reached start text left before board is_fresh in_order → IfSome text Ends
+  Reached-end is_none = by-text text
+    where
+      by-text : (text : Option (List ℕ)) → Reached start text left before board is_fresh in_order → IfSome text Ends
+      by-text None reached = tt
+      by-text (Some all) (rest, is, leads) =
+          let takes = subst (λ f. TakesLine f rest next line) is_none (subst (λ known. IfSome known (λ all. TakesLine found all next line)) is taken) in
+          let ended = subst (λ left. Leads start (lines_of all) (lines_of left) before board is_fresh in_order) takes.1 leads in
+          (takes.0, Prints-at_end start (lines_of all) before board is_fresh in_order ended, order-at_end start (lines_of all) before board is_fresh in_order ended)
+
+pub IfSome-weaker : {T : Type 0} {P Q : T → Type 0} (known : Option T) → ((value : T) → P value → Q value) → IfSome known P → IfSome known Q
+IfSome-weaker None weaker holds = tt
+IfSome-weaker (Some value) weaker holds = weaker value holds
+
+-- a reader that has none left is at its end
+pub IsAtEnd-none : (left : Option (List ℕ)) → left ≡ Some [] → IsAtEnd left
+IsAtEnd-none left none = subst (λ known. IsAtEnd known) (sym none) refl
+
+-- a line that is not carried out has no form
+pub has_form-passed : (is_fresh : Bool) (line : List ℕ) → is_carried_out is_fresh line ≡ false → has_form line ≡ false
+has_form-passed is_fresh line = by-tests (is_fresh && is_some (mask_of line)) (has_form line)
+  where
+    by-tests : (first second : Bool) → (first || second) ≡ false → second ≡ false
+    by-tests true second passed = absurd (false≢true (sym passed))
+    by-tests false second passed = passed

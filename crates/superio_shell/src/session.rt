@@ -1,5 +1,5 @@
 //! A session: lines that are carried out one by one, as they are read.
-ghost use Rattle.std.specs.Prelude.{◌≡◌, false, IfOk, OnOk, IfSome, None};
+ghost use Rattle.std.specs.Prelude.{◌≡◌, ℕ, List, [], ◌∷◌, ◌++◌, ◌==◌, if◌then◌else◌, false, IfOk, OnOk, IfSome, None};
 ghost use Rattle.std.specs.Io.KnownBytes.{IsAtEnd};
 ghost use Rattle.superio_script.specs.Script.{has_form, first_bad_line_of, body_of, PrintsLines};
 ghost use Rattle.superio_script.specs.Shell.{TakesLine, is_carried_out, is_aside, is_in_order, IsSessionStep, PrintsSession};
@@ -18,17 +18,30 @@ fn fault_of(error: io::Error) -> ScriptFault {
     }
 }
 
+/// Takes the LF from the end of a line, if it has one.
+fn strip_lf(line: &mut Vec<u8>)
+    ensures { (front : List ℕ) (last : ℕ) → line.old.items ≡ front ++ last ∷ []
+        → line.new.items ≡ (if last == 10 then front else front ++ last ∷ []) }
+{
+    if let [.., b'\n'] = line.as_slice() {
+        line.pop();
+    }
+}
+
 /// Reads the next line into the buffer, without its LF. Returns whether there was one.
 fn read_line<R: BufRead>(reader: &mut R, line: &mut Vec<u8>) -> Result<bool, ScriptFault>
     ensures { IfOk result (λ found. IfSome (R.remaining reader.old) (λ text.
         TakesLine found text (R.remaining reader.new) line.new.items)) }
 {
     line.clear();
-    let count = reader.read_until(b'\n', line).map_err(|error| fault_of(error))?;
-    if line.last() == Some(&b'\n') {
-        line.pop();
+    let count = reader
+        .read_until(b'\n', line)
+        .map_err(|error| fault_of(error))?;
+    if count == 0 {
+        return Ok(false);
     }
-    Ok(count > 0)
+    strip_lf(line);
+    Ok(true)
 }
 
 /// Carries out a line and writes its reply. A line `refuse` is carried out on a board that is fresh. Returns whether
@@ -111,7 +124,7 @@ pub(crate) fn run_session<R: BufRead, W: Write, N: Write>(
         → PrintsLines (body_of script).mask (body_of script).lines (W.contents output.old) (W.contents output.new))) }
     ensures in_order { IfOk result (λ in_order. IfSome (R.remaining reader.old) (λ text.
         in_order ≡ is_in_order text)) }
-    ensures none_left { OnOk result (IsAtEnd (R.remaining reader.new)) }
+    ensures none_left { OnOk result (IfSome (R.remaining reader.old) (λ _. IsAtEnd (R.remaining reader.new))) }
 {
     let mut board = Board::new(alloc, 0)?;
     let mut is_fresh = true;
@@ -119,10 +132,12 @@ pub(crate) fn run_session<R: BufRead, W: Write, N: Write>(
     let mut line = Vec::new(alloc);
     for number in 1..u64::MAX {
         say(notes, prompt)?;
-        if !read_line(reader, &mut line)? {
+        let found = read_line(reader, &mut line)?;
+        if !found {
             return Ok(in_order);
         }
-        if carry_out(alloc, &mut board, is_fresh, &line, output)? {
+        let carried = carry_out(alloc, &mut board, is_fresh, &line, output)?;
+        if carried {
             is_fresh = false;
         } else if !remark(alloc, number, &line, notes)? {
             in_order = false;
