@@ -243,3 +243,19 @@ has_form-passed is_fresh line = by-tests (is_fresh && is_some (mask_of line)) (h
     by-tests : (first second : Bool) → (first || second) ≡ false → second ≡ false
     by-tests true second passed = absurd (false≢true (sym passed))
     by-tests false second passed = passed
+
+-- the same by other names
+pub Reached-is :
+    (start text left before : Option (List ℕ)) (board : Devices) (is_fresh in_order is_fresh' in_order' : Bool) → is_fresh' ≡ is_fresh → in_order' ≡ in_order →
+    Reached start text left before board is_fresh in_order → Reached start text left before board is_fresh' in_order'
+Reached-is start text left before board is_fresh in_order is_fresh' in_order' same_fresh same_order reached =
+    subst (λ fresh. Reached start text left before board fresh in_order') (sym same_fresh)
+    (subst (λ order. Reached start text left before board is_fresh order) (sym same_order) reached)
+
+pub and-when : (in_order is_right right : Bool) → right ≡ is_right → right ≡ true → in_order ≡ (in_order && is_right)
+and-when true is_right right is holds = sym holds ∙ is
+and-when false is_right right is holds = refl
+
+pub and-unless : (in_order is_right right : Bool) → right ≡ is_right → right ≡ false → false ≡ (in_order && is_right)
+and-unless true is_right right is fails = sym fails ∙ is
+and-unless false is_right right is fails = refl
