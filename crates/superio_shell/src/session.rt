@@ -145,3 +145,125 @@ pub(crate) fn run_session<R: BufRead, W: Write, N: Write>(
     }
     Err(ScriptFault::TooLong)
 }
+
+#[cfg(test)]
+mod tests {
+    use super::*;
+    use std::io::{BufReader, ErrorKind};
+    use std::test::Fail;
+    use superio_test_objects::{EVERY_FORM, EVERY_REPLY, Piece, Source, Target};
+
+    #[test]
+    fn each_line_is_carried_out_or_spoken_of(rt: HostRuntime) -> Result<(), Fail> {
+        let alloc = rt.alloc();
+        let rows: [(&[u8], bool, &[u8], &[u8]); 7] = [
+            (b"", true, b"", b"> "),
+            (b"kr 04\nkr 04", true, b"00\n00\n", b"> > > "),
+            (b"\n \t\r\n# kr\nkr 04\n", true, b"00\n", b"> > > > > "),
+            (
+                b"kr 4\nkr 04\n",
+                false,
+                b"00\n",
+                b"> line 1: \"kr 4\": an offset has two digits\n> > ",
+            ),
+            (
+                b"refuse 1\nrefuse 0000000000000001\nsw 01 01\nsq 41\n",
+                false,
+                b"ok\ntrigger\n",
+                b"> line 1: \"refuse 1\": a mask has sixteen digits\n> > > > ",
+            ),
+            (
+                b"kr 04\nrefuse 0000000000000001\n",
+                false,
+                b"00\n",
+                b"> > line 2: \"refuse 0000000000000001\": a mask comes before every other line\n> ",
+            ),
+            (
+                b"\xff\"\x00\n",
+                false,
+                b"",
+                b"> line 1: \"\\xff\\\"\\x00\": no line has this name\n> ",
+            ),
+        ];
+        for (text, in_order, replies, said) in rows {
+            let mut reader = text;
+            let mut output = Vec::new(alloc);
+            let mut notes = Vec::new(alloc);
+            let end = run_session(alloc, &mut reader, &mut output, &mut notes, "> ");
+            assert_eq!(rt; end, Ok(in_order));
+            assert_eq!(rt; output.as_slice(), replies);
+            assert_eq!(rt; notes.as_slice(), said);
+        }
+        Ok(())
+    }
+
+    #[test]
+    fn help_names_every_form(rt: HostRuntime) -> Result<(), Fail> {
+        let alloc = rt.alloc();
+        let mut reader: &[u8] = b"help\n";
+        let mut output = Vec::new(alloc);
+        let mut notes = Vec::new(alloc);
+        let end = run_session(alloc, &mut reader, &mut output, &mut notes, "");
+        assert_eq!(rt; (end, output.len()), (Ok(true), 0));
+        assert_eq!(rt; notes.as_slice(), HELP.as_bytes());
+        for form in [
+            "refuse M", "sr OO ", "sw OO VV ", "sq HH..", "sc ", "ss ", "so ", "st ", "se ", "cr N",
+            "cw N", "kr OO ", "kw OO VV ",
+        ] {
+            let row = format!(in alloc; "\n  {form}")?;
+            assert!(rt; HELP.contains(row.as_str()), "{form}");
+        }
+        Ok(())
+    }
+
+    #[test]
+    fn a_long_line_is_shown_in_part(rt: HostRuntime) -> Result<(), Fail> {
+        let alloc = rt.alloc();
+        let line = b"x".repeat(alloc, 61)?;
+        let mut reader = line.as_slice();
+        let mut output = Vec::new(alloc);
+        let mut notes = Vec::new(alloc);
+        let end = run_session(alloc, &mut reader, &mut output, &mut notes, "");
+        let shown = "x".repeat(alloc, 60)?;
+        let said = format!(in alloc; "line 1: \"{shown}..\": no line has this name\n")?;
+        assert_eq!(rt; end, Ok(false));
+        assert_eq!(rt; notes.as_slice(), said.as_bytes());
+        Ok(())
+    }
+
+    #[test]
+    fn streams_may_fail_and_move_bytes_in_pieces(rt: HostRuntime) -> Result<(), Fail> {
+        let alloc = rt.alloc();
+        let text = EVERY_REPLY.concat(alloc)?;
+        for piece in [Piece::Bytes(1), Piece::Bytes(7), Piece::Line] {
+            let source = Source::in_pieces(EVERY_FORM, piece);
+            let mut reader = BufReader::new(alloc, source)?;
+            let mut output = Target::in_pieces(alloc, 3);
+            let mut notes = Target::new(alloc);
+            let end = run_session(alloc, &mut reader, &mut output, &mut notes, "");
+            assert_eq!(rt; (end, output.bytes.as_slice()), (Ok(true), text.as_slice()));
+            assert_eq!(rt; notes.bytes.len(), 0);
+        }
+        for number in 0..17usize {
+            let mut reader = EVERY_FORM;
+            let mut output = Target::failing_once(alloc, number, ErrorKind::Other)?;
+            let mut notes = Target::new(alloc);
+            let end = run_session(alloc, &mut reader, &mut output, &mut notes, "");
+            assert_eq!(rt; end, Err(ScriptFault::Io));
+        }
+        let mut reader: &[u8] = b"kr 4\n";
+        let mut output = Target::new(alloc);
+        let mut notes = Target::with_room(alloc, 3);
+        let end = run_session(alloc, &mut reader, &mut output, &mut notes, "");
+        assert_eq!(rt; end, Err(ScriptFault::Io));
+        let source = Source {
+            fault: Some((0, ErrorKind::Other)),
+            ..Source::in_pieces(EVERY_FORM, Piece::Line)
+        };
+        let mut reader = BufReader::new(alloc, source)?;
+        let mut notes = Target::new(alloc);
+        let end = run_session(alloc, &mut reader, &mut output, &mut notes, "");
+        assert_eq!(rt; end, Err(ScriptFault::Io));
+        Ok(())
+    }
+}
