@@ -50,8 +50,7 @@ fn run_file(rt: &HostRuntime, path: &str) -> Result<u8, ScriptFault> {
 /// Runs the session of standard input. A terminal has a prompt.
 fn run_input(rt: &HostRuntime) -> Result<u8, ScriptFault> {
     if !rt.stdin().is_terminal() {
-        let mut reader =
-            BufReader::new(rt.alloc(), rt.reader()).map_err(|_| ScriptFault::Memory)?;
+        let mut reader = BufReader::new(rt.alloc(), rt.reader()).map_err(|_| ScriptFault::Memory)?;
         return run_reader(rt, &mut reader, "");
     }
     let _ = eprintln!(rt; "help lists the forms of a line, and Ctrl-D ends.");

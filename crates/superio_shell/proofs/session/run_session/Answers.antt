@@ -55,20 +55,20 @@ loop-number-preserved g c =
     subst (λ bytes. IsSessionStep c.loop-number.is_fresh bytes c.loop-number.board c.carry_out.new.board (g.W.Write.contents c.loop-number.output) (g.W.Write.contents c.carry_out.new.output)) c.deref.ensures.value c.in_ok-carried.ensures.step in
     elim c.if-carried.branch [
       | then-carried w ↦
-        Reached-is (g.W.Write.contents c.args.output.now) (g.R.Read.remaining c.args.reader.now) (g.R.Read.remaining c.read_line.new.reader) (g.W.Write.contents c.carry_out.new.output) c.carry_out.new.board false c.loop-number.in_order _ _ w.is_fresh-is w.in_order-is
-        (Reached-carried (g.W.Write.contents c.args.output.now) (g.R.Read.remaining c.args.reader.now) (g.R.Read.remaining c.loop-number.reader) (g.R.Read.remaining c.read_line.new.reader)
-    (g.W.Write.contents c.loop-number.output) (g.W.Write.contents c.carry_out.new.output) c.loop-number.board c.carry_out.new.board c.loop-number.is_fresh c.loop-number.in_order c.in_ok-found.found line
-    c.in_ok-found.ensures (search rules) step (sym is ∙ w.if-carried.true) c.loop-number.invariant)
+          Reached-is (g.W.Write.contents c.args.output.now) (g.R.Read.remaining c.args.reader.now) (g.R.Read.remaining c.read_line.new.reader) (g.W.Write.contents c.carry_out.new.output) c.carry_out.new.board false c.loop-number.in_order _ _ w.is_fresh-is w.in_order-is
+          (Reached-carried (g.W.Write.contents c.args.output.now) (g.R.Read.remaining c.args.reader.now) (g.R.Read.remaining c.loop-number.reader) (g.R.Read.remaining c.read_line.new.reader)
+          (g.W.Write.contents c.loop-number.output) (g.W.Write.contents c.carry_out.new.output) c.loop-number.board c.carry_out.new.board c.loop-number.is_fresh c.loop-number.in_order c.in_ok-found.found line
+          c.in_ok-found.ensures (search rules) step (sym is ∙ w.if-carried.true) c.loop-number.invariant)
       | else-carried+in_ok-remark+then-not-branch w ↦
-        Reached-is (g.W.Write.contents c.args.output.now) (g.R.Read.remaining c.args.reader.now) (g.R.Read.remaining c.read_line.new.reader) (g.W.Write.contents c.carry_out.new.output) c.carry_out.new.board c.loop-number.is_fresh (c.loop-number.in_order && is_aside line) _ _ w.is_fresh-is
-        (w.in_order-is ∙ and-unless c.loop-number.in_order (is_aside line) w.in_ok-remark.field-0 (w.in_ok-remark.ensures ∙ ap is_aside w.deref-else-carried.ensures.value) (search rules))
-        (Reached-passed (g.W.Write.contents c.args.output.now) (g.R.Read.remaining c.args.reader.now) (g.R.Read.remaining c.loop-number.reader) (g.R.Read.remaining c.read_line.new.reader)
-    (g.W.Write.contents c.loop-number.output) (g.W.Write.contents c.carry_out.new.output) c.loop-number.board c.carry_out.new.board c.loop-number.is_fresh c.loop-number.in_order c.in_ok-found.found line
-    c.in_ok-found.ensures (search rules) step (sym is ∙ w.if-carried.false) c.loop-number.invariant)
+          Reached-is (g.W.Write.contents c.args.output.now) (g.R.Read.remaining c.args.reader.now) (g.R.Read.remaining c.read_line.new.reader) (g.W.Write.contents c.carry_out.new.output) c.carry_out.new.board c.loop-number.is_fresh (c.loop-number.in_order && is_aside line) _ _ w.is_fresh-is
+          (w.in_order-is ∙ and-unless c.loop-number.in_order (is_aside line) w.in_ok-remark.field-0 (w.in_ok-remark.ensures ∙ ap is_aside w.deref-else-carried.ensures.value) (search rules))
+          (Reached-passed (g.W.Write.contents c.args.output.now) (g.R.Read.remaining c.args.reader.now) (g.R.Read.remaining c.loop-number.reader) (g.R.Read.remaining c.read_line.new.reader)
+          (g.W.Write.contents c.loop-number.output) (g.W.Write.contents c.carry_out.new.output) c.loop-number.board c.carry_out.new.board c.loop-number.is_fresh c.loop-number.in_order c.in_ok-found.found line
+          c.in_ok-found.ensures (search rules) step (sym is ∙ w.if-carried.false) c.loop-number.invariant)
       | else-carried+in_ok-remark+else-not-branch w ↦
-        Reached-is (g.W.Write.contents c.args.output.now) (g.R.Read.remaining c.args.reader.now) (g.R.Read.remaining c.read_line.new.reader) (g.W.Write.contents c.carry_out.new.output) c.carry_out.new.board c.loop-number.is_fresh (c.loop-number.in_order && is_aside line) _ _ w.is_fresh-is
-        (w.in_order-is ∙ and-when c.loop-number.in_order (is_aside line) w.in_ok-remark.field-0 (w.in_ok-remark.ensures ∙ ap is_aside w.deref-else-carried.ensures.value) (search rules))
-        (Reached-passed (g.W.Write.contents c.args.output.now) (g.R.Read.remaining c.args.reader.now) (g.R.Read.remaining c.loop-number.reader) (g.R.Read.remaining c.read_line.new.reader)
-    (g.W.Write.contents c.loop-number.output) (g.W.Write.contents c.carry_out.new.output) c.loop-number.board c.carry_out.new.board c.loop-number.is_fresh c.loop-number.in_order c.in_ok-found.found line
-    c.in_ok-found.ensures (search rules) step (sym is ∙ w.if-carried.false) c.loop-number.invariant)
+          Reached-is (g.W.Write.contents c.args.output.now) (g.R.Read.remaining c.args.reader.now) (g.R.Read.remaining c.read_line.new.reader) (g.W.Write.contents c.carry_out.new.output) c.carry_out.new.board c.loop-number.is_fresh (c.loop-number.in_order && is_aside line) _ _ w.is_fresh-is
+          (w.in_order-is ∙ and-when c.loop-number.in_order (is_aside line) w.in_ok-remark.field-0 (w.in_ok-remark.ensures ∙ ap is_aside w.deref-else-carried.ensures.value) (search rules))
+          (Reached-passed (g.W.Write.contents c.args.output.now) (g.R.Read.remaining c.args.reader.now) (g.R.Read.remaining c.loop-number.reader) (g.R.Read.remaining c.read_line.new.reader)
+          (g.W.Write.contents c.loop-number.output) (g.W.Write.contents c.carry_out.new.output) c.loop-number.board c.carry_out.new.board c.loop-number.is_fresh c.loop-number.in_order c.in_ok-found.found line
+          c.in_ok-found.ensures (search rules) step (sym is ∙ w.if-carried.false) c.loop-number.invariant)
     ]
