@@ -1,11 +1,11 @@
 -- A session of a text, line by line.
 use Rattle.std.proofs.Common.{◌≡◌, ℕ, ◌+◌, Bool, true, false, List, [], ◌∷◌, ◌++◌, Option, Some, None, refl, ap, sym, ◌∙◌, subst, append_assoc, append-nil}
 use Rattle.std.proofs.lemmas.Bool.{false≢true}
-use Rattle.std.specs.Io.KnownBytes.{Appends, IsAtEnd}
+use Rattle.std.specs.Io.KnownBytes.{IsAtEnd}
 use Rattle.std.specs.Prelude.{IfSome, is_some, if◌then◌else◌, ◌&&◌, ◌||◌, option_to_list}
 use Rattle.superio_script.specs.Splitting.{lines_of}
 use Rattle.superio_script.specs.Command.{command_of, mask_of}
-use Rattle.superio_script.specs.Board.{Devices, IsFresh, IsLineStep}
+use Rattle.superio_script.specs.Board.{Devices, IsFresh}
 use Rattle.superio_script.specs.Script.{has_form, body_of, body_from, body_of_lines, prepend_if_good, good_commands, first_bad_line, first_bad_line_of, PrintsLines}
 use Rattle.superio_script.specs.declared.command.Command.{Command}
 use Rattle.superio_script.proofs.ScriptLemmas.{Continues, Continues-at_start, Continues-after_command, Prints-so_far}

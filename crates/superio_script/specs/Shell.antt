@@ -82,7 +82,7 @@ TakesLine true text left line =
     (rest : List ℕ) × (left ≡ Some rest) × (lines_of text ≡ line ∷ lines_of rest)
 TakesLine false text left line = (left ≡ Some []) × (text ≡ [])
 
--- a line with this mask or this command. A mask gives a fresh board, and prints nothing. Without either, nothing changes
+-- a line with this mask or this command. A mask gives a fresh board, and prints nothing. Without either nothing changes
 abbrev pub IsStepBy :
     (mask : Option ℕ) (command : Option Command) (old new : Devices) (before after : Option (List ℕ)) → Type 0
 IsStepBy (Some mask) command old new before after = IsFresh mask new × (after ≡ before)

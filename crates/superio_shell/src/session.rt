@@ -207,8 +207,19 @@ mod tests {
         assert_eq!(rt; (end, output.len()), (Ok(true), 0));
         assert_eq!(rt; notes.as_slice(), HELP.as_bytes());
         for form in [
-            "refuse M", "sr OO ", "sw OO VV ", "sq HH..", "sc ", "ss ", "so ", "st ", "se ", "cr N",
-            "cw N", "kr OO ", "kw OO VV ",
+            "refuse M",
+            "sr OO ",
+            "sw OO VV ",
+            "sq HH..",
+            "sc ",
+            "ss ",
+            "so ",
+            "st ",
+            "se ",
+            "cr N",
+            "cw N",
+            "kr OO ",
+            "kw OO VV ",
         ] {
             let row = format!(in alloc; "\n  {form}")?;
             assert!(rt; HELP.contains(row.as_str()), "{form}");

@@ -1,5 +1,5 @@
 -- A name of six bytes that are those of `refuse` is `refuse`.
-use Rattle.std.proofs.Common.{◌≡◌, ℕ, List, codes, ap, sym, arith, rules}
+use Rattle.std.proofs.Common.{◌≡◌, codes, ap, sym, arith}
 use Rattle.std.proofs.lemmas.Slice.Eq.{text_from_reads}
 use Rattle.std.specs.Str.{bytes_eq}
 use Rattle.superio_script.proofs.flaws.is_refuse.Goals as goal

@@ -1,6 +1,6 @@
 -- What was read is the first line.
-use Rattle.std.proofs.Common.{◌≡◌, rules, arith, ap, length}
-use Rattle.superio_shell.proofs.LineLemmas.{takes-line, takes-none}
+use Rattle.std.proofs.Common.{rules}
+use Rattle.superio_shell.proofs.LineLemmas.{takes-line}
 use Rattle.superio_shell.proofs.session.read_line.Goals as goal
 
 pub returns : goal.returns
