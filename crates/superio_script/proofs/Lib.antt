@@ -3,3 +3,5 @@ pub mod ReadLemmas
 pub mod SerialScriptLemmas
 pub mod DriverLemmas
 pub mod ScriptLemmas
+pub mod FlawLemmas
+pub mod ShellLemmas

@@ -177,7 +177,7 @@ output-few (Some all) out was = subst (λ bytes. length bytes ≤ 256) was out.f
 
 module _ (mask : ℕ) (start : Option (List ℕ)) where
   -- for some choice, the text of these commands was written from the start on
-  abbrev Prints : (commands : List Command) (end : Option (List ℕ)) → Type 0
+  abbrev pub Prints : (commands : List Command) (end : Option (List ℕ)) → Type 0
   Prints commands end =
       (choice : Choice) × IsPossible choice × Appends start end (text_from (fresh_session mask) [] choice commands)
 
@@ -197,7 +197,7 @@ module _ (mask : ℕ) (start : Option (List ℕ)) where
       × (board.clock.state ≡ clock_of_history fresh_clock accesses) × Completes before session accesses earlier
 
   -- where nothing follows
-  Prints-so_far : (before : Option (List ℕ)) (board : Devices) (earlier : List Command) → Continues before board earlier → Prints earlier before
+  pub Prints-so_far : (before : Option (List ℕ)) (board : Devices) (earlier : List Command) → Continues before board earlier → Prints earlier before
   Prints-so_far before board earlier (session, accesses, at, is, completes) =
       let few = output-few (known_output session.trace) board.serial.out at.output in
       subst (λ commands. Prints commands before) (append-nil earlier)
@@ -240,7 +240,7 @@ module _ (mask : ℕ) (start : Option (List ℕ)) where
               (subst (λ xs. Appends before end xs) (sym same) (Appends-append before after end reply (text_from next accesses later commands) wrote rest))),
         )
 
-    Continues-after_command :
+    pub Continues-after_command :
         (command : Command) (old new : Devices) → IsLineStep command reply old new →
         Continues before old earlier → Continues after new (earlier ++ command ∷ [])
     Continues-after_command (Serial line) old new step (session, accesses, at, is, completes) =

@@ -9,3 +9,5 @@ pub mod SerialScript
 pub mod Board
 pub mod Script
 pub mod ScriptFault
+pub mod Flaw
+pub mod Shell
