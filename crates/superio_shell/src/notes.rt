@@ -14,6 +14,7 @@ The serial port
   sw OO VV       the guest writes VV at offset OO
   sq HH..        1 to 128 bytes arrive for the guest; sq alone: none
   sc             how many more bytes fit
+  sd             the guest's driver reads the bytes that are held
   ss             saves the port, and restores it
   so             the bytes that the port wrote
   st             how often the interrupt line was called

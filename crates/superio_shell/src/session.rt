@@ -212,6 +212,7 @@ mod tests {
             "sw OO VV ",
             "sq HH..",
             "sc ",
+            "sd ",
             "ss ",
             "so ",
             "st ",
