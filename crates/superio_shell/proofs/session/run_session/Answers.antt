@@ -1,5 +1,5 @@
 -- Each line goes from what is still to come to what was carried out or passed over.
-use Rattle.std.proofs.Common.{◌≡◌, ◌∙◌, sym, ap, rules, true, false, subst}
+use Rattle.std.proofs.Common.{◌≡◌, ◌∙◌, sym, ap, rules, false, subst}
 use Rattle.std.specs.Prelude.{◌&&◌}
 use Rattle.superio_script.proofs.ShellLemmas.{Reached-at_start, Reached-carried, Reached-passed, Reached-end, Reached-is, and-when, and-unless, IfSome-weaker, IsAtEnd-none, has_form-passed, PrintsSession-script}
 use Rattle.superio_script.specs.Script.{has_form}
