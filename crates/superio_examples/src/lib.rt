@@ -3,10 +3,14 @@
 #![tactic(auto)]
 
 pub mod bus;
+pub mod console;
+pub mod event_fd;
 pub mod first_claim;
 pub mod input;
 pub mod migration;
+pub mod mmio;
 #[cfg(test)]
 mod monitor;
+pub mod port_io;
 #[cfg(test)]
 mod tests;
