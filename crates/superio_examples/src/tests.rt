@@ -272,7 +272,7 @@ fn input_stops_and_starts_and_a_refused_interrupt_is_tried_again(
     for (from, count) in [(1, 16), (17, 16), (33, 16), (49, 16), (65, 15), (80, 0)] {
         assert_eq!(rt; console.receive(&source[from..]), count, "from {from}");
     }
-    for byte in &source[..64] {
+    for byte in source.iter().take(64) {
         assert_eq!(rt; console.input.room(), 0);
         assert_eq!(rt; console.read(0), *byte);
     }
@@ -286,7 +286,7 @@ fn input_stops_and_starts_and_a_refused_interrupt_is_tried_again(
     assert_eq!(rt; console.input.room(), 7);
     console.write(4, 0x00)?;
     assert_eq!(rt; console.input.room(), 16);
-    for byte in &source[64..89] {
+    for byte in source.iter().skip(64).take(25) {
         assert_eq!(rt; console.read(0), *byte);
     }
     Ok(())
