@@ -35,14 +35,15 @@ pub record IsFieldsRead (offset : ℕ) (effects : ReadEffects) (old new : State)
   pub state : new ≡ step old (Read offset) Asked.Nothing
 
 -- a write, whatever the outcome of its byte is
-pub record IsFieldsWrite (offset value : ℕ) (refuses : Bool) (effects : WriteEffects) (old new : State) : Type 0 where
+pub record IsFieldsWrite
+    (offset value : ℕ) (refuses : Bool) (effects : WriteEffects) (old new : State) : Type 0 where
   pub sends : effects.sends ≡ sends_byte old (Write offset value)
   pub interrupts : effects.interrupts ≡ interrupts_for refuses (step_calls old (Write offset value))
   pub state :
       (asked : Asked) → IsTrue (is_as_told effects.interrupts refuses asked)
       → new ≡ step old (Write offset value) asked
 
--- an enqueue: the bytes that have room are taken, a refusal of the interrupt included. The FIFO is said to be full where
+-- an enqueue: the bytes that have room are taken, whatever becomes of the interrupt. The FIFO is said to be full where
 -- bytes are passed outside loopback and 64 are held
 pub record IsFieldsEnqueue (bytes : List ℕ) (effects : EnqueueEffects) (old new : State) : Type 0 where
   pub taken : effects.taken ≡ length (enqueued_bytes old bytes)
