@@ -1,5 +1,5 @@
 -- Lemmas on the clock's history.
-use Rattle.std.proofs.Common.{◌≡◌, ℕ, zero, suc, ◌+◌, ◌-◌, ◌*◌, ◌/◌, ◌^◌, ◌<◌, Bool, true, false, ap, sym, ◌∙◌, arith}
+use Rattle.std.proofs.Common.{◌≡◌, ℕ, zero, suc, ◌+◌, ◌-◌, ◌/◌, ◌^◌, ◌<◌, Bool, true, false, ap, sym, ◌∙◌, arith}
 use Rattle.std.specs.Prelude.{◌%◌, ◌==◌, if◌then◌else◌, not, ◌&&◌, ◌||◌, nat_le, nat_lt, bit_and, bit_or, Option, Some, None, is_some, unwrap_or, List, [], ◌∷◌, ℤ, pos, ◌+ℤ◌, ◌-ℤ◌, refl}
 use Rattle.std.specs.Int.{bit_at}
 use Rattle.std.specs.Option.{option_or, option_map_or}
@@ -12,8 +12,8 @@ use Rattle.std.proofs.lemmas.Nat.Bits.{bit_at_or, bit_at_ones_above, bit_at-lt, 
 use Rattle.vm_superio.specs.declared.rtc_pl031.RtcState.{RtcState}
 use Rattle.vm_superio.specs.Port.Bits.{with_bits, without_bits}
 use Rattle.vm_superio.specs.Clock.Registers.{ClockRegister, Dr, Mr, Lr, Cr, Imsc, Ris, Mis, Icr, Id, Reserved, Access, read, write, clock_register_at, host_time, guest_time, clock_register_read, bytes_left}
-use Rattle.vm_superio.specs.Clock.Step.{guest_time_in, after_alarm, match_write, after_write, clock_step, clock_response, state_after_accesses}
-use Rattle.vm_superio.specs.Clock.History.{Setting, load, reset, setting_of, load_by, counter_by, newest_found, value_written, clock_of_history, clock_history_response, counter, cleared_bits, cleared_by, guest_time_at, match_value, match_written, is_alarm_set, is_match_passed, is_armed, raises_alarm, is_alarm_raised}
+use Rattle.vm_superio.specs.Clock.Step.{guest_time_in, after_alarm, after_write, clock_step, clock_response, state_after_accesses}
+use Rattle.vm_superio.specs.Clock.History.{Setting, load, reset, setting_of, load_by, counter_by, newest_found, value_written, clock_of_history, clock_history_response, counter, cleared_bits, cleared_by, guest_time_at, match_value, match_written, is_alarm_set, is_match_passed, is_armed, is_alarm_raised}
 use Rattle.vm_superio.specs.Clock.Laws.{ReadsByHistory, GoesOnByHistory, is_cleared}
 use Rattle.vm_superio.proofs.BitLemmas.{bit_at-without, without-twice, without-of-or, or-twice}
 

@@ -11,6 +11,7 @@ mod HeldBytes
 mod OneCall
 mod Interrupts
 mod PendingByPrefixes
+mod PlacesLemmas
 mod PortLemmas
 mod RegisterSteps
 mod RunExamples

@@ -12,3 +12,6 @@ pub mod Model
 pub mod TriggerAnswers
 pub mod SavedState
 pub mod ErrorText
+pub mod Effects
+pub mod Places
+pub mod Told

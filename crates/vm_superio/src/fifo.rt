@@ -1,4 +1,4 @@
-//! The receive FIFO: at most 64 bytes, oldest first, in a ring.
+//! The receive FIFO: at most 64 bytes, oldest first. A port with objects keeps it in a ring on the heap.
 ghost use Rattle.std.specs.Prelude.{◌≡◌, ◌-◌, ◌≤◌, ℕ, List, [], ◌++◌, length, take, drop, slice_get, not, IfOk};
 ghost use Rattle.vm_superio.specs.Port.State.{not_empty};
 
@@ -8,6 +8,31 @@ use std::marker::Model;
 
 /// How many bytes the FIFO holds at the most, as that of a 16750 does.
 pub(crate) const FIFO_SIZE: usize = 64;
+
+/// What a port needs of its receive FIFO, which is seen as a list of at most 64 bytes, oldest first.
+pub(crate) trait ReceiveFifo {
+    /// The bytes that are held.
+    ghost held: { Self → List ℕ };
+
+    /// How many bytes are held.
+    fn len(&self) -> usize
+        ensures value { result ≡ length (held self.now) }
+        ensures bound { length (held self.now) ≤ 64 };
+
+    /// Whether no byte is held.
+    fn is_empty(&self) -> bool
+        ensures { result ≡ not (not_empty (held self.now)) };
+
+    /// Takes the oldest byte.
+    fn take_first(&mut self) -> Option<u8>
+        ensures byte { result ≡ slice_get (held self.old) 0 }
+        ensures rest { held self.new ≡ drop 1 (held self.old) };
+
+    /// Adds the first of these bytes, as many as there is room for, and returns how many.
+    fn fill(&mut self, bytes: &[u8]) -> usize
+        ensures count { result ≡ length (take (64 - length (held self.old)) bytes.now) }
+        ensures added { held self.new ≡ held self.old ++ take (64 - length (held self.old)) bytes.now };
+}
 
 /// The received bytes that no guest has read, seen as a list. Their room is taken once, when the FIFO is made.
 #[derive(Drop)]
@@ -57,35 +82,24 @@ impl Fifo {
     {
         self.bytes.to_vec(alloc)
     }
+}
 
-    /// How many bytes are held.
-    pub(crate) fn len(&self) -> usize
-        ensures value { result ≡ length self.now }
-        ensures bound { length self.now ≤ 64 }
-    {
+impl ReceiveFifo for Fifo {
+    ghost held = { λ fifo. fifo };
+
+    fn len(&self) -> usize {
         self.bytes.len()
     }
 
-    /// Whether no byte is held.
-    pub(crate) fn is_empty(&self) -> bool
-        ensures { result ≡ not (not_empty self.now) }
-    {
+    fn is_empty(&self) -> bool {
         self.bytes.is_empty()
     }
 
-    /// Takes the oldest byte.
-    pub(crate) fn take_first(&mut self) -> Option<u8>
-        ensures byte { result ≡ slice_get self.old 0 }
-        ensures rest { self.new ≡ drop 1 self.old }
-    {
+    fn take_first(&mut self) -> Option<u8> {
         self.bytes.pop_front()
     }
 
-    /// Adds the first of these bytes, as many as there is room for, and returns how many.
-    pub(crate) fn fill(&mut self, bytes: &[u8]) -> usize
-        ensures count { result ≡ length (take (64 - length self.old) bytes.now) }
-        ensures added { self.new ≡ self.old ++ take (64 - length self.old) bytes.now }
-    {
+    fn fill(&mut self, bytes: &[u8]) -> usize {
         self.bytes.fill_from_slice(bytes)
     }
 }

@@ -1,14 +1,17 @@
 //! A serial port with the registers of a 16550.
-ghost use Rattle.std.specs.Prelude.{◌≡◌, ◌<◌, ◌≤◌, ◌+◌, ◌-◌, length, vec_len, IsErr, IfOk, IfErr};
+ghost use Rattle.std.specs.Prelude.{◌≡◌, ◌<◌, ◌≤◌, ◌+◌, ◌-◌, length, vec_len, IsErr, IfOk, OnOk, IfErr};
 ghost use Rattle.vm_superio.specs.Port.Coherent.{Coherent};
-ghost use Rattle.vm_superio.specs.Port.ObjectLinks.{all_ok};
+ghost use Rattle.vm_superio.specs.Port.ObjectLinks.{all_ok, RefusesOwnState};
 ghost use Rattle.vm_superio.specs.Port.SavedState.{fresh_state, state_of};
 ghost use Rattle.vm_superio.specs.Step.Restore.{restore_calls, RefusesRestore};
 
 mod answers;
 mod bits;
+mod effects;
 mod errors;
 mod events;
+pub mod fields;
+mod places;
 mod registers;
 mod restoring;
 mod state;
@@ -16,11 +19,10 @@ mod steps;
 mod traced;
 
 use crate::Trigger;
-use crate::fifo::{FIFO_SIZE, Fifo};
+use crate::fifo::{FIFO_SIZE, Fifo, ReceiveFifo};
 pub use errors::{Error, Refused};
 pub use events::{NoEvents, SerialEvents};
-use registers::{Condition, Registers};
-use restoring::{assert_again, is_asserted};
+use registers::Registers;
 pub use state::SerialState;
 use std::alloc::{AllocError, Global};
 use std::io::Write;
@@ -84,8 +86,8 @@ impl<T: Trigger, W: Write> Serial<T, NoEvents, W> {
 impl<T: Trigger, EV: SerialEvents, W: Write> Serial<T, EV, W> {
     ghost use Rattle.std.specs.Borrow.{Lends, sem};
     ghost use Rattle.vm_superio.specs.contracts.serial.Serial.{the_row};
-    ghost use Rattle.vm_superio.specs.Step.PortStep.{with_writer};
-    ghost use Rattle.vm_superio.specs.Step.PortStep.{IsReadStep, IsWriteStep, IsEnqueueStep};
+    ghost use Rattle.vm_superio.specs.Step.PortStep.{with_trigger, with_writer};
+    ghost use Rattle.vm_superio.specs.Step.PortStep.{IsReadStep, IsWriteStep, IsEnqueueStep, IsRetryStep};
 
     /// Makes a serial port as `new` does, which reports its events to `serial_evts`. Neither the trigger nor the events
     /// object is called.
@@ -174,9 +176,8 @@ impl<T: Trigger, EV: SerialEvents, W: Write> Serial<T, EV, W> {
                 out,
             });
         };
-        let thre = is_asserted(Condition::Thre, state);
-        let rda = is_asserted(Condition::Rda, state);
-        if let Err(refusal) = assert_again(&mut trigger, thre, rda) {
+        let registers = Registers::of(state);
+        if let Err(refusal) = registers.assert_again(&mut trigger) {
             return Err(Refused {
                 error: Error::Trigger(refusal),
                 trigger,
@@ -185,7 +186,7 @@ impl<T: Trigger, EV: SerialEvents, W: Write> Serial<T, EV, W> {
             });
         }
         Ok(Serial {
-            registers: Registers::of(state),
+            registers,
             in_buffer,
             interrupt_evt: trigger,
             events: serial_evts,
@@ -271,6 +272,28 @@ impl<T: Trigger, EV: SerialEvents, W: Write> Serial<T, EV, W> {
         ensures coherent { Coherent self.old.state → Coherent self.new.state }
     {
         self.traced_read(offset).reply
+    }
+
+    /// Calls the trigger once for each condition that is both pending and enabled, THRE and then RDA, up to the first
+    /// refusal. Nothing else changes: the history counts the call as a restore of the port over its own objects.
+    ///
+    /// A condition whose call was refused stays pending, and later accesses do not call for it again until the guest has
+    /// acknowledged it. A monitor whose trigger can refuse makes this call after a refusal, until it returns `Ok`. The
+    /// guest may then be interrupted again for a condition that it knows of.
+    ///
+    /// # Errors
+    ///
+    /// The trigger's refusal: a condition that is pending and enabled was not notified.
+    pub fn retry_interrupts(&mut self) -> Result<(), T::E>
+        ensures called { OnOk result
+            (T.link self.old.trigger (all_ok (restore_calls self.old.state)) self.new.trigger) }
+        ensures refused { IfErr result (λ refusal. RefusesOwnState T.link (restore_calls self.old.state)
+            (Error.Trigger refusal) self.old.trigger self.new.trigger) }
+        ensures others { self.new ≡ with_trigger self.old self.new.trigger }
+        ensures step { IsRetryStep T.link EV.link W.contents self.old self.new }
+        ensures coherent { Coherent self.old.state → Coherent self.new.state }
+    {
+        self.registers.assert_again(&mut self.interrupt_evt)
     }
 
     /// How many bytes may still be enqueued: 64 less the number of bytes that are held.

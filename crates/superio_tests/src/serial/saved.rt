@@ -107,6 +107,32 @@ fn a_restore_calls_the_trigger_for_what_is_pending_and_enabled(
 }
 
 #[test]
+fn a_refused_interrupt_is_tried_again_until_it_is_taken(rt: HostRuntime) -> Result<(), Fail> {
+    let mut serial = fresh_port(rt.alloc(), 0b011, sink())?;
+    serial.write(IER, 0x01)?;
+    assert!(rt; serial.enqueue_raw_bytes(b"ab").is_err());
+    // The condition is pending, so no later byte calls the trigger.
+    serial.enqueue_raw_bytes(b"c")?;
+    assert_eq!(rt; serial.interrupt_evt().calls(), 1);
+    assert_eq!(rt; serial.retry_interrupts(), Err(LineRefused));
+    assert_eq!(rt; serial.retry_interrupts(), Ok(()));
+    follow(&rt, &mut serial, &[Calls(3), Get(IIR, 0xC4)]);
+    // The guest has acknowledged it, so nothing is due.
+    assert_eq!(rt; serial.retry_interrupts(), Ok(()));
+    follow(&rt, &mut serial, &[Calls(3), Get(RBR, b'a'), Get(RBR, b'b')]);
+
+    // THRE comes first, and a refusal ends the call.
+    let state = state_with(rt.alloc(), 0x06, 0x03, 0x61, b"a")?;
+    for (mask, calls) in [(0b0000, 4), (0b0100, 3), (0b1000, 4)] {
+        let mut serial = restored_port(rt.alloc(), &state, mask, sink())?;
+        assert_eq!(rt; serial.retry_interrupts().is_err(), mask != 0);
+        assert_eq!(rt; serial.interrupt_evt().calls(), calls, "{mask:04b}");
+        assert_eq!(rt; serial.state(rt.alloc())?, state);
+    }
+    Ok(())
+}
+
+#[test]
 fn a_refused_restore_returns_its_objects(rt: HostRuntime) -> Result<(), Fail> {
     let alloc = rt.alloc();
     for (mask, count, error, calls) in [

@@ -6,7 +6,7 @@ use Rattle.vm_superio.specs.declared.serial.errors.Error.{Error}
 use Rattle.vm_superio.specs.Port.Bits.{has_bits}
 use Rattle.vm_superio.specs.Port.State.{State}
 use Rattle.vm_superio.specs.Port.Registers.{Rda, Thre, iir_bit}
-use Rattle.vm_superio.specs.Port.Operations.{Op, Read, Write, Enqueue, Response, ByteRead, Event, ends_in_refusal, one_if}
+use Rattle.vm_superio.specs.Port.Operations.{Op, Read, Write, Enqueue, Restore, Response, ByteRead, NoResponse, Event, ends_in_refusal, one_if}
 use Rattle.vm_superio.specs.Port.ObjectLinks.{Link, TriggerAnswer, Contents, answers_of}
 use Rattle.vm_superio.specs.Port.WriterLink.{PortLinks, port_links, bytes_written, WriterLink}
 use Rattle.vm_superio.specs.Port.Model.{Port, write_response, enqueue_response, refusal_in_result}
@@ -29,6 +29,10 @@ pub record IsPortStep
 -- the port with another writer, and nothing else changed
 abbrev pub with_writer : {T EV W : Type 0} → (port : Port T EV W) (writer : W) → Port T EV W
 with_writer port writer = record port { out = writer }
+
+-- the port with another trigger, likewise
+abbrev pub with_trigger : {T EV W : Type 0} → (port : Port T EV W) (trigger : T) → Port T EV W
+with_trigger port trigger = record port { trigger = trigger }
 
 -- ---- trigger calls, by the bits of IIR
 
@@ -71,3 +75,9 @@ module _ {T E EV W : Type 0} (trigger : Link T (TriggerAnswer E)) (events : Link
         IsPortStep (port_links trigger events contents) (Enqueue bytes) asked sent
         (enqueue_response result) (refusal_in_result result) old new
     pub calls : length (answers_of asked (refusal_in_result result)) ≡ turned_on_count old.state new.state
+
+  -- interrupts tried again: but for its trigger, the port goes the step of a restore, which records no answers
+  abbrev pub IsRetryStep : (old new : Port T EV W) → Type 0
+  IsRetryStep old new =
+      IsPortStep (port_links trigger events contents) Restore Asked.Nothing Sent.Nothing
+      NoResponse None (with_trigger old new.trigger) new

@@ -20,6 +20,7 @@ pub(super) enum TriggerAnswers<E> {
 
 impl<E> TriggerAnswers<E> {
     ghost use Rattle.vm_superio.specs.Port.TriggerAnswers.{asked_of, refusal_in_answers, answers_to_one};
+    ghost use Rattle.vm_superio.specs.Port.Operations.{answer_count};
 
     /// The answers to the one call that was made, if any.
     pub(super) fn to_one(answer: Option<Result<(), E>>) -> TriggerAnswers<E>
@@ -42,6 +43,17 @@ impl<E> TriggerAnswers<E> {
             TriggerAnswers::Refused(_) => Asked::Refused,
             TriggerAnswers::TookTook => Asked::TookTook,
             TriggerAnswers::TookRefused(_) => Asked::TookRefused,
+        }
+    }
+
+    /// How many calls were answered.
+    pub(super) fn count(&self) -> u8
+        ensures { result ≡ answer_count (asked_of self.now) }
+    {
+        match self {
+            TriggerAnswers::Nothing => 0,
+            TriggerAnswers::Took | TriggerAnswers::Refused(_) => 1,
+            TriggerAnswers::TookTook | TriggerAnswers::TookRefused(_) => 2,
         }
     }
 

@@ -76,17 +76,26 @@ impl Condition {
 
 /// The nine register bytes of a port, in the order of a saved state. The received bytes stand beside them.
 #[repr(C)]
-#[derive(Clone, Copy)]
-pub(super) struct Registers {
-    pub(super) baud_divisor_low: u8,
-    pub(super) baud_divisor_high: u8,
-    pub(super) interrupt_enable: u8,
-    pub(super) interrupt_identification: u8,
-    pub(super) line_control: u8,
-    pub(super) line_status: u8,
-    pub(super) modem_control: u8,
-    pub(super) modem_status: u8,
-    pub(super) scratch: u8,
+#[derive(Clone, Copy, Debug, Eq, PartialEq)]
+pub struct Registers {
+    /// DLL, the low byte of the divisor latch.
+    pub baud_divisor_low: u8,
+    /// DLM, the high byte of the divisor latch.
+    pub baud_divisor_high: u8,
+    /// IER.
+    pub interrupt_enable: u8,
+    /// IIR without bits 0xC0.
+    pub interrupt_identification: u8,
+    /// LCR.
+    pub line_control: u8,
+    /// LSR.
+    pub line_status: u8,
+    /// MCR.
+    pub modem_control: u8,
+    /// MSR.
+    pub modem_status: u8,
+    /// SCR.
+    pub scratch: u8,
 }
 
 impl Registers {

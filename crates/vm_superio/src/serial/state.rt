@@ -77,7 +77,7 @@ impl SerialState {
 }
 
 /// Whether IIR shows the two conditions, of which RDA is pending only while bytes are held.
-fn shows_conditions(identification: u8, holds_bytes: bool) -> bool
+pub(super) fn shows_conditions(identification: u8, holds_bytes: bool) -> bool
     ensures { IsTrue result
         ↔ ((thre rda : Bool) × (identification ≡ identification_of thre rda)
         × (IsTrue rda → IsTrue holds_bytes)) }

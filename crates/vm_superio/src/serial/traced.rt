@@ -1,12 +1,16 @@
 //! The calls of a serial port with what is recorded of them.
-ghost use Rattle.std.specs.Prelude.{◌≡◌, if◌then◌else◌, is_some};
+ghost use Rattle.std.specs.Prelude.{◌≡◌, if◌then◌else◌, [], ◌∷◌, is_some, is_ok, OnOk};
+ghost use Rattle.std.specs.Io.KnownBytes.{Appends};
 ghost use Rattle.vm_superio.specs.Port.Operations.{Read, Write, Enqueue};
 ghost use Rattle.vm_superio.specs.Port.Operations.{ByteRead, WriteOk, TriggerRefused, WriterFailed, is_lost};
+ghost use Rattle.vm_superio.specs.Port.Operations.{out_byte, tx_lost_byte};
+ghost use Rattle.vm_superio.specs.Port.Effects.{events_of_read};
 ghost use Rattle.vm_superio.specs.Port.TriggerAnswers.{sent_of};
 ghost use Rattle.vm_superio.specs.Port.WriterLink.{port_links};
 ghost use Rattle.vm_superio.specs.Port.Model.{write_response, enqueue_response, refusal_in_result};
 
 use super::answers::TriggerAnswers;
+use super::effects::ReadEffects;
 use super::{Error, Serial, SerialEvents};
 use crate::Trigger;
 use crate::trace::{Asked, Sent, Traced};
@@ -22,11 +26,10 @@ impl<T: Trigger, EV: SerialEvents, W: Write> Serial<T, EV, W> {
             (ByteRead result.reply) None self.old self.new }
     {
         let register = self.registers.at(offset);
-        let reply = self
-            .registers
-            .read(&mut self.in_buffer, &mut self.events, register);
+        let effects = self.registers.read(&mut self.in_buffer, register);
+        report_read(&mut self.events, effects);
         Traced {
-            reply,
+            reply: effects.byte,
             asked: Asked::Nothing,
             sent: Sent::Nothing,
         }
@@ -38,11 +41,14 @@ impl<T: Trigger, EV: SerialEvents, W: Write> Serial<T, EV, W> {
             (write_response result.reply) (refusal_in_result result.reply) self.old self.new }
     {
         let register = self.registers.at(offset);
-        let (answers, outcome) = self.registers.write(
+        let outcome = if self.registers.sends(register) {
+            Some(send(&mut self.events, &mut self.out, value))
+        } else {
+            None
+        };
+        let answers = self.registers.write(
             &mut self.in_buffer,
             &mut self.interrupt_evt,
-            &mut self.events,
-            &mut self.out,
             register,
             value,
         );
@@ -87,6 +93,50 @@ impl<T: Trigger, EV: SerialEvents, W: Write> Serial<T, EV, W> {
             asked,
             sent: Sent::Nothing,
         }
+    }
+}
+
+/// Reports the events of a read.
+fn report_read<EV: SerialEvents>(events: &mut EV, effects: ReadEffects)
+    ensures { EV.link events.old (events_of_read effects) events.new }
+{
+    match (effects.in_buffer_empty, effects.buffer_read) {
+        (true, true) => {
+            events.in_buffer_empty();
+            events.buffer_read();
+        }
+        (true, false) => events.in_buffer_empty(),
+        (false, true) => events.buffer_read(),
+        (false, false) => {}
+    }
+}
+
+/// Sends a byte to the writer, and reports its outcome.
+fn send<EV: SerialEvents, W: Write>(events: &mut EV, out: &mut W, byte: u8) -> io::Result<()>
+    ensures events { EV.link events.old ((if is_ok result then out_byte else tx_lost_byte) ∷ []) events.new }
+    ensures out { OnOk result (Appends (W.contents out.old) (W.contents out.new) (byte ∷ [])) }
+{
+    let result = write_and_flush(out, byte);
+    report_outcome(events, result.is_ok());
+    result
+}
+
+/// Writes the byte, and flushes where that succeeded.
+fn write_and_flush<W: Write>(out: &mut W, byte: u8) -> io::Result<()>
+    ensures { OnOk result (Appends (W.contents out.old) (W.contents out.new) (byte ∷ [])) }
+{
+    out.write_all(&[byte])?;
+    out.flush()
+}
+
+/// Reports whether a byte went out.
+fn report_outcome<EV: SerialEvents>(events: &mut EV, went_out: bool)
+    ensures { EV.link events.old ((if went_out then out_byte else tx_lost_byte) ∷ []) events.new }
+{
+    if went_out {
+        events.out_byte();
+    } else {
+        events.tx_lost_byte();
     }
 }
 

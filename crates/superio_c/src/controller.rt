@@ -1,0 +1,28 @@
+//! The i8042 controller.
+
+use crate::called::Called;
+use vm_superio::I8042Device;
+
+/// Whether a write to the controller resets the machine.
+#[repr(C)]
+#[derive(Clone, Copy, Debug, Eq, PartialEq)]
+pub struct I8042WriteEffects {
+    /// The guest resets the machine.
+    pub resets: bool,
+}
+
+/// The guest reads at `offset`.
+#[unsafe(no_mangle)]
+pub extern "C" fn superio_i8042_read(offset: u8) -> u8 {
+    I8042Device::new(Called { called: false }).read(offset)
+}
+
+/// The guest writes `value` at `offset`.
+#[unsafe(no_mangle)]
+pub extern "C" fn superio_i8042_write(offset: u8, value: u8) -> I8042WriteEffects {
+    let mut controller = I8042Device::new(Called { called: false });
+    let _answer = controller.write(offset, value);
+    I8042WriteEffects {
+        resets: controller.reset_evt().called,
+    }
+}
