@@ -1,8 +1,14 @@
 //! A 16550 serial port, a PL031 real-time clock and an i8042 reset controller, for virtual machine monitors.
 //!
 //! The devices are those of the proved library `superio_c`, which this crate links. Their names, signatures and errors
-//! are those of the crate vm-superio 0.8.2, so a monitor changes nothing but the line of its `Cargo.toml`. The match
-//! register of the clock differs: here it is an [alarm](rtc_pl031).
+//! are those of the crate vm-superio 0.8.2, so a monitor changes nothing but the line of its `Cargo.toml`.
+//!
+//! # Differences
+//!
+//! - The match register of the clock is an [alarm](rtc_pl031), where that of vm-superio 0.8.2 has no effect.
+//! - A host whose clock is before 1970 has the moment 0, where vm-superio 0.8.2 panics.
+//! - [`Serial::retry_interrupts`], [`Rtc::is_armed`] and [`Rtc::set_armed`] are new.
+//! - A device cannot be made if the library that was linked is not of this crate's version: that panics.
 //!
 //! # Example
 //!

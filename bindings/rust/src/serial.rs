@@ -178,10 +178,9 @@ impl<T: Trigger, EV: SerialEvents, W: Write> Serial<T, EV, W> {
     /// [`Error::Trigger`] at the first call that the trigger refused. The objects are dropped.
     pub fn from_state(state: &SerialState, trigger: T, serial_evts: EV, out: W) -> Result<Self, Error<T::E>> {
         let port = state.port().ok_or(Error::FullFifo)?;
-        for _ in 0..port.interrupts_due() {
-            trigger.trigger().map_err(Error::Trigger)?;
-        }
-        Ok(Serial { port, interrupt_evt: trigger, events: serial_evts, out })
+        let serial = Serial { port, interrupt_evt: trigger, events: serial_evts, out };
+        serial.retry_interrupts().map_err(Error::Trigger)?;
+        Ok(serial)
     }
 
     /// Makes a fresh port. Neither the trigger nor the events object is called.
@@ -263,6 +262,20 @@ impl<T: Trigger, EV: SerialEvents, W: Write> Serial<T, EV, W> {
             self.events.buffer_read();
         }
         effects.byte
+    }
+
+    /// Calls the trigger once for each condition that is both pending and enabled, up to the first refusal. The port is
+    /// unchanged.
+    ///
+    /// vm-superio 0.8.2 has no such call. A monitor whose trigger can refuse makes it after a refusal, until it returns
+    /// `Ok`: else a refused interrupt never reaches the guest. The guest may be interrupted again for a condition that it
+    /// knows of.
+    ///
+    /// # Errors
+    ///
+    /// The trigger's refusal.
+    pub fn retry_interrupts(&self) -> Result<(), T::E> {
+        (0..self.port.interrupts_due()).try_for_each(|_| self.interrupt_evt.trigger())
     }
 
     /// How many bytes may still be enqueued: 64 less the number of bytes that are held.

@@ -99,7 +99,8 @@ impl Call {
 impl Observed {
     /// The cases, beside its kind, that a call reached.
     pub fn cases(&self) -> Vec<String> {
-        let calls: Vec<_> = self.events.iter().filter(|event| matches!(event, Event::Trigger | Event::Refusal)).collect();
+        let calls: Vec<_> =
+            self.events.iter().filter(|event| matches!(event, Event::Trigger | Event::Refusal)).collect();
         let mut cases = Vec::new();
         if let Err(text) = &self.reply {
             cases.push(format!("fails: {text}"));
