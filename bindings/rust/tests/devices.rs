@@ -1,8 +1,8 @@
 //! What a monitor sees of the devices, through this crate alone.
-use std::cell::{Cell, RefCell};
+use std::cell::Cell;
 use std::io::{self, Write};
 use std::rc::Rc;
-use std::sync::Arc;
+use std::sync::{Arc, Mutex};
 use std::time::{SystemTime, UNIX_EPOCH};
 
 use vm_superio::rtc_pl031::RtcEvents;
@@ -37,15 +37,15 @@ impl Trigger for Line {
 
 /// The names of the events, in order.
 #[derive(Debug, Default)]
-struct Log(RefCell<Vec<&'static str>>);
+struct Log(Mutex<Vec<&'static str>>);
 
 impl Log {
     fn note(&self, name: &'static str) {
-        self.0.borrow_mut().push(name);
+        self.0.lock().unwrap().push(name);
     }
 
     fn names(&self) -> Vec<&'static str> {
-        self.0.take()
+        std::mem::take(&mut self.0.lock().unwrap())
     }
 }
 

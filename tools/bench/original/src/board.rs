@@ -58,11 +58,13 @@ pub fn restore_clock(clock: &mut Clock) {
     *clock = Rtc::from_state(&clock.state(), rtc_pl031::NoEvents);
 }
 
-impl Board {
-    pub fn new() -> Board {
+impl Default for Board {
+    fn default() -> Board {
         Board { serial: new_port(), clock: Rtc::new(), controller: new_controller() }
     }
+}
 
+impl Board {
     /// Makes an access, and returns what it read, or how many bytes it enqueued, or otherwise 0. A refused one is
     /// [`REFUSED`].
     #[inline(always)]

@@ -22,7 +22,7 @@ fn main() -> Outcome<()> {
     io::stdin().read_to_end(&mut bytes)?;
     let list = list_of(&bytes);
     moment::set(1_000);
-    let mut board = Board::new();
+    let mut board = Board::default();
     let (preparation, list) = list.split_at(prepared.min(list.len()));
     sum_of(&mut board, preparation);
     let mut sum: u64 = 0;

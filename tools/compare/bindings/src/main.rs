@@ -8,6 +8,7 @@
 //!
 //! A write to RTCMR is of a match that is past, since a match that is not is an alarm in bindings/rust and has no effect
 //! in the Rust crate.
+#![allow(clippy::duplicate_mod)] // devices.rs, below
 mod call;
 mod random;
 

@@ -1,0 +1,168 @@
+#!/usr/bin/env python3
+"""Measures what a call of a device costs, beside the Rust crate vm-superio 0.8.2.
+
+    tools/bench/bench.py [--turns N] [--processor P]
+
+Four programs make the same lists of accesses: `crates/superio_bench` and `original`, each over the devices themselves,
+and `through_c.c` over either behind C functions. In each turn each program makes each list, one after the other, on one
+processor. An access costs the processor time of a run of many rounds, less that of a run without a round, divided by
+the number of accesses; the median of the turns counts. What the same run costs with empty accesses, which do nothing,
+is subtracted. The programs must print the same sums.
+
+Prints a table in Markdown, in nanoseconds, and the noise: by how much the middle half of the turns differ, as a part of
+their median, for the half of the measurements where that is less. Needs rt, gcc and Cargo. Where Cargo has no copy of
+vm-superio 0.8.2, the environment variable VM_SUPERIO can name the folder of its package.
+"""
+import argparse
+import os
+import subprocess
+import sys
+import tempfile
+from pathlib import Path
+from statistics import median, quantiles
+
+FOLDER = Path(__file__).resolve().parent
+ROOT = FOLDER.parent.parent
+sys.path.insert(0, str(ROOT / "tools"))
+from program import CRATES, built_library, is_current, original_crate  # noqa: E402
+
+# Rattle's programs and libraries are made for such processors.
+PROCESSOR = "x86-64-v2"
+LIST_LENGTH = 600
+# How many nanoseconds of processor time a run takes at least.
+RUN = 30_000_000
+
+
+def accesses(text):
+    """The bytes of accesses that are written as kind, offset and value, in hexadecimal, as `w0141`."""
+    words = text.split()
+    return b"".join(word[:1].encode() + bytes.fromhex(word[1:]) for word in words), len(words)
+
+
+# What is measured: its name, the accesses before it, and the accesses that are repeated.
+LISTS = [
+    ("nothing", "", "n0000"),
+    ("LSR read", "", "r0500"),
+    ("IIR read", "", "r0200"),
+    ("SCR write", "", "w0741"),
+    ("IER write", "", "w0101"),
+    ("THR write, output dropped", "", "w0041"),
+    ("THRE raised and acknowledged: IER write, IIR read", "", "w0102 r0200"),
+    ("loopback: THR write, RBR read", "w0410", "w0041 r0000"),
+    ("one byte in and out", "", "e0001 r0000"),
+    ("64 bytes in and out", "", "e0040" + 64 * " r0000"),
+    ("save and restore, empty", "", "s0000"),
+    ("save and restore, 64 bytes", "e0040", "s0000"),
+    ("RTCDR read", "W0864", "R0000"),
+    ("RTCLR write", "", "W0864"),
+    ("RTCMR write", "", "W0464"),
+    ("read of no register", "", "R2000"),
+    ("save and restore, clock", "", "S0000"),
+    ("controller read", "", "i0400"),
+    ("controller write, no reset", "", "o04ff"),
+    ("reset", "", "o04fe"),
+]
+
+
+def build(folder):
+    """Builds the four programs, and returns them by what they measure."""
+    ours = CRATES / "superio_bench" / "out" / "superio_bench"
+    if not is_current(ours, ["superio_bench", "vm_superio"]):
+        subprocess.run(["rt", "run", "--", "0", "0"], cwd=ours.parent.parent, stdin=subprocess.DEVNULL, check=True)
+    cargo = ["cargo", "build", "--release", "--quiet", "--offline", "--manifest-path", FOLDER / "original/Cargo.toml"]
+    environment = dict(os.environ, RUSTFLAGS=f"-C target-cpu={PROCESSOR}")
+    subprocess.run([*cargo, *original_crate()], env=environment, check=True)
+    original = FOLDER / "original" / "target" / "release"
+    programs = [ours, original / "original"]
+    for devices, library in (("ours", built_library()), ("original", original / "liboriginal.a")):
+        program = folder / devices
+        subprocess.run(["gcc", "-O2", f"-march={PROCESSOR}", f'-DDEVICES="{devices}.h"', f"-I{ROOT / 'include'}",
+                        FOLDER / "through_c.c", library, "-o", program], check=True)
+        programs.append(program)
+    return programs
+
+
+def processor_time(program, rounds, prepared, path):
+    """The nanoseconds that a run took, and what it printed."""
+    with open(path, "rb") as file:
+        child = subprocess.Popen([program, str(rounds), str(prepared)], stdin=file, stdout=subprocess.PIPE)
+        printed = child.stdout.read()
+        _, status, usage = os.wait4(child.pid, 0)
+        child.returncode = os.waitstatus_to_exitcode(status)
+    if child.returncode != 0:
+        sys.exit(f"{program}: status {child.returncode}")
+    return (usage.ru_utime + usage.ru_stime) * 1e9, printed
+
+
+class Measurement:
+    """A list, and what its repeated accesses cost in each program, turn by turn."""
+
+    def __init__(self, folder, number, name, preparation, repeated):
+        self.name = name
+        before, self.prepared = accesses(preparation)
+        unit, self.unit_length = accesses(repeated)
+        self.units = max(1, LIST_LENGTH // self.unit_length)
+        self.path = folder / f"list{number}"
+        self.path.write_bytes(before + unit * self.units)
+        self.rounds = 0
+        self.costs = {}
+
+    def calibrate(self, program):
+        """Finds for how many rounds a run takes long enough."""
+        self.rounds = 100
+        while processor_time(program, self.rounds, self.prepared, self.path)[0] < RUN:
+            self.rounds *= 2
+
+    def take_turn(self, programs):
+        sums = set()
+        for program in programs:
+            start, _ = processor_time(program, 0, self.prepared, self.path)
+            time, printed = processor_time(program, self.rounds, self.prepared, self.path)
+            sums.add(printed)
+            self.costs.setdefault(program, []).append((time - start) / (self.rounds * self.units))
+        if len(sums) != 1:
+            sys.exit(f"{self.name}: the programs do not read the same: {sums}")
+
+    def noise(self):
+        return [spread(costs) for costs in self.costs.values()]
+
+
+def spread(costs):
+    low, _, high = quantiles(costs, n=4)
+    return (high - low) / median(costs)
+
+
+def row(measurement, loop, programs):
+    """The row of a table: both costs and their ratio, over the devices themselves and through C."""
+    cells = [measurement.name]
+    for pair in (programs[:2], programs[2:]):
+        costs = [median(measurement.costs[program]) for program in pair]
+        if measurement is not loop:
+            costs = [cost - measurement.unit_length * median(loop.costs[program]) for cost, program in zip(costs, pair)]
+        ratio = f"{costs[0] / costs[1]:.1f}" if measurement is not loop and costs[1] >= 0.2 else ""
+        cells += [f"{cost:.1f}" for cost in costs] + [ratio]
+    return "| " + " | ".join(cells) + " |"
+
+
+def main():
+    parser = argparse.ArgumentParser()
+    parser.add_argument("--turns", type=int, default=15)
+    parser.add_argument("--processor", type=int, default=max(os.sched_getaffinity(0)))
+    options = parser.parse_args()
+    with tempfile.TemporaryDirectory() as name:
+        programs = build(Path(name))
+        os.sched_setaffinity(0, {options.processor})
+        measurements = [Measurement(Path(name), number, *entry) for number, entry in enumerate(LISTS)]
+        for measurement in measurements:
+            measurement.calibrate(programs[1])
+        for _ in range(options.turns):
+            for measurement in measurements:
+                measurement.take_turn(programs)
+    print("| | devices | Rust crate | ratio | through C | Rust crate through C | ratio |\n|---|---|---|---|---|---|---|")
+    for measurement in measurements:
+        print(row(measurement, measurements[0], programs))
+    noise = median(value for measurement in measurements for value in measurement.noise())
+    print(f"\nnoise: {100 * noise:.0f}%, {options.turns} turns on processor {options.processor}")
+
+
+main()
