@@ -35,6 +35,9 @@ def built_library():
 
 
 def original_crate():
-    """Cargo's arguments for the Rust crate vm-superio 0.8.2: from the folder that VM_SUPERIO names, if it names one."""
+    """Cargo's arguments for the Rust crate vm-superio 0.8.2: the folder that VM_SUPERIO names, or else none, so that Cargo
+    asks the registry."""
     folder = os.environ.get("VM_SUPERIO")
-    return ["--config", f'patch.crates-io.vm-superio.path="{Path(folder).resolve()}"'] if folder else []
+    if not folder:
+        return []
+    return ["--offline", "--config", f'patch.crates-io.vm-superio.path="{Path(folder).resolve()}"']

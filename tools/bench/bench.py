@@ -69,7 +69,7 @@ def build(folder):
     ours = CRATES / "superio_bench" / "out" / "superio_bench"
     if not is_current(ours, ["superio_bench", "vm_superio"]):
         subprocess.run(["rt", "run", "--", "0", "0"], cwd=ours.parent.parent, stdin=subprocess.DEVNULL, check=True)
-    cargo = ["cargo", "build", "--release", "--quiet", "--offline", "--manifest-path", FOLDER / "original/Cargo.toml"]
+    cargo = ["cargo", "build", "--release", "--quiet", "--manifest-path", FOLDER / "original/Cargo.toml"]
     environment = dict(os.environ, RUSTFLAGS=f"-C target-cpu={PROCESSOR}")
     subprocess.run([*cargo, *original_crate()], env=environment, check=True)
     original = FOLDER / "original" / "target" / "release"
