@@ -1,18 +1,23 @@
-//! The devices of vm_superio behind C functions: `include/superio.h` is their header.
+//! The devices of vm_superio behind C functions. Their header is `include/superio.h`.
 //!
-//! Each function takes a device in a plain struct, changes it, and returns what is left to do.
+//! Each function takes a device in a plain struct by pointer, changes it, and returns what is left to do. No function has
+//! a `requires`: any bytes of a struct are a device.
 #![tactic(auto)]
+
+ghost use Rattle.std.specs.Prelude.{◌≡◌};
 
 mod called;
 mod clock;
 mod controller;
 mod serial;
 
-/// The binary interface: it changes with every change of a struct, or of what a call means.
+/// It changes with every change of a struct, or of what a call means.
 const ABI: u32 = 1;
 
-/// The binary interface of this library, to be compared with that of the header.
+/// The binary interface of this library, which a program compares with that of its header, `SUPERIO_ABI`.
 #[unsafe(no_mangle)]
-pub extern "C" fn superio_abi() -> u32 {
+pub extern "C" fn superio_abi() -> u32
+    ensures { result ≡ 1 }
+{
     ABI
 }

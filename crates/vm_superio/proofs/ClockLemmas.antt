@@ -191,10 +191,10 @@ goes_on start trace (write offset value now) =
     ∙ by_register start trace offset value now (clock_register_at offset)
     ∙ sym (rw (is.setting, is.matched, is.masked, is.cleared) refl)
 
--- a write that leaves the state of its case continues each history of the state before it
-pub GoesOnByHistory-written : (offset value now : ℕ) {old held new : RtcState} {time stored : ℕ} {register : ClockRegister} → held ≡ after_alarm old (host_time now) → register ≡ clock_register_at offset → stored ≡ value → time ≡ host_time now → new ≡ after_write held register stored time → GoesOnByHistory old (write offset value now) new
-GoesOnByHistory-written offset value now is_held is_register is_value is_time case start trace same =
-    case ∙ rw (is_held, same, is_register, is_value, is_time) (goes_on start trace (write offset value now))
+-- a step continues each history of the state before it
+pub GoesOnByHistory-step : (access : Access) {old new : RtcState} → new ≡ clock_step old access → GoesOnByHistory old access new
+GoesOnByHistory-step access is start trace same =
+    is ∙ ap (λ state. clock_step state access) same ∙ goes_on start trace access
 
 -- a read answers by the history
 pub answers : (start : RtcState) (trace : List Access) (access : Access) → clock_response (clock_of_history start trace) access ≡ clock_history_response start trace access
@@ -204,11 +204,7 @@ answers start trace (read offset now) =
     (guest_time-history start (read offset now ∷ trace) (host_time now))
 answers start trace (write offset value now) = refl
 
--- a read that leaves the state of its case, and the bytes of its response, does so by each history
-pub GoesOnByHistory-read : (offset now : ℕ) {old new : RtcState} → new ≡ after_alarm old (host_time now) → GoesOnByHistory old (read offset now) new
-GoesOnByHistory-read offset now case start trace same =
-    case ∙ ap (λ state. after_alarm state (host_time now)) same ∙ read_goes_on start trace offset now
-
+-- a read that leaves the bytes of its response does so by each history
 pub ReadsByHistory-read : (offset now : ℕ) (state : RtcState) (old new : List ℕ) → new ≡ bytes_left (clock_response state (read offset now)) old → ReadsByHistory state offset now old new
 ReadsByHistory-read offset now state old new shown start trace same =
     shown ∙ ap (λ response. bytes_left response old) (ap (λ state. clock_response state (read offset now)) same ∙ answers start trace (read offset now))

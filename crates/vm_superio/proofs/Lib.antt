@@ -7,6 +7,7 @@ pub mod BitLemmas
 mod ClockExamples
 pub mod ClockLemmas
 mod Examples
+mod FieldsLemmas
 mod HeldBytes
 mod OneCall
 mod Interrupts

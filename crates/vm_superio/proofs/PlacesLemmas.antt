@@ -74,7 +74,7 @@ ring-rest p q n xs long pn le (before at) =
     let head : drop p xs ≡ get_or xs p 0 ∷ drop (suc p) xs = drop-cons xs p 0 (omega arith) in
     let last : take (suc p) xs ≡ take p xs ++ get_or xs p 0 ∷ [] = take-suc xs p 0 (omega arith) in
     let fits : n ≤ length r =
-        omega (arith, length-append (drop (suc p) xs) (take p xs), length-drop (suc p) xs, length-take p xs) in
+    omega (arith, length-append (drop (suc p) xs) (take p xs), length-drop (suc p) xs, length-take p xs) in
     let next : q ≡ suc p = omega arith in
     ap (λ k. take n (from k xs)) next
     ∙ ap (λ l. take n (drop (suc p) xs ++ l)) last

@@ -2,3 +2,4 @@
 pub mod Agreement
 pub mod Consequences
 pub mod OneCall
+pub mod FieldsRun

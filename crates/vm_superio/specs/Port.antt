@@ -14,4 +14,5 @@ pub mod SavedState
 pub mod ErrorText
 pub mod Effects
 pub mod Places
+pub mod Fields
 pub mod Told

@@ -3,4 +3,5 @@ pub mod Raising
 pub mod Transition
 pub mod Admissible
 pub mod PortStep
+pub mod FieldsStep
 pub mod Restore

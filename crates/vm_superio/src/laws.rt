@@ -6,6 +6,7 @@
 //! two alone.
 ghost use Rattle.vm_superio.specs.Laws.Agreement.{RegisterLaw, HeldBytesLaw, LineStatusLaw, InterruptLaw, CoherenceLaw, StateLaw, ResponseLaw, StepLaw, CallLaw, WholeRunLaw};
 ghost use Rattle.vm_superio.specs.Laws.Consequences.{PendingByPrefixesLaw, TriggerBoundLaw, WaitingBytesLaw, SameReadsLaw, TakenThenHeldLaw, ReadsAreTakenLaw, ReadThenHeldLaw, OutputLaw};
+ghost use Rattle.vm_superio.specs.Laws.FieldsRun.{FieldsRunLaw};
 ghost use Rattle.vm_superio.specs.Laws.OneCall.{OneCallLaw, OneReadLaw, ReceivedLaw, RbrReadLaw, OutcomeEventsLaw, TurnedBitsLaw, AdmissibilityLaw};
 
 mod clock;
@@ -60,6 +61,12 @@ pub fn calls_of_history()
 /// in the state that it leads to, which is coherent.
 pub fn whole_runs()
     ensures { WholeRunLaw }
+{}
+
+/// Calls of a port in a plain struct that was coherent, each with what the caller found when it carried its effects out,
+/// are a well-formed trace with these responses, and end in the state that it leads to, which is coherent.
+pub fn whole_runs_of_fields()
+    ensures { FieldsRunLaw }
 {}
 
 /// From any start, a condition is pending exactly if it was raised at some point, or was pending at the start, and no

@@ -12,7 +12,7 @@ ghost use Rattle.std.specs.Bool.{OnTrue, OnFalse};
 ghost use Rattle.std.proofs.Common.{◌∙◌};
 ghost use Rattle.vm_superio.specs.Clock.Events.{RtcEvent, invalid_read, invalid_write};
 ghost use Rattle.vm_superio.specs.Clock.CodeNames.{clock_register_of};
-ghost use Rattle.vm_superio.specs.Clock.Registers.{read, write_of, clock_register_at, is_readable, is_writable};
+ghost use Rattle.vm_superio.specs.Clock.Registers.{read, write, write_of, clock_register_at, is_readable, is_writable};
 ghost use Rattle.vm_superio.specs.Clock.Registers.{host_time, clock_register_read, bytes_left};
 ghost use Rattle.vm_superio.specs.Clock.Step.{ClockDevice, guest_time_in, after_alarm, match_write, clock_response, after_write, clock_step, clock_events};
 ghost use Rattle.vm_superio.specs.Clock.Registers.{fresh_clock};
@@ -177,6 +177,37 @@ impl RtcState {
         }
         true
     }
+
+    /// Begins an access at the moment `now`, and gives the host's time. Every access may find that the alarm is
+    /// reached, before it has its own effect, an invalid one too.
+    fn begin_access(&mut self, now: u64) -> u32
+        ensures time { result ≡ host_time now }
+        ensures state { self.new ≡ after_alarm self.old (host_time now) }
+    {
+        let time = (now % (1 << 32)) as u32;
+        self.check_alarm(time);
+        time
+    }
+
+    /// Reads at `offset` as [`Rtc::read`] does, for a monitor that keeps the state itself: the number that is shown, or
+    /// `None` where the read is invalid.
+    pub fn read(&mut self, offset: u16, now: u64) -> Option<u32>
+        ensures response { result ≡ clock_response self.old (read offset now) }
+        ensures state { self.new ≡ clock_step self.old (read offset now) }
+    {
+        let time = self.begin_access(now);
+        self.read_register(ClockRegister::at(offset), time)
+    }
+
+    /// Writes `value` at `offset` as [`Rtc::write`] does, for a monitor that keeps the state itself. Returns whether
+    /// this offset takes a write: `false` where the write is invalid.
+    pub fn write(&mut self, offset: u16, value: u32, now: u64) -> bool
+        ensures taken { result ≡ is_writable (clock_register_at offset) }
+        ensures state { self.new ≡ clock_step self.old (write offset value now) }
+    {
+        let time = self.begin_access(now);
+        self.store(ClockRegister::at(offset), value, time)
+    }
 }
 
 /// A PL031 real-time clock, which reports to an events object.
@@ -247,18 +278,6 @@ impl<EV: RtcEvents> Rtc<EV> {
         &self.events
     }
 
-    /// Begins an access at the moment `now`, and gives the host's time. Every access may find that the alarm is
-    /// reached, before it has its own effect, an invalid one too.
-    fn begin_access(&mut self, now: u64) -> u32
-        ensures time { result ≡ host_time now }
-        ensures state { self.new.state ≡ after_alarm self.old.state (host_time now) }
-        ensures events { self.new.events ≡ self.old.events }
-    {
-        let time = (now % (1 << 32)) as u32;
-        self.state.check_alarm(time);
-        time
-    }
-
     /// Writes `bytes`, lowest byte first, at `offset` from the clock's base address, at the moment `now` in seconds
     /// since 1970, of which the low 32 bits count.
     ///
@@ -283,8 +302,7 @@ impl<EV: RtcEvents> Rtc<EV> {
         ensures quiet { OnTrue (is_writable (clock_register_at offset)) (self.new.events ≡ self.old.events) }
     {
         let value = u32::from_le_bytes(*bytes);
-        let time = self.begin_access(now);
-        if !self.state.store(ClockRegister::at(offset), value, time) {
+        if !self.state.write(offset, value, now) {
             self.events.invalid_write();
         }
     }
@@ -311,8 +329,7 @@ impl<EV: RtcEvents> Rtc<EV> {
         ensures events { EV.link self.old.events (clock_events (read offset now)) self.new.events }
         ensures quiet { OnTrue (is_readable (clock_register_at offset)) (self.new.events ≡ self.old.events) }
     {
-        let time = self.begin_access(now);
-        match self.state.read_register(ClockRegister::at(offset), time) {
+        match self.state.read(offset, now) {
             Some(number) => *bytes = number.to_le_bytes(),
             None => self.events.invalid_read(),
         }

@@ -3,6 +3,12 @@
 //! The port owns no object and takes no memory. A call changes the struct and answers what is left to do: a byte to
 //! send, an interrupt to ask for, an event to report. So it serves a monitor in another language, which keeps the struct
 //! where it likes, and saves the port as it copies bytes.
+ghost use Rattle.std.specs.Prelude.{◌≡◌, ◌↔◌, ◌≤◌, ◌-◌, length, IsTrue};
+ghost use Rattle.vm_superio.specs.Port.Coherent.{Coherent};
+ghost use Rattle.vm_superio.specs.Port.SavedState.{fresh_state};
+ghost use Rattle.vm_superio.specs.Port.Fields.{state_of_fields};
+ghost use Rattle.vm_superio.specs.Step.Restore.{restore_calls};
+ghost use Rattle.vm_superio.specs.Step.FieldsStep.{IsFieldsRead, IsFieldsWrite, IsFieldsEnqueue};
 
 use super::SerialState;
 use super::answers::TriggerAnswers;
@@ -26,22 +32,35 @@ pub struct SerialFields {
 }
 
 impl SerialFields {
-    /// A fresh port.
-    pub fn new() -> SerialFields {
+    /// A fresh port: divisor 12, 8 bits a character, OUT2 set, and nothing enabled, pending or held.
+    pub fn new() -> SerialFields
+        ensures state { state_of_fields result ≡ fresh_state }
+        ensures coherent { Coherent (state_of_fields result) }
+    {
         SerialFields {
             registers: Registers::new(),
             in_buffer: Places::new(),
         }
     }
 
-    /// Reads at `offset`, as a guest does.
-    pub fn read(&mut self, offset: u8) -> ReadEffects {
+    /// Reads at `offset`, as a guest does. No interrupt is asked for.
+    pub fn read(&mut self, offset: u8) -> ReadEffects
+        ensures step { IsFieldsRead offset result (state_of_fields self.old) (state_of_fields self.new) }
+        ensures coherent { Coherent (state_of_fields self.old) → Coherent (state_of_fields self.new) }
+    {
         let register = self.registers.at(offset);
         self.registers.read(&mut self.in_buffer, register)
     }
 
-    /// Writes `value` at `offset`, as a guest does.
-    pub fn write(&mut self, offset: u8, value: u8, refuses: bool) -> WriteEffects {
+    /// Writes `value` at `offset`, as a guest does. The caller then sends the byte, where it goes out, and asks for the
+    /// interrupt. Whether the byte is lost makes no difference to the port.
+    ///
+    /// A port with a trigger asks for no second interrupt where the first is refused. Where that is so, `refuses` tells
+    /// it beforehand: it matters for a write that enables both conditions at once, and for no other.
+    pub fn write(&mut self, offset: u8, value: u8, refuses: bool) -> WriteEffects
+        ensures step { IsFieldsWrite offset value refuses result (state_of_fields self.old) (state_of_fields self.new) }
+        ensures coherent { Coherent (state_of_fields self.old) → Coherent (state_of_fields self.new) }
+    {
         let register = self.registers.at(offset);
         let sends = self.registers.sends(register);
         let mut trigger = Told { refuses };
@@ -55,12 +74,19 @@ impl SerialFields {
     }
 
     /// How many bytes may still be enqueued: 64 less the number of bytes that are held.
-    pub fn fifo_capacity(&self) -> usize {
+    pub fn fifo_capacity(&self) -> usize
+        ensures value { result ≡ 64 - length (state_of_fields self.now).in_buffer }
+        ensures bound { length (state_of_fields self.now).in_buffer ≤ 64 }
+    {
         FIFO_SIZE - self.in_buffer.len()
     }
 
-    /// Receives bytes for the guest: the first of them, as many as there is room for.
-    pub fn enqueue_raw_bytes(&mut self, input: &[u8]) -> EnqueueEffects {
+    /// Receives bytes for the guest: the first of them, as many as there is room for. In loopback nothing is accepted.
+    /// The bytes are kept even where the interrupt is then refused.
+    pub fn enqueue_raw_bytes(&mut self, input: &[u8]) -> EnqueueEffects
+        ensures step { IsFieldsEnqueue input.now result (state_of_fields self.old) (state_of_fields self.new) }
+        ensures coherent { Coherent (state_of_fields self.old) → Coherent (state_of_fields self.new) }
+    {
         if self.registers.is_loopback() || input.is_empty() {
             return EnqueueEffects {
                 taken: 0,
@@ -86,14 +112,20 @@ impl SerialFields {
         }
     }
 
-    /// How often the interrupt is asked for after a restore: once for each condition that is pending and enabled.
-    pub fn interrupts_due(&self) -> u8 {
+    /// How often the interrupt is asked for after a restore, and again after a refusal: once for each condition that is
+    /// pending and enabled.
+    pub fn interrupts_due(&self) -> u8
+        ensures { result ≡ length (restore_calls (state_of_fields self.now)) }
+    {
         u8::from(self.registers.is_asserted(Condition::Thre))
             + u8::from(self.registers.is_asserted(Condition::Rda))
     }
 
-    /// Whether the port is coherent, as each port is that `new` made: see [`SerialState::is_coherent`].
-    pub fn is_coherent(&self) -> bool {
+    /// Whether the port is coherent, as each port is that `new` made: see [`SerialState::is_coherent`]. More than 64 held
+    /// bytes, which stand for 64, are not.
+    pub fn is_coherent(&self) -> bool
+        ensures { IsTrue result ↔ ((self.now.in_buffer.held ≤ 64) × Coherent (state_of_fields self.now)) }
+    {
         let holds_bytes = !self.in_buffer.is_empty();
         usize::from(self.in_buffer.held) <= FIFO_SIZE
             && has_bits(self.registers.line_status, LSR_DATA_READY_BIT) == holds_bytes

@@ -1,8 +1,8 @@
 -- A read continues each history: it may reach the alarm, and has no other effect.
 use Rattle.std.proofs.Common.{rules, ◌≡◌, ◌∙◌, ap}
 use Rattle.vm_superio.specs.Clock.Registers.{read, bytes_left}
-use Rattle.vm_superio.specs.Clock.Step.{ClockDevice, clock_response}
-use Rattle.vm_superio.proofs.ClockLemmas.{ReadsByHistory-read, GoesOnByHistory-read}
+use Rattle.vm_superio.specs.Clock.Step.{ClockDevice, clock_response, clock_step}
+use Rattle.vm_superio.proofs.ClockLemmas.{ReadsByHistory-read, GoesOnByHistory-step}
 use Rattle.vm_superio.proofs.rtc_pl031.Rtc.read.Goals as goal
 
 pub returns-in-Some-clause-response_by_history : goal.returns-in-Some-clause-response_by_history
@@ -11,9 +11,13 @@ returns-in-Some-clause-response_by_history g c =
     ReadsByHistory-read c.args.offset c.args.now c.args.self.now.state c.args.bytes.now _ shown
 
 pub returns-in-Some-clause-history : goal.returns-in-Some-clause-history
-returns-in-Some-clause-history g c = GoesOnByHistory-read c.args.offset c.args.now c.begin_access-time.ensures.state
+returns-in-Some-clause-history g c =
+    let access = read c.args.offset c.args.now in
+    let held = ap (λ (clock : ClockDevice _). clock_step clock.state access) c.self.view_is in
+    GoesOnByHistory-step access (c.read.ensures.state ∙ held)
 
 pub returns-in-None-clause-history : goal.returns-in-None-clause-history
 returns-in-None-clause-history g c =
-    let found = ap (λ (clock : ClockDevice _). clock.state) c.self.view_is ∙ c.begin_access-time.ensures.state in
-    GoesOnByHistory-read c.args.offset c.args.now found
+    let access = read c.args.offset c.args.now in
+    let held = ap (λ (clock : ClockDevice _). clock_step clock.state access) c.self.view_is in
+    GoesOnByHistory-step access (c.read.ensures.state ∙ held)

@@ -1,0 +1,5 @@
+use Rattle.vm_superio.proofs.FieldsLemmas.{fields_run_law}
+use Rattle.vm_superio.proofs.laws.whole_runs_of_fields.Goals as goal
+
+pub returns : goal.returns
+returns c = fields_run_law

@@ -1,0 +1,15 @@
+-- A step keeps a coherent state coherent.
+use Rattle.std.proofs.Common.{sym, ap, ◌∙◌, subst}
+use Rattle.vm_superio.specs.declared.trace.Asked.{Asked}
+use Rattle.vm_superio.specs.Port.Coherent.{Coherent}
+use Rattle.vm_superio.specs.Port.Fields.{state_of_fields}
+use Rattle.vm_superio.specs.Port.Operations.{Read}
+use Rattle.vm_superio.specs.Step.Transition.{read_step}
+use Rattle.vm_superio.proofs.WholeRuns.{coherence_law}
+use Rattle.vm_superio.proofs.serial.fields.SerialFields.read.Goals as goal
+
+pub returns-clause-coherent : goal.returns-clause-coherent
+returns-clause-coherent c = λ before.
+    let old = state_of_fields c.args.self.now in
+    subst Coherent (sym (c.read.ensures.state ∙ ap (λ register. read_step register old) c.at-register.ensures))
+    (coherence_law old (Read c.args.offset) Asked.Nothing before)
