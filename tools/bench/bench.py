@@ -3,9 +3,9 @@
 
     tools/bench/bench.py [--turns N] [--processor P]
 
-Four programs make the same lists of accesses: `crates/superio_bench` and `original`, each over the devices themselves,
-and `through_c.c` over either behind C functions. In each turn each program makes each list, one after the other, on one
-processor. An access costs the processor time of a run of many rounds, less that of a run without a round, divided by
+Five programs make the same lists of accesses: `crates/superio_bench` and `original`, each over the devices themselves,
+`through_c.c` over either behind C functions, and `original` over bindings/rust. In each turn each program makes each
+list, one after the other, on one processor. An access costs the processor time of a run of many rounds, less that of a run without a round, divided by
 the number of accesses; the median of the turns counts. What the same run costs with empty accesses, which do nothing,
 is subtracted. The programs must print the same sums.
 
@@ -64,22 +64,30 @@ LISTS = [
 ]
 
 
+def build_in_rust(dependency, target, **environment):
+    """Builds the package `original` over the crate that Cargo's arguments name, and returns the folder of what it built."""
+    cargo = ["cargo", "build", "--release", "--quiet", "--manifest-path", FOLDER / "original/Cargo.toml"]
+    environment = dict(os.environ, RUSTFLAGS=f"-C target-cpu={PROCESSOR}", CARGO_TARGET_DIR=str(target), **environment)
+    subprocess.run([*cargo, *dependency], env=environment, check=True)
+    return target / "release"
+
+
 def build(folder):
-    """Builds the four programs, and returns them by what they measure."""
+    """Builds the five programs, and returns them in the order of the table's columns."""
     ours = CRATES / "superio_bench" / "out" / "superio_bench"
     if not is_current(ours, ["superio_bench", "vm_superio"]):
         subprocess.run(["rt", "run", "--", "0", "0"], cwd=ours.parent.parent, stdin=subprocess.DEVNULL, check=True)
-    cargo = ["cargo", "build", "--release", "--quiet", "--manifest-path", FOLDER / "original/Cargo.toml"]
-    environment = dict(os.environ, RUSTFLAGS=f"-C target-cpu={PROCESSOR}")
-    subprocess.run([*cargo, *original_crate()], env=environment, check=True)
-    original = FOLDER / "original" / "target" / "release"
-    programs = [ours, original / "original"]
-    for devices, library in (("ours", built_library()), ("original", original / "liboriginal.a")):
+    library = built_library()
+    bindings = ["--offline", "--config", f'patch.crates-io.vm-superio.path="{ROOT / "bindings/rust"}"']
+    bindings = build_in_rust(bindings, folder / "bindings", SUPERIO_LIB_DIR=str(library.parent))
+    original = build_in_rust(original_crate(), folder / "original_crate")
+    through_c = []
+    for devices, built in (("ours", library), ("original", original / "liboriginal.a")):
         program = folder / devices
         subprocess.run(["gcc", "-O2", f"-march={PROCESSOR}", f'-DDEVICES="{devices}.h"', f"-I{ROOT / 'include'}",
-                        FOLDER / "through_c.c", library, "-o", program], check=True)
-        programs.append(program)
-    return programs
+                        FOLDER / "through_c.c", built, "-o", program], check=True)
+        through_c.append(program)
+    return [ours, original / "original", *through_c, bindings / "original"]
 
 
 def processor_time(program, rounds, prepared, path):
@@ -133,15 +141,21 @@ def spread(costs):
 
 
 def row(measurement, loop, programs):
-    """The row of a table: both costs and their ratio, over the devices themselves and through C."""
-    cells = [measurement.name]
-    for pair in (programs[:2], programs[2:]):
-        costs = [median(measurement.costs[program]) for program in pair]
-        if measurement is not loop:
-            costs = [cost - measurement.unit_length * median(loop.costs[program]) for cost, program in zip(costs, pair)]
-        ratio = f"{costs[0] / costs[1]:.1f}" if measurement is not loop and costs[1] >= 0.2 else ""
-        cells += [f"{cost:.1f}" for cost in costs] + [ratio]
-    return "| " + " | ".join(cells) + " |"
+    """The row of a table: each cost, and after those of ours their ratio to the Rust crate's across the same boundary."""
+    costs = [median(measurement.costs[program]) for program in programs]
+    if measurement is loop:
+        ratios = ["", "", ""]
+    else:
+        costs = [cost - measurement.unit_length * median(loop.costs[program]) for cost, program in zip(costs, programs)]
+        ratios = [ratio(costs[0], costs[1]), ratio(costs[2], costs[3]), ratio(costs[4], costs[1])]
+    ours, original, ours_in_c, original_in_c, bindings = [f"{cost:.1f}" for cost in costs]
+    cells = [ours, original, ratios[0], ours_in_c, original_in_c, ratios[1], bindings, ratios[2]]
+    return "| " + " | ".join([measurement.name, *cells]) + " |"
+
+
+def ratio(cost, original):
+    """A ratio of two costs, or nothing where the loop is all that was seen of them."""
+    return f"{max(cost, 0) / original:.1f}" if original >= 0.5 else ""
 
 
 def main():
@@ -158,7 +172,8 @@ def main():
         for _ in range(options.turns):
             for measurement in measurements:
                 measurement.take_turn(programs)
-    print("| | devices | Rust crate | ratio | through C | Rust crate through C | ratio |\n|---|---|---|---|---|---|---|")
+    print("| | devices | Rust crate | ratio | in C | Rust crate in C | ratio | bindings | ratio |")
+    print("|---|---|---|---|---|---|---|---|---|")
     for measurement in measurements:
         print(row(measurement, measurements[0], programs))
     noise = median(value for measurement in measurements for value in measurement.noise())

@@ -20,44 +20,44 @@ static void make_board(struct board *board) {
     *board = (struct board){original_serial_new(), original_rtc_new(), original_i8042_new()};
 }
 
-static uint64_t serial_read(struct board *board, uint8_t offset) {
+ACCESS uint64_t serial_read(struct board *board, uint8_t offset) {
     return original_serial_read(board->serial, offset);
 }
 
-static uint64_t serial_write(struct board *board, uint8_t offset, uint8_t value) {
+ACCESS uint64_t serial_write(struct board *board, uint8_t offset, uint8_t value) {
     return original_serial_write(board->serial, offset, value) ? 0 : REFUSED;
 }
 
-static uint64_t serial_enqueue(struct board *board, const uint8_t *bytes, size_t count) {
+ACCESS uint64_t serial_enqueue(struct board *board, const uint8_t *bytes, size_t count) {
     size_t taken = original_serial_enqueue(board->serial, bytes, count);
     return taken > count ? REFUSED : taken;
 }
 
-static uint64_t serial_restore(struct board *board) {
+ACCESS uint64_t serial_restore(struct board *board) {
     return original_serial_restore(board->serial) ? 0 : REFUSED;
 }
 
-static uint64_t clock_read(struct board *board, uint8_t offset) {
+ACCESS uint64_t clock_read(struct board *board, uint8_t offset) {
     uint8_t bytes[4] = {0};
     original_rtc_read(board->clock, offset, bytes);
     return bytes[0] | (uint64_t)bytes[1] << 8 | (uint64_t)bytes[2] << 16 | (uint64_t)bytes[3] << 24;
 }
 
-static uint64_t clock_write(struct board *board, uint8_t offset, uint8_t value) {
+ACCESS uint64_t clock_write(struct board *board, uint8_t offset, uint8_t value) {
     const uint8_t bytes[4] = {value};
     original_rtc_write(board->clock, offset, bytes);
     return 0;
 }
 
-static uint64_t clock_restore(struct board *board) {
+ACCESS uint64_t clock_restore(struct board *board) {
     original_rtc_restore(board->clock);
     return 0;
 }
 
-static uint64_t controller_read(struct board *board, uint8_t offset) {
+ACCESS uint64_t controller_read(struct board *board, uint8_t offset) {
     return original_i8042_read(board->controller, offset);
 }
 
-static uint64_t controller_write(struct board *board, uint8_t offset, uint8_t value) {
+ACCESS uint64_t controller_write(struct board *board, uint8_t offset, uint8_t value) {
     return original_i8042_write(board->controller, offset, value) ? 0 : REFUSED;
 }
