@@ -10,6 +10,8 @@ mod called;
 mod clock;
 mod controller;
 mod serial;
+#[cfg(test)]
+mod tests;
 
 /// It changes with every change of a struct, or of what a call means.
 const ABI: u32 = 1;
