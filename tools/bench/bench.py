@@ -47,7 +47,7 @@ LISTS = [
     ("SCR write", "", "w0741"),
     ("IER write", "", "w0101"),
     ("THR write, output dropped", "", "w0041"),
-    ("THRE raised and acknowledged: IER write, IIR read", "", "w0102 r0200"),
+    ("THRE: IER write, IIR read", "", "w0102 r0200"),
     ("loopback: THR write, RBR read", "w0410", "w0041 r0000"),
     ("one byte in and out", "", "e0001 r0000"),
     ("64 bytes in and out", "", "e0040" + 64 * " r0000"),
