@@ -7,6 +7,7 @@
 #include <string.h>
 #include <superio.h>
 
+/* The bases of the devices, each of 8 ports. */
 enum { COM1 = 0x3F8, KEYBOARD = 0x60 };
 
 struct machine {
@@ -32,25 +33,27 @@ static void feed(struct machine *machine) {
 
 /* The guest's `out`. */
 static void bus_write(struct machine *machine, uint16_t port, uint8_t value) {
-    if (port - COM1 >= 0 && port - COM1 < 8) {
-        superio_serial_write_effects done = superio_serial_write(&machine->serial, (uint8_t)(port - COM1), value, false);
+    uint8_t offset = port & 7;
+    if (port - offset == COM1) {
+        superio_serial_write_effects done = superio_serial_write(&machine->serial, offset, value, false);
         if (done.sends)
             printf("output: %c\n", value);
         interrupt(machine, done.interrupts);
-    } else if (port - KEYBOARD >= 0 && port - KEYBOARD < 5) {
-        machine->resets += superio_i8042_write((uint8_t)(port - KEYBOARD), value).resets;
+    } else if (port - offset == KEYBOARD) {
+        machine->resets += superio_i8042_write(offset, value).resets;
     }
 }
 
 /* The guest's `in`. */
 static uint8_t bus_read(struct machine *machine, uint16_t port) {
-    if (port - COM1 >= 0 && port - COM1 < 8) {
-        superio_serial_read_effects done = superio_serial_read(&machine->serial, (uint8_t)(port - COM1));
+    uint8_t offset = port & 7;
+    if (port - offset == COM1) {
+        superio_serial_read_effects done = superio_serial_read(&machine->serial, offset);
         if (done.in_buffer_empty)
             feed(machine);
         return done.byte;
     }
-    return 0xFF;
+    return port - offset == KEYBOARD ? superio_i8042_read(offset) : 0xFF;
 }
 
 /* Asks again for what was refused or, after a restore, for what the guest has not taken. */
