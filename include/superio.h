@@ -168,8 +168,8 @@ superio_serial_write_effects superio_serial_write(superio_serial *port,
 /*
  * Bytes arrive for the guest. The first of the `count` bytes are taken, as many
  * as there is room for. In loopback none are, and `full` is false. Afterwards
- * the caller asks for the interrupt as often as `interrupts` says. The bytes are
- * taken even if that is refused: do not offer them again.
+ * the caller asks for the interrupt as often as `interrupts` says. The bytes
+ * are taken even if that is refused: do not offer them again.
  *
  * Keep the bytes that were not taken, and offer them when a read tells
  * `in_buffer_empty`, or when the guest leaves loopback.
@@ -217,9 +217,9 @@ bool superio_serial_is_coherent(const superio_serial *port);
  * access is given its moment `now`, in seconds since 1970, of which the low 32
  * bits count.
  *
- * The match register is an alarm. It sets bit 0 of `ris` at the first access, of
- * any kind, at which guest time has come to a match that was not past when it
- * was written. No call asks for an interrupt: a caller that has a line for it
+ * The match register is an alarm. It sets bit 0 of `ris` at the first access,
+ * of any kind, at which guest time has come to a match that was not past when
+ * it was written. No call asks for an interrupt: a caller that has a line for it
  * looks at `ris & imsc` after each access, and makes an access when the match
  * is due.
  */

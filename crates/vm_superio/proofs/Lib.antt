@@ -7,6 +7,7 @@ pub mod BitLemmas
 mod ClockExamples
 pub mod ClockLemmas
 mod Examples
+mod FieldsExamples
 mod FieldsLemmas
 mod HeldBytes
 mod OneCall

@@ -35,7 +35,8 @@ pub record IsFieldsRead (offset : ℕ) (effects : ReadEffects) (old new : State)
   pub state : new ≡ step old (Read offset) Asked.Nothing
 
 -- a write, whatever the outcome of its byte is
-pub record IsFieldsWrite (offset value : ℕ) (refuses : Bool) (effects : WriteEffects) (old new : State) : Type 0 where
+pub record IsFieldsWrite
+    (offset value : ℕ) (refuses : Bool) (effects : WriteEffects) (old new : State) : Type 0 where
   pub sends : effects.sends ≡ sends_byte old (Write offset value)
   pub interrupts : effects.interrupts ≡ interrupts_for refuses (step_calls old (Write offset value))
   pub state :
