@@ -5,9 +5,9 @@
 
 Five programs make the same lists of accesses: `crates/superio_bench` and `original`, each over the devices themselves,
 `through_c.c` over either behind C functions, and `original` over bindings/rust. In each turn each program makes each
-list, one after the other, on one processor. An access costs the processor time of a run of many rounds, less that of a run without a round, divided by
-the number of accesses; the median of the turns counts. What the same run costs with empty accesses, which do nothing,
-is subtracted. The programs must print the same sums.
+list, one after the other, on one processor. An access costs the processor time of a run of many rounds, less that of a
+run without a round, divided by the number of accesses. Of a turn the least of three runs counts, and the median of the
+turns. What the list `nothing` costs is subtracted from the others. The programs must print the same sums.
 
 Prints a table in Markdown, in nanoseconds, and the noise: by how much the middle half of the turns differ, as a part of
 their median, for the half of the measurements where that is less. Needs rt, gcc and Cargo. Where Cargo has no copy of
@@ -29,8 +29,9 @@ from program import CRATES, built_library, is_current, original_crate  # noqa: E
 # Rattle's programs and libraries are made for such processors.
 PROCESSOR = "x86-64-v2"
 LIST_LENGTH = 600
-# How many nanoseconds of processor time a run takes at least.
-RUN = 30_000_000
+# How many nanoseconds of processor time a run takes at least, and how many runs make a measurement.
+RUN = 10_000_000
+RUNS = 3
 
 
 def accesses(text):
@@ -112,22 +113,26 @@ class Measurement:
         self.units = max(1, LIST_LENGTH // self.unit_length)
         self.path = folder / f"list{number}"
         self.path.write_bytes(before + unit * self.units)
-        self.rounds = 0
-        self.costs = {}
+        self.rounds, self.starts, self.costs = 0, {}, {}
 
-    def calibrate(self, program):
-        """Finds for how many rounds a run takes long enough."""
+    def run(self, program, rounds):
+        """The least time of some runs, and what they printed."""
+        return min(processor_time(program, rounds, self.prepared, self.path) for _ in range(RUNS))
+
+    def calibrate(self, programs):
+        """Finds for how many rounds a run takes long enough, and how long one without a round takes."""
         self.rounds = 100
-        while processor_time(program, self.rounds, self.prepared, self.path)[0] < RUN:
+        while self.run(programs[0], self.rounds)[0] < RUN:
             self.rounds *= 2
+        self.starts = {program: self.run(program, 0)[0] for program in programs}
 
     def take_turn(self, programs):
         sums = set()
         for program in programs:
-            start, _ = processor_time(program, 0, self.prepared, self.path)
-            time, printed = processor_time(program, self.rounds, self.prepared, self.path)
+            time, printed = self.run(program, self.rounds)
             sums.add(printed)
-            self.costs.setdefault(program, []).append((time - start) / (self.rounds * self.units))
+            cost = (time - self.starts[program]) / (self.rounds * self.units)
+            self.costs.setdefault(program, []).append(cost)
         if len(sums) != 1:
             sys.exit(f"{self.name}: the programs do not read the same: {sums}")
 
@@ -168,7 +173,7 @@ def main():
         os.sched_setaffinity(0, {options.processor})
         measurements = [Measurement(Path(name), number, *entry) for number, entry in enumerate(LISTS)]
         for measurement in measurements:
-            measurement.calibrate(programs[1])
+            measurement.calibrate(programs)
         for _ in range(options.turns):
             for measurement in measurements:
                 measurement.take_turn(programs)
