@@ -1,7 +1,8 @@
 -- The bytes that a serial port takes are the first of those that it is given.
-use Rattle.std.proofs.Common.{◌≡◌, ℕ, ◌-◌, ◌+◌, ◌≤◌, Bool, true, false, List, [], ◌∷◌, ◌++◌, None, length, take, drop, refl, sym, ap, ◌∙◌, append_assoc, arith, length-append}
+use Rattle.std.proofs.Common.{◌≡◌, ℕ, ◌-◌, ◌+◌, ◌≤◌, Bool, true, false, List, [], ◌++◌, None, length, take, drop, refl, sym, ap, ◌∙◌, append_assoc, arith, length-append}
 use Rattle.std.specs.Prelude.{if◌then◌else◌}
 use Rattle.std.proofs.lemmas.List.{take-append-drop, length-take, drop_min}
+use Rattle.circular_buffer.specs.Buffer.{keep_last}
 use Rattle.vm_superio.specs.declared.serial.errors.Error.{Error}
 use Rattle.vm_superio.specs.declared.serial.errors.Error.TheVariants.{Trigger, IOError, FullFifo, Memory}
 use Rattle.vm_superio.specs.Port.State.{State}
@@ -47,6 +48,12 @@ length-accepted old bytes =
     let accepted = enqueued_bytes old bytes in
     sym (ap length (taken-rest (is_loopback old.modem_control) (64 - length old.in_buffer) bytes))
     ∙ length-append accepted (drop (length accepted) bytes)
+
+-- a ring that keeps all items but as many as these lets go of the first
+pub keep-drop : (count : ℕ) (items : List ℕ) → count ≤ length items → keep_last (length items - count) items ≡ drop count items
+keep-drop count items few =
+    let first : length items - (length items - count) ≡ count = omega (arith, few) in
+    ap (λ n. drop n items) first
 
 -- the bytes behind the accepted ones are those behind the room
 drop-taken : (none : Bool) (room : ℕ) (bytes : List ℕ) →

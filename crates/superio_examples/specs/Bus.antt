@@ -11,9 +11,9 @@ use Rattle.superio_examples.specs.declared.bus.BusError.TheVariants.{Serial, Res
 abbrev pub is_com1 : (port : ℕ) → Bool
 is_com1 port = nat_le 0x3F8 port && nat_le port 0x3FF
 
--- the five ports of the controller
+-- the two ports of the controller, for data and commands
 abbrev pub is_i8042 : (port : ℕ) → Bool
-is_i8042 port = nat_le 0x60 port && nat_le port 0x64
+is_i8042 port = (port == 0x60) || (port == 0x64)
 
 -- a port of neither device
 abbrev pub is_vacant : (port : ℕ) → Bool

@@ -1,3 +1,6 @@
 pub mod Bus
+pub mod Console
 pub mod Input
 pub mod Migration
+pub mod Mmio
+pub mod PortIo

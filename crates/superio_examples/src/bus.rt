@@ -13,8 +13,11 @@ use vm_superio::{I8042Device, Serial, Trigger};
 /// The first port of the serial port.
 const COM1: u16 = 0x3F8;
 
-/// The first port of the controller.
-const I8042: u16 = 0x60;
+/// The controller's data port.
+const I8042_DATA: u16 = 0x60;
+
+/// The controller's command port. Those between the two are not the controller's on a PC: 0x61 is system control port B.
+const I8042_COMMAND: u16 = 0x64;
 
 /// Why a write failed.
 #[derive(Debug, Drop)]
@@ -25,7 +28,8 @@ pub enum BusError<E, F> {
     Reset(F),
 }
 
-/// The devices that a guest reaches by port I/O: a serial port at 0x3F8 to 0x3FF, and a controller at 0x60 to 0x64.
+/// The devices that a guest reaches by port I/O: a serial port at 0x3F8 to 0x3FF, and a controller at 0x60 and
+/// 0x64.
 #[derive(Drop)]
 pub struct Bus<T: Trigger, EV: SerialEvents, W: Write, R: Trigger> {
     pub serial: Serial<T, EV, W>,
@@ -34,6 +38,7 @@ pub struct Bus<T: Trigger, EV: SerialEvents, W: Write, R: Trigger> {
 
 impl<T: Trigger, EV: SerialEvents, W: Write, R: Trigger> Bus<T, EV, W, R> {
     /// Reads the byte at `port`, as a guest's `in` does. A port of neither device gives 0xFF, as on a PC.
+    /// So does 0x61, whose bit 0x20 Linux waits for when it measures the processor's clock.
     pub fn read(&mut self, port: u16) -> u8
         ensures serial { OnTrue (is_com1 port)
             (IsReadStep T.link EV.link W.contents (port - 0x3F8) result self.old.serial self.new.serial) }
@@ -45,7 +50,7 @@ impl<T: Trigger, EV: SerialEvents, W: Write, R: Trigger> Bus<T, EV, W, R> {
     {
         match port {
             COM1..=0x3FF => self.serial.read((port - COM1) as u8),
-            I8042..=0x64 => self.controller.read((port - I8042) as u8),
+            I8042_DATA | I8042_COMMAND => self.controller.read((port - I8042_DATA) as u8),
             _ => 0xFF,
         }
     }
@@ -72,7 +77,10 @@ impl<T: Trigger, EV: SerialEvents, W: Write, R: Trigger> Bus<T, EV, W, R> {
                 Ok(()) => Ok(()),
                 Err(error) => Err(BusError::Serial(error)),
             },
-            I8042..=0x64 => match self.controller.write((port - I8042) as u8, value) {
+            I8042_DATA | I8042_COMMAND => match self
+                .controller
+                .write((port - I8042_DATA) as u8, value)
+            {
                 Ok(()) => Ok(()),
                 Err(refusal) => Err(BusError::Reset(refusal)),
             },

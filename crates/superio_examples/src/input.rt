@@ -1,52 +1,67 @@
 //! Input on its way to a guest. It waits until the serial port's FIFO has room, and no byte of it is lost.
-ghost use Rattle.std.specs.Prelude.{◌≡◌, ◌+◌, ℕ, List, [], ◌∷◌, ◌++◌, length, drop, OnOk, OnErr, IfOk, IfErr};
+ghost use Rattle.std.specs.Prelude.{◌≡◌, ◌+◌, ◌-◌, ℕ, List, [], ◌∷◌, ◌++◌, length, take, drop, min, OnOk, IfOk, IfErr};
+ghost use Rattle.circular_buffer.specs.Buffer.{Buffer, buffer};
 ghost use Rattle.vm_superio.specs.Port.Coherent.{Coherent};
 ghost use Rattle.superio_examples.specs.Input.{room_in, ForwardsEnqueue};
 
+use circular_buffer::HeapCircularBuffer;
 use std::alloc::{AllocError, Global};
 use std::io::Write;
 use std::marker::Model;
 use vm_superio::serial::{Error, SerialEvents};
 use vm_superio::{Serial, Trigger, laws};
 
-/// The bytes that the guest has yet to be given, oldest first. In a contract it is the list of them.
+/// The bytes that the guest has yet to be given, oldest first, in a ring. There is a limit on their number, for which
+/// the memory is taken when the ring is made. In a contract they are `items`, and the limit is `capacity`.
 #[derive(Drop)]
 pub struct Input {
-    waiting: Vec<u8>,
+    waiting: HeapCircularBuffer<u8>,
 }
 
 impl Model for Input {
-    ghost Value = { List ℕ };
+    ghost Value = { Buffer ℕ };
 
-    ghost view = { λ input. input.waiting.items };
+    ghost view = { λ input. input.waiting };
 }
 
 impl Input {
-    /// No input. It takes no memory.
-    pub fn new(alloc: Global) -> Input
-        ensures { result ≡ [] }
-    {
-        let waiting = Vec::new(alloc);
-        Input { waiting }
-    }
-
-    /// The bytes that wait, oldest first. While there are any, a monitor need not ask the host for more.
-    pub fn waiting(&self) -> &[u8]
-        ensures { result.now ≡ self.now }
-    {
-        self.waiting.as_slice()
-    }
-
-    /// Appends these bytes to those that wait.
+    /// No input, of which at most `limit` bytes may wait.
     ///
     /// # Errors
     ///
-    /// `AllocError` where the allocator refused memory. Nothing changes then.
-    pub fn push(&mut self, bytes: &[u8]) -> Result<(), AllocError>
-        ensures ok { OnOk result (self.new ≡ self.old ++ bytes.now) }
-        ensures err { OnErr result (self.new ≡ self.old) }
+    /// `AllocError` where the allocator refused memory for them.
+    pub fn new(alloc: Global, limit: usize) -> Result<Input, AllocError>
+        ensures { IfOk result (λ input. input ≡ buffer [] limit) }
     {
-        self.waiting.extend_from_slice(bytes)
+        let waiting = HeapCircularBuffer::with_capacity(alloc, limit)?;
+        Ok(Input { waiting })
+    }
+
+    /// How many bytes may still be pushed. While it is 0, the monitor stops reading its source.
+    pub fn room(&self) -> usize
+        ensures { result ≡ self.now.capacity - length self.now.items }
+    {
+        self.waiting.capacity() - self.waiting.len()
+    }
+
+    /// A copy of the bytes that wait, oldest first.
+    ///
+    /// # Errors
+    ///
+    /// `AllocError` where the allocator refused memory for the copy.
+    pub fn waiting(&self, alloc: Global) -> Result<Vec<u8>, AllocError>
+        ensures { IfOk result (λ waiting. waiting.items ≡ self.now.items) }
+    {
+        self.waiting.to_vec(alloc)
+    }
+
+    /// Appends the first of these bytes, as many as there is room for, and returns how many. The others are still the
+    /// caller's.
+    pub fn push(&mut self, bytes: &[u8]) -> usize
+        ensures count { result ≡ min (length bytes.now) (self.old.capacity - length self.old.items) }
+        ensures added { self.new ≡ buffer (self.old.items ++ take result bytes.now) self.old.capacity }
+    {
+        self.waiting.fill_from_slice(bytes)
     }
 
     /// Gives the port the first bytes that wait, as many as its FIFO has room for, and returns how many: 0 to 64. The
@@ -59,19 +74,19 @@ impl Input {
         &mut self,
         serial: &mut Serial<T, EV, W>,
     ) -> Result<usize, T::E>
-        ensures kept { serial.new.state.in_buffer ++ self.new ≡ serial.old.state.in_buffer ++ self.old }
-        ensures room { self.new ≡ drop (room_in serial.old.state) self.old }
-        ensures count { IfOk result (λ count. length self.old ≡ count + length self.new) }
+        ensures kept { serial.new.state.in_buffer ++ self.new.items ≡ serial.old.state.in_buffer ++ self.old.items }
+        ensures room { self.new ≡ buffer (drop (room_in serial.old.state) self.old.items) self.old.capacity }
+        ensures count { IfOk result (λ count. length self.old.items ≡ count + length self.new.items) }
         ensures refused { IfErr result (λ refusal. T.link serial.old.trigger (Err refusal ∷ []) serial.new.trigger) }
-        ensures step { ForwardsEnqueue T.link EV.link W.contents self.old result serial.old serial.new }
+        ensures step { ForwardsEnqueue T.link EV.link W.contents self.old.items result serial.old serial.new }
         ensures coherent { Coherent serial.old.state → Coherent serial.new.state }
     {
         laws::one_call();
         let room = serial.fifo_capacity();
-        let enqueued = serial.enqueue_raw_bytes(&self.waiting);
+        let enqueued = serial.enqueue_raw_bytes(self.waiting.make_contiguous());
         // The room that is left shows what went in, after a refusal too.
         let count = room - serial.fifo_capacity();
-        self.waiting.drain(..count);
+        self.waiting.truncate_front(self.waiting.len() - count);
         match enqueued {
             Ok(_) => Ok(count),
             Err(error) => match error {

@@ -1,12 +1,16 @@
-//! Short modules for the author of a monitor to copy: a bus, a migration, input that waits for room, and a first claim
-//! about what a guest reads.
+//! Short modules for the author of a monitor to copy: a bus, a clock's window in memory, a trigger, input in an event
+//! loop, a migration, and a first claim about what a guest reads.
 #![tactic(auto)]
 
 pub mod bus;
+pub mod console;
+pub mod event_fd;
 pub mod first_claim;
 pub mod input;
 pub mod migration;
+pub mod mmio;
 #[cfg(test)]
 mod monitor;
+pub mod port_io;
 #[cfg(test)]
 mod tests;

@@ -1,8 +1,12 @@
-//! Moves a serial port and a clock to another machine: they are saved there, and restored here.
-ghost use Rattle.std.specs.Prelude.{◌≡◌, IfOk, IfErr};
+//! Moves a serial port, its input and a clock to another machine: they are saved there, and restored here.
+//!
+//! Both hosts must tell the same time, since the clock has only the difference between the guest's time and the host's.
+ghost use Rattle.std.specs.Prelude.{◌≡◌, length, max, IfOk, IfErr};
+ghost use Rattle.circular_buffer.specs.Buffer.{buffer};
 ghost use Rattle.vm_superio.specs.Port.SavedState.{state_of};
 ghost use Rattle.superio_examples.specs.Migration.{IsRestoredFrom, ReturnsObjects};
 
+use crate::input::Input;
 use std::alloc::{AllocError, Global};
 use std::io::Write;
 use vm_superio::rtc_pl031::RtcEvents;
@@ -14,6 +18,8 @@ use vm_superio::{Rtc, RtcState, Serial, SerialState, Trigger};
 pub struct Saved {
     pub serial: SerialState,
     pub clock: RtcState,
+    /// The input that has not gone into the serial port.
+    pub input: Vec<u8>,
 }
 
 /// The restored devices, over objects of the new machine.
@@ -30,23 +36,41 @@ pub struct NotRestored<T: Trigger, EV, W, CE> {
     pub clock_events: CE,
 }
 
-/// Saves both devices, which stay as they are.
+/// Saves both devices and the input that waits. They stay as they are.
 ///
 /// # Errors
 ///
-/// `AllocError` where the allocator refused memory for the received bytes.
+/// `AllocError` where the allocator refused memory for the received bytes or the input.
 pub fn save<T: Trigger, EV: SerialEvents, W: Write, CE: RtcEvents>(
     alloc: Global,
     serial: &Serial<T, EV, W>,
     clock: &Rtc<CE>,
+    input: &Input,
 ) -> Result<Saved, AllocError>
     ensures serial { IfOk result (λ saved. state_of saved.serial ≡ serial.now.state) }
     ensures clock { IfOk result (λ saved. saved.clock ≡ clock.now.state) }
+    ensures input { IfOk result (λ saved. saved.input.items ≡ input.now.items) }
 {
     Ok(Saved {
         serial: serial.state(alloc)?,
         clock: clock.state(),
+        input: input.waiting(alloc)?,
     })
+}
+
+/// The input that was saved, as input of the new machine, of which at most `limit` bytes may wait, or as many as were
+/// saved if these are more. It touches no object of the new machine, so it comes before `restore`.
+///
+/// # Errors
+///
+/// `AllocError` where the allocator refused memory.
+pub fn restore_input(alloc: Global, saved: &Saved, limit: usize) -> Result<Input, AllocError>
+    ensures { IfOk result (λ input.
+        input ≡ buffer saved.now.input.items (max limit (length saved.now.input.items))) }
+{
+    let mut input = Input::new(alloc, limit.max(saved.input.len()))?;
+    input.push(&saved.input);
+    Ok(input)
 }
 
 /// Restores both devices from what was saved, and calls the trigger once for each interrupt condition that is pending

@@ -1,3 +1,4 @@
+use crate::input::Input;
 use crate::migration::{Saved, save};
 use std::alloc::Global;
 use std::io::sink;
@@ -11,5 +12,7 @@ pub fn saved_devices(alloc: Global) -> Result<Saved, Error<LineRefused>> {
     serial.enqueue_raw_bytes(b"abc")?; // input for the guest, for which the trigger is called
     let mut clock = Rtc::new();
     clock.write(0x008, &1_000u32.to_le_bytes(), 5_000_000); // the guest sets the time
-    Ok(save(alloc, &serial, &clock)?)
+    let mut input = Input::new(alloc, 4096)?; // what does not fit waits here
+    input.push(b"def");
+    Ok(save(alloc, &serial, &clock, &input)?)
 }

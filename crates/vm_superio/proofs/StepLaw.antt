@@ -9,7 +9,7 @@ use Rattle.vm_superio.specs.declared.trace.Sent.{Sent}
 use Rattle.vm_superio.specs.declared.trace.Sent.TheVariants as sent
 use Rattle.vm_superio.specs.Port.State.{State, not_empty}
 use Rattle.vm_superio.specs.Port.Registers.{Register, RbrThr, Ier, Iir, register_at, Rda, Thre}
-use Rattle.vm_superio.specs.Port.Operations.{Op, Read, Write, Enqueue, Restore, TraceEntry, is_sent, one_if}
+use Rattle.vm_superio.specs.Port.Operations.{Op, Read, Write, Enqueue, Restore, TraceEntry, NoResponse, is_sent, one_if}
 use Rattle.vm_superio.specs.Step.Admissible.{answers_all, step_calls, sends_byte, is_admissible}
 use Rattle.vm_superio.specs.Step.Transition.{step_response, step, read_step, read_events, sent_events, step_events}
 use Rattle.vm_superio.specs.Step.Restore.{restore_calls}
@@ -18,7 +18,7 @@ use Rattle.vm_superio.specs.History.Registers.{kind_at, dlab, loopback, interrup
 use Rattle.vm_superio.specs.History.Interrupts.{raises_rda, is_pending, raises_thre}
 use Rattle.vm_superio.specs.History.Calls.{calls_due, kind_events, history_events}
 use Rattle.vm_superio.specs.History.Reads.{state_of_history}
-use Rattle.vm_superio.specs.Laws.Agreement.{StepLaw, CallLaw}
+use Rattle.vm_superio.specs.Laws.Agreement.{StepLaw, CallLaw, RetryLaw}
 use Rattle.vm_superio.proofs.Interrupts.{due_is, interrupt_law}
 use Rattle.vm_superio.proofs.WholeRuns.{state_law, answer_law}
 use Rattle.vm_superio.proofs.Output.{call_written}
@@ -155,3 +155,11 @@ call_law start trace entry reply old new coherent is admissible replied stepped 
       response = replied ∙ ap (λ (s : State). step_response s entry.op entry.asked entry.sent) is ∙ agrees.response;
       state = stepped ∙ ap (λ (s : State). step s entry.op entry.asked) is ∙ agrees.state;
     }
+
+pub retry_law : RetryLaw
+retry_law start trace s coherent here = record {
+  calls = ap restore_calls here ∙ (step_law start trace coherent).restoring;
+  counted =
+      call_law start trace (record { op = Restore; asked = Asked.Nothing; sent = sent.Nothing }) NoResponse s s coherent here
+      refl refl refl;
+}

@@ -4,7 +4,7 @@
 //! trace of the calls so far it searches for the last write, for the bytes not yet taken and for a condition that was
 //! raised and not acknowledged. The first laws say that both describe the same port. The others follow from one of the
 //! two alone.
-ghost use Rattle.vm_superio.specs.Laws.Agreement.{RegisterLaw, HeldBytesLaw, LineStatusLaw, InterruptLaw, CoherenceLaw, StateLaw, ResponseLaw, StepLaw, CallLaw, WholeRunLaw};
+ghost use Rattle.vm_superio.specs.Laws.Agreement.{RegisterLaw, HeldBytesLaw, LineStatusLaw, InterruptLaw, CoherenceLaw, StateLaw, ResponseLaw, StepLaw, CallLaw, RetryLaw, WholeRunLaw};
 ghost use Rattle.vm_superio.specs.Laws.Consequences.{PendingByPrefixesLaw, TriggerBoundLaw, WaitingBytesLaw, SameReadsLaw, TakenThenHeldLaw, ReadsAreTakenLaw, ReadThenHeldLaw, OutputLaw};
 ghost use Rattle.vm_superio.specs.Laws.FieldsRun.{FieldsRunLaw};
 ghost use Rattle.vm_superio.specs.Laws.OneCall.{OneCallLaw, OneReadLaw, ReceivedLaw, RbrReadLaw, OutcomeEventsLaw, TurnedBitsLaw, AdmissibilityLaw};
@@ -55,6 +55,12 @@ pub fn steps_of_history()
 /// says, and leaves the state of the trace with its entry added. The premises are the fields of the call's clause `step`.
 pub fn calls_of_history()
     ensures { CallLaw }
+{}
+
+/// From a coherent start, interrupts that are tried again at a port whose state a trace leads to count as a restore: the
+/// trigger calls are those that are due for one there, and the state is that of the trace with a restore's entry added.
+pub fn retries_of_history()
+    ensures { RetryLaw }
 {}
 
 /// From a coherent start, entries that follow each other by steps are a well-formed trace with these responses, and end

@@ -274,8 +274,8 @@ impl<T: Trigger, EV: SerialEvents, W: Write> Serial<T, EV, W> {
         self.traced_read(offset).reply
     }
 
-    /// Calls the trigger once for each condition that is both pending and enabled, THRE and then RDA, up to the first
-    /// refusal. Nothing else changes: the history counts the call as a restore of the port over its own objects.
+    /// Calls the trigger once for each condition that is both pending and enabled, up to the first refusal. Nothing else
+    /// changes: the history counts the call as a restore of the port over its own objects.
     ///
     /// A condition whose call was refused stays pending, and later accesses do not call for it again until the guest has
     /// acknowledged it. A monitor whose trigger can refuse makes this call after a refusal, until it returns `Ok`. The

@@ -121,7 +121,7 @@ fn a_refused_interrupt_is_tried_again_until_it_is_taken(rt: HostRuntime) -> Resu
     assert_eq!(rt; serial.retry_interrupts(), Ok(()));
     follow(&rt, &mut serial, &[Calls(3), Get(RBR, b'a'), Get(RBR, b'b')]);
 
-    // THRE comes first, and a refusal ends the call.
+    // Both conditions are due, and a refusal ends the call.
     let state = state_with(rt.alloc(), 0x06, 0x03, 0x61, b"a")?;
     for (mask, calls) in [(0b0000, 4), (0b0100, 3), (0b1000, 4)] {
         let mut serial = restored_port(rt.alloc(), &state, mask, sink())?;

@@ -1,11 +1,12 @@
 -- The laws by which steps and history agree: after any trace, both describe the same port.
 use Rattle.std.specs.Prelude.{◌≡◌, Bool, not, List, [], ◌∷◌, IsTrue}
 use Rattle.vm_superio.specs.declared.trace.Asked.{Asked}
+use Rattle.vm_superio.specs.declared.trace.Sent.{Sent}
 use Rattle.vm_superio.specs.Port.Bits.{has_bits, lsr_dr_bit}
 use Rattle.vm_superio.specs.Port.State.{State, not_empty}
 use Rattle.vm_superio.specs.Port.Registers.{identification_of}
 use Rattle.vm_superio.specs.Port.Coherent.{Coherent}
-use Rattle.vm_superio.specs.Port.Operations.{Op, TraceEntry, Response, is_lost, Trace}
+use Rattle.vm_superio.specs.Port.Operations.{Op, Restore, TraceEntry, Response, NoResponse, is_lost, Trace}
 use Rattle.vm_superio.specs.Port.OpKinds.{sent_by}
 use Rattle.vm_superio.specs.Port.WriterLink.{bytes_written}
 use Rattle.vm_superio.specs.Step.Transition.{step, step_response, step_events}
@@ -117,6 +118,16 @@ CallLaw = (start : State) (trace : Trace) (entry : TraceEntry) (reply : Response
     → IsTrue (is_admissible old entry.op entry.asked entry.sent)
     → reply ≡ step_response old entry.op entry.asked entry.sent → new ≡ step old entry.op entry.asked
     → CallAgrees start trace entry reply new
+
+-- interrupts tried again in that state: the trigger calls are those of a restore there, and the call counts as one. Its
+-- entry is well-formed, responds nothing, and the state is that of the trace with this entry added
+pub record RetryAgrees (start : State) (trace : Trace) (s : State) : Type 0 where
+  pub calls : restore_calls s ≡ restore_calls_due start trace
+  pub counted : CallAgrees start trace (record { op = Restore; asked = Asked.Nothing; sent = Sent.Nothing }) NoResponse s
+
+abbrev pub RetryLaw : Type 0
+RetryLaw = (start : State) (trace : Trace) (s : State) → Coherent start → s ≡ state_of_history start trace
+    → RetryAgrees start trace s
 
 -- ---- a whole run
 

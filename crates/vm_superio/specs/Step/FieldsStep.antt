@@ -43,7 +43,7 @@ pub record IsFieldsWrite
       (asked : Asked) → IsTrue (is_as_told effects.interrupts refuses asked)
       → new ≡ step old (Write offset value) asked
 
--- an enqueue: the bytes that have room are taken, a refusal of the interrupt included. The FIFO is said to be full where
+-- an enqueue: the bytes that have room are taken, whatever becomes of the interrupt. The FIFO is said to be full where
 -- bytes are passed outside loopback and 64 are held
 pub record IsFieldsEnqueue (bytes : List ℕ) (effects : EnqueueEffects) (old new : State) : Type 0 where
   pub taken : effects.taken ≡ length (enqueued_bytes old bytes)

@@ -10,8 +10,6 @@ ghost use Rattle.vm_superio.specs.Port.Fields.{state_of_fields};
 ghost use Rattle.vm_superio.specs.Step.Restore.{restore_calls};
 ghost use Rattle.vm_superio.specs.Step.FieldsStep.{IsFieldsRead, IsFieldsWrite, IsFieldsEnqueue};
 
-use super::SerialState;
-use super::answers::TriggerAnswers;
 use super::bits::{LSR_DATA_READY_BIT, has_bits};
 pub use super::effects::{EnqueueEffects, ReadEffects, WriteEffects};
 pub use super::places::Places;
@@ -121,8 +119,8 @@ impl SerialFields {
             + u8::from(self.registers.is_asserted(Condition::Rda))
     }
 
-    /// Whether the port is coherent, as each port is that `new` made: see [`SerialState::is_coherent`]. More than 64 held
-    /// bytes, which stand for 64, are not.
+    /// Whether the port is coherent, as each port is that `new` made: as `SerialState::is_coherent` says of a saved state,
+    /// where `held` is at most 64 as well.
     pub fn is_coherent(&self) -> bool
         ensures { IsTrue result ↔ ((self.now.in_buffer.held ≤ 64) × Coherent (state_of_fields self.now)) }
     {

@@ -1,0 +1,59 @@
+-- Four writes, one after another.
+use Rattle.std.proofs.Common.{refl, Ok}
+use Rattle.superio_examples.proofs.PortIoLemmas.{and-ok}
+use Rattle.superio_examples.proofs.bus.Bus.write_four.Goals as goal
+
+pub returns : goal.returns
+returns g c = (
+  c.write-at_first.result,
+  c.and-2.result,
+  c.write-at_first.new.self,
+  record {
+    serial = c.write-at_first.ensures.serial;
+    serial_alone = c.write-at_first.ensures.serial_alone;
+    reset_called = c.write-at_first.ensures.reset;
+    controller_alone = c.write-at_first.ensures.controller_alone;
+    others = c.write-at_first.ensures.others;
+  },
+  (
+    c.write-at_second.result,
+    c.and.result,
+    c.write-at_second.new.self,
+    record {
+      serial = c.write-at_second.ensures.serial;
+      serial_alone = c.write-at_second.ensures.serial_alone;
+      reset_called = c.write-at_second.ensures.reset;
+      controller_alone = c.write-at_second.ensures.controller_alone;
+      others = c.write-at_second.ensures.others;
+    },
+    (
+      c.write-at_third.result,
+      c.write-at_fourth.result,
+      c.write-at_third.new.self,
+      record {
+        serial = c.write-at_third.ensures.serial;
+        serial_alone = c.write-at_third.ensures.serial_alone;
+        reset_called = c.write-at_third.ensures.reset;
+        controller_alone = c.write-at_third.ensures.controller_alone;
+        others = c.write-at_third.ensures.others;
+      },
+      (
+        c.write-at_fourth.result,
+        Ok tt,
+        c.write-at_fourth.new.self,
+        record {
+          serial = c.write-at_fourth.ensures.serial;
+          serial_alone = c.write-at_fourth.ensures.serial_alone;
+          reset_called = c.write-at_fourth.ensures.reset;
+          controller_alone = c.write-at_fourth.ensures.controller_alone;
+          others = c.write-at_fourth.ensures.others;
+        },
+        (refl, refl),
+        and-ok c.write-at_fourth.result,
+      ),
+      c.and.ensures,
+    ),
+    c.and-2.ensures,
+  ),
+  c.and-3.ensures,
+)

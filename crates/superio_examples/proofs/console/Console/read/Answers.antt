@@ -1,0 +1,27 @@
+-- The port reads, and then input goes in where no byte is left.
+use Rattle.std.proofs.Common.{rules, ◌≡◌, ◌==◌, length, true, false, refl}
+use Rattle.superio_examples.proofs.console.Console.read.Goals as goal
+
+pub returns-then-fifo_capacity-eq64 : goal.returns-then-fifo_capacity-eq64
+returns-then-fifo_capacity-eq64 g c =
+    let empty : (length c.read-byte.new.self.state.in_buffer == 0) ≡ true = search rules in
+    record {
+      step = record {
+        between = record c.args.self.now { serial = c.read-byte.new.self };
+        step = c.read-byte.ensures.step;
+        others = refl;
+        fed = rw empty (c.feed.ensures, tt);
+      };
+    }
+
+pub returns-else-fifo_capacity-eq64 : goal.returns-else-fifo_capacity-eq64
+returns-else-fifo_capacity-eq64 g c =
+    let held : (length c.read-byte.new.self.state.in_buffer == 0) ≡ false = search rules in
+    record {
+      step = record {
+        between = record c.args.self.now { serial = c.read-byte.new.self };
+        step = c.read-byte.ensures.step;
+        others = refl;
+        fed = rw held (tt, refl);
+      };
+    }

@@ -1,0 +1,35 @@
+-- The port writes, a refusal is remembered, and then input goes in where MCR was written.
+use Rattle.std.proofs.Common.{rules, ◌≡◌, ◌==◌, ◌||◌, Bool, true, false, refl, ap}
+use Rattle.superio_examples.proofs.console.Console.write.Goals as goal
+
+pub returns-then-offset-eq-MCR : goal.returns-then-offset-eq-MCR
+returns-then-offset-eq-MCR g c =
+    let is_mcr : (c.args.offset == 4) ≡ true = search rules in
+    let noted = λ (is_refusal : Bool). record c.args.self.now {
+      serial = c.write-written.new.self;
+      is_refused = c.args.self.now.is_refused || is_refusal;
+    } in
+    record {
+      step = record {
+        between = noted c.is_refusal.result;
+        step = c.write-written.ensures.step;
+        others = ap noted c.is_refusal.ensures;
+        fed = rw is_mcr (c.feed.ensures, tt);
+      };
+    }
+
+pub returns-else-offset-eq-MCR : goal.returns-else-offset-eq-MCR
+returns-else-offset-eq-MCR g c =
+    let is_other : (c.args.offset == 4) ≡ false = search rules in
+    let noted = λ (is_refusal : Bool). record c.args.self.now {
+      serial = c.write-written.new.self;
+      is_refused = c.args.self.now.is_refused || is_refusal;
+    } in
+    record {
+      step = record {
+        between = noted c.is_refusal.result;
+        step = c.write-written.ensures.step;
+        others = ap noted c.is_refusal.ensures;
+        fed = rw is_other (tt, refl);
+      };
+    }

@@ -1,0 +1,43 @@
+-- A serial port whose waiting input goes in as the guest makes room.
+use Rattle.std.specs.Prelude.{◌≡◌, ℕ, ◌==◌, ◌||◌, Bool, ◌++◌, length, drop, Result, is_err, is_some}
+use Rattle.std.specs.Bool.{OnTrue, OnFalse}
+use Rattle.circular_buffer.specs.Buffer.{buffer}
+use Rattle.vm_superio.specs.declared.serial.errors.Error.{Error}
+use Rattle.vm_superio.specs.Port.Operations.{Event}
+use Rattle.vm_superio.specs.Port.ObjectLinks.{Link, TriggerAnswer, Contents}
+use Rattle.vm_superio.specs.Port.Model.{refusal_in_result}
+use Rattle.vm_superio.specs.Step.PortStep.{IsReadStep, IsWriteStep}
+use Rattle.superio_examples.specs.declared.console.Console.{Console}
+use Rattle.superio_examples.specs.Input.{room_in, ForwardsEnqueue}
+
+module _ {T E EV W : Type 0} (trigger : Link T (TriggerAnswer E)) (events : Link EV Event) (contents : Contents W) where
+  -- the port is given the waiting bytes, as far as it has room, and a refusal of its trigger is remembered
+  pub record Feeds (old new : Console T EV W E) : Type 0 where
+    pub answer : Result ℕ E
+    pub step : ForwardsEnqueue trigger events contents old.input.items answer old.serial new.serial
+    pub left : new.input ≡ buffer (drop (room_in old.serial.state) old.input.items) old.input.capacity
+    pub kept : new.serial.state.in_buffer ++ new.input.items ≡ old.serial.state.in_buffer ++ old.input.items
+    pub remembered : new.is_refused ≡ (old.is_refused || is_err answer)
+
+  -- so where `starts`; else nothing changes
+  abbrev pub FeedsIf : (starts : Bool) (old new : Console T EV W E) → Type 0
+  FeedsIf starts old new = OnTrue starts (Feeds old new) × OnFalse starts (new ≡ old)
+
+  -- the guest's read is the port's; then input goes in, where no byte is held
+  pub record ReadsThenFeeds (offset byte : ℕ) (old new : Console T EV W E) : Type 0 where
+    pub between : Console T EV W E
+    pub step : IsReadStep trigger events contents offset byte old.serial between.serial
+    pub others : between ≡ record old { serial = between.serial }
+    pub fed : FeedsIf (length between.serial.state.in_buffer == 0) between new
+
+  -- so is its write, of which a refusal is remembered; then input goes in, where MCR was written
+  pub record WritesThenFeeds (offset value : ℕ) (answer : Result (Unit {0}) (Error E)) (old new : Console T EV W E) :
+      Type 0 where
+    pub between : Console T EV W E
+    pub step : IsWriteStep trigger events contents offset value answer old.serial between.serial
+    pub others :
+        between ≡ record old {
+          serial = between.serial;
+          is_refused = old.is_refused || is_some (refusal_in_result answer);
+        }
+    pub fed : FeedsIf (offset == 4) between new

@@ -1,0 +1,54 @@
+-- A guest's port accesses of any width, as accesses of single bytes.
+use Rattle.std.specs.Prelude.{◌≡◌, ℕ, ◌+◌, ◌-◌, ◌%◌, Bool, ◌||◌, ◌==◌, List, [], ◌∷◌, Result, Ok}
+use Rattle.std.specs.Result.{result_and}
+use Rattle.std.specs.Bool.{OnTrue, OnFalse}
+use Rattle.vm_superio.specs.Port.Operations.{Event}
+use Rattle.vm_superio.specs.Port.ObjectLinks.{Link, TriggerAnswer, Contents}
+use Rattle.vm_superio.specs.Step.PortStep.{IsReadStep}
+use Rattle.superio_examples.specs.declared.bus.Bus.{Bus}
+use Rattle.superio_examples.specs.declared.bus.BusError.{BusError}
+use Rattle.superio_examples.specs.Bus.{is_com1, is_i8042, is_vacant, is_reset, ForwardsWrite, ForwardsReset}
+
+-- the lengths that an access of a guest has
+abbrev pub is_width : (length : ℕ) → Bool
+is_width length = (length == 1) || (length == 2) || (length == 4)
+
+-- the last port is followed by the first
+abbrev pub next_port : (port : ℕ) → ℕ
+next_port port = (port + 1) % 0x10000
+
+module _ {T E EV W R F : Type 0} (trigger : Link T (TriggerAnswer E)) (events : Link EV Event) (contents : Contents W)
+    (reset : Link R (TriggerAnswer F)) where
+  -- a byte is read at a port
+  pub record ReadsByte (port byte : ℕ) (old new : Bus T EV W R E F) : Type 0 where
+    pub serial : OnTrue (is_com1 port) (IsReadStep trigger events contents (port - 0x3F8) byte old.serial new.serial)
+    pub serial_alone : OnFalse (is_com1 port) (new.serial ≡ old.serial)
+    pub controller : OnTrue (is_i8042 port) (byte ≡ 0)
+    pub controller_alone : new.controller ≡ old.controller
+    pub vacant : OnTrue (is_vacant port) (byte ≡ 0xFF)
+
+  -- bytes are read at ports that follow each other
+  abbrev pub ReadsBytes : (port : ℕ) (bytes : List ℕ) (old new : Bus T EV W R E F) → Type 0
+  ReadsBytes port [] old new = new ≡ old
+  ReadsBytes port (byte ∷ bytes) old new =
+      (between : Bus T EV W R E F) × ReadsByte port byte old between × ReadsBytes (next_port port) bytes between new
+
+  -- a byte is written at a port
+  pub record WritesByte
+      (port value : ℕ) (result : Result (Unit {0}) (BusError E F)) (old new : Bus T EV W R E F) : Type 0 where
+    pub serial :
+        OnTrue (is_com1 port)
+        (ForwardsWrite trigger events contents (port - 0x3F8) value result old.serial new.serial)
+    pub serial_alone : OnFalse (is_com1 port) (new.serial ≡ old.serial)
+    pub reset_called : OnTrue (is_reset port value) (ForwardsReset reset result old.controller new.controller)
+    pub controller_alone : OnFalse (is_reset port value) (new.controller ≡ old.controller)
+    pub others : OnFalse (is_com1 port || is_reset port value) (result ≡ Ok tt)
+
+  -- bytes are written at ports that follow each other, and the result is the first error, if there is one
+  abbrev pub WritesBytes :
+      (port : ℕ) (values : List ℕ) (result : Result (Unit {0}) (BusError E F)) (old new : Bus T EV W R E F) → Type 0
+  WritesBytes port [] result old new = (result ≡ Ok tt) × (new ≡ old)
+  WritesBytes port (value ∷ values) result old new =
+      (first rest : Result (Unit {0}) (BusError E F)) × (between : Bus T EV W R E F)
+      × WritesByte port value first old between × WritesBytes (next_port port) values rest between new
+      × (result ≡ result_and first rest)

@@ -1,0 +1,100 @@
+//! A serial port in a monitor's event loop. The loop stops reading its source while the input is full, and an interrupt
+//! that was refused is tried again.
+ghost use Rattle.std.specs.Prelude.{◌≡◌, ◌-◌, ◌==◌, ◌++◌, length, take, min, is_some, false, true};
+ghost use Rattle.vm_superio.specs.Port.ObjectLinks.{all_ok};
+ghost use Rattle.vm_superio.specs.Port.Model.{refusal_in_result};
+ghost use Rattle.vm_superio.specs.Step.Restore.{restore_calls};
+ghost use Rattle.vm_superio.specs.Step.PortStep.{with_trigger};
+ghost use Rattle.superio_examples.specs.Console.{Feeds, ReadsThenFeeds, WritesThenFeeds};
+
+use crate::input::Input;
+use std::io::Write;
+use vm_superio::serial::{Error, SerialEvents};
+use vm_superio::{Serial, Trigger};
+
+/// The offset of MCR, which has the bit for loopback.
+const MCR: u8 = 4;
+
+/// A serial port, with the input for its guest. An event loop
+///
+/// - polls its source while `input.room()` is above 0, reads at most so many bytes, and passes them to `receive`;
+/// - passes each access of the guest to `read` or `write`, after which there may be room again;
+/// - calls `retry` on a timer while `is_refused`.
+#[derive(Drop)]
+pub struct Console<T: Trigger, EV: SerialEvents, W: Write> {
+    pub serial: Serial<T, EV, W>,
+    pub input: Input,
+    /// The trigger refused a call since the last `retry` that it took: the guest may wait for an interrupt.
+    pub is_refused: bool,
+}
+
+impl<T: Trigger, EV: SerialEvents, W: Write> Console<T, EV, W> {
+    /// Takes the first of these bytes, as many as there is room for, and returns how many. The source keeps the others.
+    pub fn receive(&mut self, bytes: &[u8]) -> usize
+        ensures count { result ≡ min (length bytes.now) (self.old.input.capacity - length self.old.input.items) }
+        ensures kept { self.new.serial.state.in_buffer ++ self.new.input.items
+            ≡ self.old.serial.state.in_buffer ++ (self.old.input.items ++ take result bytes.now) }
+    {
+        let count = self.input.push(bytes);
+        self.feed();
+        count
+    }
+
+    /// Reads a byte at `offset`, as the guest does. Where that leaves no byte held, which the port reports as
+    /// `in_buffer_empty`, input goes in.
+    pub fn read(&mut self, offset: u8) -> u8
+        ensures step { ReadsThenFeeds T.link EV.link W.contents offset result self.old self.new }
+    {
+        let byte = self.serial.read(offset);
+        if self.serial.fifo_capacity() == 64 {
+            self.feed();
+        }
+        byte
+    }
+
+    /// Writes `value` at `offset`, as the guest does. Input goes in after a write to MCR, which may have ended loopback.
+    ///
+    /// # Errors
+    ///
+    /// Those of the port's own `write`. They are for the monitor to log, and the guest goes on.
+    pub fn write(&mut self, offset: u8, value: u8) -> Result<(), Error<T::E>>
+        ensures step { WritesThenFeeds T.link EV.link W.contents offset value result self.old self.new }
+    {
+        let written = self.serial.write(offset, value);
+        self.is_refused |= is_refusal(&written);
+        if offset == MCR {
+            self.feed();
+        }
+        written
+    }
+
+    /// Tries the interrupts again of which one was refused.
+    pub fn retry(&mut self)
+        ensures taken { self.old.is_refused ≡ true → self.new.is_refused ≡ false →
+            T.link self.old.serial.trigger (all_ok (restore_calls self.old.serial.state)) self.new.serial.trigger }
+        ensures others { self.new ≡ record self.old {
+          serial = with_trigger self.old.serial self.new.serial.trigger;
+          is_refused = self.new.is_refused;
+        } }
+    {
+        if self.is_refused {
+            self.is_refused = self.serial.retry_interrupts().is_err();
+        }
+    }
+
+    /// Gives the port input, as far as there is room.
+    fn feed(&mut self)
+        ensures { Feeds T.link EV.link W.contents self.old self.new }
+    {
+        if self.input.feed(&mut self.serial).is_err() {
+            self.is_refused = true;
+        }
+    }
+}
+
+/// Whether a write failed by a refusal of the trigger.
+fn is_refusal<E>(written: &Result<(), Error<E>>) -> bool
+    ensures { result ≡ is_some (refusal_in_result written.now) }
+{
+    matches!(written, Err(Error::Trigger(_)))
+}

@@ -1,0 +1,67 @@
+//! A clock on an MMIO bus: a window of the guest's memory, which a guest reaches by 64-bit addresses.
+ghost use Rattle.std.specs.Prelude.{◌≡◌, ◌-◌, if◌then◌else◌, length, replicate, Some, None};
+ghost use Rattle.std.specs.Bool.{OnTrue, OnFalse};
+ghost use Rattle.superio_examples.specs.Mmio.{is_register, ReadsClock, WritesClock};
+
+use vm_superio::Rtc;
+use vm_superio::rtc_pl031::RtcEvents;
+
+/// The length of the window, as that of a PL031.
+const LENGTH: u64 = 0x1000;
+
+/// A clock whose window begins at `base`. A guest reaches its registers by accesses of four bytes.
+///
+/// Each access is given its moment, in seconds since 1970, by the host's clock. Two hosts between which a guest moves
+/// must tell the same time.
+#[derive(Drop)]
+pub struct ClockWindow<EV: RtcEvents> {
+    pub base: u64,
+    pub clock: Rtc<EV>,
+}
+
+impl<EV: RtcEvents> ClockWindow<EV> {
+    /// Reads at `address`, as the guest does at the moment `now`. The bytes are cleared first, so a register that cannot
+    /// be read gives zeros, and none of the monitor's memory. An access of another length, or outside the window, gives
+    /// zeros too, and changes nothing.
+    pub fn read(&mut self, address: u64, bytes: &mut [u8], now: u64)
+        ensures clock { OnTrue (is_register self.old.base address (length bytes.old))
+            (ReadsClock EV.link (address - self.old.base) now bytes.new self.old.clock self.new.clock) }
+        ensures elsewhere { OnFalse (is_register self.old.base address (length bytes.old))
+            (bytes.new ≡ replicate (length bytes.old) 0) }
+        ensures alone { OnFalse (is_register self.old.base address (length bytes.old)) (self.new ≡ self.old) }
+        ensures base { self.new.base ≡ self.old.base }
+    {
+        bytes.fill(0);
+        if let Some(offset) = self.offset(address, bytes.len()) {
+            let mut register = [0; 4];
+            self.clock.read(offset, &mut register, now);
+            bytes.copy_from_slice(&register);
+        }
+    }
+
+    /// Writes at `address`, as the guest does at the moment `now`. An access of another length, or outside the window,
+    /// changes nothing.
+    pub fn write(&mut self, address: u64, bytes: &[u8], now: u64)
+        ensures clock { OnTrue (is_register self.old.base address (length bytes.now))
+            (WritesClock EV.link (address - self.old.base) bytes.now now self.old.clock self.new.clock) }
+        ensures alone { OnFalse (is_register self.old.base address (length bytes.now)) (self.new ≡ self.old) }
+        ensures base { self.new.base ≡ self.old.base }
+    {
+        if let Some(offset) = self.offset(address, bytes.len()) {
+            let mut register = [0; 4];
+            register.copy_from_slice(bytes);
+            self.clock.write(offset, &register, now);
+        }
+    }
+
+    /// The clock's offset of an access, if it is one of four bytes in the window.
+    fn offset(&self, address: u64, length: usize) -> Option<u16>
+        ensures { result
+            ≡ (if is_register self.now.base address length then Some (address - self.now.base) else None) }
+    {
+        match address.checked_sub(self.base) {
+            Some(offset) if offset < LENGTH && length == 4 => Some(offset as u16),
+            _ => None,
+        }
+    }
+}

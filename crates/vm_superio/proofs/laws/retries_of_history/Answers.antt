@@ -1,0 +1,5 @@
+use Rattle.vm_superio.proofs.StepLaw.{retry_law}
+use Rattle.vm_superio.proofs.laws.retries_of_history.Goals as goal
+
+pub returns : goal.returns
+returns c = retry_law
