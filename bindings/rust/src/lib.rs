@@ -1,0 +1,59 @@
+//! A 16550 serial port, a PL031 real-time clock and an i8042 reset controller, for virtual machine monitors.
+//!
+//! The devices are those of the proved library `superio_c`, which this crate links. Their names, signatures and errors
+//! are those of the crate vm-superio 0.8.2, so a monitor changes nothing but the line of its `Cargo.toml`.
+//!
+//! # Differences
+//!
+//! - The match register of the clock is an [alarm](rtc_pl031), where that of vm-superio 0.8.2 has no effect.
+//! - A host whose clock is before 1970 has the moment 0, where vm-superio 0.8.2 panics.
+//! - [`Serial::retry_interrupts`], [`Rtc::is_armed`] and [`Rtc::set_armed`] are new.
+//! - A device cannot be made if the library that was linked is not of this crate's version: that panics.
+//!
+//! # Example
+//!
+//! ```
+//! use std::convert::Infallible;
+//! use vm_superio::{Serial, Trigger};
+//!
+//! struct Silent;
+//!
+//! impl Trigger for Silent {
+//!     type E = Infallible;
+//!
+//!     fn trigger(&self) -> Result<(), Infallible> {
+//!         Ok(())
+//!     }
+//! }
+//!
+//! let mut serial = Serial::new(Silent, Vec::new());
+//! serial.write(0, b'A').unwrap(); // the guest sends a byte
+//! assert_eq!(serial.writer(), b"A");
+//!
+//! assert_eq!(serial.enqueue_raw_bytes(b"xyz").unwrap(), 3); // input for the guest
+//! assert_eq!(serial.read(0), b'x');
+//! ```
+#![deny(missing_docs)]
+#![deny(missing_copy_implementations)]
+#![deny(unsafe_code)]
+
+#[allow(unsafe_code)]
+mod ffi;
+pub mod i8042;
+pub mod rtc_pl031;
+pub mod serial;
+
+pub use i8042::I8042Device;
+pub use rtc_pl031::{Rtc, RtcState};
+pub use serial::{Serial, SerialState};
+
+/// Notifies whoever raises an interrupt, or resets the machine.
+///
+/// A device owns its trigger, and calls it for one event at a time.
+pub trait Trigger {
+    /// Why a call was refused.
+    type E: std::fmt::Debug;
+
+    /// Notifies once, or returns an error if nobody was notified.
+    fn trigger(&self) -> Result<(), Self::E>;
+}

@@ -1,0 +1,188 @@
+#!/usr/bin/env python3
+"""Measures what a call of a device costs, beside the Rust crate vm-superio 0.8.2.
+
+    tools/bench/bench.py [--turns N] [--processor P]
+
+Five programs make the same lists of accesses: `crates/superio_bench` and `original`, each over the devices themselves,
+`through_c.c` over either behind C functions, and `original` over bindings/rust. In each turn each program makes each
+list, one after the other, on one processor. An access costs the processor time of a run of many rounds, less that of a
+run without a round, divided by the number of accesses. Of a turn the least of three runs counts, and the median of the
+turns. What the list `nothing` costs is subtracted from the others. The programs must print the same sums.
+
+Prints a table in Markdown, in nanoseconds, and the noise: by how much the middle half of the turns differ, as a part of
+their median, for the half of the measurements where that is less. Needs rt, gcc and Cargo. Where Cargo has no copy of
+vm-superio 0.8.2, the environment variable VM_SUPERIO can name the folder of its package.
+"""
+import argparse
+import os
+import subprocess
+import sys
+import tempfile
+from pathlib import Path
+from statistics import median, quantiles
+
+FOLDER = Path(__file__).resolve().parent
+ROOT = FOLDER.parent.parent
+sys.path.insert(0, str(ROOT / "tools"))
+from program import CRATES, built_library, is_current, original_crate  # noqa: E402
+
+# Rattle's programs and libraries are made for such processors.
+PROCESSOR = "x86-64-v2"
+LIST_LENGTH = 600
+# How many nanoseconds of processor time a run takes at least, and how many runs make a measurement.
+RUN = 10_000_000
+RUNS = 3
+
+
+def accesses(text):
+    """The bytes of accesses that are written as kind, offset and value, in hexadecimal, as `w0141`."""
+    words = text.split()
+    return b"".join(word[:1].encode() + bytes.fromhex(word[1:]) for word in words), len(words)
+
+
+# What is measured: its name, the accesses before it, and the accesses that are repeated.
+LISTS = [
+    ("nothing", "", "n0000"),
+    ("LSR read", "", "r0500"),
+    ("IIR read", "", "r0200"),
+    ("SCR write", "", "w0741"),
+    ("IER write", "", "w0101"),
+    ("THR write, output dropped", "", "w0041"),
+    ("THRE: IER write, IIR read", "", "w0102 r0200"),
+    ("loopback: THR write, RBR read", "w0410", "w0041 r0000"),
+    ("one byte in and out", "", "e0001 r0000"),
+    ("64 bytes in and out", "", "e0040" + 64 * " r0000"),
+    ("save and restore, empty", "", "s0000"),
+    ("save and restore, 64 bytes", "e0040", "s0000"),
+    ("RTCDR read", "W0864", "R0000"),
+    ("RTCLR write", "", "W0864"),
+    ("RTCMR write", "", "W0464"),
+    ("read of no register", "", "R2000"),
+    ("save and restore, clock", "", "S0000"),
+    ("controller read", "", "i0400"),
+    ("controller write, no reset", "", "o04ff"),
+    ("reset", "", "o04fe"),
+]
+
+
+def build_in_rust(dependency, target, **environment):
+    """Builds the package `original` over the crate that Cargo's arguments name, and returns the folder of what it built."""
+    cargo = ["cargo", "build", "--release", "--quiet", "--manifest-path", FOLDER / "original/Cargo.toml"]
+    environment = dict(os.environ, RUSTFLAGS=f"-C target-cpu={PROCESSOR}", CARGO_TARGET_DIR=str(target), **environment)
+    subprocess.run([*cargo, *dependency], env=environment, check=True)
+    return target / "release"
+
+
+def build(folder):
+    """Builds the five programs, and returns them in the order of the table's columns."""
+    ours = CRATES / "superio_bench" / "out" / "superio_bench"
+    if not is_current(ours, ["superio_bench", "vm_superio"]):
+        subprocess.run(["rt", "run", "--", "0", "0"], cwd=ours.parent.parent, stdin=subprocess.DEVNULL, check=True)
+    library = built_library()
+    bindings = ["--offline", "--config", f'patch.crates-io.vm-superio.path="{ROOT / "bindings/rust"}"']
+    bindings = build_in_rust(bindings, folder / "bindings", SUPERIO_LIB_DIR=str(library.parent))
+    original = build_in_rust(original_crate(), folder / "original_crate")
+    through_c = []
+    for devices, built in (("ours", library), ("original", original / "liboriginal.a")):
+        program = folder / devices
+        subprocess.run(["gcc", "-O2", f"-march={PROCESSOR}", f'-DDEVICES="{devices}.h"', f"-I{ROOT / 'include'}",
+                        FOLDER / "through_c.c", built, "-o", program], check=True)
+        through_c.append(program)
+    return [ours, original / "original", *through_c, bindings / "original"]
+
+
+def processor_time(program, rounds, prepared, path):
+    """The nanoseconds that a run took, and what it printed."""
+    with open(path, "rb") as file:
+        child = subprocess.Popen([program, str(rounds), str(prepared)], stdin=file, stdout=subprocess.PIPE)
+        printed = child.stdout.read()
+        _, status, usage = os.wait4(child.pid, 0)
+        child.returncode = os.waitstatus_to_exitcode(status)
+    if child.returncode != 0:
+        sys.exit(f"{program}: status {child.returncode}")
+    return (usage.ru_utime + usage.ru_stime) * 1e9, printed
+
+
+class Measurement:
+    """A list, and what its repeated accesses cost in each program, turn by turn."""
+
+    def __init__(self, folder, number, name, preparation, repeated):
+        self.name = name
+        before, self.prepared = accesses(preparation)
+        unit, self.unit_length = accesses(repeated)
+        self.units = max(1, LIST_LENGTH // self.unit_length)
+        self.path = folder / f"list{number}"
+        self.path.write_bytes(before + unit * self.units)
+        self.rounds, self.starts, self.costs = 0, {}, {}
+
+    def run(self, program, rounds):
+        """The least time of some runs, and what they printed."""
+        return min(processor_time(program, rounds, self.prepared, self.path) for _ in range(RUNS))
+
+    def calibrate(self, programs):
+        """Finds for how many rounds a run takes long enough, and how long one without a round takes."""
+        self.rounds = 100
+        while self.run(programs[0], self.rounds)[0] < RUN:
+            self.rounds *= 2
+        self.starts = {program: self.run(program, 0)[0] for program in programs}
+
+    def take_turn(self, programs):
+        sums = set()
+        for program in programs:
+            time, printed = self.run(program, self.rounds)
+            sums.add(printed)
+            cost = (time - self.starts[program]) / (self.rounds * self.units)
+            self.costs.setdefault(program, []).append(cost)
+        if len(sums) != 1:
+            sys.exit(f"{self.name}: the programs do not read the same: {sums}")
+
+    def noise(self):
+        return [spread(costs) for costs in self.costs.values()]
+
+
+def spread(costs):
+    low, _, high = quantiles(costs, n=4)
+    return (high - low) / median(costs)
+
+
+def row(measurement, loop, programs):
+    """The row of a table: each cost, and after those of ours their ratio to the Rust crate's across the same boundary."""
+    costs = [median(measurement.costs[program]) for program in programs]
+    if measurement is loop:
+        ratios = ["", "", ""]
+    else:
+        costs = [cost - measurement.unit_length * median(loop.costs[program]) for cost, program in zip(costs, programs)]
+        ratios = [ratio(costs[0], costs[1]), ratio(costs[2], costs[3]), ratio(costs[4], costs[1])]
+    ours, original, ours_in_c, original_in_c, bindings = [f"{cost:.1f}" for cost in costs]
+    cells = [ours, original, ratios[0], ours_in_c, original_in_c, ratios[1], bindings, ratios[2]]
+    return "| " + " | ".join([measurement.name, *cells]) + " |"
+
+
+def ratio(cost, original):
+    """A ratio of two costs, or nothing where the loop is all that was seen of them."""
+    return f"{max(cost, 0) / original:.1f}" if original >= 0.5 else ""
+
+
+def main():
+    parser = argparse.ArgumentParser()
+    parser.add_argument("--turns", type=int, default=15)
+    parser.add_argument("--processor", type=int, default=max(os.sched_getaffinity(0)))
+    options = parser.parse_args()
+    with tempfile.TemporaryDirectory() as name:
+        programs = build(Path(name))
+        os.sched_setaffinity(0, {options.processor})
+        measurements = [Measurement(Path(name), number, *entry) for number, entry in enumerate(LISTS)]
+        for measurement in measurements:
+            measurement.calibrate(programs)
+        for _ in range(options.turns):
+            for measurement in measurements:
+                measurement.take_turn(programs)
+    print("| | devices | Rust crate | ratio | in C | Rust crate in C | ratio | bindings | ratio |")
+    print("|---|---|---|---|---|---|---|---|---|")
+    for measurement in measurements:
+        print(row(measurement, measurements[0], programs))
+    noise = median(value for measurement in measurements for value in measurement.noise())
+    print(f"\nnoise: {100 * noise:.0f}%, {options.turns} turns on processor {options.processor}")
+
+
+main()

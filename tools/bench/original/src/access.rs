@@ -1,0 +1,42 @@
+//! The accesses of a list.
+
+/// An access of one of the devices.
+#[derive(Clone, Copy)]
+pub enum Access {
+    /// None: what the loop itself costs.
+    Nothing,
+    SerialRead(u8),
+    SerialWrite(u8, u8),
+    /// As many bytes for the guest.
+    SerialEnqueue(u8),
+    /// The port is saved, and made again from what was saved.
+    SerialRestore,
+    ClockRead(u8),
+    ClockWrite(u8, u8),
+    /// The clock is saved, and made again from what was saved.
+    ClockRestore,
+    ControllerRead(u8),
+    ControllerWrite(u8, u8),
+}
+
+impl Access {
+    fn of(kind: u8, offset: u8, value: u8) -> Access {
+        match kind {
+            b'r' => Access::SerialRead(offset),
+            b'w' => Access::SerialWrite(offset, value),
+            b'e' => Access::SerialEnqueue(value),
+            b's' => Access::SerialRestore,
+            b'R' => Access::ClockRead(offset),
+            b'W' => Access::ClockWrite(offset, value),
+            b'S' => Access::ClockRestore,
+            b'i' => Access::ControllerRead(offset),
+            b'o' => Access::ControllerWrite(offset, value),
+            _ => Access::Nothing,
+        }
+    }
+}
+
+/// The accesses that the bytes stand for: three bytes each, the kind, the offset and the value.
+pub fn list_of(bytes: &[u8]) -> Vec<Access> {
+    bytes.chunks_exact(3).map(|access| Access::of(access[0], access[1], access[2])).collect()
+}

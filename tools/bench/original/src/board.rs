@@ -1,0 +1,106 @@
+//! The devices that are measured.
+use std::cell::Cell;
+use std::convert::Infallible;
+use std::io::{Sink, sink};
+
+use vm_superio::rtc_pl031;
+use vm_superio::serial::{Error, NoEvents, Serial};
+use vm_superio::{I8042Device, Rtc, Trigger};
+
+use crate::access::Access;
+
+/// The bytes that are enqueued.
+const INPUT: [u8; 64] = [0x61; 64];
+
+/// What stands for a refused access in the sum.
+const REFUSED: u64 = 1 << 32;
+
+/// Counts its calls, and refuses none.
+#[derive(Default)]
+pub struct Counter(Cell<u64>);
+
+impl Trigger for Counter {
+    type E = Infallible;
+
+    fn trigger(&self) -> Result<(), Infallible> {
+        self.0.set(self.0.get().wrapping_add(1));
+        Ok(())
+    }
+}
+
+pub type Port = Serial<Counter, NoEvents, Sink>;
+pub type Clock = Rtc<rtc_pl031::NoEvents>;
+pub type Controller = I8042Device<Counter>;
+
+/// Devices whose output is dropped, and whose events nobody hears.
+pub struct Board {
+    serial: Port,
+    clock: Clock,
+    controller: Controller,
+}
+
+pub fn new_port() -> Port {
+    Serial::new(Counter::default(), sink())
+}
+
+pub fn new_controller() -> Controller {
+    I8042Device::new(Counter::default())
+}
+
+/// Saves the port, and makes it again from what was saved.
+pub fn restore_port(port: &mut Port) -> Result<(), Error<Infallible>> {
+    *port = Serial::from_state(&port.state(), Counter::default(), NoEvents, sink())?;
+    Ok(())
+}
+
+/// Saves the clock, and makes it again from what was saved.
+pub fn restore_clock(clock: &mut Clock) {
+    *clock = Rtc::from_state(&clock.state(), rtc_pl031::NoEvents);
+}
+
+impl Default for Board {
+    fn default() -> Board {
+        Board { serial: new_port(), clock: Rtc::new(), controller: new_controller() }
+    }
+}
+
+impl Board {
+    /// Makes an access, and returns what it read, or how many bytes it enqueued, or otherwise 0. A refused one is
+    /// [`REFUSED`].
+    #[inline(always)]
+    pub fn make(&mut self, access: Access) -> u64 {
+        match access {
+            Access::Nothing => 0,
+            Access::SerialRead(offset) => u64::from(self.serial.read(offset)),
+            Access::SerialWrite(offset, value) => wrote(self.serial.write(offset, value).is_ok()),
+            Access::SerialEnqueue(count) => self.enqueue(usize::from(count)),
+            Access::SerialRestore => wrote(restore_port(&mut self.serial).is_ok()),
+            Access::ClockRead(offset) => {
+                let mut bytes = [0; 4];
+                self.clock.read(u16::from(offset), &mut bytes);
+                u64::from(u32::from_le_bytes(bytes))
+            }
+            Access::ClockWrite(offset, value) => {
+                self.clock.write(u16::from(offset), &u32::from(value).to_le_bytes());
+                0
+            }
+            Access::ClockRestore => {
+                restore_clock(&mut self.clock);
+                0
+            }
+            Access::ControllerRead(offset) => u64::from(self.controller.read(offset)),
+            Access::ControllerWrite(offset, value) => wrote(self.controller.write(offset, value).is_ok()),
+        }
+    }
+
+    fn enqueue(&mut self, count: usize) -> u64 {
+        match self.serial.enqueue_raw_bytes(&INPUT[..count.min(INPUT.len())]) {
+            Ok(accepted) => accepted as u64,
+            Err(_) => REFUSED,
+        }
+    }
+}
+
+fn wrote(is_done: bool) -> u64 {
+    if is_done { 0 } else { REFUSED }
+}

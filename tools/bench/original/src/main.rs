@@ -1,0 +1,34 @@
+//! Makes a list of accesses of the devices again and again, as `crates/superio_bench` does.
+use std::env;
+use std::error::Error;
+use std::io::{self, Read};
+
+use original::access::{Access, list_of};
+use original::board::Board;
+use original::moment;
+
+type Outcome<T> = Result<T, Box<dyn Error>>;
+
+/// Makes the accesses in order, and returns the sum of what they read.
+fn sum_of(board: &mut Board, list: &[Access]) -> u64 {
+    list.iter().fold(0, |sum, access| sum.wrapping_add(board.make(*access)))
+}
+
+fn main() -> Outcome<()> {
+    let mut arguments = env::args().skip(1);
+    let rounds: u64 = arguments.next().ok_or("no number of rounds")?.parse()?;
+    let prepared: usize = arguments.next().ok_or("no number of prepared accesses")?.parse()?;
+    let mut bytes = Vec::new();
+    io::stdin().read_to_end(&mut bytes)?;
+    let list = list_of(&bytes);
+    moment::set(1_000);
+    let mut board = Board::default();
+    let (preparation, list) = list.split_at(prepared.min(list.len()));
+    sum_of(&mut board, preparation);
+    let mut sum: u64 = 0;
+    for _ in 0..rounds {
+        sum = sum.wrapping_add(sum_of(&mut board, list));
+    }
+    println!("{sum}");
+    Ok(())
+}
