@@ -123,7 +123,8 @@ CallLaw = (start : State) (trace : Trace) (entry : TraceEntry) (reply : Response
 -- entry is well-formed, responds nothing, and the state is that of the trace with this entry added
 pub record RetryAgrees (start : State) (trace : Trace) (s : State) : Type 0 where
   pub calls : restore_calls s ≡ restore_calls_due start trace
-  pub counted : CallAgrees start trace (record { op = Restore; asked = Asked.Nothing; sent = Sent.Nothing }) NoResponse s
+  pub counted :
+      CallAgrees start trace (record { op = Restore; asked = Asked.Nothing; sent = Sent.Nothing }) NoResponse s
 
 abbrev pub RetryLaw : Type 0
 RetryLaw = (start : State) (trace : Trace) (s : State) → Coherent start → s ≡ state_of_history start trace
