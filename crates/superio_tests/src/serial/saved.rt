@@ -119,7 +119,11 @@ fn a_refused_interrupt_is_tried_again_until_it_is_taken(rt: HostRuntime) -> Resu
     follow(&rt, &mut serial, &[Calls(3), Get(IIR, 0xC4)]);
     // The guest has acknowledged it, so nothing is due.
     assert_eq!(rt; serial.retry_interrupts(), Ok(()));
-    follow(&rt, &mut serial, &[Calls(3), Get(RBR, b'a'), Get(RBR, b'b')]);
+    follow(
+        &rt,
+        &mut serial,
+        &[Calls(3), Get(RBR, b'a'), Get(RBR, b'b')],
+    );
 
     // Both conditions are due, and a refusal ends the call.
     let state = state_with(rt.alloc(), 0x06, 0x03, 0x61, b"a")?;
