@@ -200,9 +200,9 @@ mod tests {
                 }
             }
             let seen = expect_end(&rt, alloc, in_pieces(piece), Target::new(alloc), Ok(()))?;
-            assert_eq!(rt; seen, (149, 8));
+            assert_eq!(rt; seen, (158, 9));
         }
-        assert_eq!(rt; faults, 3 * 245);
+        assert_eq!(rt; faults, 3 * 250);
         Ok(())
     }
 
@@ -218,20 +218,20 @@ mod tests {
                 ErrorKind::Interrupted => Ok(()),
                 _ => Err(ScriptFault::Io),
             };
-            for number in 0..8usize {
+            for number in 0..9usize {
                 let writer = Target::failing_once(alloc, number, kind)?;
                 let (len, _) = expect_end(&rt, alloc, in_pieces(Piece::Line), writer, end)?;
                 if end.is_ok() {
-                    assert_eq!(rt; len, 149);
+                    assert_eq!(rt; len, 158);
                     interrupted = interrupted.saturating_add(1);
                 }
             }
             let writer = Target::with_outcomes(alloc, &[WriteOutcome::FlushFails(kind)])?;
             let io = Err(ScriptFault::Io);
             let (len, _) = expect_end(&rt, alloc, in_pieces(Piece::Line), writer, io)?;
-            assert_eq!(rt; len, 149);
+            assert_eq!(rt; len, 158);
         }
-        assert_eq!(rt; interrupted, 8);
+        assert_eq!(rt; interrupted, 9);
         Ok(())
     }
 }

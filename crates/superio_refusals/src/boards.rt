@@ -76,7 +76,7 @@ pub fn script(alloc: Global) -> &'static str {
     let end = run_script(alloc, &mut reader, &mut writer);
     let printed = 256usize.saturating_sub(writer.len());
     match (end, reply_count(&room[..printed])) {
-        (Ok(()), Some(17)) => "each reply",
+        (Ok(()), Some(18)) => "each reply",
         (Err(ScriptFault::Memory), Some(0)) => "Memory, and no reply",
         (Err(ScriptFault::Memory), Some(9)) => "Memory, and the replies before `ss`",
         _ => "other replies",

@@ -256,7 +256,7 @@ mod tests {
             assert_eq!(rt; (end, output.bytes.as_slice()), (Ok(true), text.as_slice()));
             assert_eq!(rt; notes.bytes.len(), 0);
         }
-        for number in 0..17usize {
+        for number in 0..18usize {
             let mut reader = EVERY_FORM;
             let mut output = Target::failing_once(alloc, number, ErrorKind::Other)?;
             let mut notes = Target::new(alloc);
