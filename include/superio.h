@@ -22,7 +22,8 @@
  *     if (done.sends)
  *         send(value);
  *     for (int i = 0; i < done.interrupts; i++)
- *         ask_for_interrupt();
+ *         if (!ask_for_interrupt())
+ *             break;
  *
  *     // The guest reads.
  *     uint8_t byte = superio_serial_read(&port, offset).byte;
@@ -37,8 +38,9 @@
  * - Calls on one device do not overlap in time. A caller whose threads share a
  *   device takes a lock of its own. Calls on different devices may overlap, and
  *   so may calls that take the same device by a pointer to const.
- * - To save a device, copy its struct. To restore it, copy the bytes back. The
- *   structs have no padding. Numbers of several bytes are stored in the order
+ * - To save a device, copy its struct. To restore it, copy the bytes back. A
+ *   copy holds input of the guest, also bytes that the guest has read. The
+ *   structs of devices have no padding. Numbers of several bytes are stored in the order
  *   of the processor.
  */
 #ifndef SUPERIO_H
@@ -102,7 +104,8 @@ typedef struct superio_serial {
     uint8_t scratch;           /* SCR */
     uint8_t first;             /* the place of the oldest received byte */
     uint8_t held;              /* how many received bytes are held */
-    uint8_t places[64];        /* the received bytes that no guest has read */
+    uint8_t places[64];        /* the received bytes. Those that are not held
+                                  are left over, and mean nothing */
 } superio_serial;
 
 /*
@@ -143,7 +146,7 @@ superio_serial_read_effects superio_serial_read(superio_serial *port,
  * in this order:
  *
  * 1. Where `sends` is true, it sends the value and flushes. The event of the
- *    byte is then its own to tell: out_byte where both succeeded, and
+ *    byte is up to the caller to report: out_byte where both succeeded, and
  *    tx_lost_byte where either failed. The port is the same either way, and the
  *    second step follows either way.
  * 2. It asks for the interrupt as often as `interrupts` says, and stops at the
@@ -159,7 +162,10 @@ superio_serial_read_effects superio_serial_read(superio_serial *port,
  * change the port: where `interrupts` is 2 and the first of the two is refused,
  * a port that was told so does not raise the second condition. This can only
  * be at a write at offset 1. For the exact state, copy the port before such a
- * write, put the copy back, and repeat the call with true.
+ * write, put the copy back, and repeat the call with true; what the repeated
+ * call returns is done already. Without that the
+ * port is the one whose first interrupt was taken and whose second was refused:
+ * both conditions are pending.
  */
 superio_serial_write_effects superio_serial_write(superio_serial *port,
                                                   uint8_t offset, uint8_t value,
@@ -281,6 +287,18 @@ uint8_t superio_i8042_read(uint8_t offset);
 /* The structs have the sizes that the library gives them. */
 typedef char superio_serial_has_75_bytes[sizeof(superio_serial) == 75 ? 1 : -1];
 typedef char superio_rtc_has_32_bytes[sizeof(superio_rtc) == 32 ? 1 : -1];
+typedef char superio_serial_read_effects_has_3_bytes
+    [sizeof(superio_serial_read_effects) == 3 ? 1 : -1];
+typedef char superio_serial_write_effects_has_2_bytes
+    [sizeof(superio_serial_write_effects) == 2 ? 1 : -1];
+typedef char superio_serial_enqueue_effects_has_16_bytes
+    [sizeof(superio_serial_enqueue_effects) == 16 ? 1 : -1];
+typedef char superio_rtc_read_effects_has_8_bytes
+    [sizeof(superio_rtc_read_effects) == 8 ? 1 : -1];
+typedef char superio_rtc_write_effects_has_1_byte
+    [sizeof(superio_rtc_write_effects) == 1 ? 1 : -1];
+typedef char superio_i8042_write_effects_has_1_byte
+    [sizeof(superio_i8042_write_effects) == 1 ? 1 : -1];
 
 #ifdef __cplusplus
 }

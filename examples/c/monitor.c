@@ -7,8 +7,8 @@
 #include <string.h>
 #include <superio.h>
 
-/* The bases of the devices, each of 8 ports. */
-enum { COM1 = 0x3F8, KEYBOARD = 0x60 };
+/* The first of the serial port's 8 ports, and the two of the controller. */
+enum { COM1 = 0x3F8, KEYBOARD = 0x60, COMMAND = 0x64 };
 
 struct machine {
     superio_serial serial;
@@ -17,10 +17,12 @@ struct machine {
     int resets;
 };
 
-/* Asks for the interrupt as often as an effect says. An event file would be written here. */
+/* Asks for the interrupt as often as an effect says, up to a refusal. An event file would be written here. */
 static void interrupt(struct machine *machine, unsigned times) {
-    while (times-- > 0)
-        puts(machine->line_is_down ? "interrupt refused" : "interrupt");
+    for (; times > 0 && !machine->line_is_down; times--)
+        puts("interrupt");
+    if (times > 0)
+        puts("interrupt refused");
 }
 
 /* Offers the input, and keeps what does not fit. */
@@ -34,14 +36,16 @@ static void feed(struct machine *machine) {
 /* The guest's `out`. */
 static void bus_write(struct machine *machine, uint16_t port, uint8_t value) {
     uint8_t offset = port & 7;
-    if (port - offset == COM1) {
-        superio_serial_write_effects done = superio_serial_write(&machine->serial, offset, value, false);
-        if (done.sends)
-            printf("output: %c\n", value);
-        interrupt(machine, done.interrupts);
-    } else if (port - offset == KEYBOARD) {
+    if (port == KEYBOARD || port == COMMAND)
         machine->resets += superio_i8042_write(offset, value).resets;
-    }
+    if (port - offset != COM1)
+        return;
+    superio_serial_write_effects done = superio_serial_write(&machine->serial, offset, value, false);
+    if (done.sends)
+        printf("output: %c\n", value);
+    interrupt(machine, done.interrupts);
+    if (offset == 4) /* loopback may have ended */
+        feed(machine);
 }
 
 /* The guest's `in`. */
@@ -53,12 +57,7 @@ static uint8_t bus_read(struct machine *machine, uint16_t port) {
             feed(machine);
         return done.byte;
     }
-    return port - offset == KEYBOARD ? superio_i8042_read(offset) : 0xFF;
-}
-
-/* Asks again for what was refused or, after a restore, for what the guest has not taken. */
-static void interrupt_again(struct machine *machine) {
-    interrupt(machine, superio_serial_interrupts_due(&machine->serial));
+    return port == KEYBOARD || port == COMMAND ? superio_i8042_read(offset) : 0xFF;
 }
 
 static void check(int is_good, const char *what) {
@@ -77,8 +76,8 @@ int main(void) {
     bus_write(&machine, COM1 + 1, 0x01); /* the guest enables the interrupt for received data */
     feed(&machine);
     printf("%zu of 100 bytes wait\n", strlen(machine.input));
-    machine.line_is_down = 0;
-    interrupt_again(&machine);
+    machine.line_is_down = 0; /* so what was refused is asked for again */
+    interrupt(&machine, superio_serial_interrupts_due(&machine.serial));
 
     FILE *file = tmpfile();
     check(file && fwrite(&machine.serial, sizeof machine.serial, 1, file) == 1, "saving");
@@ -86,14 +85,14 @@ int main(void) {
     rewind(file);
     check(fread(&other.serial, sizeof other.serial, 1, file) == 1, "restoring");
     check(superio_serial_is_coherent(&other.serial), "the check of the saved port");
-    interrupt_again(&other);
+    interrupt(&other, superio_serial_interrupts_due(&other.serial)); /* what the guest has not taken */
 
     int received = 0;
     while (bus_read(&other, COM1 + 5) & 0x01) /* data ready */
         received += bus_read(&other, COM1) == 'x';
     printf("%d bytes received\n", received);
     bus_write(&other, COM1, '!');
-    bus_write(&other, KEYBOARD + 4, 0xFE);
+    bus_write(&other, COMMAND, 0xFE);
     printf("%d reset\n", other.resets);
     return 0;
 }

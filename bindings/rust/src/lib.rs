@@ -8,7 +8,8 @@
 //! - The match register of the clock is an [alarm](rtc_pl031), where that of vm-superio 0.8.2 has no effect.
 //! - A host whose clock is before 1970 has the moment 0, where vm-superio 0.8.2 panics.
 //! - [`Serial::retry_interrupts`], [`Rtc::is_armed`] and [`Rtc::set_armed`] are new.
-//! - A device cannot be made if the library that was linked is not of this crate's version: that panics.
+//! - Making a device or a default `SerialState` panics if the linked library has another binary interface than this
+//!   crate.
 //!
 //! # Example
 //!

@@ -12,7 +12,7 @@ use Rattle.vm_superio.specs.Port.OpKinds.{OpKind, RbrRead, IirRead, is_rbr_read}
 use Rattle.vm_superio.specs.History.Registers.{kind_at, accepted_by, taken_by, held_bytes}
 use Rattle.vm_superio.specs.History.Reads.{with_data_ready, guest_read, history_response, ResponsesAre, byte_read, bytes_read}
 use Rattle.vm_superio.specs.Run.Trace.{trace_after}
-use Rattle.vm_superio.specs.Laws.PollingDriver.{driver_byte, driver_bytes, polls, PollingDriverLaw, shows_data_ready, polls_by_sight, PollsBySightLaw}
+use Rattle.vm_superio.specs.Laws.PollingDriver.{driver_byte, driver_bytes, polls, PollingDriverLaw, DriverGetsAllLaw, shows_data_ready, polls_by_sight, PollsBySightLaw}
 use Rattle.vm_superio.proofs.Bytes.{data_ready_set, data_ready_cleared}
 use Rattle.vm_superio.proofs.BytesRead.{read_then_held}
 use Rattle.vm_superio.proofs.HeldBytes.{held_more, taken_then_held}
@@ -51,6 +51,18 @@ pub polling_driver : PollingDriverLaw
 polling_driver start calls are polled =
     ap (λ bytes. bytes ++ held_bytes start (trace_after [] calls)) (gets_bytes start [] calls polled)
     ∙ read_then_held start calls are
+
+none_held : (held : List ℕ) → not_empty held ≡ false → held ≡ []
+none_held [] none = refl
+none_held (byte ∷ held) none = absurd (false≢true (sym none))
+
+pub driver_gets_all : DriverGetsAllLaw
+driver_gets_all start calls are polled clear =
+    let trace = trace_after [] calls in
+    let bytes = driver_bytes start [] calls in
+    sym (append-nil bytes)
+    ∙ ap (λ held. bytes ++ held) (sym (none_held (held_bytes start trace) (sym (read_of_lsr start trace) ∙ clear)))
+    ∙ polling_driver start calls are polled
 
 -- ---- as the driver sees it
 

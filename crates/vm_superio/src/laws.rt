@@ -6,7 +6,7 @@
 //! two alone.
 ghost use Rattle.vm_superio.specs.Laws.Agreement.{RegisterLaw, HeldBytesLaw, LineStatusLaw, InterruptLaw, CoherenceLaw, StateLaw, ResponseLaw, StepLaw, CallLaw, RetryLaw, WholeRunLaw};
 ghost use Rattle.vm_superio.specs.Laws.Consequences.{PendingByPrefixesLaw, TriggerBoundLaw, WaitingBytesLaw, SameReadsLaw, TakenThenHeldLaw, ReadsAreTakenLaw, ReadThenHeldLaw, OutputLaw};
-ghost use Rattle.vm_superio.specs.Laws.PollingDriver.{PollingDriverLaw, PollsBySightLaw};
+ghost use Rattle.vm_superio.specs.Laws.PollingDriver.{PollingDriverLaw, DriverGetsAllLaw, PollsBySightLaw};
 ghost use Rattle.vm_superio.specs.Laws.FieldsRun.{FieldsRunLaw};
 ghost use Rattle.vm_superio.specs.Laws.OneCall.{OneCallLaw, OneReadLaw, ReceivedLaw, RbrReadLaw, RbrDataReadyLaw, OutcomeEventsLaw, TurnedBitsLaw, AdmissibilityLaw};
 
@@ -113,10 +113,12 @@ pub fn reads_are_taken()
 {}
 
 /// From any start, where only a driver that polls reads data: what the driver has got and then what is held is what was
-/// held at the start and then what was accepted. So it gets every byte, in order. A driver polls that reads RBR only where
-/// a read of LSR has shown data ready since its RBR read before; what else is called in between plays no part.
+/// held at the start and then what was accepted. Where LSR does not show data ready in the end, it has got all of these
+/// bytes. A driver polls if it reads RBR only where a read of LSR has shown data ready since its RBR read before; what
+/// else is called in between plays no part.
 pub fn polling_driver()
     ensures bytes { PollingDriverLaw }
+    ensures all { DriverGetsAllLaw }
     ensures by_sight { PollsBySightLaw }
 {}
 

@@ -1,5 +1,5 @@
 -- A driver that polls: what a guest gets that reads RBR only where LSR has shown data ready.
-use Rattle.std.specs.Prelude.{◌≡◌, ⊤, ℕ, Bool, true, false, not, ◌==◌, ◌&&◌, ◌||◌, List, [], ◌∷◌, ◌++◌, IsTrue}
+use Rattle.std.specs.Prelude.{◌≡◌, ℕ, Bool, true, false, not, ◌==◌, ◌&&◌, ◌||◌, List, [], ◌∷◌, ◌++◌, IsTrue}
 use Rattle.vm_superio.specs.Port.Bits.{has_bits, lsr_dr_bit}
 use Rattle.vm_superio.specs.Port.State.{State}
 use Rattle.vm_superio.specs.Port.Operations.{Op, Read, TraceEntry, Response, ByteRead, Trace}
@@ -27,13 +27,19 @@ polls start trace (call ∷ later) =
     (not (is_rbr_read (kind_at start trace call.0.op)) || has_bits (guest_read start trace 5) lsr_dr_bit)
     && polls start (call.0 ∷ trace) later
 
--- what the driver has got, then what is held, is what was held at the start, then what was accepted: it gets every
--- byte, in order, and no other
+-- what the driver has got, then what is held, is what was held at the start, then what was accepted: it loses none, and
+-- gets no other
 abbrev pub PollingDriverLaw : Type 0
 PollingDriverLaw = (start : State) (calls : List (TraceEntry × Response)) → ResponsesAre start [] calls
     → IsTrue (polls start [] calls)
     → driver_bytes start [] calls ++ held_bytes start (trace_after [] calls)
     ≡ start.in_buffer ++ accepted_bytes start (trace_after [] calls)
+
+-- and where LSR does not show data ready in the end, it has got all of them
+abbrev pub DriverGetsAllLaw : Type 0
+DriverGetsAllLaw = (start : State) (calls : List (TraceEntry × Response)) → ResponsesAre start [] calls
+    → IsTrue (polls start [] calls) → has_bits (guest_read start (trace_after [] calls) 5) lsr_dr_bit ≡ false
+    → driver_bytes start [] calls ≡ start.in_buffer ++ accepted_bytes start (trace_after [] calls)
 
 -- ---- as the driver sees it
 
