@@ -1,9 +1,10 @@
-//! A guest's claims: a driver that polls gets every byte, in order.
-ghost use Rattle.std.specs.Prelude.{◌≡◌, [], ◌++◌, false, IfOk, IsTrue};
+//! A guest's claims: a driver that polls loses no byte, and gets them in order.
+ghost use Rattle.std.specs.Prelude.{◌≡◌, [], ◌++◌, false, IfOk, OnErr, IsTrue};
 ghost use Rattle.vm_superio.specs.History.Registers.{accepted_bytes};
 ghost use Rattle.vm_superio.specs.Laws.PollingDriver.{driver_bytes, polls_by_sight};
 ghost use Rattle.vm_superio.specs.Port.Coherent.{Coherent};
-ghost use Rattle.vm_superio.specs.Run.Trace.{entries_of, trace_of, RecordsOf};
+ghost use Rattle.vm_superio.specs.Run.HistoryTheorem.{HistoryTheorem};
+ghost use Rattle.vm_superio.specs.Run.Trace.{entries_of, trace_of};
 
 use std::alloc::{AllocError, Global};
 use std::io::Write;
@@ -23,7 +24,9 @@ pub fn run_polled<T: Trigger + Drop, EV: SerialEvents + Drop, W: Write + Drop>(
     serial: &mut Serial<T, EV, W>,
     calls: Vec<Call<T, EV, W>>,
 ) -> Result<Vec<Done<T, EV, W>>, AllocError>
-    ensures records { Coherent serial.old.state → IfOk result (λ done. RecordsOf calls.items done.items) }
+    ensures history { IfOk result (λ done. Coherent serial.old.state
+        → HistoryTheorem T.link W.contents serial.old calls.items done.items serial.new) }
+    ensures refused { OnErr result (serial.new ≡ serial.old) }
     ensures in_order { Coherent serial.old.state → IfOk result (λ done.
         IsTrue (polls_by_sight serial.old.state [] false (entries_of done.items))
         → driver_bytes serial.old.state [] (entries_of done.items) ++ serial.new.state.in_buffer
@@ -38,8 +41,7 @@ pub fn run_polled<T: Trigger + Drop, EV: SerialEvents + Drop, W: Write + Drop>(
 ///
 /// # Errors
 ///
-/// [`Error::Trigger`] where the trigger refused an interrupt: the guest may not have got all input then.
-/// [`Error::Memory`] where memory was refused.
+/// [`Error::Memory`] where memory was refused, and the errors of the port.
 pub fn receive_all<T: Trigger + Drop, W: Write + Drop>(
     alloc: Global,
     trigger: T,
