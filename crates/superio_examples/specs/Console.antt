@@ -1,10 +1,12 @@
 -- A serial port whose waiting input goes in as the guest makes room.
-use Rattle.std.specs.Prelude.{◌≡◌, ℕ, ◌==◌, ◌||◌, Bool, ◌++◌, length, drop, Result, is_err, is_some}
+use Rattle.std.specs.Prelude.{◌≡◌, ℕ, ◌==◌, ◌||◌, Bool, List, ◌++◌, length, drop, Result, is_err, is_some}
 use Rattle.std.specs.Bool.{OnTrue, OnFalse}
 use Rattle.circular_buffer.specs.Buffer.{buffer}
 use Rattle.vm_superio.specs.declared.serial.errors.Error.{Error}
+use Rattle.vm_superio.specs.declared.serial.errors.Error.TheVariants.{Trigger}
 use Rattle.vm_superio.specs.Port.Operations.{Event}
-use Rattle.vm_superio.specs.Port.ObjectLinks.{Link, TriggerAnswer, Contents}
+use Rattle.vm_superio.specs.Port.Registers.{Condition}
+use Rattle.vm_superio.specs.Port.ObjectLinks.{Link, TriggerAnswer, Contents, RefusesOwnState}
 use Rattle.vm_superio.specs.Port.Model.{refusal_in_result}
 use Rattle.vm_superio.specs.Step.PortStep.{IsReadStep, IsWriteStep}
 use Rattle.superio_examples.specs.declared.console.Console.{Console}
@@ -41,3 +43,8 @@ module _ {T E EV W : Type 0} (trigger : Link T (TriggerAnswer E)) (events : Link
           is_refused = old.is_refused || is_some (refusal_in_result answer);
         }
     pub fed : FeedsIf (offset == 4) between new
+
+-- the trigger was called for the conditions that are due, one after another, and refused the last of these calls
+abbrev pub RefusesAgain :
+    {T E : Type 0} → (link : Link T (TriggerAnswer E)) (due : List Condition) (old new : T) → Type 0
+RefusesAgain {E = E} link due old new = (refusal : E) × RefusesOwnState link due (Trigger refusal) old new

@@ -19,8 +19,8 @@ pub record IsRestoredFrom
   pub out_kept : made.serial.out ≡ out
   pub clock_events_kept : made.clock.events ≡ clock_events
 
--- the restore was refused, since the saved state has more than 64 bytes or the trigger refused a call. The trigger is
--- as its calls left it; the other objects are as they were passed in
+-- the restore was refused, since the saved state has more than 64 bytes, the trigger refused a call, or memory was
+-- refused. The trigger is as its calls left it; the other objects are as they were passed in
 pub record ReturnsObjects
     {T E EV W CE : Type 0} (link : T → List (Result (Unit {0}) E) → T → Type 0) (saved : Saved)
     (trigger : T) (events : EV) (out : W) (clock_events : CE) (refused : NotRestored T EV W CE E) : Type 0 where

@@ -1,11 +1,13 @@
 //! A serial port in a monitor's event loop. The loop stops reading its source while the input is full, and an interrupt
 //! that was refused is tried again.
 ghost use Rattle.std.specs.Prelude.{◌≡◌, ◌-◌, ◌==◌, ◌++◌, length, take, min, is_some, false, true};
+ghost use Rattle.circular_buffer.specs.Buffer.{buffer};
+ghost use Rattle.vm_superio.specs.Port.Coherent.{Coherent};
 ghost use Rattle.vm_superio.specs.Port.ObjectLinks.{all_ok};
 ghost use Rattle.vm_superio.specs.Port.Model.{refusal_in_result};
 ghost use Rattle.vm_superio.specs.Step.Restore.{restore_calls};
 ghost use Rattle.vm_superio.specs.Step.PortStep.{with_trigger};
-ghost use Rattle.superio_examples.specs.Console.{Feeds, ReadsThenFeeds, WritesThenFeeds};
+ghost use Rattle.superio_examples.specs.Console.{Feeds, ReadsThenFeeds, RefusesAgain, WritesThenFeeds};
 
 use crate::input::Input;
 use std::io::Write;
@@ -30,20 +32,25 @@ pub struct Console<T: Trigger, EV: SerialEvents, W: Write> {
 
 impl<T: Trigger, EV: SerialEvents, W: Write> Console<T, EV, W> {
     /// Takes the first of these bytes, as many as there is room for, and returns how many. The source keeps the others.
+    /// Input goes in, as far as the port has room.
     pub fn receive(&mut self, bytes: &[u8]) -> usize
         ensures count { result ≡ min (length bytes.now) (self.old.input.capacity - length self.old.input.items) }
         ensures kept { self.new.serial.state.in_buffer ++ self.new.input.items
             ≡ self.old.serial.state.in_buffer ++ (self.old.input.items ++ take result bytes.now) }
+        ensures fed { let waiting = buffer (self.old.input.items ++ take result bytes.now) self.old.input.capacity in
+            Feeds T.link EV.link W.contents (record self.old { input = waiting }) self.new }
+        ensures coherent { Coherent self.old.serial.state → Coherent self.new.serial.state }
     {
         let count = self.input.push(bytes);
         self.feed();
         count
     }
 
-    /// Reads a byte at `offset`, as the guest does. Where that leaves no byte held, which the port reports as
-    /// `in_buffer_empty`, input goes in.
+    /// Reads a byte at `offset`, as the guest does. Input goes in after each read that leaves no byte held: the one that
+    /// takes the last byte, which the port reports as `in_buffer_empty`, and any later one, at whatever offset.
     pub fn read(&mut self, offset: u8) -> u8
         ensures step { ReadsThenFeeds T.link EV.link W.contents offset result self.old self.new }
+        ensures coherent { Coherent self.old.serial.state → Coherent self.new.serial.state }
     {
         let byte = self.serial.read(offset);
         if self.serial.fifo_capacity() == 64 {
@@ -59,6 +66,7 @@ impl<T: Trigger, EV: SerialEvents, W: Write> Console<T, EV, W> {
     /// Those of the port's own `write`. They are for the monitor to log, and the guest goes on.
     pub fn write(&mut self, offset: u8, value: u8) -> Result<(), Error<T::E>>
         ensures step { WritesThenFeeds T.link EV.link W.contents offset value result self.old self.new }
+        ensures coherent { Coherent self.old.serial.state → Coherent self.new.serial.state }
     {
         let written = self.serial.write(offset, value);
         self.is_refused |= is_refusal(&written);
@@ -68,14 +76,18 @@ impl<T: Trigger, EV: SerialEvents, W: Write> Console<T, EV, W> {
         written
     }
 
-    /// Tries the interrupts again of which one was refused.
+    /// Tries the interrupts again of which one was refused. Where none was refused, the trigger is not called.
     pub fn retry(&mut self)
+        ensures idle { self.old.is_refused ≡ false → self.new ≡ self.old }
         ensures taken { self.old.is_refused ≡ true → self.new.is_refused ≡ false →
             T.link self.old.serial.trigger (all_ok (restore_calls self.old.serial.state)) self.new.serial.trigger }
+        ensures refused { self.old.is_refused ≡ true → self.new.is_refused ≡ true →
+            RefusesAgain T.link (restore_calls self.old.serial.state) self.old.serial.trigger self.new.serial.trigger }
         ensures others { self.new ≡ record self.old {
           serial = with_trigger self.old.serial self.new.serial.trigger;
           is_refused = self.new.is_refused;
         } }
+        ensures coherent { Coherent self.old.serial.state → Coherent self.new.serial.state }
     {
         if self.is_refused {
             self.is_refused = self.serial.retry_interrupts().is_err();
@@ -84,7 +96,8 @@ impl<T: Trigger, EV: SerialEvents, W: Write> Console<T, EV, W> {
 
     /// Gives the port input, as far as there is room.
     fn feed(&mut self)
-        ensures { Feeds T.link EV.link W.contents self.old self.new }
+        ensures fed { Feeds T.link EV.link W.contents self.old self.new }
+        ensures coherent { Coherent self.old.serial.state → Coherent self.new.serial.state }
     {
         if self.input.feed(&mut self.serial).is_err() {
             self.is_refused = true;

@@ -1,6 +1,7 @@
 //! A guest's port accesses of any width, served byte by byte, as the bus of a PC does for devices of 8 bits.
 ghost use Rattle.std.specs.Prelude.{◌≡◌, [], ◌∷◌, length, replicate};
 ghost use Rattle.std.specs.Bool.{OnTrue, OnFalse};
+ghost use Rattle.vm_superio.specs.Port.Coherent.{Coherent};
 ghost use Rattle.superio_examples.specs.PortIo.{is_width, ReadsBytes, WritesBytes};
 
 use crate::bus::{Bus, BusError};
@@ -16,6 +17,7 @@ impl<T: Trigger, EV: SerialEvents, W: Write, R: Trigger> Bus<T, EV, W, R> {
             (ReadsBytes T.link EV.link W.contents R.link port bytes.new self.old self.new) }
         ensures others { OnFalse (is_width (length bytes.old)) (bytes.new ≡ replicate (length bytes.old) 0xFF) }
         ensures alone { OnFalse (is_width (length bytes.old)) (self.new ≡ self.old) }
+        ensures coherent { Coherent self.old.serial.state → Coherent self.new.serial.state }
     {
         match bytes.len() {
             1 => bytes.copy_from_slice(&[self.read(port)]),
@@ -36,6 +38,7 @@ impl<T: Trigger, EV: SerialEvents, W: Write, R: Trigger> Bus<T, EV, W, R> {
             (WritesBytes T.link EV.link W.contents R.link port bytes.now result self.old self.new) }
         ensures others { OnFalse (is_width (length bytes.now)) (result ≡ Ok tt) }
         ensures alone { OnFalse (is_width (length bytes.now)) (self.new ≡ self.old) }
+        ensures coherent { Coherent self.old.serial.state → Coherent self.new.serial.state }
     {
         match bytes {
             [byte] => self.write(port, *byte),
@@ -52,7 +55,8 @@ impl<T: Trigger, EV: SerialEvents, W: Write, R: Trigger> Bus<T, EV, W, R> {
 
     /// Reads at four ports that follow each other.
     fn read_four(&mut self, port: u16) -> [u8; 4]
-        ensures { ReadsBytes T.link EV.link W.contents R.link port result self.old self.new }
+        ensures bytes { ReadsBytes T.link EV.link W.contents R.link port result self.old self.new }
+        ensures coherent { Coherent self.old.serial.state → Coherent self.new.serial.state }
     {
         let second = port.wrapping_add(1);
         let third = second.wrapping_add(1);
@@ -73,8 +77,9 @@ impl<T: Trigger, EV: SerialEvents, W: Write, R: Trigger> Bus<T, EV, W, R> {
         byte_2: u8,
         byte_3: u8,
     ) -> Result<(), BusError<T::E, R::E>>
-        ensures { let bytes = byte_0 ∷ byte_1 ∷ byte_2 ∷ byte_3 ∷ [] in
+        ensures bytes { let bytes = byte_0 ∷ byte_1 ∷ byte_2 ∷ byte_3 ∷ [] in
             WritesBytes T.link EV.link W.contents R.link port bytes result self.old self.new }
+        ensures coherent { Coherent self.old.serial.state → Coherent self.new.serial.state }
     {
         let second = port.wrapping_add(1);
         let third = second.wrapping_add(1);

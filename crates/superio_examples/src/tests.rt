@@ -269,6 +269,9 @@ fn input_stops_and_starts_and_a_refused_interrupt_is_tried_again(
     console.retry();
     assert!(rt; !console.is_refused);
     assert_eq!(rt; console.serial.interrupt_evt().calls(), 2);
+    // The condition is still pending, but no refusal is left to try again.
+    console.retry();
+    assert_eq!(rt; console.serial.interrupt_evt().calls(), 2);
 
     // The FIFO takes 63 more bytes, and then the input is full.
     for (from, count) in [(1, 16), (17, 16), (33, 16), (49, 16), (65, 15), (80, 0)] {

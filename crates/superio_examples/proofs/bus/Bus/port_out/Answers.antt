@@ -67,6 +67,6 @@ returns-in-len4-clause-bytes g c =
     let bytes = c.args.bytes.now in
     let few : length bytes ≡ 4 = omega (arith, c.in-len4.len_at_least, c.in-len4.len_below) in
     let made : WritesBytes g.T.Trigger.link g.EV.SerialEvents.link g.W.Write.contents g.R.Trigger.link c.args.port
-    (slice_index bytes 0 ∷ slice_index bytes 1 ∷ slice_index bytes 2 ∷ slice_index bytes 3 ∷ []) c.write_four.result c.args.self.now c.write_four.new.self = c.write_four.ensures in
+    (slice_index bytes 0 ∷ slice_index bytes 1 ∷ slice_index bytes 2 ∷ slice_index bytes 3 ∷ []) c.write_four.result c.args.self.now c.write_four.new.self = c.write_four.ensures.bytes in
     on-true _ (subst (λ values. WritesBytes g.T.Trigger.link g.EV.SerialEvents.link g.W.Write.contents g.R.Trigger.link c.args.port values c.write_four.result c.args.self.now c.write_four.new.self)
     (sym (list-of-4 bytes few)) made)

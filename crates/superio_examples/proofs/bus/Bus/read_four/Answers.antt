@@ -2,8 +2,8 @@
 use Rattle.std.proofs.Common.{refl}
 use Rattle.superio_examples.proofs.bus.Bus.read_four.Goals as goal
 
-pub returns : goal.returns
-returns g c = (
+pub returns-clause-bytes : goal.returns-clause-bytes
+returns-clause-bytes g c = (
   c.read.new.self,
   record {
     serial = c.read.ensures.serial;

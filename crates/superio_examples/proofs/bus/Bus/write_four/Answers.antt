@@ -3,8 +3,8 @@ use Rattle.std.proofs.Common.{refl, Ok}
 use Rattle.superio_examples.proofs.PortIoLemmas.{and-ok}
 use Rattle.superio_examples.proofs.bus.Bus.write_four.Goals as goal
 
-pub returns : goal.returns
-returns g c = (
+pub returns-clause-bytes : goal.returns-clause-bytes
+returns-clause-bytes g c = (
   c.write-at_first.result,
   c.and-2.result,
   c.write-at_first.new.self,

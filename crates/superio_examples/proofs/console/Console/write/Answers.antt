@@ -2,34 +2,30 @@
 use Rattle.std.proofs.Common.{rules, ◌≡◌, ◌==◌, ◌||◌, Bool, true, false, refl, ap}
 use Rattle.superio_examples.proofs.console.Console.write.Goals as goal
 
-pub returns-then-offset-eq-MCR : goal.returns-then-offset-eq-MCR
-returns-then-offset-eq-MCR g c =
+pub returns-then-offset-eq-MCR-clause-step : goal.returns-then-offset-eq-MCR-clause-step
+returns-then-offset-eq-MCR-clause-step g c =
     let is_mcr : (c.args.offset == 4) ≡ true = search rules in
     let noted = λ (is_refusal : Bool). record c.args.self.now {
       serial = c.write-written.new.self;
       is_refused = c.args.self.now.is_refused || is_refusal;
     } in
     record {
-      step = record {
-        between = noted c.is_refusal.result;
-        step = c.write-written.ensures.step;
-        others = ap noted c.is_refusal.ensures;
-        fed = rw is_mcr (c.feed.ensures, tt);
-      };
+      between = noted c.is_refusal.result;
+      step = c.write-written.ensures.step;
+      others = ap noted c.is_refusal.ensures;
+      fed = rw is_mcr (c.feed.ensures.fed, tt);
     }
 
-pub returns-else-offset-eq-MCR : goal.returns-else-offset-eq-MCR
-returns-else-offset-eq-MCR g c =
+pub returns-else-offset-eq-MCR-clause-step : goal.returns-else-offset-eq-MCR-clause-step
+returns-else-offset-eq-MCR-clause-step g c =
     let is_other : (c.args.offset == 4) ≡ false = search rules in
     let noted = λ (is_refusal : Bool). record c.args.self.now {
       serial = c.write-written.new.self;
       is_refused = c.args.self.now.is_refused || is_refusal;
     } in
     record {
-      step = record {
-        between = noted c.is_refusal.result;
-        step = c.write-written.ensures.step;
-        others = ap noted c.is_refusal.ensures;
-        fed = rw is_other (tt, refl);
-      };
+      between = noted c.is_refusal.result;
+      step = c.write-written.ensures.step;
+      others = ap noted c.is_refusal.ensures;
+      fed = rw is_other (tt, refl);
     }
