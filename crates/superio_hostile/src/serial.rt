@@ -1,5 +1,4 @@
 //! The serial port under a guest that does anything, over triggers that refuse, writers that fail, and from any state.
-mod every_write;
 mod hostile;
 mod oracle;
 mod random;
@@ -106,13 +105,6 @@ fn reply_of_error(error: &Error<LineRefused>) -> Reply {
         Error::FullFifo => Full,
         Error::Memory => Memory,
     }
-}
-
-/// A fresh port. The mask names the trigger calls that are refused.
-fn fresh_port(alloc: Global, mask: u64, faults: Faults) -> Result<Port, Error<LineRefused>> {
-    Serial::with_events(alloc, Line::new(mask), Counts::new(), Writer::new(faults)).map_err(
-        Refused::into_error,
-    )
 }
 
 /// Makes a call.

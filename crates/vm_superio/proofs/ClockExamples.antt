@@ -1,10 +1,12 @@
 -- Worked examples of the clock, each computed by the steps of the accesses and by the history.
-use Rattle.std.specs.Prelude.{◌≡◌, ℕ, Bool, true, false, pos, List, [], ◌∷◌, ◌++◌, Option, Some, None, refl}
+use Rattle.std.specs.Prelude.{◌≡◌, ℕ, ◌+◌, ◌-◌, ◌^◌, ◌<◌, ℤ, Bool, true, false, pos, negsuc, List, [], ◌∷◌, ◌++◌, Option, Some, None, refl}
 use Rattle.vm_superio.specs.declared.rtc_pl031.RtcState.{RtcState}
 use Rattle.vm_superio.specs.Port.Bits.{with_bits}
 use Rattle.vm_superio.specs.Clock.Events.{RtcEvent, invalid_read, invalid_write}
-use Rattle.vm_superio.specs.Clock.Registers.{Access, read, write, bytes_left, fresh_clock}
-use Rattle.vm_superio.specs.Clock.Step.{clock_response, clock_step, clock_events, state_after_accesses}
+use Rattle.std.proofs.Common.{zero, suc, arith}
+use Rattle.vm_superio.specs.Clock.Registers.{Access, read, write, bytes_left, fresh_clock, host_time}
+use Rattle.vm_superio.specs.Clock.Step.{is_alarm_reached, clock_response, clock_step, clock_events, state_after_accesses}
+use Rattle.vm_superio.specs.Clock.Alarm.{is_line_up, IsDueIn}
 use Rattle.vm_superio.specs.Clock.History.{clock_of_history, clock_history_response}
 
 -- the answers of some accesses, oldest first, by the steps
@@ -199,3 +201,62 @@ an_invalid_read_leaves_the_bytes = refl
 
 the_identification_shows_a_byte_and_three_zeros : bytes_left (clock_response fresh_clock (read 0xFE5 1000)) bytes_of_123 ≡ 0x10 ∷ 0x00 ∷ 0x00 ∷ 0x00 ∷ []
 the_identification_shows_a_byte_and_three_zeros = refl
+
+-- ---- when the alarm is due
+
+-- guest time 5000 loaded at 1000, and an alarm for 5003 set at 1001
+abbrev set_for_1003 : RtcState
+set_for_1003 = state_after_accesses fresh_clock (write 0x004 5003 1001 ∷ write 0x008 5000 1000 ∷ [])
+
+due_in_two_seconds : IsDueIn set_for_1003 1001 2
+due_in_two_seconds = record { reached = refl; not_sooner = sooner }
+  where
+    sooner : (seconds : ℕ) → seconds < 2 → is_alarm_reached set_for_1003 (host_time (1001 + seconds)) ≡ false
+    sooner zero less = refl
+    sooner (suc zero) less = refl
+    sooner (suc (suc seconds)) less = absurd (omega arith)
+
+due_at_once : IsDueIn set_for_1003 2000 0
+due_at_once = record { reached = refl; not_sooner = λ sooner less. absurd (omega arith) }
+
+-- an armed clock by its match and its offset
+abbrev armed_for : (match : ℕ) (offset : ℤ) → RtcState
+armed_for match offset = record { lr = 0; offset = offset; mr = match; imsc = 0; ris = 0; armed = true }
+
+-- an access at a moment finds the alarm reached, and one a second before does not
+record IsReachedFrom (state : RtcState) (moment : ℕ) : Type 0 where
+  before : is_alarm_reached state (host_time (moment - 1)) ≡ false
+  reached : is_alarm_reached state (host_time moment) ≡ true
+
+far_away : IsReachedFrom (armed_for 4294967295 (pos 0)) 4294967295
+far_away = record { before = refl; reached = refl }
+
+after_the_host_time_wraps : IsReachedFrom (armed_for 105 (pos 0)) (2 ^ 32 + 105)
+after_the_host_time_wraps = record { before = refl; reached = refl }
+
+-- six seconds less than 2 ^ 32 ahead, so that the counter leaves 32 bits at 6
+by_the_host_time_where_the_counter_is_too_large : IsReachedFrom (armed_for 100 (pos 4294967290)) 100
+by_the_host_time_where_the_counter_is_too_large = record { before = refl; reached = refl }
+
+by_the_host_time_before_the_first_second : IsReachedFrom (armed_for 5 (negsuc 9)) 5
+by_the_host_time_before_the_first_second = record { before = refl; reached = refl }
+
+-- and the counter comes to it again
+and_by_the_counter : IsReachedFrom (armed_for 5 (negsuc 9)) 15
+and_by_the_counter = record { before = refl; reached = refl }
+
+-- a clock a second behind stops a second short of the largest match
+abbrev a_second_behind : RtcState
+a_second_behind = armed_for 4294967295 (negsuc 0)
+
+never_reached : (is_alarm_reached a_second_behind 4294967295 ≡ false) × (is_alarm_reached a_second_behind 0 ≡ false) × (is_alarm_reached a_second_behind 1 ≡ false)
+never_reached = (refl, refl, refl)
+
+-- ---- the interrupt line
+
+-- a clock by its raw status and its mask
+abbrev showing : (ris imsc : ℕ) → RtcState
+showing ris imsc = record { lr = 0; offset = pos 0; mr = 0; imsc = imsc; ris = ris; armed = false }
+
+the_line_is_bit_0_under_the_mask : (is_line_up (showing 1 1) ≡ true) × (is_line_up (showing 1 0) ≡ false) × (is_line_up (showing 0 1) ≡ false) × (is_line_up (showing 3 5) ≡ true) × (is_line_up (showing 6 7) ≡ false)
+the_line_is_bit_0_under_the_mask = (refl, refl, refl, refl, refl)

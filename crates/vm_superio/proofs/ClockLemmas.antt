@@ -24,7 +24,7 @@ pub counter-offset : (start : RtcState) (trace : List Access) (time : ℕ) → p
 counter-offset start trace time = grind (arith, ints)
 
 -- so guest time is that of the history
-guest_time-history : (start : RtcState) (trace : List Access) (time : ℕ) → guest_time_in (clock_of_history start trace) time ≡ guest_time (counter start trace time) time
+pub guest_time-history : (start : RtcState) (trace : List Access) (time : ℕ) → guest_time_in (clock_of_history start trace) time ≡ guest_time (counter start trace time) time
 guest_time-history start trace time = ap (λ counter. guest_time counter time) (counter-offset start trace time)
 
 -- to set a bit that may be set is to set it

@@ -1,13 +1,17 @@
--- Worked examples of a port in a plain struct: which bytes its places hold, which events a read tells, and what a caller
--- may have found.
-use Rattle.std.proofs.Common.{◌≡◌, ℕ, true, false, List, [], ◌∷◌, refl}
-use Rattle.vm_superio.specs.declared.serial.effects.ReadEffects.{ReadEffects}
+-- Worked examples of a port in a plain struct: which bytes its places hold, which events a read tells, and what a refusal
+-- takes back.
+use Rattle.std.proofs.Common.{◌≡◌, ℕ, true, false, [], ◌∷◌, refl}
 use Rattle.vm_superio.specs.declared.serial.places.Places.{Places}
 use Rattle.vm_superio.specs.declared.trace.Asked.{Asked}
 use Rattle.vm_superio.specs.Port.Effects.{events_of_read}
-use Rattle.vm_superio.specs.Port.Operations.{buffer_read, in_buffer_empty}
+use Rattle.vm_superio.specs.Port.Bits.{has_bits, only_bits, with_bits}
+use Rattle.vm_superio.specs.Port.Operations.{Write, buffer_read, in_buffer_empty, is_first_of_two_refused}
 use Rattle.vm_superio.specs.Port.Places.{held_bytes}
-use Rattle.vm_superio.specs.Step.FieldsStep.{interrupts_for, is_as_told}
+use Rattle.vm_superio.specs.Port.SavedState.{fresh_state}
+use Rattle.vm_superio.specs.Port.State.{State}
+use Rattle.vm_superio.specs.Step.Transition.{step}
+use Rattle.vm_superio.specs.Step.Admissible.{step_calls}
+use Rattle.vm_superio.specs.Step.FieldsStep.{without_thre}
 
 -- ---- bytes; four places stand for the sixty-four
 
@@ -36,26 +40,35 @@ empty_comes_first :
     ≡ in_buffer_empty ∷ buffer_read ∷ []
 empty_comes_first = refl
 
--- ---- interrupts
+-- ---- a refusal
 
-two_are_due : interrupts_for false 2 ≡ 2
+-- an IER write while a byte waits: both conditions are raised, and a refusal of the first call takes THRE back
+abbrev waiting : State
+waiting = record fresh_state { line_status = 0x61; in_buffer = 0x61 ∷ [] }
+
+two_are_due : step_calls waiting (Write 1 0x03) ≡ 2
+unfolding has_bits only_bits with_bits
 two_are_due = refl
 
-a_told_refusal_ends_the_call : interrupts_for true 2 ≡ 1
-a_told_refusal_ends_the_call = refl
+both_are_pending : (step waiting (Write 1 0x03) Asked.TookTook).interrupt_identification ≡ 0x06
+unfolding has_bits only_bits with_bits
+both_are_pending = refl
 
-second_refused : is_as_told 2 false Asked.TookRefused ≡ true
+thre_taken_back :
+    without_thre (step waiting (Write 1 0x03) Asked.TookTook) ≡ step waiting (Write 1 0x03) Asked.Refused
+unfolding has_bits only_bits with_bits
+thre_taken_back = refl
+
+-- told at another moment: nothing is pending afterwards, and IIR says so
+nothing_left : (without_thre (record fresh_state { interrupt_identification = 0x02 })).interrupt_identification ≡ 0x01
+nothing_left = refl
+
+-- a second refusal, or one call that is refused, takes nothing back
+second_refused : is_first_of_two_refused 2 Asked.TookRefused ≡ false
 second_refused = refl
 
--- the refusal of the first of two has to be told
-first_refused_untold : is_as_told 2 false Asked.Refused ≡ false
-first_refused_untold = refl
-
-first_refused_told : is_as_told 1 true Asked.Refused ≡ true
-first_refused_told = refl
-
-told_but_taken : is_as_told 1 true Asked.Took ≡ false
-told_but_taken = refl
-
-only_one_refused : is_as_told 1 false Asked.Refused ≡ true
+only_one_refused : is_first_of_two_refused 1 Asked.Refused ≡ false
 only_one_refused = refl
+
+first_refused : is_first_of_two_refused 2 Asked.Refused ≡ true
+first_refused = refl

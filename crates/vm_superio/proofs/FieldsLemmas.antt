@@ -1,26 +1,28 @@
 -- The calls of a port in a plain struct, as steps.
-use Rattle.std.proofs.Common.{◌≡◌, ℕ, ◌-◌, ◌≤◌, ◌==◌, ◌&&◌, ◌||◌, Bool, true, false, not, List, [], ◌∷◌, length, refl, sym, ap, ◌∙◌, subst, arith}
+use Rattle.std.proofs.Common.{◌≡◌, ℕ, ◌-◌, ◌==◌, ◌&&◌, ◌||◌, Bool, true, false, not, List, [], ◌∷◌, length, refl, sym, ap, ◌∙◌, subst, arith}
 use Rattle.std.specs.Prelude.{if◌then◌else◌, nat_le, IsTrue}
 use Rattle.std.specs.Bool.{beq}
 use Rattle.std.specs.Cmp.Derive.{both_true}
-use Rattle.std.proofs.lemmas.Bool.{false≢true, eqb-true}
-use Rattle.std.proofs.lemmas.Bool.Decides.{nat_tests}
+use Rattle.std.proofs.lemmas.Bool.{and_parts, false≢true, eqb-true}
+use Rattle.std.proofs.Math.Bool.{and-false}
 use Rattle.std.proofs.Math.Seq.{take-nil}
 use Rattle.vm_superio.specs.declared.trace.Asked.{Asked}
 use Rattle.vm_superio.specs.declared.trace.Asked.TheVariants.{Nothing, Took, Refused, TookTook, TookRefused}
 use Rattle.vm_superio.specs.declared.trace.Sent.{Sent}
+use Rattle.vm_superio.specs.declared.serial.effects.WriteEffects.{WriteEffects}
 use Rattle.vm_superio.specs.declared.serial.effects.EnqueueEffects.{EnqueueEffects}
 use Rattle.vm_superio.specs.Port.State.{State, not_empty}
 use Rattle.vm_superio.specs.Port.Registers.{Register, Dll, Dlm, RbrThr, Ier, Iir, Lcr, Mcr, Lsr, Msr, Scr, Unassigned, is_dlab, is_loopback, register_at}
 use Rattle.vm_superio.specs.Port.OpKinds.{Other, Arrival, read_kind, sent_by}
 use Rattle.vm_superio.specs.Port.Coherent.{Coherent}
-use Rattle.vm_superio.specs.Port.Operations.{Write, Enqueue, TraceEntry, Response, EnqueueOk, TriggerRefused, FifoFull, answer_count, is_first_refused, is_sent}
+use Rattle.vm_superio.specs.Port.Operations.{Write, Enqueue, TraceEntry, Response, EnqueueOk, TriggerRefused, FifoFull, is_first_refused, is_first_of_two_refused, is_sent}
 use Rattle.vm_superio.specs.Step.Raising.{bytes_that_fit, enqueued_bytes, receive_bytes}
 use Rattle.vm_superio.specs.Step.Transition.{step, step_response, enqueue_step_response}
 use Rattle.vm_superio.specs.Step.Admissible.{arrival_calls, kind_calls, step_calls, sends_byte, answers_all, is_admissible}
-use Rattle.vm_superio.specs.Step.FieldsStep.{IsFieldsEnqueue, interrupts_for, is_as_told}
+use Rattle.vm_superio.specs.Step.FieldsStep.{IsFieldsWrite, IsFieldsEnqueue}
 use Rattle.vm_superio.specs.Laws.Agreement.{StepsFollow}
-use Rattle.vm_superio.specs.Laws.FieldsRun.{FieldsCall, FieldsRead, FieldsWrite, FieldsEnqueue, FieldsRestore, IsFieldsCall, FieldsCallsFollow, entry_of_call, response_of_call, recorded_calls, FieldsRunLaw}
+use Rattle.vm_superio.specs.Laws.FieldsRun.{FieldsCall, FieldsRead, FieldsWrite, FieldsEnqueue, FieldsRestore, IsSettled, IsFieldsCall, FieldsCallsFollow, entry_of_call, response_of_call, recorded_calls, FieldsRunLaw}
+use Rattle.vm_superio.proofs.Refusals.{is_refused}
 use Rattle.vm_superio.proofs.WholeRuns.{coherence_law, whole_run_law}
 
 -- bytes that are received outside loopback keep a coherent state coherent
@@ -30,46 +32,6 @@ pub receive-coherent :
 receive-coherent s bytes outside before =
     subst (λ loopback. Coherent (receive_bytes (if loopback then [] else bytes_that_fit s.in_buffer bytes) s)) outside
     (coherence_law s (Enqueue bytes) Nothing before)
-
--- ---- answers as told are possible
-
-first-true : (a b : Bool) → IsTrue (a && b) → IsTrue a
-first-true true b both = refl
-first-true false b both = both
-
-second-true : (a b : Bool) → IsTrue (a && b) → IsTrue b
-second-true true b both = both
-second-true false b both = absurd (false≢true both)
-
--- the first call was told to be refused, and was not
-not-as-told : (interrupts : ℕ) → 1 ≡ interrupts → IsTrue (not true || (interrupts == 0) || false) → ⊥
-not-as-told interrupts is told = false≢true (subst (λ n. IsTrue (not true || (n == 0) || false)) (sym is) told)
-
-possible-by-count : (calls : ℕ) (refuses : Bool) (asked : Asked)
-    → answer_count asked ≡ interrupts_for refuses calls
-    → IsTrue (not refuses || (interrupts_for refuses calls == 0) || is_first_refused asked)
-    → IsTrue (answers_all calls asked)
-possible-by-count calls false Nothing is told = subst (λ n. (n == 0) ≡ true) is refl
-possible-by-count calls false Took is told = subst (λ n. (n == 1) ≡ true) is refl
-possible-by-count calls false Refused is told = subst (λ n. nat_le 1 n ≡ true) is refl
-possible-by-count calls false TookTook is told = subst (λ n. (n == 2) ≡ true) is refl
-possible-by-count calls false TookRefused is told = subst (λ n. (n == 2) ≡ true) is refl
-possible-by-count calls true Nothing is told =
-    let none : 0 ≡ calls = omega arith in subst (λ n. (n == 0) ≡ true) none refl
-possible-by-count calls true Took is told = absurd (not-as-told _ is told)
-possible-by-count calls true Refused is told = let some : 1 ≤ calls = omega arith in grind (arith, nat_tests)
-possible-by-count calls true TookTook is told = absurd (omega arith)
-possible-by-count calls true TookRefused is told = absurd (omega arith)
-
-told-possible :
-    (calls interrupts : ℕ) (refuses : Bool) (asked : Asked) → interrupts ≡ interrupts_for refuses calls
-    → IsTrue (is_as_told interrupts refuses asked) → IsTrue (answers_all calls asked)
-told-possible calls interrupts refuses asked is told =
-    let told_so = subst (λ n. IsTrue (is_as_told n refuses asked)) is told in
-    let n = interrupts_for refuses calls in
-    possible-by-count calls refuses asked
-    (eqb-true _ _ (first-true (answer_count asked == n) (not refuses || (n == 0) || is_first_refused asked) told_so))
-    (second-true (answer_count asked == n) (not refuses || (n == 0) || is_first_refused asked) told_so)
 
 -- ---- one call is a step
 
@@ -152,27 +114,41 @@ enqueue-response s bytes effects asked new is answered =
       ap (λ l. length l) (none-taken loopback bytes s.in_buffer nothing),
     ))
 
+-- a write, and the telling of a first refusal of two where there was one, are the step
+settled-write :
+    (offset value : ℕ) (effects : WriteEffects) (asked : Asked) (old written new : State) (refused : Bool)
+    → is_first_of_two_refused effects.interrupts asked ≡ refused
+    → IsFieldsWrite offset value effects old written → IsTrue (answers_all effects.interrupts asked)
+    → IsSettled effects.interrupts asked written new → new ≡ step old (Write offset value) asked
+settled-write offset value effects asked old written new true refused is fit settled =
+    let parts = and_parts (effects.interrupts == 2) (is_first_refused asked) refused in
+    let both = is.state TookTook parts.0 (and-false (effects.interrupts == 2)) in
+    settled.0 refused old offset value (sym is.interrupts ∙ eqb-true effects.interrupts 2 parts.0) both
+    ∙ ap (λ asked. step old (Write offset value) asked) (sym (is_refused asked parts.1))
+settled-write offset value effects asked old written new false refused is fit settled =
+    settled.1 refused ∙ is.state asked fit refused
+
 step-of-call : (call : FieldsCall) (old new : State) → IsFieldsCall call old new → IsStepOf (entry_of_call call) (response_of_call call) old new
 step-of-call (FieldsRead offset effects) old new is = record {
   admissible = read-possible (register_at (is_dlab old.line_control) offset) old;
   answered = is.response;
   state = is.state;
 }
-step-of-call (FieldsWrite offset value refuses effects asked sent) old new is =
+step-of-call (FieldsWrite offset value effects asked sent) old new is =
     let op = Write offset value in
     let answered : IsTrue (answers_all (step_calls old op) asked) =
-    told-possible (step_calls old op) effects.interrupts refuses asked is.0.interrupts is.1 in
+    subst (λ n. IsTrue (answers_all n asked)) is.1.interrupts is.2 in
     let outcome : IsTrue (beq (is_sent sent) (sends_byte old op)) =
-    subst (λ b. IsTrue (beq (is_sent sent) b)) (is.2 ∙ is.0.sends) (beq-same (is_sent sent)) in
+    subst (λ b. IsTrue (beq (is_sent sent) b)) (is.3 ∙ is.1.sends) (beq-same (is_sent sent)) in
     record {
       admissible = both_true answered outcome;
       answered = refl;
-      state = is.0.state asked is.1;
+      state = settled-write offset value effects asked old is.0 new _ refl is.1 is.2 is.4;
     }
 step-of-call (FieldsEnqueue bytes effects asked) old new is =
     let op = Enqueue bytes in
     let answered : IsTrue (answers_all (step_calls old op) asked) =
-    told-possible (step_calls old op) effects.interrupts false asked is.0.interrupts is.1 in
+    subst (λ n. IsTrue (answers_all n asked)) is.0.interrupts is.1 in
     record {
       admissible = both_true answered (enqueue-sends-none bytes (is_loopback old.modem_control));
       answered = enqueue-response old bytes effects asked new is.0 answered;

@@ -6,6 +6,7 @@ mod BytesRead
 pub mod BitLemmas
 mod ClockExamples
 pub mod ClockLemmas
+mod AlarmLemmas
 mod Examples
 mod FieldsExamples
 mod FieldsLemmas
@@ -16,6 +17,7 @@ mod PendingByPrefixes
 mod PollingDriver
 mod PlacesLemmas
 mod PortLemmas
+mod Refusals
 mod RegisterSteps
 mod RunExamples
 mod RunHistory
@@ -24,8 +26,9 @@ mod RunSteps
 mod SerialExamples
 mod StateExamples
 mod StepLaw
-mod TriggerCalls
 mod TurnedBits
 mod SameReads
+mod SavedExamples
+pub mod SavedForms
 mod Output
 pub mod PublicLemmas

@@ -9,7 +9,7 @@ use Rattle.std.proofs.Math.Seq.{take-set-lt, drop-cons, take-suc}
 abbrev from : (start : ℕ) (places : List ℕ) → List ℕ
 from start places = drop start places ++ take start places
 
-length-from : (p : ℕ) (xs : List ℕ) → p ≤ length xs → length (from p xs) ≡ length xs
+pub length-from : (p : ℕ) (xs : List ℕ) → p ≤ length xs → length (from p xs) ≡ length xs
 length-from p xs le = omega (arith, length-append (drop p xs) (take p xs), length-drop p xs, length-take p xs)
 
 -- a place at a distance from the start, which lies before the end of the places or after it

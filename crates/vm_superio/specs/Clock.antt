@@ -3,5 +3,7 @@ pub mod Events
 pub mod Registers
 pub mod CodeNames
 pub mod Step
+pub mod Fields
+pub mod Alarm
 pub mod History
 pub mod Laws

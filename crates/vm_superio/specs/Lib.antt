@@ -7,3 +7,4 @@ pub mod Clock
 pub mod I8042
 pub mod Counting
 pub mod Silent
+pub mod Saved

@@ -9,10 +9,8 @@ pub mod OpKinds
 pub mod ObjectLinks
 pub mod WriterLink
 pub mod Model
-pub mod TriggerAnswers
 pub mod SavedState
 pub mod ErrorText
 pub mod Effects
 pub mod Places
 pub mod Fields
-pub mod Told

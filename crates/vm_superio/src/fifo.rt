@@ -1,5 +1,5 @@
 //! The receive FIFO: at most 64 bytes, oldest first. A port with objects keeps it in a ring on the heap.
-ghost use Rattle.std.specs.Prelude.{◌≡◌, ◌-◌, ◌≤◌, ℕ, List, [], ◌++◌, length, take, drop, slice_get, not, IfOk};
+ghost use Rattle.std.specs.Prelude.{◌≡◌, ◌-◌, ◌≤◌, ℕ, List, [], ◌∷◌, ◌++◌, length, take, drop, slice_get, not, IfOk};
 ghost use Rattle.vm_superio.specs.Port.State.{not_empty};
 
 use circular_buffer::HeapCircularBuffer;
@@ -14,6 +14,9 @@ pub(crate) trait ReceiveFifo {
     /// The bytes that are held.
     ghost held: { Self → List ℕ };
 
+    /// No number in it is above what it stands for.
+    ghost canonical: { Self → Type 0 };
+
     /// How many bytes are held.
     fn len(&self) -> usize
         ensures value { result ≡ length (held self.now) }
@@ -26,12 +29,20 @@ pub(crate) trait ReceiveFifo {
     /// Takes the oldest byte.
     fn take_first(&mut self) -> Option<u8>
         ensures byte { result ≡ slice_get (held self.old) 0 }
-        ensures rest { held self.new ≡ drop 1 (held self.old) };
+        ensures rest { held self.new ≡ drop 1 (held self.old) }
+        ensures canonical { canonical self.old → canonical self.new };
+
+    /// Adds a byte, if there is room for it, and returns whether there was.
+    fn push(&mut self, byte: u8) -> bool
+        ensures room { result ≡ not_empty (take (64 - length (held self.old)) (byte ∷ [])) }
+        ensures added { held self.new ≡ held self.old ++ take (64 - length (held self.old)) (byte ∷ []) }
+        ensures canonical { canonical self.old → canonical self.new };
 
     /// Adds the first of these bytes, as many as there is room for, and returns how many.
     fn fill(&mut self, bytes: &[u8]) -> usize
         ensures count { result ≡ length (take (64 - length (held self.old)) bytes.now) }
-        ensures added { held self.new ≡ held self.old ++ take (64 - length (held self.old)) bytes.now };
+        ensures added { held self.new ≡ held self.old ++ take (64 - length (held self.old)) bytes.now }
+        ensures canonical { canonical self.old → canonical self.new };
 }
 
 /// The received bytes that no guest has read, seen as a list. Their room is taken once, when the FIFO is made.
@@ -87,6 +98,8 @@ impl Fifo {
 impl ReceiveFifo for Fifo {
     ghost held = { λ fifo. fifo };
 
+    ghost canonical = { λ fifo. Unit {0} };
+
     fn len(&self) -> usize {
         self.bytes.len()
     }
@@ -99,7 +112,15 @@ impl ReceiveFifo for Fifo {
         self.bytes.pop_front()
     }
 
+    fn push(&mut self, byte: u8) -> bool {
+        self.bytes.try_push_back(byte).is_ok()
+    }
+
+    // One byte goes by `push`, which is cheaper.
     fn fill(&mut self, bytes: &[u8]) -> usize {
-        self.bytes.fill_from_slice(bytes)
+        match bytes {
+            [byte] => usize::from(self.push(*byte)),
+            _ => self.bytes.fill_from_slice(bytes),
+        }
     }
 }

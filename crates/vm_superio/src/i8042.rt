@@ -12,6 +12,13 @@ const COMMAND_OFFSET: u8 = 4;
 /// The command that pulses the CPU's reset line.
 const CMD_RESET_CPU: u8 = 0xFE;
 
+/// Whether a write of `value` at `offset` is the reset command, for a monitor that resets the machine without a trigger.
+pub fn is_reset_command(offset: u8, value: u8) -> bool
+    ensures { result ≡ is_reset_command offset value }
+{
+    offset == COMMAND_OFFSET && value == CMD_RESET_CPU
+}
+
 /// An i8042 keyboard controller that knows one command: reset the CPU.
 ///
 /// In a contract the device is its trigger, which is all that it holds.
@@ -58,9 +65,10 @@ impl<T: Trigger> I8042Device<T> {
         ensures other { OnFalse (is_reset_command offset value) (result ≡ Ok tt) }
         ensures unchanged { OnFalse (is_reset_command offset value) (self.new ≡ self.old) }
     {
-        match (offset, value) {
-            (COMMAND_OFFSET, CMD_RESET_CPU) => self.reset_evt.trigger(),
-            _ => Ok(()),
+        if is_reset_command(offset, value) {
+            self.reset_evt.trigger()
+        } else {
+            Ok(())
         }
     }
 }

@@ -11,8 +11,9 @@ ghost use Rattle.vm_superio.specs.Laws.FieldsRun.{FieldsRunLaw};
 ghost use Rattle.vm_superio.specs.Laws.OneCall.{OneCallLaw, OneReadLaw, ReceivedLaw, RbrReadLaw, RbrDataReadyLaw, OutcomeEventsLaw, TurnedBitsLaw, AdmissibilityLaw};
 
 mod clock;
+pub mod saved;
 
-pub use clock::{clock_is_history, raw_bits_by_history};
+pub use clock::{alarm_due_by_history, clock_is_history, raw_bits_by_history};
 
 /// The register law, from any start: each register holds its last effective write, and MSR never changes.
 pub fn registers()

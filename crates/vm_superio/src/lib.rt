@@ -13,6 +13,7 @@ pub mod i8042;
 pub mod laws;
 pub mod rtc_pl031;
 pub mod run;
+pub mod saved;
 pub mod serial;
 mod trace;
 

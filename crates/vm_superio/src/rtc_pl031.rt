@@ -6,21 +6,24 @@
 //!
 //! The match register is an alarm. It raises bit 0 of the raw interrupt status at the first access at which guest time
 //! has come to a match that was not past when it was written. No trigger is called: a monitor asks [`Rtc::state`].
-ghost use Rattle.std.specs.Prelude.{◌≡◌, ◌↔◌, List, [], ◌∷◌, ◌++◌, false};
-ghost use Rattle.vm_superio.specs.Port.Bits.{with_bits};
+ghost use Rattle.std.specs.Prelude.{◌≡◌, ◌↔◌, ◌<◌, ◌^◌, List, [], ◌∷◌, ◌++◌, false, IfSome};
 ghost use Rattle.std.specs.Bool.{OnTrue, OnFalse};
 ghost use Rattle.std.proofs.Common.{◌∙◌};
+ghost use Rattle.vm_superio.specs.Clock.Alarm.{is_line_up, IsAlarmDue};
 ghost use Rattle.vm_superio.specs.Clock.Events.{RtcEvent, invalid_read, invalid_write};
-ghost use Rattle.vm_superio.specs.Clock.CodeNames.{clock_register_of};
+ghost use Rattle.vm_superio.specs.Clock.Fields.{state_of_clock};
 ghost use Rattle.vm_superio.specs.Clock.Registers.{read, write, write_of, clock_register_at, is_readable, is_writable};
-ghost use Rattle.vm_superio.specs.Clock.Registers.{host_time, clock_register_read, bytes_left};
-ghost use Rattle.vm_superio.specs.Clock.Step.{ClockDevice, guest_time_in, after_alarm, match_write, clock_response, after_write, clock_step, clock_events};
+ghost use Rattle.vm_superio.specs.Clock.Registers.{host_time, bytes_left};
+ghost use Rattle.vm_superio.specs.Clock.Step.{ClockDevice, after_alarm, clock_response, clock_step, clock_events};
 ghost use Rattle.vm_superio.specs.Clock.Registers.{fresh_clock};
 ghost use Rattle.vm_superio.specs.Clock.Laws.{ReadsByHistory, GoesOnByHistory};
 
+mod alarm;
+pub mod fields;
 mod registers;
+pub mod saved_form;
 
-use registers::ClockRegister;
+use fields::RtcFields;
 use std::marker::Model;
 
 /// Hears of the accesses that a clock cannot serve.
@@ -100,93 +103,19 @@ impl RtcState {
         }
     }
 
-    /// Guest time where the host's time is `time`.
-    fn guest_time(&self, time: u32) -> u32
-        ensures { result ≡ guest_time_in self.now time }
+    /// Whether the interrupt line is up, as [`Rtc::interrupt_line`] says.
+    pub fn interrupt_line(&self) -> bool
+        ensures { result ≡ is_line_up self.now }
     {
-        match i64::from(time).checked_add(self.offset) {
-            Some(counter) => u32::try_from(counter).unwrap_or(time),
-            None => time,
-        }
+        RtcFields::from_state(self).interrupt_line()
     }
 
-    /// Where an alarm is set and guest time has come to the match, raises the interrupt and ends the alarm.
-    #[tactic(auto, unfolding(crate::specs::Port::Bits::with_bits))]
-    fn check_alarm(&mut self, time: u32)
-        ensures { self.new ≡ after_alarm self.old time }
+    /// In how many seconds after the moment `now` the alarm is due, as [`Rtc::alarm_due`] says.
+    pub fn alarm_due(&self, now: u64) -> Option<u64>
+        ensures due { IsAlarmDue self.now now result }
+        ensures bound { IfSome result (λ seconds. seconds < 2 ^ 32) }
     {
-        if self.armed && self.guest_time(time) >= self.mr {
-            self.ris |= 1;
-            self.armed = false;
-        }
-    }
-
-    /// Stores a match. The alarm is set where guest time has yet to come to it, and the interrupt is raised at once
-    /// where guest time is the match.
-    #[tactic(auto, unfolding(crate::specs::Port::Bits::with_bits))]
-    fn write_match(&mut self, value: u32, time: u32)
-        ensures { self.new ≡ match_write self.old value time }
-    {
-        let guest_time = self.guest_time(time);
-        self.mr = value;
-        self.armed = guest_time < value;
-        if value == guest_time {
-            self.ris |= 1;
-        }
-    }
-
-    /// The number that a read of `register` shows where the host's time is `time`, or `None` where it shows nothing.
-    fn read_register(&self, register: ClockRegister, time: u32) -> Option<u32>
-        ensures { result ≡ clock_register_read (clock_register_of register) (guest_time_in self.now time) self.now }
-    {
-        match register {
-            ClockRegister::Dr => Some(self.guest_time(time)),
-            ClockRegister::Mr => Some(self.mr),
-            ClockRegister::Lr => Some(self.lr),
-            ClockRegister::Cr => Some(1),
-            ClockRegister::Imsc => Some(self.imsc),
-            ClockRegister::Ris => Some(self.ris),
-            ClockRegister::Mis => Some(self.ris & self.imsc),
-            ClockRegister::Id(byte) => Some(u32::from(byte)),
-            ClockRegister::Icr | ClockRegister::Reserved => None,
-        }
-    }
-
-    /// Writes `value` to `register` where the host's time is `time`, and returns whether the register takes a write.
-    /// Where it takes none nothing changes.
-    #[tactic(auto, using(crate::proofs::BitLemmas::and_not_is_without))]
-    fn store(&mut self, register: ClockRegister, value: u32, time: u32) -> bool
-        ensures state { self.new ≡ after_write self.old (clock_register_of register) value time }
-        ensures taken { result ≡ is_writable (clock_register_of register) }
-    {
-        match register {
-            ClockRegister::Mr => self.write_match(value, time),
-            ClockRegister::Lr => {
-                self.lr = value;
-                self.offset = i64::from(value) - i64::from(time);
-            }
-            ClockRegister::Cr => {
-                if value == 1 {
-                    self.lr = 0;
-                    self.offset = 0;
-                }
-            }
-            ClockRegister::Imsc => self.imsc = value & 1,
-            ClockRegister::Icr => self.ris &= !value,
-            _ => return false,
-        }
-        true
-    }
-
-    /// Begins an access at the moment `now`, and gives the host's time. Every access may find that the alarm is
-    /// reached, before it has its own effect, an invalid one too.
-    fn begin_access(&mut self, now: u64) -> u32
-        ensures time { result ≡ host_time now }
-        ensures state { self.new ≡ after_alarm self.old (host_time now) }
-    {
-        let time = (now % (1 << 32)) as u32;
-        self.check_alarm(time);
-        time
+        RtcFields::from_state(self).alarm_due(now)
     }
 
     /// Reads at `offset` as [`Rtc::read`] does, for a monitor that keeps the state itself: the number that is shown, or
@@ -195,8 +124,10 @@ impl RtcState {
         ensures response { result ≡ clock_response self.old (read offset now) }
         ensures state { self.new ≡ clock_step self.old (read offset now) }
     {
-        let time = self.begin_access(now);
-        self.read_register(ClockRegister::at(offset), time)
+        let mut clock = RtcFields::from_state(self);
+        let shown = clock.read(offset, now);
+        *self = clock.state();
+        shown
     }
 
     /// Writes `value` at `offset` as [`Rtc::write`] does, for a monitor that keeps the state itself. Returns whether
@@ -205,8 +136,10 @@ impl RtcState {
         ensures taken { result ≡ is_writable (clock_register_at offset) }
         ensures state { self.new ≡ clock_step self.old (write offset value now) }
     {
-        let time = self.begin_access(now);
-        self.store(ClockRegister::at(offset), value, time)
+        let mut clock = RtcFields::from_state(self);
+        let is_taken = clock.write(offset, value, now);
+        *self = clock.state();
+        is_taken
     }
 }
 
@@ -215,14 +148,14 @@ impl RtcState {
 /// An access is four bytes, lowest byte first. In a contract the clock is its state and its events object.
 #[derive(Drop)]
 pub struct Rtc<EV: RtcEvents> {
-    state: RtcState,
+    fields: RtcFields,
     events: EV,
 }
 
 impl<EV: RtcEvents> Model for Rtc<EV> {
     ghost Value = { ClockDevice EV };
 
-    ghost view = { λ clock. record { state = clock.state; events = clock.events } };
+    ghost view = { λ clock. record { state = state_of_clock clock.fields; events = clock.events } };
 }
 
 impl Default for Rtc<NoEvents> {
@@ -251,7 +184,7 @@ impl<EV: RtcEvents> Rtc<EV> {
         ensures events { result.events ≡ rtc_events }
     {
         Rtc {
-            state: *state,
+            fields: RtcFields::from_state(state),
             events: rtc_events,
         }
     }
@@ -268,7 +201,7 @@ impl<EV: RtcEvents> Rtc<EV> {
     pub fn state(&self) -> RtcState
         ensures { result ≡ self.now.state }
     {
-        self.state
+        self.fields.state()
     }
 
     /// The events object.
@@ -276,6 +209,30 @@ impl<EV: RtcEvents> Rtc<EV> {
         ensures { result.now ≡ self.now.events }
     {
         &self.events
+    }
+
+    /// Whether the interrupt line is up: whether bit 0 is set in both the raw interrupt status and the mask, which RTCMIS
+    /// shows. Only an access changes it.
+    pub fn interrupt_line(&self) -> bool
+        ensures { result ≡ is_line_up self.now.state }
+    {
+        self.fields.interrupt_line()
+    }
+
+    /// In how many seconds after the moment `now`, in seconds since 1970, the alarm is due if the guest makes no access:
+    /// an access then raises the interrupt, and none does sooner. It is 0 where an access at `now` raises it, and always
+    /// less than 2^32.
+    ///
+    /// `None` says that no alarm is set, or that guest time never comes to the match: where the clock is behind the
+    /// host's, guest time is the host's time before its first second, and may stop short of the match at the largest
+    /// host's time. The mask plays no part: a masked alarm is due like any other, and leaves the line down.
+    ///
+    /// The answer holds until the next access, which may change the match or guest time.
+    pub fn alarm_due(&self, now: u64) -> Option<u64>
+        ensures due { IsAlarmDue self.now.state now result }
+        ensures bound { IfSome result (λ seconds. seconds < 2 ^ 32) }
+    {
+        self.fields.alarm_due(now)
     }
 
     /// Writes `bytes`, lowest byte first, at `offset` from the clock's base address, at the moment `now` in seconds
@@ -302,7 +259,7 @@ impl<EV: RtcEvents> Rtc<EV> {
         ensures quiet { OnTrue (is_writable (clock_register_at offset)) (self.new.events ≡ self.old.events) }
     {
         let value = u32::from_le_bytes(*bytes);
-        if !self.state.write(offset, value, now) {
+        if !self.fields.write(offset, value, now) {
             self.events.invalid_write();
         }
     }
@@ -329,7 +286,7 @@ impl<EV: RtcEvents> Rtc<EV> {
         ensures events { EV.link self.old.events (clock_events (read offset now)) self.new.events }
         ensures quiet { OnTrue (is_readable (clock_register_at offset)) (self.new.events ≡ self.old.events) }
     {
-        match self.state.read(offset, now) {
+        match self.fields.read(offset, now) {
             Some(number) => *bytes = number.to_le_bytes(),
             None => self.events.invalid_read(),
         }

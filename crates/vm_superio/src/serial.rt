@@ -5,7 +5,6 @@ ghost use Rattle.vm_superio.specs.Port.ObjectLinks.{all_ok, RefusesOwnState};
 ghost use Rattle.vm_superio.specs.Port.SavedState.{fresh_state, state_of};
 ghost use Rattle.vm_superio.specs.Step.Restore.{restore_calls, RefusesRestore};
 
-mod answers;
 mod bits;
 mod effects;
 mod errors;
@@ -14,6 +13,7 @@ pub mod fields;
 mod places;
 mod registers;
 mod restoring;
+pub mod saved_form;
 mod state;
 mod steps;
 mod traced;
@@ -23,6 +23,7 @@ use crate::fifo::{FIFO_SIZE, Fifo, ReceiveFifo};
 pub use errors::{Error, Refused};
 pub use events::{NoEvents, SerialEvents};
 use registers::Registers;
+use restoring::restored;
 pub use state::SerialState;
 use std::alloc::{AllocError, Global};
 use std::io::Write;
@@ -163,38 +164,21 @@ impl<T: Trigger, EV: SerialEvents, W: Write> Serial<T, EV, W> {
         ensures events_back { IfErr result (λ refused. refused.events ≡ serial_evts) }
         ensures out_back { IfErr result (λ refused. refused.out ≡ out) }
     {
-        if state.in_buffer.len() > FIFO_SIZE {
-            return Err(Refused {
-                error: Error::FullFifo,
+        match restored(alloc, state, &mut trigger) {
+            Ok((registers, in_buffer)) => Ok(Serial {
+                registers,
+                in_buffer,
+                interrupt_evt: trigger,
+                events: serial_evts,
+                out,
+            }),
+            Err(error) => Err(Refused {
+                error,
                 trigger,
                 events: serial_evts,
                 out,
-            });
+            }),
         }
-        let Ok(in_buffer) = Fifo::from_slice(alloc, &state.in_buffer) else {
-            return Err(Refused {
-                error: Error::Memory,
-                trigger,
-                events: serial_evts,
-                out,
-            });
-        };
-        let registers = Registers::of(state);
-        if let Err(refusal) = registers.assert_again(&mut trigger) {
-            return Err(Refused {
-                error: Error::Trigger(refusal),
-                trigger,
-                events: serial_evts,
-                out,
-            });
-        }
-        Ok(Serial {
-            registers,
-            in_buffer,
-            interrupt_evt: trigger,
-            events: serial_evts,
-            out,
-        })
     }
 
     /// The state of the port, of which `from_state` makes the same port again.

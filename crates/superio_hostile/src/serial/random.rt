@@ -1,4 +1,4 @@
-//! Long runs of random calls. Each call shows what the oracle says.
+//! Long runs of random calls from any state. Each call shows what the oracle says.
 
 use super::*;
 use crate::random::{CALLS, RUNS, Random};
@@ -182,53 +182,6 @@ fn runs(rt: &impl Abort, alloc: Global, seed: u64, hazards: Hazards) -> Result<T
     }
     tally.calls = calls;
     Ok(tally)
-}
-
-const NO_HAZARDS: Hazards = Hazards {
-    refusals: false,
-    faults: false,
-    restores: false,
-    any_start: false,
-};
-
-#[test]
-fn calls_over_a_trigger_that_refuses(rt: HostRuntime) -> Result<(), Fail> {
-    let hazards = Hazards {
-        refusals: true,
-        ..NO_HAZARDS
-    };
-    let tally = runs(&rt, rt.alloc(), 1, hazards)?;
-    assert_eq!(rt; tally.calls, 4_000_000);
-    assert!(rt; tally.refused > 10_000 && tally.full > 10_000, "{tally:?}");
-    Ok(())
-}
-
-#[test]
-fn calls_over_a_writer_that_fails(rt: HostRuntime) -> Result<(), Fail> {
-    let hazards = Hazards {
-        faults: true,
-        ..NO_HAZARDS
-    };
-    let tally = runs(&rt, rt.alloc(), 2, hazards)?;
-    assert_eq!(rt; (tally.calls, tally.refused), (4_000_000, 0));
-    assert!(rt; tally.lost > 10_000 && tally.full > 10_000, "{tally:?}");
-    Ok(())
-}
-
-#[test]
-fn calls_and_restores(rt: HostRuntime) -> Result<(), Fail> {
-    let hazards = Hazards {
-        refusals: true,
-        restores: true,
-        ..NO_HAZARDS
-    };
-    let tally = runs(&rt, rt.alloc(), 3, hazards)?;
-    assert_eq!(rt; (tally.calls, tally.lost), (4_000_000, 0));
-    assert!(rt;
-        tally.restored > 10_000 && tally.restores_refused > 10_000,
-        "{tally:?}"
-    );
-    Ok(())
 }
 
 #[test]

@@ -1,11 +1,12 @@
 -- The laws by which the steps and the history of a clock agree.
-use Rattle.std.specs.Prelude.{◌≡◌, ℕ, Bool, ◌==◌, ◌&&◌, if◌then◌else◌, List, ◌∷◌, Option, pos, ◌+ℤ◌}
+use Rattle.std.specs.Prelude.{◌≡◌, ℕ, ◌+◌, ◌<◌, Bool, true, false, ◌==◌, ◌&&◌, if◌then◌else◌, List, ◌∷◌, Option, None, pos, ◌+ℤ◌}
 use Rattle.std.specs.Int.{bit_at}
 use Rattle.std.specs.List.{list_any}
 use Rattle.vm_superio.specs.declared.rtc_pl031.RtcState.{RtcState}
-use Rattle.vm_superio.specs.Clock.Registers.{Access, read, bytes_left}
+use Rattle.vm_superio.specs.Clock.Registers.{Access, read, moment_of, bytes_left}
 use Rattle.vm_superio.specs.Clock.Step.{clock_response, clock_step, state_after_accesses}
-use Rattle.vm_superio.specs.Clock.History.{counter, clock_of_history, clock_history_response, cleared_by, is_alarm_raised}
+use Rattle.vm_superio.specs.Clock.Alarm.{IsDueIn, IsAlarmDue}
+use Rattle.vm_superio.specs.Clock.History.{counter, clock_of_history, clock_history_response, cleared_by, match_written, raises_alarm, is_alarm_raised}
 
 -- for each history of the state before an access, the access responds as the history says
 abbrev pub RespondsByHistory : (state : RtcState) (access : Access) (response : Option ℕ) → Type 0
@@ -52,3 +53,32 @@ RawBitsByHistory =
     → bit_at (clock_of_history start trace).ris bit
     ≡ (if (bit == 0) && is_alarm_raised start trace then 1
     else (if is_cleared trace bit then 0 else bit_at start.ris bit))
+
+-- after a trace, each access at a moment raises the interrupt
+abbrev pub RaisesAt : (start : RtcState) (trace : List Access) (moment : ℕ) → Type 0
+RaisesAt start trace moment =
+    (access : Access) → moment_of access ≡ moment → raises_alarm start trace access ≡ true
+
+-- and none at it does, unless it writes a match itself
+abbrev pub RaisesNothingAt : (start : RtcState) (trace : List Access) (moment : ℕ) → Type 0
+RaisesNothingAt start trace moment =
+    (access : Access) → moment_of access ≡ moment → match_written access ≡ None
+    → raises_alarm start trace access ≡ false
+
+-- an alarm that is due raises the interrupt then, by the history, and not sooner; one that never is does at no later
+-- moment; and a read sooner changes nothing, so that the alarm stays due
+pub record AlarmDueByHistory : Type 0 where
+  pub raised :
+      (start : RtcState) (trace : List Access) (now seconds : ℕ)
+      → IsDueIn (clock_of_history start trace) now seconds → RaisesAt start trace (now + seconds)
+  pub not_sooner :
+      (start : RtcState) (trace : List Access) (now seconds : ℕ)
+      → IsDueIn (clock_of_history start trace) now seconds
+      → (sooner : ℕ) → sooner < seconds → RaisesNothingAt start trace (now + sooner)
+  pub never :
+      (start : RtcState) (trace : List Access) (now : ℕ)
+      → IsAlarmDue (clock_of_history start trace) now None
+      → (later : ℕ) → RaisesNothingAt start trace (now + later)
+  pub waits :
+      (state : RtcState) (now seconds : ℕ) → IsDueIn state now seconds
+      → (offset sooner : ℕ) → sooner < seconds → clock_step state (read offset (now + sooner)) ≡ state

@@ -13,6 +13,11 @@ pub data Access : Type 0 where
   read : (offset now : ℕ) → Access
   write : (offset value now : ℕ) → Access
 
+-- the moment of an access
+abbrev pub moment_of : (access : Access) → ℕ
+moment_of (read _ now) = now
+moment_of (write _ _ now) = now
+
 -- a write of four bytes, lowest byte first
 abbrev pub write_of : (offset : ℕ) (bytes : List ℕ) (now : ℕ) → Access
 write_of offset bytes now = write offset (from_le_bytes w32 bytes) now

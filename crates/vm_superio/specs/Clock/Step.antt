@@ -1,6 +1,6 @@
 -- The step of one access to the clock, in any state: its response, the state that it leaves and the events that it
 -- reports.
-use Rattle.std.specs.Prelude.{ℕ, ◌%◌, pos, ◌+ℤ◌, ◌-ℤ◌, ◌==◌, ◌&&◌, nat_lt, nat_le, false, if◌then◌else◌, List, [], ◌∷◌, Option, None}
+use Rattle.std.specs.Prelude.{ℕ, ◌%◌, pos, ◌+ℤ◌, ◌-ℤ◌, ◌==◌, ◌&&◌, Bool, nat_lt, nat_le, false, if◌then◌else◌, List, [], ◌∷◌, Option, None}
 use Rattle.vm_superio.specs.declared.rtc_pl031.RtcState.{RtcState}
 use Rattle.vm_superio.specs.Port.Bits.{with_bits, without_bits}
 use Rattle.vm_superio.specs.Clock.Events.{RtcEvent, invalid_read, invalid_write}
@@ -15,11 +15,14 @@ pub record ClockDevice (EV : Type 0) : Type 0 where
 abbrev pub guest_time_in : (state : RtcState) (time : ℕ) → ℕ
 guest_time_in state time = guest_time (pos time +ℤ state.offset) time
 
--- every access begins with the alarm: where one is set and guest time has reached the match, the raw interrupt is
--- raised and the alarm is off
+-- an alarm is set, and guest time has reached the match
+abbrev pub is_alarm_reached : (state : RtcState) (time : ℕ) → Bool
+is_alarm_reached state time = state.armed && nat_le state.mr (guest_time_in state time)
+
+-- every access begins with the alarm: where it is reached, the raw interrupt is raised and the alarm is off
 abbrev pub after_alarm : (state : RtcState) (time : ℕ) → RtcState
 after_alarm state time =
-    if state.armed && nat_le state.mr (guest_time_in state time)
+    if is_alarm_reached state time
     then record state { ris = with_bits state.ris 1; armed = false }
     else state
 

@@ -1,5 +1,5 @@
 -- The operations on a serial port, their responses, the events that the port reports, and the entries of a trace.
-use Rattle.std.specs.Prelude.{ℕ, Bool, true, false, if◌then◌else◌, List}
+use Rattle.std.specs.Prelude.{ℕ, Bool, true, false, ◌==◌, ◌&&◌, if◌then◌else◌, List}
 pub use Rattle.vm_superio.specs.declared.trace.Asked.{Asked}
 pub use Rattle.vm_superio.specs.declared.trace.Sent.{Sent}
 
@@ -44,6 +44,10 @@ pub data Event : Type 0 where
 abbrev pub is_first_refused : (asked : Asked) → Bool
 is_first_refused Asked.Refused = true
 is_first_refused _ = false
+
+-- two calls were due, and the first was refused, which ended the operation before the second
+abbrev pub is_first_of_two_refused : (calls : ℕ) (asked : Asked) → Bool
+is_first_of_two_refused calls asked = (calls == 2) && is_first_refused asked
 
 -- the last call was refused
 abbrev pub ends_in_refusal : (asked : Asked) → Bool

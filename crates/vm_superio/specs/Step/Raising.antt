@@ -1,6 +1,6 @@
--- Raising a condition, and receiving bytes: the small parts of a step. A step may raise a condition that IER does not
--- enable, which does nothing.
-use Rattle.std.specs.Prelude.{ℕ, ◌-◌, Bool, not, ◌&&◌, if◌then◌else◌, List, [], ◌∷◌, ◌++◌, length, take}
+-- Raising and lowering a condition, and receiving bytes: the small parts of a step. A step may raise a condition that
+-- IER does not enable, which does nothing.
+use Rattle.std.specs.Prelude.{ℕ, ◌-◌, Bool, not, ◌==◌, ◌&&◌, if◌then◌else◌, List, [], ◌∷◌, ◌++◌, length, take}
 use Rattle.vm_superio.specs.Port.Bits.{has_bits, with_bits, without_bits, lsr_dr_bit}
 use Rattle.vm_superio.specs.Port.State.{State, not_empty}
 use Rattle.vm_superio.specs.Port.Registers.{is_loopback, Condition, Rda, ier_bit, iir_bit}
@@ -24,6 +24,12 @@ raise condition enable identification =
     if becomes_pending condition enable identification
     then with_bits (without_bits identification iir_none_bit) (iir_bit condition)
     else identification
+
+-- IIR after a condition was lowered: its bit is cleared, and where no bit is left nothing is pending
+abbrev pub lower : (condition : Condition) (identification : ℕ) → ℕ
+lower condition identification =
+    let others = without_bits identification (iir_bit condition) in
+    if others == 0 then iir_none_bit else others
 
 -- an IER write raises RDA only while bytes are held
 abbrev pub rda_becomes_pending : (held : List ℕ) (enable identification : ℕ) → Bool

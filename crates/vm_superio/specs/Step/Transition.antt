@@ -5,9 +5,9 @@ use Rattle.vm_superio.specs.declared.trace.Asked.{Asked}
 use Rattle.vm_superio.specs.declared.trace.Sent.{Sent}
 use Rattle.vm_superio.specs.Port.Bits.{only_bits, without_bits, lsr_dr_bit, ier_bits}
 use Rattle.vm_superio.specs.Port.State.{State, not_empty}
-use Rattle.vm_superio.specs.Port.Registers.{Register, Dll, Dlm, RbrThr, Ier, Iir, Lcr, Mcr, Scr, register_at, is_dlab, is_loopback, Rda, Thre, iir_bit, register_read}
+use Rattle.vm_superio.specs.Port.Registers.{Register, Dll, Dlm, RbrThr, Ier, Iir, Lcr, Mcr, Scr, register_at, is_dlab, is_loopback, Rda, Thre, register_read}
 use Rattle.vm_superio.specs.Port.Operations.{Op, Read, Write, Enqueue, Restore, Response, ByteRead, EnqueueOk, TriggerRefused, FifoFull, NoResponse, Event, buffer_read, out_byte, tx_lost_byte, in_buffer_empty, is_first_refused, recorded_write_response}
-use Rattle.vm_superio.specs.Step.Raising.{iir_none_bit, raise, rda_becomes_pending, raise_rda_while_held, bytes_that_fit, enqueued_bytes, receive_bytes}
+use Rattle.vm_superio.specs.Step.Raising.{iir_none_bit, raise, lower, rda_becomes_pending, raise_rda_while_held, bytes_that_fit, enqueued_bytes, receive_bytes}
 
 -- ---- the response
 
@@ -30,13 +30,12 @@ step_response s Restore asked sent = NoResponse
 
 -- ---- the state afterwards
 
--- an RBR read clears RDA, and an IIR of 0 is then 1; it takes the oldest byte, and clears data ready when none is left
+-- an RBR read lowers RDA; it takes the oldest byte, and clears data ready when none is left
 abbrev pub rbr_read : (s : State) → State
 rbr_read s =
-    let identification = without_bits s.interrupt_identification (iir_bit Rda) in
     let left = drop 1 s.in_buffer in
     record s {
-      interrupt_identification = if identification == 0 then iir_none_bit else identification;
+      interrupt_identification = lower Rda s.interrupt_identification;
       in_buffer = left;
       line_status = if not_empty left then s.line_status else without_bits s.line_status lsr_dr_bit;
     }

@@ -4,7 +4,7 @@
 ///
 /// `in_buffer_empty` is reported before `buffer_read`.
 #[repr(C)]
-#[derive(Clone, Copy, Debug, Eq, PartialEq)]
+#[derive(Clone, Copy)]
 pub struct ReadEffects {
     /// The byte that the guest reads.
     pub byte: u8,
@@ -16,7 +16,7 @@ pub struct ReadEffects {
 
 /// What a write leaves to the caller.
 #[repr(C)]
-#[derive(Clone, Copy, Debug, Eq, PartialEq)]
+#[derive(Clone, Copy)]
 pub struct WriteEffects {
     /// The byte goes out.
     pub sends: bool,
@@ -26,7 +26,7 @@ pub struct WriteEffects {
 
 /// What an enqueue did, and leaves to the caller.
 #[repr(C)]
-#[derive(Clone, Copy, Debug, Eq, PartialEq)]
+#[derive(Clone, Copy)]
 pub struct EnqueueEffects {
     /// How many of the bytes were taken, from the first on.
     pub taken: usize,

@@ -4,11 +4,10 @@
 //! send, an interrupt to ask for, an event to report. So it serves a monitor in another language, which keeps the struct
 //! where it likes, and saves the port as it copies bytes.
 ghost use Rattle.std.specs.Prelude.{◌≡◌, ◌↔◌, ◌≤◌, ◌-◌, length, IsTrue};
-ghost use Rattle.vm_superio.specs.Port.Coherent.{Coherent};
 ghost use Rattle.vm_superio.specs.Port.SavedState.{fresh_state};
-ghost use Rattle.vm_superio.specs.Port.Fields.{state_of_fields};
+ghost use Rattle.vm_superio.specs.Port.Fields.{state_of_fields, CoherentFields};
 ghost use Rattle.vm_superio.specs.Step.Restore.{restore_calls};
-ghost use Rattle.vm_superio.specs.Step.FieldsStep.{IsFieldsRead, IsFieldsWrite, IsFieldsEnqueue};
+ghost use Rattle.vm_superio.specs.Step.FieldsStep.{IsFieldsRead, IsFieldsWrite, IsFieldsEnqueue, IsFirstRefused, without_thre};
 
 use super::bits::{LSR_DATA_READY_BIT, has_bits};
 pub use super::effects::{EnqueueEffects, ReadEffects, WriteEffects};
@@ -16,12 +15,11 @@ pub use super::places::Places;
 use super::registers::Condition;
 pub use super::registers::Registers;
 use super::state::shows_conditions;
-use crate::Trigger;
 use crate::fifo::{FIFO_SIZE, ReceiveFifo};
 
 /// A serial port without objects: its registers and its received bytes. Any bytes are a port.
 #[repr(C)]
-#[derive(Clone, Copy, Debug, Eq, PartialEq)]
+#[derive(Clone, Copy)]
 pub struct SerialFields {
     /// The nine registers.
     pub registers: Registers,
@@ -33,7 +31,7 @@ impl SerialFields {
     /// A fresh port: divisor 12, 8 bits a character, OUT2 set, and nothing enabled, pending or held.
     pub fn new() -> SerialFields
         ensures state { state_of_fields result ≡ fresh_state }
-        ensures coherent { Coherent (state_of_fields result) }
+        ensures coherent { CoherentFields result }
     {
         SerialFields {
             registers: Registers::new(),
@@ -44,31 +42,33 @@ impl SerialFields {
     /// Reads at `offset`, as a guest does. No interrupt is asked for.
     pub fn read(&mut self, offset: u8) -> ReadEffects
         ensures step { IsFieldsRead offset result (state_of_fields self.old) (state_of_fields self.new) }
-        ensures coherent { Coherent (state_of_fields self.old) → Coherent (state_of_fields self.new) }
+        ensures coherent { CoherentFields self.old → CoherentFields self.new }
     {
         let register = self.registers.at(offset);
         self.registers.read(&mut self.in_buffer, register)
     }
 
     /// Writes `value` at `offset`, as a guest does. The caller then sends the byte, where it goes out, and asks for the
-    /// interrupt. Whether the byte is lost makes no difference to the port.
-    ///
-    /// A port with a trigger asks for no second interrupt where the first is refused. Where that is so, `refuses` tells
-    /// it beforehand: it matters for a write that enables both conditions at once, and for no other.
-    pub fn write(&mut self, offset: u8, value: u8, refuses: bool) -> WriteEffects
-        ensures step { IsFieldsWrite offset value refuses result (state_of_fields self.old) (state_of_fields self.new) }
-        ensures coherent { Coherent (state_of_fields self.old) → Coherent (state_of_fields self.new) }
+    /// interrupt, up to the first refusal. Whether the byte is lost makes no difference to the port. A refusal makes one
+    /// if the first of two interrupts is refused: the caller then calls `first_refused`.
+    pub fn write(&mut self, offset: u8, value: u8) -> WriteEffects
+        ensures step { IsFieldsWrite offset value result (state_of_fields self.old) (state_of_fields self.new) }
+        ensures coherent { CoherentFields self.old → CoherentFields self.new }
     {
         let register = self.registers.at(offset);
-        let sends = self.registers.sends(register);
-        let mut trigger = Told { refuses };
-        let answers = self
-            .registers
-            .write(&mut self.in_buffer, &mut trigger, register, value);
-        WriteEffects {
-            sends,
-            interrupts: answers.count(),
-        }
+        self.registers.write(&mut self.in_buffer, register, value)
+    }
+
+    /// Tells that the write before this call asked for two interrupts, and that the first was refused: a refusal ends the
+    /// write, so the second condition, THRE, is not pending.
+    ///
+    /// At any other moment the call does the same: THRE is not pending afterwards, and nothing else changes.
+    pub fn first_refused(&mut self)
+        ensures step { IsFirstRefused (state_of_fields self.old) (state_of_fields self.new) }
+        ensures state { state_of_fields self.new ≡ without_thre (state_of_fields self.old) }
+        ensures coherent { CoherentFields self.old → CoherentFields self.new }
+    {
+        self.registers.lower(Condition::Thre);
     }
 
     /// How many bytes may still be enqueued: 64 less the number of bytes that are held.
@@ -83,7 +83,7 @@ impl SerialFields {
     /// The bytes are kept even where the interrupt is then refused.
     pub fn enqueue_raw_bytes(&mut self, input: &[u8]) -> EnqueueEffects
         ensures step { IsFieldsEnqueue input.now result (state_of_fields self.old) (state_of_fields self.new) }
-        ensures coherent { Coherent (state_of_fields self.old) → Coherent (state_of_fields self.new) }
+        ensures coherent { CoherentFields self.old → CoherentFields self.new }
     {
         if self.registers.is_loopback() || input.is_empty() {
             return EnqueueEffects {
@@ -99,14 +99,11 @@ impl SerialFields {
                 interrupts: 0,
             };
         }
-        let mut trigger = Told { refuses: false };
-        let (taken, answer) = self
-            .registers
-            .receive(&mut self.in_buffer, &mut trigger, input);
+        let (taken, asks) = self.registers.receive(&mut self.in_buffer, input);
         EnqueueEffects {
             taken,
             full: false,
-            interrupts: u8::from(answer.is_some()),
+            interrupts: u8::from(asks),
         }
     }
 
@@ -115,40 +112,17 @@ impl SerialFields {
     pub fn interrupts_due(&self) -> u8
         ensures { result ≡ length (restore_calls (state_of_fields self.now)) }
     {
-        u8::from(self.registers.is_asserted(Condition::Thre))
-            + u8::from(self.registers.is_asserted(Condition::Rda))
+        self.registers.interrupts_due()
     }
 
     /// Whether the port is coherent, as each port is that `new` made: as `SerialState::is_coherent` says of a saved state,
     /// where `held` is at most 64 as well.
     pub fn is_coherent(&self) -> bool
-        ensures { IsTrue result ↔ ((self.now.in_buffer.held ≤ 64) × Coherent (state_of_fields self.now)) }
+        ensures { IsTrue result ↔ CoherentFields self.now }
     {
         let holds_bytes = !self.in_buffer.is_empty();
         usize::from(self.in_buffer.held) <= FIFO_SIZE
             && has_bits(self.registers.line_status, LSR_DATA_READY_BIT) == holds_bytes
             && shows_conditions(self.registers.interrupt_identification, holds_bytes)
     }
-}
-
-/// A trigger that answers what the caller told.
-#[derive(Drop)]
-struct Told {
-    refuses: bool,
-}
-
-impl Trigger for Told {
-    ghost use Rattle.vm_superio.specs.Port.Told.{AnswersAlike, AnswersAlike-nil, AnswersAlike-append};
-
-    type E = ();
-
-    ghost link = { AnswersAlike };
-
-    fn trigger(&mut self) -> Result<(), ()> {
-        if self.refuses { Err(()) } else { Ok(()) }
-    }
-
-    ghost no_call = { AnswersAlike-nil };
-
-    ghost joined = { AnswersAlike-append };
 }

@@ -7,7 +7,7 @@ use crate::fifo::{FIFO_SIZE, ReceiveFifo};
 /// Received bytes in a ring of 64 places. Any numbers are a FIFO: `first` counts modulo 64, and more than 64 held bytes
 /// stand for 64.
 #[repr(C)]
-#[derive(Clone, Copy, Debug, Eq, PartialEq)]
+#[derive(Clone, Copy)]
 pub struct Places {
     /// The place of the oldest byte.
     pub first: u8,
@@ -20,7 +20,8 @@ pub struct Places {
 impl Places {
     /// An empty FIFO.
     pub(super) fn new() -> Places
-        ensures { held_bytes result ≡ [] }
+        ensures bytes { held_bytes result ≡ [] }
+        ensures few { result.held ≤ 64 }
     {
         Places {
             first: 0,
@@ -49,6 +50,8 @@ impl Places {
 impl ReceiveFifo for Places {
     ghost held = { held_bytes };
 
+    ghost canonical = { λ fifo. fifo.held ≤ 64 };
+
     fn len(&self) -> usize {
         self.count()
     }
@@ -66,6 +69,17 @@ impl ReceiveFifo for Places {
         self.first = self.place(1) as u8;
         self.held = (held - 1) as u8;
         Some(byte)
+    }
+
+    fn push(&mut self, byte: u8) -> bool {
+        let held = self.count();
+        if held == FIFO_SIZE {
+            return false;
+        }
+        let place = self.place(held);
+        self.places[place] = byte;
+        self.held = (held + 1) as u8;
+        true
     }
 
     fn fill(&mut self, bytes: &[u8]) -> usize {

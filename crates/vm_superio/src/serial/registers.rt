@@ -1,5 +1,6 @@
 //! The registers of a 16550: which one an offset reaches, and the nine bytes that they hold.
-ghost use Rattle.std.specs.Prelude.{◌≡◌, []};
+ghost use Rattle.std.specs.Prelude.{◌≡◌, if◌then◌else◌, []};
+ghost use Rattle.vm_superio.specs.Port.Bits.{has_bits};
 ghost use Rattle.vm_superio.specs.Port.SavedState.{fresh_state};
 ghost use Rattle.vm_superio.specs.Port.SavedState.{state_of, state_with};
 
@@ -76,7 +77,7 @@ impl Condition {
 
 /// The nine register bytes of a port, in the order of a saved state. The received bytes stand beside them.
 #[repr(C)]
-#[derive(Clone, Copy, Debug, Eq, PartialEq)]
+#[derive(Clone, Copy)]
 pub struct Registers {
     /// DLL, the low byte of the divisor latch.
     pub baud_divisor_low: u8,
@@ -189,15 +190,21 @@ impl Registers {
         if !self.is_loopback() {
             return self.modem_status;
         }
-        let shown = |output: u8, input: u8| if has_bits(self.modem_control, output) {
+        let status = only_bits(self.modem_status, MSR_DELTA_BITS);
+        let status = with_bits(status, self.shown(MCR_DTR_BIT, MSR_DSR_BIT));
+        let status = with_bits(status, self.shown(MCR_RTS_BIT, MSR_CTS_BIT));
+        let status = with_bits(status, self.shown(MCR_OUT1_BIT, MSR_RI_BIT));
+        with_bits(status, self.shown(MCR_OUT2_BIT, MSR_DCD_BIT))
+    }
+
+    /// What an input of MSR shows in loopback: its bit, if the output of MCR that feeds it is set.
+    fn shown(&self, output: u8, input: u8) -> u8
+        ensures { result ≡ (if has_bits self.now.modem_control output then input else 0) }
+    {
+        if has_bits(self.modem_control, output) {
             input
         } else {
             0
-        };
-        let status = only_bits(self.modem_status, MSR_DELTA_BITS);
-        let status = with_bits(status, shown(MCR_DTR_BIT, MSR_DSR_BIT));
-        let status = with_bits(status, shown(MCR_RTS_BIT, MSR_CTS_BIT));
-        let status = with_bits(status, shown(MCR_OUT1_BIT, MSR_RI_BIT));
-        with_bits(status, shown(MCR_OUT2_BIT, MSR_DCD_BIT))
+        }
     }
 }

@@ -1,56 +1,66 @@
-//! The trigger calls of a restore.
-ghost use Rattle.std.specs.Prelude.{◌≡◌, List, [], ◌∷◌, Result, true, OnOk, IfErr};
+//! A restore: what a port takes of a saved state, and the trigger calls for it.
+ghost use Rattle.std.specs.Prelude.{◌≡◌, ◌≤◌, List, [], length, Result, OnOk, IfOk, IfErr};
 ghost use Rattle.vm_superio.specs.Port.CodeNames.{condition_of};
-ghost use Rattle.vm_superio.specs.Port.Registers.{thre_then_rda};
-ghost use Rattle.vm_superio.specs.Step.Restore.{is_asserted, restore_calls};
 ghost use Rattle.vm_superio.specs.Port.ObjectLinks.{all_ok, StopsAtRefusal};
-ghost use Rattle.vm_superio.specs.Port.SavedState.{state_with};
+ghost use Rattle.vm_superio.specs.Port.SavedState.{state_of, state_with};
+ghost use Rattle.vm_superio.specs.Step.Restore.{is_asserted, restore_calls, RefusesRestore};
 
 use super::bits::has_bits;
 use super::registers::{Condition, Registers};
+use super::traced::call_trigger;
+use super::{Error, SerialState};
 use crate::Trigger;
+use crate::fifo::{FIFO_SIZE, Fifo};
+use std::alloc::Global;
 
 impl Registers {
     /// Whether a condition is pending and enabled.
-    pub(super) fn is_asserted(&self, condition: Condition) -> bool
+    fn is_asserted(&self, condition: Condition) -> bool
         ensures { result ≡ is_asserted (condition_of condition) (state_with self.now []) }
     {
         has_bits(self.interrupt_identification, condition.iir_bit())
             && has_bits(self.interrupt_enable, condition.ier_bit())
     }
 
-    /// Calls the trigger once for each condition that is pending and enabled, as long as no call is refused.
+    /// How often the trigger is called in a restore: once for each condition that is pending and enabled.
+    pub(super) fn interrupts_due(&self) -> u8
+        ensures calls { result ≡ length (restore_calls (state_with self.now [])) }
+        ensures few { result ≤ 2 }
+    {
+        u8::from(self.is_asserted(Condition::Thre)) + u8::from(self.is_asserted(Condition::Rda))
+    }
+
+    /// Calls the trigger once for each condition that is pending and enabled, up to the first refusal.
     pub(super) fn assert_again<T: Trigger>(&self, trigger: &mut T) -> Result<(), T::E>
         ensures accepted { OnOk result (T.link trigger.old (all_ok (restore_calls (state_with self.now []))) trigger.new) }
         ensures refused { IfErr result (λ refusal. (answers : List (Result (Unit {0}) T.E))
             × StopsAtRefusal (restore_calls (state_with self.now [])) refusal answers
             × T.link trigger.old answers trigger.new) }
     {
-        let thre = self.is_asserted(Condition::Thre);
-        let rda = self.is_asserted(Condition::Rda);
-        trigger_for_each(trigger, thre, rda)
+        match call_trigger(trigger, self.interrupts_due()).1 {
+            None => Ok(()),
+            Some(refusal) => Err(refusal),
+        }
     }
 }
 
-/// Calls the trigger twice, unless the first call is refused.
-fn trigger_twice<T: Trigger>(trigger: &mut T) -> Result<(), T::E>
-    ensures accepted { OnOk result (T.link trigger.old (Ok tt ∷ Ok tt ∷ []) trigger.new) }
-    ensures refused { IfErr result (λ refusal. (answers : List (Result (Unit {0}) T.E))
-        × StopsAtRefusal (thre_then_rda true true) refusal answers × T.link trigger.old answers trigger.new) }
+/// The registers and the bytes of a saved state, for which the trigger was called.
+pub(super) fn restored<T: Trigger>(
+    alloc: Global,
+    state: &SerialState,
+    trigger: &mut T,
+) -> Result<(Registers, Fifo), Error<T::E>>
+    ensures state { IfOk result (λ parts. state_with parts.0 parts.1 ≡ state_of state.now) }
+    ensures called { OnOk result (T.link trigger.old (all_ok (restore_calls (state_of state.now))) trigger.new) }
+    ensures refused { IfErr result (λ error. RefusesRestore T.link (state_of state.now) error trigger.old trigger.new) }
 {
-    trigger.trigger()?;
-    trigger.trigger()
-}
-
-/// Calls the trigger once for each of the two conditions that is asserted, as long as no call is refused.
-fn trigger_for_each<T: Trigger>(trigger: &mut T, thre: bool, rda: bool) -> Result<(), T::E>
-    ensures accepted { OnOk result (T.link trigger.old (all_ok (thre_then_rda thre rda)) trigger.new) }
-    ensures refused { IfErr result (λ refusal. (answers : List (Result (Unit {0}) T.E))
-        × StopsAtRefusal (thre_then_rda thre rda) refusal answers × T.link trigger.old answers trigger.new) }
-{
-    match (thre, rda) {
-        (true, true) => trigger_twice(trigger),
-        (true, false) | (false, true) => trigger.trigger(),
-        (false, false) => Ok(()),
+    if state.in_buffer.len() > FIFO_SIZE {
+        return Err(Error::FullFifo);
+    }
+    let in_buffer = Fifo::from_slice(alloc, &state.in_buffer)?;
+    let registers = Registers::of(state);
+    match registers.assert_again(trigger) {
+        Ok(()) => Ok((registers, in_buffer)),
+        Err(refusal) => Err(Error::Trigger(refusal)),
     }
 }

@@ -1,134 +1,129 @@
-//! The steps that the calls of a serial port are made of: methods of the registers, which take the received bytes and
-//! the trigger only where they use them. They serve every receive FIFO, and answer what is left to do: a byte to send,
-//! events to report.
-ghost use Rattle.std.specs.Prelude.{◌≡◌, ℕ, length, is_some, slice_index, IsTrue};
-ghost use Rattle.std.specs.Option.{option_to_list};
+//! The steps that the calls of a serial port are made of: methods of the registers, which take the received bytes where
+//! they use them. They serve every receive FIFO and call nobody: a step answers what is left to do, which is a byte to
+//! send, an interrupt to ask for, or an event to report.
+ghost use Rattle.std.specs.Prelude.{◌≡◌, ◌≤◌, if◌then◌else◌, length, slice_index};
 ghost use Rattle.vm_superio.specs.Port.State.{not_empty};
-ghost use Rattle.vm_superio.specs.Port.Bits.{only_bits};
+ghost use Rattle.vm_superio.specs.Port.Bits.{only_bits, with_bits, lsr_dr_bit};
 ghost use Rattle.vm_superio.specs.Port.CodeNames.{register_of, condition_of};
-ghost use Rattle.vm_superio.specs.Port.Registers.{RbrThr, is_loopback, register_read};
-ghost use Rattle.vm_superio.specs.Port.Operations.{one_if};
+ghost use Rattle.vm_superio.specs.Port.Registers.{Rda, Thre, RbrThr, is_loopback, register_read};
+ghost use Rattle.vm_superio.specs.Port.Operations.{one_if, is_first_of_two_refused};
 ghost use Rattle.vm_superio.specs.Port.OpKinds.{write_kind, sent_by};
-ghost use Rattle.vm_superio.specs.Port.ObjectLinks.{answers_of};
-ghost use Rattle.vm_superio.specs.Port.TriggerAnswers.{asked_of, refusal_in_answers};
 ghost use Rattle.vm_superio.specs.Port.SavedState.{state_with};
 ghost use Rattle.vm_superio.specs.Port.Effects.{events_of_read};
-ghost use Rattle.vm_superio.specs.Step.Raising.{becomes_pending, raise, rda_becomes_pending, raise_rda_while_held, bytes_that_fit, receive_bytes};
-ghost use Rattle.vm_superio.specs.Step.Transition.{rbr_read, thr_write, ier_write, read_step, write_step, read_events};
-ghost use Rattle.vm_superio.specs.Step.Admissible.{answers_all, ier_write_calls, arrival_calls, kind_calls};
+ghost use Rattle.vm_superio.specs.Step.Raising.{becomes_pending, raise, lower, bytes_that_fit, receive_bytes};
+ghost use Rattle.vm_superio.specs.Step.Transition.{rbr_read, ier_write, read_step, write_step, read_events};
+ghost use Rattle.vm_superio.specs.Step.Admissible.{ier_write_calls, arrival_calls, kind_calls};
 
-use super::answers::TriggerAnswers;
 use super::bits::{
-    IER_UART_VALID_BITS, IIR_FIFO_BITS, IIR_NONE_BIT, IIR_RDA_BIT, LSR_DATA_READY_BIT, has_bits,
-    only_bits, with_bits, without_bits,
+    IER_UART_VALID_BITS, IIR_FIFO_BITS, IIR_NONE_BIT, LSR_DATA_READY_BIT, has_bits, only_bits,
+    with_bits, without_bits,
 };
-use super::effects::ReadEffects;
+use super::effects::{ReadEffects, WriteEffects};
 use super::registers::{Condition, Register, Registers};
-use crate::Trigger;
 use crate::fifo::ReceiveFifo;
+use crate::trace::Asked;
 
 impl Registers {
-    /// Raises a condition: where it is enabled and not pending, it becomes pending, and the trigger is called once.
-    fn raise<T: Trigger>(
-        &mut self,
-        trigger: &mut T,
-        condition: Condition,
-    ) -> Option<Result<(), T::E>>
-        ensures called { is_some result
+    /// Raises a condition: if it is enabled and not pending, it becomes pending, and the trigger is to be called once.
+    /// Returns whether it is.
+    fn raise(&mut self, condition: Condition) -> bool
+        ensures due { result
             ≡ becomes_pending (condition_of condition) self.old.interrupt_enable self.old.interrupt_identification }
         ensures registers { self.new ≡ record self.old {
           interrupt_identification =
               raise (condition_of condition) self.old.interrupt_enable self.old.interrupt_identification;
         } }
-        ensures trigger { T.link trigger.old (option_to_list result) trigger.new }
     {
         if !has_bits(self.interrupt_enable, condition.ier_bit())
             || has_bits(self.interrupt_identification, condition.iir_bit())
         {
-            return None;
+            return false;
         }
         let others = without_bits(self.interrupt_identification, IIR_NONE_BIT);
         self.interrupt_identification = with_bits(others, condition.iir_bit());
-        Some(trigger.trigger())
+        true
     }
 
-    /// Raises RDA, which an IER write does only while bytes are held.
-    fn raise_while_held<F: ReceiveFifo, T: Trigger>(
-        &mut self,
-        fifo: &F,
-        trigger: &mut T,
-    ) -> Option<Result<(), T::E>>
-        ensures called { is_some result
-            ≡ rda_becomes_pending (F.held fifo.now) self.old.interrupt_enable self.old.interrupt_identification }
+    /// Lowers a condition, which is then not pending.
+    pub(super) fn lower(&mut self, condition: Condition)
         ensures registers { self.new ≡ record self.old {
-          interrupt_identification =
-              raise_rda_while_held (F.held fifo.now) self.old.interrupt_enable self.old.interrupt_identification;
+          interrupt_identification = lower (condition_of condition) self.old.interrupt_identification;
         } }
-        ensures trigger { T.link trigger.old (option_to_list result) trigger.new }
     {
-        if fifo.is_empty() {
-            return None;
-        }
-        self.raise(trigger, Condition::Rda)
+        let others = without_bits(self.interrupt_identification, condition.iir_bit());
+        self.interrupt_identification = if others == 0 { IIR_NONE_BIT } else { others };
     }
 
-    /// An IER write: stores the low four bits, and raises both conditions, RDA first. A refusal ends the call.
-    fn write_ier<F: ReceiveFifo, T: Trigger>(
-        &mut self,
-        fifo: &F,
-        trigger: &mut T,
-        value: u8,
-    ) -> TriggerAnswers<T::E>
-        ensures asked { let enable = only_bits value 0x0F in
-            IsTrue (answers_all (ier_write_calls enable (state_with self.old (F.held fifo.now))) (asked_of result)) }
-        ensures state { let enable = only_bits value 0x0F in
-            state_with self.new (F.held fifo.now)
-            ≡ ier_write enable (asked_of result) (state_with self.old (F.held fifo.now)) }
-        ensures trigger { T.link trigger.old (answers_of (asked_of result) (refusal_in_answers result)) trigger.new }
+    /// An IER write: stores the low four bits, and raises RDA while bytes are held, and then THRE. Returns how often the
+    /// trigger is to be called.
+    fn write_ier<F: ReceiveFifo>(&mut self, fifo: &F, value: u8) -> u8
+        ensures due { result ≡ ier_write_calls (only_bits value 0x0F) (state_with self.old (F.held fifo.now)) }
+        ensures few { result ≤ 2 }
+        ensures state { state_with self.new (F.held fifo.now)
+            ≡ ier_write (only_bits value 0x0F) Asked.Nothing (state_with self.old (F.held fifo.now)) }
     {
         self.interrupt_enable = only_bits(value, IER_UART_VALID_BITS);
-        match self.raise_while_held(fifo, trigger) {
-            None => TriggerAnswers::to_one(self.raise(trigger, Condition::Thre)),
-            Some(Err(refusal)) => TriggerAnswers::Refused(refusal),
-            Some(Ok(())) => match self.raise(trigger, Condition::Thre) {
-                None => TriggerAnswers::Took,
-                Some(Ok(())) => TriggerAnswers::TookTook,
-                Some(Err(refusal)) => TriggerAnswers::TookRefused(refusal),
-            },
+        if !fifo.is_empty() && self.raise(Condition::Rda) {
+            if self.raise(Condition::Thre) { 2 } else { 1 }
+        } else if self.raise(Condition::Thre) {
+            1
+        } else {
+            0
         }
     }
 
-    /// Receives the first of these bytes, as many as there is room for, behind those that are held. If there is one,
-    /// data ready is set and RDA is raised. Returns how many were added.
-    pub(super) fn receive<F: ReceiveFifo, T: Trigger>(
-        &mut self,
-        fifo: &mut F,
-        trigger: &mut T,
-        bytes: &[u8],
-    ) -> (usize, Option<Result<(), T::E>>)
+    /// Takes THRE back if the first of two trigger calls was refused: an IER write ends at a refusal, before it raises
+    /// THRE.
+    pub(super) fn take_back(&mut self, due: u8, asked: Asked)
+        ensures registers { self.new ≡ record self.old {
+          interrupt_identification =
+              if is_first_of_two_refused due asked
+              then lower Thre self.old.interrupt_identification
+              else self.old.interrupt_identification;
+        } }
+    {
+        if due == 2 && matches!(asked, Asked::Refused) {
+            self.lower(Condition::Thre);
+        }
+    }
+
+    /// What received bytes do to the registers: data ready is set, and RDA is raised.
+    fn note_received(&mut self) -> bool
+        ensures due { result ≡ becomes_pending Rda self.old.interrupt_enable self.old.interrupt_identification }
+        ensures registers { self.new ≡ record self.old {
+          line_status = with_bits self.old.line_status lsr_dr_bit;
+          interrupt_identification = raise Rda self.old.interrupt_enable self.old.interrupt_identification;
+        } }
+    {
+        self.line_status = with_bits(self.line_status, LSR_DATA_READY_BIT);
+        self.raise(Condition::Rda)
+    }
+
+    /// Receives the first of these bytes, as many as there is room for, behind those that are held. Returns how many were
+    /// added, and whether the trigger is to be called.
+    pub(super) fn receive<F: ReceiveFifo>(&mut self, fifo: &mut F, bytes: &[u8]) -> (usize, bool)
         ensures count { result.0 ≡ length (bytes_that_fit (F.held fifo.old) bytes.now) }
-        ensures called { one_if (is_some result.1)
+        ensures due { one_if result.1
             ≡ arrival_calls (bytes_that_fit (F.held fifo.old) bytes.now) (state_with self.old (F.held fifo.old)) }
         ensures state { state_with self.new (F.held fifo.new)
             ≡ receive_bytes (bytes_that_fit (F.held fifo.old) bytes.now) (state_with self.old (F.held fifo.old)) }
-        ensures trigger { T.link trigger.old (option_to_list result.1) trigger.new }
+        ensures canonical { F.canonical fifo.old → F.canonical fifo.new }
     {
         let count = fifo.fill(bytes);
         if count == 0 {
-            return (0, None);
+            return (0, false);
         }
-        self.line_status = with_bits(self.line_status, LSR_DATA_READY_BIT);
-        (count, self.raise(trigger, Condition::Rda))
+        (count, self.note_received())
     }
 
-    /// An RBR read: clears RDA, and takes the oldest byte, or gives 0.
+    /// An RBR read: lowers RDA, and takes the oldest byte, or gives 0.
     fn read_rbr<F: ReceiveFifo>(&mut self, fifo: &mut F) -> ReadEffects
         ensures value { result.byte ≡ slice_index (F.held fifo.old) 0 }
         ensures state { state_with self.new (F.held fifo.new) ≡ rbr_read (state_with self.old (F.held fifo.old)) }
         ensures events { events_of_read result ≡ read_events RbrThr (F.held fifo.old) }
+        ensures canonical { F.canonical fifo.old → F.canonical fifo.new }
     {
-        let others = without_bits(self.interrupt_identification, IIR_RDA_BIT);
-        self.interrupt_identification = if others == 0 { IIR_NONE_BIT } else { others };
+        self.lower(Condition::Rda);
         let byte = fifo.take_first().unwrap_or(0);
         let in_buffer_empty = fifo.is_empty();
         if in_buffer_empty {
@@ -141,25 +136,6 @@ impl Registers {
         }
     }
 
-    /// A THR write: in loopback the byte is received; else THRE is raised, whatever became of the byte.
-    fn write_thr<F: ReceiveFifo, T: Trigger>(
-        &mut self,
-        fifo: &mut F,
-        trigger: &mut T,
-        value: u8,
-    ) -> TriggerAnswers<T::E>
-        ensures asked { let kind = write_kind RbrThr (is_loopback self.old.modem_control) value in
-            IsTrue (answers_all (kind_calls kind (state_with self.old (F.held fifo.old))) (asked_of result)) }
-        ensures state { state_with self.new (F.held fifo.new) ≡ thr_write value (state_with self.old (F.held fifo.old)) }
-        ensures trigger { T.link trigger.old (answers_of (asked_of result) (refusal_in_answers result)) trigger.new }
-    {
-        if self.is_loopback() {
-            let (_, answer) = self.receive(fifo, trigger, &[value]);
-            return TriggerAnswers::to_one(answer);
-        }
-        TriggerAnswers::to_one(self.raise(trigger, Condition::Thre))
-    }
-
     /// Reads a register.
     pub(super) fn read<F: ReceiveFifo>(&mut self, fifo: &mut F, register: Register) -> ReadEffects
         ensures value { result.byte
@@ -167,6 +143,7 @@ impl Registers {
         ensures state { state_with self.new (F.held fifo.new)
             ≡ read_step (register_of register) (state_with self.old (F.held fifo.old)) }
         ensures events { events_of_read result ≡ read_events (register_of register) (F.held fifo.old) }
+        ensures canonical { F.canonical fifo.old → F.canonical fifo.new }
     {
         let byte = match register {
             Register::RbrThr => return self.read_rbr(fifo),
@@ -192,41 +169,41 @@ impl Registers {
         }
     }
 
-    /// Whether a write of this register sends its byte: a THR write outside loopback does.
-    pub(super) fn sends(&self, register: Register) -> bool
-        ensures { (value : ℕ) → result
-            ≡ not_empty (sent_by (write_kind (register_of register) (is_loopback self.now.modem_control) value)) }
-    {
-        match register {
-            Register::RbrThr => !self.is_loopback(),
-            _ => false,
-        }
-    }
-
-    /// Writes a register, which changes the same whatever becomes of a byte that is sent. Gives the trigger's answers.
-    pub(super) fn write<F: ReceiveFifo, T: Trigger>(
+    /// Writes a register. A THR write is received in loopback; else its byte goes out, and THRE is raised, whatever
+    /// becomes of the byte. The trigger calls that are due count as taken: `take_back` says what a refusal changes.
+    pub(super) fn write<F: ReceiveFifo>(
         &mut self,
         fifo: &mut F,
-        trigger: &mut T,
         register: Register,
         value: u8,
-    ) -> TriggerAnswers<T::E>
-        ensures asked { let kind = write_kind (register_of register) (is_loopback self.old.modem_control) value in
-            IsTrue (answers_all (kind_calls kind (state_with self.old (F.held fifo.old))) (asked_of result)) }
+    ) -> WriteEffects
+        ensures sends { let kind = write_kind (register_of register) (is_loopback self.old.modem_control) value in
+            result.sends ≡ not_empty (sent_by kind) }
+        ensures interrupts { let kind = write_kind (register_of register) (is_loopback self.old.modem_control) value in
+            result.interrupts ≡ kind_calls kind (state_with self.old (F.held fifo.old)) }
+        ensures few { result.interrupts ≤ 2 }
         ensures state { state_with self.new (F.held fifo.new)
-            ≡ write_step (register_of register) value (asked_of result) (state_with self.old (F.held fifo.old)) }
-        ensures trigger { T.link trigger.old (answers_of (asked_of result) (refusal_in_answers result)) trigger.new }
+            ≡ write_step (register_of register) value Asked.Nothing (state_with self.old (F.held fifo.old)) }
+        ensures canonical { F.canonical fifo.old → F.canonical fifo.new }
     {
+        let mut sends = false;
+        let mut interrupts = 0;
         match register {
             Register::Dll => self.baud_divisor_low = value,
             Register::Dlm => self.baud_divisor_high = value,
-            Register::RbrThr => return self.write_thr(fifo, trigger, value),
-            Register::Ier => return self.write_ier(fifo, trigger, value),
+            Register::RbrThr if self.is_loopback() => {
+                interrupts = u8::from(fifo.push(value) && self.note_received());
+            }
+            Register::RbrThr => {
+                sends = true;
+                interrupts = u8::from(self.raise(Condition::Thre));
+            }
+            Register::Ier => interrupts = self.write_ier(fifo, value),
             Register::Lcr => self.line_control = value,
             Register::Mcr => self.modem_control = value,
             Register::Scr => self.scratch = value,
             Register::Iir | Register::Lsr | Register::Msr | Register::Unassigned => {}
         }
-        TriggerAnswers::Nothing
+        WriteEffects { sends, interrupts }
     }
 }

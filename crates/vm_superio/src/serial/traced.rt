@@ -1,15 +1,16 @@
-//! The calls of a serial port with what is recorded of them.
-ghost use Rattle.std.specs.Prelude.{◌≡◌, if◌then◌else◌, [], ◌∷◌, is_some, is_ok, OnOk};
+//! The calls of a serial port with what is recorded of them: each takes a step of the registers, and carries its effects
+//! out.
+ghost use Rattle.std.specs.Prelude.{◌≡◌, ◌≤◌, ℕ, if◌then◌else◌, [], ◌∷◌, is_some, IsTrue, OnOk};
 ghost use Rattle.std.specs.Io.KnownBytes.{Appends};
 ghost use Rattle.vm_superio.specs.Port.Operations.{Read, Write, Enqueue};
-ghost use Rattle.vm_superio.specs.Port.Operations.{ByteRead, WriteOk, TriggerRefused, WriterFailed, is_lost};
-ghost use Rattle.vm_superio.specs.Port.Operations.{out_byte, tx_lost_byte};
+ghost use Rattle.vm_superio.specs.Port.Operations.{ByteRead, WriteOk, TriggerRefused, WriterFailed, is_sent, is_lost, ends_in_refusal};
 ghost use Rattle.vm_superio.specs.Port.Effects.{events_of_read};
-ghost use Rattle.vm_superio.specs.Port.TriggerAnswers.{sent_of};
-ghost use Rattle.vm_superio.specs.Port.WriterLink.{port_links};
+ghost use Rattle.vm_superio.specs.Port.WriterLink.{port_links, WriterLink, bytes_written};
 ghost use Rattle.vm_superio.specs.Port.Model.{write_response, enqueue_response, refusal_in_result};
+ghost use Rattle.vm_superio.specs.Port.ObjectLinks.{answers_of};
+ghost use Rattle.vm_superio.specs.Step.Transition.{sent_events};
+ghost use Rattle.vm_superio.specs.Step.Admissible.{answers_all};
 
-use super::answers::TriggerAnswers;
 use super::effects::ReadEffects;
 use super::{Error, Serial, SerialEvents};
 use crate::Trigger;
@@ -41,21 +42,12 @@ impl<T: Trigger, EV: SerialEvents, W: Write> Serial<T, EV, W> {
             (write_response result.reply) (refusal_in_result result.reply) self.old self.new }
     {
         let register = self.registers.at(offset);
-        let outcome = if self.registers.sends(register) {
-            Some(send(&mut self.events, &mut self.out, value))
-        } else {
-            None
-        };
-        let answers = self.registers.write(
-            &mut self.in_buffer,
-            &mut self.interrupt_evt,
-            register,
-            value,
-        );
-        let asked = answers.asked();
-        let sent = sent(&outcome);
+        let effects = self.registers.write(&mut self.in_buffer, register, value);
+        let (sent, fault) = send_where_due(&mut self.events, &mut self.out, effects.sends, value);
+        let (asked, refusal) = call_trigger(&mut self.interrupt_evt, effects.interrupts);
+        self.registers.take_back(effects.interrupts, asked);
         Traced {
-            reply: reply(answers.refusal(), outcome),
+            reply: reply(refusal, fault),
             asked,
             sent,
         }
@@ -80,19 +72,36 @@ impl<T: Trigger, EV: SerialEvents, W: Write> Serial<T, EV, W> {
                 sent: Sent::Nothing,
             };
         }
-        let (count, answer) = self
-            .registers
-            .receive(&mut self.in_buffer, &mut self.interrupt_evt, input);
-        let answers = TriggerAnswers::to_one(answer);
-        let asked = answers.asked();
+        let (count, asks) = self.registers.receive(&mut self.in_buffer, input);
+        let (asked, refusal) = call_trigger(&mut self.interrupt_evt, u8::from(asks));
         Traced {
-            reply: match answers.refusal() {
+            reply: match refusal {
                 Some(refusal) => Err(Error::Trigger(refusal)),
                 None => Ok(count),
             },
             asked,
             sent: Sent::Nothing,
         }
+    }
+}
+
+/// Calls the trigger as often as is due, up to the first refusal. Returns its answers, and the refusal.
+pub(super) fn call_trigger<T: Trigger>(trigger: &mut T, due: u8) -> (Asked, Option<T::E>)
+    requires { due ≤ 2 }
+    ensures asked { IsTrue (answers_all due result.0) }
+    ensures refused { is_some result.1 ≡ ends_in_refusal result.0 }
+    ensures trigger { T.link trigger.old (answers_of result.0 result.1) trigger.new }
+{
+    if due == 0 {
+        return (Asked::Nothing, None);
+    }
+    match trigger.trigger() {
+        Err(refusal) => (Asked::Refused, Some(refusal)),
+        Ok(()) if due == 1 => (Asked::Took, None),
+        Ok(()) => match trigger.trigger() {
+            Err(refusal) => (Asked::TookRefused, Some(refusal)),
+            Ok(()) => (Asked::TookTook, None),
+        },
     }
 }
 
@@ -111,14 +120,32 @@ fn report_read<EV: SerialEvents>(events: &mut EV, effects: ReadEffects)
     }
 }
 
-/// Sends a byte to the writer, and reports its outcome.
-fn send<EV: SerialEvents, W: Write>(events: &mut EV, out: &mut W, byte: u8) -> io::Result<()>
-    ensures events { EV.link events.old ((if is_ok result then out_byte else tx_lost_byte) ∷ []) events.new }
-    ensures out { OnOk result (Appends (W.contents out.old) (W.contents out.new) (byte ∷ [])) }
+/// Sends a byte that goes out, and reports its outcome. Returns that, and the writer's fault.
+fn send_where_due<EV: SerialEvents, W: Write>(
+    events: &mut EV,
+    out: &mut W,
+    sends: bool,
+    byte: u8,
+) -> (Sent, Option<io::Error>)
+    ensures sent { is_sent result.0 ≡ sends }
+    ensures lost { is_some result.1 ≡ is_lost result.0 }
+    ensures events { EV.link events.old (sent_events result.0) events.new }
+    ensures out { (offset : ℕ) →
+        WriterLink W.contents (result.0 ∷ []) (bytes_written (Write offset byte) result.0) out.old out.new }
 {
-    let result = write_and_flush(out, byte);
-    report_outcome(events, result.is_ok());
-    result
+    if !sends {
+        return (Sent::Nothing, None);
+    }
+    match write_and_flush(out, byte) {
+        Ok(()) => {
+            events.out_byte();
+            (Sent::Out, None)
+        }
+        Err(fault) => {
+            events.tx_lost_byte();
+            (Sent::Lost, Some(fault))
+        }
+    }
 }
 
 /// Writes the byte, and flushes where that succeeded.
@@ -129,37 +156,15 @@ fn write_and_flush<W: Write>(out: &mut W, byte: u8) -> io::Result<()>
     out.flush()
 }
 
-/// Reports whether a byte went out.
-fn report_outcome<EV: SerialEvents>(events: &mut EV, went_out: bool)
-    ensures { EV.link events.old ((if went_out then out_byte else tx_lost_byte) ∷ []) events.new }
-{
-    if went_out {
-        events.out_byte();
-    } else {
-        events.tx_lost_byte();
-    }
-}
-
-/// The outcome of a byte, by what the writer answered if one was sent to it.
-fn sent(answer: &Option<io::Result<()>>) -> Sent
-    ensures { result ≡ sent_of answer.now }
-{
-    match answer {
-        None => Sent::Nothing,
-        Some(Ok(())) => Sent::Out,
-        Some(Err(_)) => Sent::Lost,
-    }
-}
-
 /// What a write answers: a refusal of the trigger rather than a failure of the writer.
-fn reply<E>(refusal: Option<E>, answer: Option<io::Result<()>>) -> Result<(), Error<E>>
+fn reply<E>(refusal: Option<E>, fault: Option<io::Error>) -> Result<(), Error<E>>
     ensures refusal { refusal_in_result result ≡ refusal }
     ensures answer { write_response result
-        ≡ (if is_some refusal then TriggerRefused else (if is_lost (sent_of answer) then WriterFailed else WriteOk)) }
+        ≡ (if is_some refusal then TriggerRefused else (if is_some fault then WriterFailed else WriteOk)) }
 {
-    match (refusal, answer) {
+    match (refusal, fault) {
         (Some(refusal), _) => Err(Error::Trigger(refusal)),
-        (None, Some(Err(fault))) => Err(Error::IOError(fault)),
-        (None, _) => Ok(()),
+        (None, Some(fault)) => Err(Error::IOError(fault)),
+        (None, None) => Ok(()),
     }
 }

@@ -7,4 +7,5 @@ use Rattle.vm_superio.proofs.serial.fields.SerialFields.new.Goals as goal
 
 pub returns-clause-coherent : goal.returns-clause-coherent
 returns-clause-coherent c =
-    subst Coherent (sym (ap (λ bytes. state_with c.new.result bytes) c.new-2.ensures ∙ c.new.ensures)) fresh_coherent
+    let fresh = ap (λ bytes. state_with c.new.result bytes) c.new-2.ensures.bytes ∙ c.new.ensures in
+    (c.new-2.ensures.few, subst Coherent (sym fresh) fresh_coherent)

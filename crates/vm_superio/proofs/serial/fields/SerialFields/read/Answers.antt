@@ -11,5 +11,5 @@ use Rattle.vm_superio.proofs.serial.fields.SerialFields.read.Goals as goal
 pub returns-clause-coherent : goal.returns-clause-coherent
 returns-clause-coherent c = λ before.
     let old = state_of_fields c.args.self.now in
-    subst Coherent (sym (c.read.ensures.state ∙ ap (λ register. read_step register old) c.at-register.ensures))
-    (coherence_law old (Read c.args.offset) Asked.Nothing before)
+    let done = c.read.ensures.state ∙ ap (λ register. read_step register old) c.at-register.ensures in
+    (c.read.ensures.canonical before.0, subst Coherent (sym done) (coherence_law old (Read c.args.offset) Asked.Nothing before.1))

@@ -1,0 +1,55 @@
+-- The bytes of a saved state: a header of eight bytes, and what the device keeps. Numbers stand lowest byte first.
+use Rattle.std.specs.Prelude.{ℕ, Bool, if◌then◌else◌, List, [], ◌∷◌, ◌++◌, length}
+use Rattle.std.specs.Int.{w16, w32, w64, to_le_bytes, cast_unsigned}
+use Rattle.vm_superio.specs.declared.rtc_pl031.RtcState.{RtcState}
+use Rattle.vm_superio.specs.Port.State.{State}
+
+-- the letters SIOS, with which each saved state begins
+abbrev pub magic : List ℕ
+magic = 0x53 ∷ 0x49 ∷ 0x4F ∷ 0x53 ∷ []
+
+-- the device's kind. The i8042 controller has no state
+abbrev pub serial_kind : ℕ
+serial_kind = 1
+
+abbrev pub clock_kind : ℕ
+clock_kind = 2
+
+-- the version of this form
+abbrev pub version : ℕ
+version = 1
+
+-- the magic, the kind, the version, and in two bytes the length of what follows
+abbrev pub header : (kind length : ℕ) → List ℕ
+header kind length = magic ++ kind ∷ version ∷ to_le_bytes w16 length
+
+-- the header, and then what the device keeps
+abbrev pub form : (kind : ℕ) (contents : List ℕ) → List ℕ
+form kind contents = header kind (length contents) ++ contents
+
+-- ---- the serial port
+
+-- the nine registers, and the received bytes that no guest has read, oldest first
+abbrev pub serial_contents : (state : State) → List ℕ
+serial_contents state =
+    state.baud_divisor_low ∷ state.baud_divisor_high ∷ state.interrupt_enable ∷ state.interrupt_identification
+    ∷ state.line_control ∷ state.line_status ∷ state.modem_control ∷ state.modem_status ∷ state.scratch
+    ∷ state.in_buffer
+
+abbrev pub serial_form : (state : State) → List ℕ
+serial_form state = form serial_kind (serial_contents state)
+
+-- ---- the clock
+
+-- 1 where an alarm is set, and 0 where none is
+abbrev pub flag : (set : Bool) → ℕ
+flag set = if set then 1 else 0
+
+-- four registers of four bytes, the offset of eight bytes in two's complement, and the alarm
+abbrev pub clock_contents : (state : RtcState) → List ℕ
+clock_contents state =
+    to_le_bytes w32 state.lr ++ to_le_bytes w32 state.mr ++ to_le_bytes w32 state.imsc ++ to_le_bytes w32 state.ris
+    ++ to_le_bytes w64 (cast_unsigned w64 state.offset) ++ flag state.armed ∷ []
+
+abbrev pub clock_form : (state : RtcState) → List ℕ
+clock_form state = form clock_kind (clock_contents state)

@@ -1,0 +1,57 @@
+//! The laws of the byte form of a saved state. Those of round trips are calls: their contracts are the laws.
+ghost use Rattle.std.specs.Prelude.{◌≡◌, ◌≤◌, length, IfOk, MatchResult};
+ghost use Rattle.vm_superio.specs.Port.SavedState.{state_of};
+ghost use Rattle.vm_superio.specs.Saved.Laws.{SerialFormLaw, OneSerialStateLaw, ClockFormLaw, OneClockStateLaw};
+
+use crate::rtc_pl031::saved_form::SAVED_SIZE;
+use crate::saved::Error;
+use crate::serial::saved_form::SAVED_MAX;
+use crate::{RtcState, SerialState};
+use arrayvec::ArrayVec;
+use std::alloc::Global;
+
+/// The form of a state fails no check when it is read.
+pub fn forms_are_read()
+    ensures serial { SerialFormLaw }
+    ensures clock { ClockFormLaw }
+{}
+
+/// No two states share a form.
+pub fn one_state_of_a_form()
+    ensures serial { OneSerialStateLaw }
+    ensures clock { OneClockStateLaw }
+{}
+
+/// Reading what was written of a port gives its state again, unless memory is refused. A state of more than 64 received
+/// bytes is not written.
+pub fn serial_written_then_read(alloc: Global, state: &SerialState) -> Result<SerialState, Error>
+    ensures read { length state.now.in_buffer.items ≤ 64 →
+        MatchResult result (λ read. state_of read ≡ state_of state.now) (λ error. error ≡ Error.Memory) }
+    ensures same { IfOk result (λ read. state_of read ≡ state_of state.now) }
+{
+    SerialState::from_bytes(alloc, &state.to_bytes()?)
+}
+
+/// Writing what was read of a port gives the bytes again.
+pub fn serial_read_then_written(
+    alloc: Global,
+    bytes: &[u8],
+) -> Result<ArrayVec<u8, SAVED_MAX>, Error>
+    ensures { IfOk result (λ written. written.items ≡ bytes.now) }
+{
+    SerialState::from_bytes(alloc, bytes)?.to_bytes()
+}
+
+/// Reading what was written of a clock gives its state again.
+pub fn clock_written_then_read(state: RtcState) -> Result<RtcState, Error>
+    ensures { result ≡ Ok state }
+{
+    RtcState::from_bytes(&state.to_bytes())
+}
+
+/// Writing what was read of a clock gives the bytes again.
+pub fn clock_read_then_written(bytes: &[u8]) -> Result<[u8; SAVED_SIZE], Error>
+    ensures { IfOk result (λ written. written ≡ bytes.now) }
+{
+    Ok(RtcState::from_bytes(bytes)?.to_bytes())
+}

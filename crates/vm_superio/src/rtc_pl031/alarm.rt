@@ -1,0 +1,56 @@
+//! When guest time comes to a value.
+ghost use Rattle.std.specs.Prelude.{◌≡◌, pos, ◌+ℤ◌};
+ghost use Rattle.vm_superio.specs.Clock.Registers.{guest_time};
+ghost use Rattle.vm_superio.specs.Clock.Alarm.{FirstCome, SecondsUntil};
+
+/// Guest time where the host's time is `time`.
+pub(super) fn guest_time(offset: i64, time: u32) -> u32
+    ensures { result ≡ guest_time (pos time +ℤ offset) time }
+{
+    // A counter below 0 wraps to a number that 32 bits do not hold either.
+    let counter = u64::from(time).wrapping_add_signed(offset);
+    if counter < 1 << 32 {
+        counter as u32
+    } else {
+        time
+    }
+}
+
+/// The first host's time from `from` on, up to the largest, at which guest time is `value` or more. Guest time comes to
+/// the value when the counter does, or, while 32 bits do not hold the counter, when the host's time does.
+fn first_time(offset: i64, value: u32, from: u32) -> Option<u32>
+    ensures { FirstCome offset value from result }
+{
+    if guest_time(offset, from) >= value {
+        return Some(from);
+    }
+    let distance = offset.unsigned_abs();
+    if offset >= 0 {
+        let by_counter = u64::from(value).saturating_sub(distance) as u32;
+        return Some(if from < by_counter { by_counter } else { value });
+    }
+    if from < value && u64::from(value) < distance {
+        return Some(value);
+    }
+    let by_counter = u64::from(value) + distance;
+    if by_counter < 1 << 32 {
+        Some(by_counter as u32)
+    } else {
+        None
+    }
+}
+
+/// In how many seconds after the moment `now` guest time is `value` or more, or `None` where it never is. After the
+/// largest host's time comes 0.
+pub(super) fn seconds_until(offset: i64, value: u32, now: u64) -> Option<u64>
+    ensures { SecondsUntil offset value now result }
+{
+    let time = (now % (1 << 32)) as u32;
+    if let Some(first) = first_time(offset, value, time) {
+        return Some(u64::from(first - time));
+    }
+    match first_time(offset, value, 0) {
+        Some(first) => Some((1 << 32) - u64::from(time) + u64::from(first)),
+        None => None,
+    }
+}

@@ -1,0 +1,192 @@
+//! A clock in a plain struct, which leaves its events to the caller.
+//!
+//! A call changes the struct where it is. So it serves a monitor in another language, which keeps the struct where it
+//! likes, and saves the clock as it copies bytes. [`Rtc`](super::Rtc) is this struct and an events object.
+ghost use Rattle.std.specs.Prelude.{◌≡◌, ◌<◌, ◌^◌, IfSome};
+ghost use Rattle.vm_superio.specs.Port.Bits.{with_bits};
+ghost use Rattle.vm_superio.specs.Clock.Alarm.{is_line_up, IsAlarmDue};
+ghost use Rattle.vm_superio.specs.Clock.CodeNames.{clock_register_of};
+ghost use Rattle.vm_superio.specs.Clock.Fields.{state_of_clock};
+ghost use Rattle.vm_superio.specs.Clock.Registers.{read, write, fresh_clock, clock_register_at, is_writable};
+ghost use Rattle.vm_superio.specs.Clock.Registers.{host_time, clock_register_read};
+ghost use Rattle.vm_superio.specs.Clock.Step.{guest_time_in, after_alarm, match_write, clock_response, after_write, clock_step};
+
+use super::RtcState;
+use super::alarm::{guest_time, seconds_until};
+use super::registers::ClockRegister;
+
+/// A clock without an events object. Any numbers are a clock.
+#[repr(C)]
+#[derive(Clone, Copy, Debug, Eq, PartialEq)]
+pub struct RtcFields {
+    /// RTCLR, the load register: the value that was loaded last, or 0 after a reset.
+    pub lr: u32,
+    /// RTCMR, the match register: the guest time that an alarm waits for.
+    pub mr: u32,
+    /// RTCIMSC, the interrupt mask. A write stores bit 0 of its value, and clears the others.
+    pub imsc: u32,
+    /// RTCRIS, the raw interrupt status. The alarm sets bit 0, and nothing sets another.
+    pub ris: u32,
+    /// How far guest time is ahead of the host's time, in seconds.
+    pub offset: i64,
+    /// Whether an alarm is set that no access has found reached: 0 where none is. It is eight bytes wide, so that the
+    /// struct has no padding.
+    pub armed: u64,
+}
+
+impl RtcFields {
+    /// A fresh clock: it shows the host's time, and has no alarm.
+    pub fn new() -> RtcFields
+        ensures { state_of_clock result ≡ fresh_clock }
+    {
+        RtcFields {
+            lr: 0,
+            mr: 0,
+            imsc: 0,
+            ris: 0,
+            offset: 0,
+            armed: 0,
+        }
+    }
+
+    /// The clock of this state.
+    pub fn from_state(state: &RtcState) -> RtcFields
+        ensures { state_of_clock result ≡ state.now }
+    {
+        RtcFields {
+            lr: state.lr,
+            mr: state.mr,
+            imsc: state.imsc,
+            ris: state.ris,
+            offset: state.offset,
+            armed: u64::from(state.armed),
+        }
+    }
+
+    /// The state, from which `from_state` makes the same clock again.
+    pub fn state(&self) -> RtcState
+        ensures { result ≡ state_of_clock self.now }
+    {
+        RtcState {
+            lr: self.lr,
+            offset: self.offset,
+            mr: self.mr,
+            imsc: self.imsc,
+            ris: self.ris,
+            armed: self.armed != 0,
+        }
+    }
+
+    /// Begins an access at the moment `now`, and gives the host's time. Every access may find that the alarm is
+    /// reached, before it has its own effect, an invalid one too.
+    #[tactic(auto, unfolding(crate::specs::Port::Bits::with_bits))]
+    fn begin_access(&mut self, now: u64) -> u32
+        ensures time { result ≡ host_time now }
+        ensures state { state_of_clock self.new ≡ after_alarm (state_of_clock self.old) (host_time now) }
+    {
+        let time = (now % (1 << 32)) as u32;
+        if self.armed != 0 && guest_time(self.offset, time) >= self.mr {
+            self.ris |= 1;
+            self.armed = 0;
+        }
+        time
+    }
+
+    /// The number that a read of `register` shows where the host's time is `time`, or `None` where it shows nothing.
+    fn read_register(&self, register: ClockRegister, time: u32) -> Option<u32>
+        ensures { let state = state_of_clock self.now in
+            result ≡ clock_register_read (clock_register_of register) (guest_time_in state time) state }
+    {
+        match register {
+            ClockRegister::Dr => Some(guest_time(self.offset, time)),
+            ClockRegister::Mr => Some(self.mr),
+            ClockRegister::Lr => Some(self.lr),
+            ClockRegister::Cr => Some(1),
+            ClockRegister::Imsc => Some(self.imsc),
+            ClockRegister::Ris => Some(self.ris),
+            ClockRegister::Mis => Some(self.ris & self.imsc),
+            ClockRegister::Id(byte) => Some(u32::from(byte)),
+            ClockRegister::Icr | ClockRegister::Reserved => None,
+        }
+    }
+
+    /// Stores a match. The alarm is set where guest time has yet to come to it, and the interrupt is raised at once
+    /// where guest time is the match.
+    #[tactic(auto, unfolding(crate::specs::Port::Bits::with_bits))]
+    fn write_match(&mut self, value: u32, time: u32)
+        ensures { state_of_clock self.new ≡ match_write (state_of_clock self.old) value time }
+    {
+        let guest_time = guest_time(self.offset, time);
+        self.mr = value;
+        self.armed = u64::from(guest_time < value);
+        if value == guest_time {
+            self.ris |= 1;
+        }
+    }
+
+    /// Writes `value` to `register` where the host's time is `time`, and returns whether the register takes a write.
+    /// Where it takes none nothing changes.
+    #[tactic(auto, using(crate::proofs::BitLemmas::and_not_is_without))]
+    fn store(&mut self, register: ClockRegister, value: u32, time: u32) -> bool
+        ensures state { state_of_clock self.new
+            ≡ after_write (state_of_clock self.old) (clock_register_of register) value time }
+        ensures taken { result ≡ is_writable (clock_register_of register) }
+    {
+        match register {
+            ClockRegister::Mr => self.write_match(value, time),
+            ClockRegister::Lr => {
+                self.lr = value;
+                self.offset = i64::from(value) - i64::from(time);
+            }
+            ClockRegister::Cr => {
+                if value == 1 {
+                    self.lr = 0;
+                    self.offset = 0;
+                }
+            }
+            ClockRegister::Imsc => self.imsc = value & 1,
+            ClockRegister::Icr => self.ris &= !value,
+            _ => return false,
+        }
+        true
+    }
+
+    /// Reads at `offset` at the moment `now`, in seconds since 1970, of which the low 32 bits count, as
+    /// [`Rtc::read`](super::Rtc::read) does: the number that is shown, or `None` where the read is invalid.
+    pub fn read(&mut self, offset: u16, now: u64) -> Option<u32>
+        ensures response { result ≡ clock_response (state_of_clock self.old) (read offset now) }
+        ensures state { state_of_clock self.new ≡ clock_step (state_of_clock self.old) (read offset now) }
+    {
+        let time = self.begin_access(now);
+        self.read_register(ClockRegister::at(offset), time)
+    }
+
+    /// Writes `value` at `offset` at the moment `now`, as [`Rtc::write`](super::Rtc::write) does. Returns whether this
+    /// offset takes a write: `false` where the write is invalid.
+    pub fn write(&mut self, offset: u16, value: u32, now: u64) -> bool
+        ensures taken { result ≡ is_writable (clock_register_at offset) }
+        ensures state { state_of_clock self.new ≡ clock_step (state_of_clock self.old) (write offset value now) }
+    {
+        let time = self.begin_access(now);
+        self.store(ClockRegister::at(offset), value, time)
+    }
+
+    /// Whether the interrupt line is up: bit 0 of what a read of RTCMIS shows, the raw interrupt under the mask.
+    pub fn interrupt_line(&self) -> bool
+        ensures { result ≡ is_line_up (state_of_clock self.now) }
+    {
+        self.ris & self.imsc & 1 == 1
+    }
+
+    /// In how many seconds after the moment `now` the alarm is due, if the guest makes no access: as
+    /// [`Rtc::alarm_due`](super::Rtc::alarm_due) says.
+    pub fn alarm_due(&self, now: u64) -> Option<u64>
+        ensures due { IsAlarmDue (state_of_clock self.now) now result }
+        ensures bound { IfSome result (λ seconds. seconds < 2 ^ 32) }
+    {
+        if self.armed == 0 {
+            return None;
+        }
+        seconds_until(self.offset, self.mr, now)
+    }
+}

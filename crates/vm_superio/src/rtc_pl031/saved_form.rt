@@ -1,0 +1,108 @@
+//! The byte form of a clock's state.
+ghost use Rattle.std.specs.Prelude.{◌≡◌, ◌+◌, ◌≤◌, length, ◌++◌, IfOk};
+ghost use Rattle.std.specs.Result.{result_err};
+ghost use Rattle.std.specs.Int.{w32, w64, to_le_bytes, cast_unsigned};
+ghost use Rattle.vm_superio.specs.Saved.Faults.{clock_fault};
+ghost use Rattle.vm_superio.specs.Saved.Laws.{IsClock};
+
+use super::RtcState;
+use crate::saved::{CLOCK_KIND, Error, contents_of, header};
+use arrayvec::ArrayVec;
+
+/// How many bytes the form of a clock's state has: the header and 25 bytes.
+pub const SAVED_SIZE: usize = 33;
+
+/// How many bytes of it follow the header.
+const CONTENTS_SIZE: usize = 25;
+
+impl RtcState {
+    ghost use Rattle.vm_superio.specs.Saved.Form.{clock_form};
+
+    /// The state as bytes, which `from_bytes` reads again.
+    ///
+    /// They are a header of eight bytes, `lr`, `mr`, `imsc` and `ris` of four bytes each, `offset` of eight, and 1 where
+    /// an alarm is set and else 0. Numbers stand lowest byte first.
+    pub fn to_bytes(&self) -> [u8; SAVED_SIZE]
+        ensures { result ≡ clock_form self.now }
+    {
+        let mut form = ArrayVec::new();
+        form.try_extend_from_slice(&header(CLOCK_KIND, CONTENTS_SIZE as u16))
+            .unwrap();
+        form.try_extend_from_slice(&self.lr.to_le_bytes()).unwrap();
+        form.try_extend_from_slice(&self.mr.to_le_bytes()).unwrap();
+        form.try_extend_from_slice(&self.imsc.to_le_bytes())
+            .unwrap();
+        form.try_extend_from_slice(&self.ris.to_le_bytes()).unwrap();
+        form.try_extend_from_slice(&self.offset.to_le_bytes())
+            .unwrap();
+        form.push(u8::from(self.armed));
+        form.into_inner().unwrap()
+    }
+
+    /// The state of which these bytes are the form.
+    ///
+    /// # Errors
+    ///
+    /// The first check that fails, in the order of the cases of [`Error`]; each but [`Error::TooManyBytes`] and
+    /// [`Error::Memory`] can come.
+    #[tactic(auto, using(crate::proofs::SavedForms::clock_form_read))]
+    pub fn from_bytes(bytes: &[u8]) -> Result<RtcState, Error>
+        ensures form { IfOk result (λ state. bytes.now ≡ clock_form state) }
+        ensures read { (state : RtcState) → IsClock state → bytes.now ≡ clock_form state → result ≡ Ok state }
+        ensures fault { result_err result ≡ clock_fault bytes.now }
+    {
+        Self::parse(bytes)
+    }
+
+    /// As `from_bytes`.
+    fn parse(bytes: &[u8]) -> Result<RtcState, Error>
+        ensures form { IfOk result (λ state. bytes.now ≡ clock_form state) }
+        ensures numbers { IfOk result IsClock }
+        ensures fault { result_err result ≡ clock_fault bytes.now }
+    {
+        let contents = contents_of(CLOCK_KIND, bytes)?;
+        if contents.len() != CONTENTS_SIZE {
+            return Err(Error::WrongLength);
+        }
+        let (lr, rest) = split_number(contents);
+        let (mr, rest) = split_number(rest);
+        let (imsc, rest) = split_number(rest);
+        let (ris, rest) = split_number(rest);
+        let (offset, rest) = split_offset(rest);
+        let armed = match rest {
+            [0] => false,
+            [1] => true,
+            _ => return Err(Error::InvalidArmed),
+        };
+        Ok(RtcState {
+            lr,
+            offset,
+            mr,
+            imsc,
+            ris,
+            armed,
+        })
+    }
+}
+
+/// The number in the first four bytes, and the bytes after it.
+fn split_number(bytes: &[u8]) -> (u32, &[u8])
+    requires { 4 ≤ length bytes.now }
+    ensures split { bytes.now ≡ to_le_bytes w32 result.0 ++ result.1.now }
+    ensures rest { length result.1.now + 4 ≡ length bytes.now }
+{
+    let number = u32::from_le_bytes([bytes[0], bytes[1], bytes[2], bytes[3]]);
+    (number, &bytes[4..])
+}
+
+/// The signed number in the first eight bytes, and the bytes after it.
+fn split_offset(bytes: &[u8]) -> (i64, &[u8])
+    requires { 8 ≤ length bytes.now }
+    ensures split { bytes.now ≡ to_le_bytes w64 (cast_unsigned w64 result.0) ++ result.1.now }
+    ensures rest { length result.1.now + 8 ≡ length bytes.now }
+{
+    let number = i64::from_le_bytes([
+        bytes[0], bytes[1], bytes[2], bytes[3], bytes[4], bytes[5], bytes[6], bytes[7],
+    ]);
+    (number, &bytes[8..])
+}

@@ -1,0 +1,168 @@
+//! The byte form of a serial port's state.
+ghost use Rattle.std.specs.Prelude.{◌≡◌, ◌↔◌, ◌≤◌, ◌+◌, length, List, ℕ, ◌++◌, IfOk, IfErr, IsOk, IfSome, MatchResult};
+ghost use Rattle.std.specs.Result.{result_err, IsOkAnd};
+ghost use Rattle.vm_superio.specs.Port.SavedState.{state_of, state_with};
+ghost use Rattle.vm_superio.specs.Port.State.{State};
+ghost use Rattle.vm_superio.specs.Port.Fields.{state_of_fields};
+ghost use Rattle.vm_superio.specs.Port.Places.{held_bytes};
+ghost use Rattle.vm_superio.specs.Saved.Form.{serial_contents, serial_form};
+ghost use Rattle.vm_superio.specs.Saved.Faults.{serial_fault};
+
+use super::SerialState;
+use super::fields::SerialFields;
+use super::places::Places;
+use super::registers::Registers;
+use crate::fifo::{FIFO_SIZE, ReceiveFifo};
+use crate::saved::{Error, SERIAL_KIND, contents_of, header};
+use arrayvec::ArrayVec;
+use std::alloc::Global;
+
+/// How many bytes the form of a port's state has at the most: the header, nine registers and 64 received bytes.
+pub const SAVED_MAX: usize = 81;
+
+/// How many bytes the registers take.
+const REGISTERS_SIZE: usize = 9;
+
+impl SerialState {
+    /// The state as bytes, which `from_bytes` reads again. It takes no memory.
+    ///
+    /// They are a header of eight bytes, the nine registers in the order of the fields, and the received bytes, oldest
+    /// first.
+    ///
+    /// # Errors
+    ///
+    /// [`Error::TooManyBytes`] where the state has more than 64 received bytes. It has no form then.
+    pub fn to_bytes(&self) -> Result<ArrayVec<u8, SAVED_MAX>, Error>
+        ensures form { IfOk result (λ bytes. bytes.items ≡ serial_form (state_of self.now)) }
+        ensures few { IsOk result ↔ (length self.now.in_buffer.items ≤ 64) }
+        ensures too_many { IfErr result (λ error. error ≡ Error.TooManyBytes) }
+    {
+        if self.in_buffer.len() > FIFO_SIZE {
+            return Err(Error::TooManyBytes);
+        }
+        let mut form = Registers::of(self).begin_form(self.in_buffer.len());
+        form.try_extend_from_slice(&self.in_buffer).unwrap();
+        Ok(form)
+    }
+
+    /// The state of which these bytes are the form, whatever its registers hold. It may be incoherent:
+    /// [`is_coherent`](Self::is_coherent) tells.
+    ///
+    /// # Errors
+    ///
+    /// The first check that fails, in the order of the cases of [`Error`]; each but [`Error::InvalidArmed`] can come. Else
+    /// [`Error::Memory`] where memory for the received bytes was refused.
+    pub fn from_bytes(alloc: Global, bytes: &[u8]) -> Result<SerialState, Error>
+        ensures form { IfOk result (λ state. bytes.now ≡ serial_form (state_of state)) }
+        ensures read { (state : State) → length state.in_buffer ≤ 64 → bytes.now ≡ serial_form state →
+            MatchResult result (λ saved. state_of saved ≡ state) (λ error. error ≡ Error.Memory) }
+        ensures few { IfOk result (λ state. length state.in_buffer.items ≤ 64) }
+        ensures fault { IfSome (serial_fault bytes.now) (λ fault. result ≡ Err fault) }
+        ensures memory { serial_fault bytes.now ≡ None → IfErr result (λ error. error ≡ Error.Memory) }
+    {
+        let (registers, in_buffer) = registers_of(bytes)?;
+        Ok(registers.saved(in_buffer.to_vec(alloc)?))
+    }
+}
+
+impl SerialFields {
+    /// The state as bytes, as [`SerialState::to_bytes`] gives it. Any struct has a form: a port never holds more than 64
+    /// bytes. It has no byte that the guest has read.
+    pub fn to_bytes(&self) -> ArrayVec<u8, SAVED_MAX>
+        ensures { result.items ≡ serial_form (state_of_fields self.now) }
+    {
+        let mut form = self.registers.begin_form(self.in_buffer.len());
+        push_held(&mut form, self.in_buffer);
+        form
+    }
+
+    /// The port of which these bytes are the form, as [`SerialState::from_bytes`] reads them.
+    ///
+    /// # Errors
+    ///
+    /// The first check that fails, in the order of the cases of [`Error`]; each but [`Error::InvalidArmed`] and
+    /// [`Error::Memory`] can come.
+    pub fn from_bytes(bytes: &[u8]) -> Result<SerialFields, Error>
+        ensures form { IfOk result (λ port. bytes.now ≡ serial_form (state_of_fields port)) }
+        ensures few { IfOk result (λ port. port.in_buffer.held ≤ 64) }
+        ensures read { (state : State) → length state.in_buffer ≤ 64 → bytes.now ≡ serial_form state →
+            IsOkAnd result (λ port. state_of_fields port ≡ state) }
+        ensures fault { result_err result ≡ serial_fault bytes.now }
+    {
+        let (registers, held) = registers_of(bytes)?;
+        let mut in_buffer = Places::new();
+        in_buffer.fill(held);
+        Ok(SerialFields {
+            registers,
+            in_buffer,
+        })
+    }
+}
+
+/// Adds the bytes that are held, oldest first.
+fn push_held(form: &mut ArrayVec<u8, SAVED_MAX>, mut held: Places)
+    requires { length form.old.items + length (held_bytes held) ≤ 81 }
+    ensures { form.new.items ≡ form.old.items ++ held_bytes held }
+{
+    while let Some(byte) = held.take_first() {
+        form.push(byte);
+    }
+}
+
+impl Registers {
+    /// The form of a port with these registers and `held` received bytes, up to these.
+    pub(super) fn begin_form(&self, held: usize) -> ArrayVec<u8, SAVED_MAX>
+        requires { held ≤ 64 }
+        ensures form { (in_buffer : List ℕ) → length in_buffer ≡ held →
+            result.items ++ in_buffer ≡ serial_form (state_with self.now in_buffer) }
+        ensures length { length result.items ≡ 17 }
+    {
+        let mut form = ArrayVec::new();
+        form.try_extend_from_slice(&header(SERIAL_KIND, (REGISTERS_SIZE + held) as u16))
+            .unwrap();
+        form.try_extend_from_slice(&[
+            self.baud_divisor_low,
+            self.baud_divisor_high,
+            self.interrupt_enable,
+            self.interrupt_identification,
+            self.line_control,
+            self.line_status,
+            self.modem_control,
+            self.modem_status,
+            self.scratch,
+        ])
+        .unwrap();
+        form
+    }
+}
+
+/// The registers and the received bytes of a port's form.
+///
+/// # Errors
+///
+/// As for [`SerialState::from_bytes`], but for memory.
+pub(super) fn registers_of(bytes: &[u8]) -> Result<(Registers, &[u8]), Error>
+    ensures form { IfOk result (λ found. bytes.now ≡ serial_form (state_with found.0 found.1.now)) }
+    ensures few { IfOk result (λ found. length found.1.now ≤ 64) }
+    ensures fault { result_err result ≡ serial_fault bytes.now }
+{
+    let contents = contents_of(SERIAL_KIND, bytes)?;
+    let [dll, dlm, ier, iir, lcr, lsr, mcr, msr, scr, in_buffer @ ..] = contents else {
+        return Err(Error::WrongLength);
+    };
+    if in_buffer.len() > FIFO_SIZE {
+        return Err(Error::TooManyBytes);
+    }
+    let registers = Registers {
+        baud_divisor_low: *dll,
+        baud_divisor_high: *dlm,
+        interrupt_enable: *ier,
+        interrupt_identification: *iir,
+        line_control: *lcr,
+        line_status: *lsr,
+        modem_control: *mcr,
+        modem_status: *msr,
+        scratch: *scr,
+    };
+    Ok((registers, in_buffer))
+}
