@@ -11,19 +11,25 @@
  * A device is a struct of plain fields, which the caller keeps. A call takes it
  * by pointer, changes it, and returns its effects: what is left for the caller
  * to do. There are no callbacks and no handles. The library allocates no
- * memory, keeps no state, makes no system call, and needs no initialisation.
- * No call fails.
+ * memory, keeps no state, makes no system call, and needs no initialisation. Of
+ * other libraries it needs memcpy alone. No call fails, except that a load
+ * refuses bytes that are no saved state.
  *
  *     superio_serial port = superio_serial_new();
  *
  *     // The guest writes.
  *     superio_serial_write_effects done =
- *         superio_serial_write(&port, offset, value, false);
+ *         superio_serial_write(&port, offset, value);
  *     if (done.sends)
  *         send(value);
- *     for (int i = 0; i < done.interrupts; i++)
- *         if (!ask_for_interrupt())
+ *     for (int i = 0; i < done.interrupts; i++) {
+ *         if (!ask_for_interrupt()) {
+ *             if (done.interrupts == 2 && i == 0)
+ *                 superio_serial_first_refused(&port);
+ *             ask_again_later(&port);
  *             break;
+ *         }
+ *     }
  *
  *     // The guest reads.
  *     uint8_t byte = superio_serial_read(&port, offset).byte;
@@ -32,16 +38,28 @@
  * -----
  *
  * - A pointer to a device points to a struct whose bytes are all set, by the
- *   device's `new` or by a copy. It is not NULL.
+ *   device's `new`, by a load or by a copy. It is not NULL.
  * - Any bytes are a device. No call reads or writes outside the struct and the
  *   bytes that it is passed, whatever the struct holds.
- * - Calls on one device do not overlap in time. A caller whose threads share a
- *   device takes a lock of its own. Calls on different devices may overlap, and
- *   so may calls that take the same device by a pointer to const.
- * - To save a device, copy its struct. To restore it, copy the bytes back. A
- *   copy holds input of the guest, also bytes that the guest has read. The
- *   structs of devices have no padding. Numbers of several bytes are stored in the order
- *   of the processor.
+ * - The library takes no lock. Calls on one device must not overlap in time, so
+ *   a caller whose threads share a device takes a lock of its own. Calls on
+ *   different devices may overlap, and so may calls that take the same device
+ *   by a pointer to const.
+ * - A copy of the struct is a copy of the device, for use in the same program.
+ *   To write a device to a file or to send it to another machine, save it: a
+ *   saved device has a version, is the same on every machine, and holds no byte
+ *   that the guest has read, while a copy may hold such bytes.
+ *
+ * What the object code lacks
+ * --------------------------
+ *
+ * - unwind tables: a backtrace from within a call ends there;
+ * - CET marks: a program linked with it is not marked for shadow stacks or
+ *   indirect branch tracking;
+ * - hidden symbols: a shared library that links the static one exports its
+ *   functions too, unless it is linked with -Wl,--exclude-libs,libsuperio_c.a;
+ * - instrumentation: a sanitizer sees the caller's accesses to a struct, and
+ *   not the library's.
  */
 #ifndef SUPERIO_H
 #define SUPERIO_H
@@ -49,6 +67,60 @@
 #include <stdbool.h>
 #include <stddef.h>
 #include <stdint.h>
+
+/*
+ * What lets a compiler warn of misuse. Each of these is empty where the
+ * compiler does not know it.
+ */
+#if defined(__has_attribute)
+#define SUPERIO_HAS_ATTRIBUTE(name) __has_attribute(name)
+#else
+#define SUPERIO_HAS_ATTRIBUTE(name) 0
+#endif
+
+/* A caller that ignores the result loses work that it has to do. */
+#if SUPERIO_HAS_ATTRIBUTE(warn_unused_result)
+#define SUPERIO_MUST_USE __attribute__((warn_unused_result))
+#else
+#define SUPERIO_MUST_USE
+#endif
+
+/* The first argument is not NULL. */
+#if SUPERIO_HAS_ATTRIBUTE(nonnull)
+#define SUPERIO_NONNULL __attribute__((nonnull(1)))
+#else
+#define SUPERIO_NONNULL
+#endif
+
+/* How an argument's memory is used: it is set where it is read, and it is as
+ * large as a further argument says. */
+#if SUPERIO_HAS_ATTRIBUTE(access)
+#define SUPERIO_ACCESS(...) __attribute__((access(__VA_ARGS__)))
+#else
+#define SUPERIO_ACCESS(...)
+#endif
+
+/* `bytes` is NULL only where `count` is 0. */
+#if SUPERIO_HAS_ATTRIBUTE(diagnose_if)
+#define SUPERIO_COUNTED                                                       \
+    __attribute__((diagnose_if(!bytes && count > 0,                           \
+                               "bytes is NULL, and count is not 0",           \
+                               "warning")))
+#else
+#define SUPERIO_COUNTED
+#endif
+
+/* The size that an array argument has at least. */
+#ifdef __cplusplus
+#define SUPERIO_AT_LEAST(size)
+#else
+#define SUPERIO_AT_LEAST(size) static size
+#endif
+
+#ifdef __clang__
+#pragma clang diagnostic push
+#pragma clang diagnostic ignored "-Wgcc-compat" /* diagnose_if */
+#endif
 
 #ifdef __cplusplus
 extern "C" {
@@ -68,8 +140,12 @@ extern "C" {
  *
  *     if (!SUPERIO_ABI_MATCHES())
  *         abort();
+ *
+ * A struct does not hold the number: a caller that keeps copies of structs
+ * outside the program stores it beside them. A saved device has a version of
+ * its own, which a load checks.
  */
-#define SUPERIO_ABI 1
+#define SUPERIO_ABI 2
 #define SUPERIO_ABI_MATCHES() (superio_abi() == SUPERIO_ABI)
 
 /* The binary interface of the library that the program runs with. */
@@ -79,6 +155,12 @@ uint32_t superio_abi(void);
 /* The serial port                                                           */
 /* ------------------------------------------------------------------------- */
 
+/* How many received bytes a port holds at most. */
+#define SUPERIO_SERIAL_FIFO_SIZE 64
+
+/* How many ports of the guest a port takes, from its base on. */
+#define SUPERIO_SERIAL_PORTS 8
+
 /*
  * A 16550 serial port, reduced to what a guest's driver uses: its registers,
  * and a receive FIFO of 64 bytes that is always on. The registers are at the
@@ -86,7 +168,7 @@ uint32_t superio_abi(void);
  * there changes nothing.
  *
  * The received bytes stand in a ring: the oldest at places[first % 64], the
- * others behind it, and places[0] follows places[63]. At most 64 are held: a
+ * others after it, and places[0] follows places[63]. At most 64 are held: a
  * larger value of `held` stands for 64.
  */
 typedef struct superio_serial {
@@ -104,13 +186,14 @@ typedef struct superio_serial {
     uint8_t scratch;           /* SCR */
     uint8_t first;             /* the place of the oldest received byte */
     uint8_t held;              /* how many received bytes are held */
-    uint8_t places[64];        /* the received bytes. Those that are not held
-                                  are left over, and mean nothing */
+    uint8_t places[SUPERIO_SERIAL_FIFO_SIZE]; /* the received bytes. Those that
+                                                 are not held are left over, and
+                                                 mean nothing */
 } superio_serial;
 
 /*
  * What a read did. The two events serve to count, to log, or to offer more
- * input. Where both are true, `in_buffer_empty` comes first.
+ * input. If both are true, `in_buffer_empty` comes first.
  */
 typedef struct superio_serial_read_effects {
     uint8_t byte;         /* what the guest reads */
@@ -135,41 +218,52 @@ typedef struct superio_serial_enqueue_effects {
  * A fresh port: divisor 12, 8 bits a character, OUT2 set, and nothing enabled,
  * pending or held.
  */
-superio_serial superio_serial_new(void);
+superio_serial superio_serial_new(void) SUPERIO_MUST_USE;
 
 /* The guest reads at `offset`. A read asks for no interrupt. */
 superio_serial_read_effects superio_serial_read(superio_serial *port,
-                                                uint8_t offset);
+                                                uint8_t offset)
+    SUPERIO_NONNULL SUPERIO_ACCESS(read_write, 1);
 
 /*
  * The guest writes `value` at `offset`. Afterwards the caller does two things,
  * in this order:
  *
- * 1. Where `sends` is true, it sends the value and flushes. The event of the
- *    byte is up to the caller to report: out_byte where both succeeded, and
- *    tx_lost_byte where either failed. The port is the same either way, and the
+ * 1. If `sends` is true, it sends the value and flushes. The event of the byte
+ *    is up to the caller to report: out_byte if both succeeded, and
+ *    tx_lost_byte if either failed. The port is the same either way, and the
  *    second step follows either way.
  * 2. It asks for the interrupt as often as `interrupts` says, and stops at the
- *    first refusal.
+ *    first refusal, such as a write to an eventfd that fails. If `interrupts`
+ *    is 2 and the first of the two is refused, it calls
+ *    superio_serial_first_refused. No other refusal changes the port.
  *
- * A refused interrupt, such as a write to an eventfd that fails, changes
- * nothing in the port. Its condition stays pending, so no later access asks for
- * it until the guest has acknowledged it, which a guest that waits for the
+ * The condition of a refused interrupt stays pending, so no later access asks
+ * for it until the guest has acknowledged it, which a guest that waits for the
  * interrupt may never do. A caller whose interrupt can be refused asks again
  * later: superio_serial_interrupts_due says how often.
  *
- * Pass false for `refuses`, except to repeat a call. In one case a refusal does
- * change the port: where `interrupts` is 2 and the first of the two is refused,
- * a port that was told so does not raise the second condition. This can only
- * be at a write at offset 1. For the exact state, copy the port before such a
- * write, put the copy back, and repeat the call with true; what the repeated
- * call returns is done already. Without that the
- * port is the one whose first interrupt was taken and whose second was refused:
- * both conditions are pending.
+ * A write to MCR, at offset 4, may end loopback: offer the input again that an
+ * enqueue did not take.
  */
 superio_serial_write_effects superio_serial_write(superio_serial *port,
-                                                  uint8_t offset, uint8_t value,
-                                                  bool refuses);
+                                                  uint8_t offset,
+                                                  uint8_t value)
+    SUPERIO_MUST_USE SUPERIO_NONNULL SUPERIO_ACCESS(read_write, 1);
+
+/*
+ * Tells the port that the first of two interrupts was refused, right after the
+ * write whose `interrupts` was 2. That refusal ends the write before it raises
+ * its second condition, THRE, so THRE is not pending afterwards.
+ *
+ * At any other time the call does the same, and the guest may lose an interrupt
+ * that it waits for: bit 0x02 of IIR is clear afterwards, IIR is 1 if no bit is
+ * left, and nothing else changes. A coherent port stays coherent. A caller that
+ * leaves the call out has the port whose first interrupt was taken and whose
+ * second was refused: both conditions are pending.
+ */
+void superio_serial_first_refused(superio_serial *port)
+    SUPERIO_NONNULL SUPERIO_ACCESS(read_write, 1);
 
 /*
  * Bytes arrive for the guest. The first of the `count` bytes are taken, as many
@@ -180,15 +274,18 @@ superio_serial_write_effects superio_serial_write(superio_serial *port,
  * Keep the bytes that were not taken, and offer them when a read tells
  * `in_buffer_empty`, or when the guest leaves loopback.
  *
- * `bytes` points to `count` bytes outside the port. It is not NULL, also where
- * `count` is 0.
+ * `bytes` points to `count` bytes outside the port. If `count` is 0 it may be
+ * NULL.
  */
 superio_serial_enqueue_effects superio_serial_enqueue(superio_serial *port,
                                                       const uint8_t *bytes,
-                                                      size_t count);
+                                                      size_t count)
+    SUPERIO_MUST_USE SUPERIO_NONNULL SUPERIO_COUNTED
+    SUPERIO_ACCESS(read_write, 1) SUPERIO_ACCESS(read_only, 2, 3);
 
 /* How many bytes there is room for: 64 less those that are held. */
-size_t superio_serial_fifo_capacity(const superio_serial *port);
+size_t superio_serial_fifo_capacity(const superio_serial *port)
+    SUPERIO_MUST_USE SUPERIO_NONNULL SUPERIO_ACCESS(read_only, 1);
 
 /*
  * How often to ask for the interrupt now: once for each condition that is both
@@ -199,7 +296,8 @@ size_t superio_serial_fifo_capacity(const superio_serial *port);
  * often as soon as it can be asked for, as from an event loop. The guest may
  * then be interrupted again for a condition that it knows of.
  */
-uint8_t superio_serial_interrupts_due(const superio_serial *port);
+uint8_t superio_serial_interrupts_due(const superio_serial *port)
+    SUPERIO_MUST_USE SUPERIO_NONNULL SUPERIO_ACCESS(read_only, 1);
 
 /*
  * Whether the port is coherent, as superio_serial_new makes it and as every
@@ -212,22 +310,39 @@ uint8_t superio_serial_interrupts_due(const superio_serial *port);
  * from any bytes. A caller that wants to refuse too many bytes alone, as the
  * Rust crate vm-superio does, compares `held` with 64.
  */
-bool superio_serial_is_coherent(const superio_serial *port);
+bool superio_serial_is_coherent(const superio_serial *port)
+    SUPERIO_MUST_USE SUPERIO_NONNULL SUPERIO_ACCESS(read_only, 1);
 
 /* ------------------------------------------------------------------------- */
 /* The real-time clock                                                       */
 /* ------------------------------------------------------------------------- */
 
+/* How many bytes of the guest's memory a clock takes, from its base on. */
+#define SUPERIO_RTC_WINDOW 0x1000
+
+/* What superio_rtc_due returns if the alarm never comes by itself. */
+#define SUPERIO_RTC_NEVER UINT64_MAX
+
 /*
  * A PL031 real-time clock. It counts seconds. The library reads no clock: each
- * access is given its moment `now`, in seconds since 1970, of which the low 32
- * bits count.
+ * access is given its moment `now`, in seconds since 1970.
  *
- * The match register is an alarm. It sets bit 0 of `ris` at the first access,
- * of any kind, at which guest time has come to a match that was not past when
- * it was written. No call asks for an interrupt: a caller that has a line for it
- * looks at `ris & imsc` after each access, and makes an access when the match
- * is due.
+ * The host's time is the low 32 bits of `now`. Guest time is the host's time
+ * plus `offset` if that sum is from 0 to 4294967295, and otherwise the host's
+ * time. So guest time does not wrap at 32 bits: it falls back to the host's
+ * time, and is the sum again as soon as that is in range. A write of v to RTCLR
+ * sets `offset` to v less the host's time.
+ *
+ * The match register is an alarm. A write to it sets the alarm if the value is
+ * after guest time, and otherwise clears it. The first access, of any kind, at
+ * which guest time has come to the match sets bit 0 of `ris` and clears the
+ * alarm. A write of guest time itself sets bit 0 at once.
+ *
+ * No call asks for an interrupt. A caller that has an interrupt line for the
+ * clock sets it to superio_rtc_line after each access and after a restore. It
+ * also sets a timer for superio_rtc_due, and when the timer goes off it makes
+ * an access of its own, such as a read at 0x018 (RTCMIS), since a guest that
+ * sleeps until the interrupt makes none.
  */
 typedef struct superio_rtc {
     uint32_t lr;    /* RTCLR, the value that was loaded last, or 0 */
@@ -250,25 +365,52 @@ typedef struct superio_rtc_write_effects {
 } superio_rtc_write_effects;
 
 /* A fresh clock: guest time is the host's, and no alarm is set. */
-superio_rtc superio_rtc_new(void);
+superio_rtc superio_rtc_new(void) SUPERIO_MUST_USE;
 
 /*
  * The guest reads four bytes at `offset` from the clock's base, at the moment
  * `now`.
  */
 superio_rtc_read_effects superio_rtc_read(superio_rtc *clock, uint16_t offset,
-                                          uint64_t now);
+                                          uint64_t now)
+    SUPERIO_NONNULL SUPERIO_ACCESS(read_write, 1);
 
 /*
  * The guest writes four bytes at `offset`, at the moment `now`. They stand for
  * `value`, lowest first.
  */
 superio_rtc_write_effects superio_rtc_write(superio_rtc *clock, uint16_t offset,
-                                            uint32_t value, uint64_t now);
+                                            uint32_t value, uint64_t now)
+    SUPERIO_NONNULL SUPERIO_ACCESS(read_write, 1);
+
+/* Whether the interrupt line is up: bit 0 of `ris & imsc`, as RTCMIS shows. */
+bool superio_rtc_line(const superio_rtc *clock)
+    SUPERIO_MUST_USE SUPERIO_NONNULL SUPERIO_ACCESS(read_only, 1);
+
+/*
+ * In how many seconds after the moment `now` the alarm is due, if the guest
+ * makes no access until then: an access at that moment finds it reached, and no
+ * access before does. It is less than 2^32, and 0 if the alarm is due at once;
+ * or SUPERIO_RTC_NEVER, if no alarm is set or guest time never comes to the
+ * match. The mask plays no part.
+ *
+ * Ask again after each access, since a write may change the match, guest time
+ * or the alarm.
+ */
+uint64_t superio_rtc_due(const superio_rtc *clock, uint64_t now)
+    SUPERIO_MUST_USE SUPERIO_NONNULL SUPERIO_ACCESS(read_only, 1);
 
 /* ------------------------------------------------------------------------- */
 /* The reset controller                                                      */
 /* ------------------------------------------------------------------------- */
+
+/*
+ * The controller's ports on a PC, which are the offsets 0 and 4 of the
+ * functions below. Do not give it the ports between them: 0x61 is system
+ * control port B, whose bit 0x20 Linux waits for.
+ */
+#define SUPERIO_I8042_DATA_PORT 0x60
+#define SUPERIO_I8042_COMMAND_PORT 0x64
 
 /* What a write to the controller leaves to the caller. */
 typedef struct superio_i8042_write_effects {
@@ -279,10 +421,76 @@ typedef struct superio_i8042_write_effects {
  * An i8042 keyboard controller that knows one command: 0xFE at offset 4 from
  * its base resets the machine. It has no state, and so no struct.
  */
-superio_i8042_write_effects superio_i8042_write(uint8_t offset, uint8_t value);
+superio_i8042_write_effects superio_i8042_write(uint8_t offset, uint8_t value)
+    SUPERIO_MUST_USE;
 
 /* What the guest reads at `offset`: 0, at every offset. */
-uint8_t superio_i8042_read(uint8_t offset);
+uint8_t superio_i8042_read(uint8_t offset) SUPERIO_MUST_USE;
+
+/* ------------------------------------------------------------------------- */
+/* Saved devices                                                             */
+/* ------------------------------------------------------------------------- */
+
+/*
+ * A saved device is a string of bytes, whose form docs/SAVED-STATES.md has. Two
+ * devices have the same string only if their registers, offset, alarm and held
+ * bytes are the same, on any machine. It has no checksum.
+ */
+
+/* How many bytes a saved port has at most, and a saved clock always. */
+#define SUPERIO_SERIAL_SAVED_MAX 81
+#define SUPERIO_RTC_SAVED_SIZE 33
+
+/*
+ * What a load returns: 0, or the first check that the bytes fail, in this
+ * order. The calls return a uint32_t, since the size of an enum is the
+ * compiler's choice.
+ */
+enum superio_load {
+    SUPERIO_LOAD_OK = 0,
+    SUPERIO_LOAD_TOO_SHORT = 1,         /* fewer bytes than a header */
+    SUPERIO_LOAD_NOT_A_SAVED_STATE = 2, /* they begin with another magic */
+    SUPERIO_LOAD_OTHER_DEVICE = 3,      /* the state of another device */
+    SUPERIO_LOAD_UNKNOWN_VERSION = 4,   /* the version, at bytes[5], is not 1 */
+    SUPERIO_LOAD_WRONG_LENGTH = 5,      /* the length is not that of the rest,
+                                           or no state of the device has it */
+    SUPERIO_LOAD_TOO_MANY_BYTES = 6,    /* a port that holds more than 64 */
+    SUPERIO_LOAD_INVALID_ARMED = 7      /* an alarm that is neither 0 nor 1 */
+};
+
+/*
+ * Saves a port, and returns how many bytes it wrote: 17, and one for each byte
+ * that is held. The others of `bytes` stay as they were.
+ */
+size_t superio_serial_save(
+    const superio_serial *port,
+    uint8_t bytes[SUPERIO_AT_LEAST(SUPERIO_SERIAL_SAVED_MAX)])
+    SUPERIO_MUST_USE SUPERIO_NONNULL SUPERIO_ACCESS(read_only, 1)
+    SUPERIO_ACCESS(write_only, 2);
+
+/*
+ * Makes a port of `count` saved bytes. Any bytes may be passed. The port
+ * changes only if the result is SUPERIO_LOAD_OK. Then ask for the interrupt as
+ * often as superio_serial_interrupts_due says.
+ *
+ * The port need not be coherent: superio_serial_is_coherent tells. `bytes`
+ * points to `count` bytes outside the port. If `count` is 0 it may be NULL.
+ */
+uint32_t superio_serial_load(superio_serial *port, const uint8_t *bytes,
+                             size_t count)
+    SUPERIO_MUST_USE SUPERIO_NONNULL SUPERIO_COUNTED
+    SUPERIO_ACCESS(write_only, 1) SUPERIO_ACCESS(read_only, 2, 3);
+
+/* Saves a clock, to all of the bytes. */
+void superio_rtc_save(const superio_rtc *clock,
+                      uint8_t bytes[SUPERIO_AT_LEAST(SUPERIO_RTC_SAVED_SIZE)])
+    SUPERIO_NONNULL SUPERIO_ACCESS(read_only, 1) SUPERIO_ACCESS(write_only, 2);
+
+/* Makes a clock of `count` saved bytes, as superio_serial_load does a port. */
+uint32_t superio_rtc_load(superio_rtc *clock, const uint8_t *bytes,
+                          size_t count)
+    SUPERIO_MUST_USE SUPERIO_NONNULL SUPERIO_COUNTED
+    SUPERIO_ACCESS(write_only, 1) SUPERIO_ACCESS(read_only, 2, 3);
 
 /* The structs have the sizes that the library gives them. */
 typedef char superio_serial_has_75_bytes[sizeof(superio_serial) == 75 ? 1 : -1];
@@ -303,5 +511,16 @@ typedef char superio_i8042_write_effects_has_1_byte
 #ifdef __cplusplus
 }
 #endif
+
+#ifdef __clang__
+#pragma clang diagnostic pop
+#endif
+
+#undef SUPERIO_HAS_ATTRIBUTE
+#undef SUPERIO_MUST_USE
+#undef SUPERIO_NONNULL
+#undef SUPERIO_ACCESS
+#undef SUPERIO_COUNTED
+#undef SUPERIO_AT_LEAST
 
 #endif

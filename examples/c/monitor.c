@@ -1,98 +1,174 @@
 /*
- * A monitor in small: a bus, an input loop, an interrupt that is asked for again, and a migration through a file.
- * The "guest" is the calls in main.
+ * A monitor in small: a bus, an input loop, an interrupt that a timer asks for again, a clock with an alarm, and a
+ * migration. The "guest" is the calls in main, and time is what main says.
  */
+#include <ctype.h>
 #include <stdio.h>
 #include <stdlib.h>
 #include <string.h>
 #include <superio.h>
 
-/* The first of the serial port's 8 ports, and the two of the controller. */
-enum { COM1 = 0x3F8, KEYBOARD = 0x60, COMMAND = 0x64 };
+/* The first port of the serial port, and the clock's first address. */
+enum { COM1 = 0x3F8, CLOCK = 0x09010000 };
 
 struct machine {
     superio_serial serial;
-    const char *input; /* what has not gone to the guest yet */
-    int line_is_down;  /* the interrupt line takes nothing now */
-    int resets;
+    superio_rtc clock;
+    char input[128];   /* what has not gone to the guest yet */
+    bool line_is_down; /* the interrupt line takes nothing now */
+    bool retries;      /* the timer is to ask for interrupts again */
+    uint64_t now;      /* the host's time, in seconds */
 };
 
-/* Asks for the interrupt as often as an effect says, up to a refusal. An event file would be written here. */
+static void check(bool is_good, const char *what) {
+    if (is_good)
+        return;
+    fprintf(stderr, "%s failed\n", what);
+    exit(1);
+}
+
+/* Raises the interrupt of the serial port once. A monitor writes to an eventfd here. */
+static bool raise_interrupt(const struct machine *machine) {
+    puts(machine->line_is_down ? "interrupt refused" : "interrupt");
+    return !machine->line_is_down;
+}
+
+/* Raises the interrupt as often as an effect says, up to a refusal. The port is told if the first of two is refused. */
 static void interrupt(struct machine *machine, unsigned times) {
-    for (; times > 0 && !machine->line_is_down; times--)
-        puts("interrupt");
-    if (times > 0)
-        puts("interrupt refused");
+    for (unsigned i = 0; i < times; i++) {
+        if (raise_interrupt(machine))
+            continue;
+        if (times == 2 && i == 0)
+            superio_serial_first_refused(&machine->serial);
+        machine->retries = true;
+        return;
+    }
+}
+
+/* What the event loop calls at a timer, a while after a refusal. */
+static void retry(struct machine *machine) {
+    if (!machine->retries)
+        return;
+    machine->retries = false;
+    for (unsigned due = superio_serial_interrupts_due(&machine->serial); due > 0; due--) {
+        if (raise_interrupt(machine))
+            continue;
+        machine->retries = true;
+        return;
+    }
 }
 
 /* Offers the input, and keeps what does not fit. */
 static void feed(struct machine *machine) {
+    size_t count = strlen(machine->input);
     superio_serial_enqueue_effects done =
-        superio_serial_enqueue(&machine->serial, (const uint8_t *)machine->input, strlen(machine->input));
-    machine->input += done.taken;
+        superio_serial_enqueue(&machine->serial, (const uint8_t *)machine->input, count);
+    memmove(machine->input, machine->input + done.taken, count - done.taken + 1);
     interrupt(machine, done.interrupts);
+}
+
+/* Prints a byte from the guest, which must not reach a terminal as it is: it could be part of an escape sequence. */
+static void print_output(uint8_t byte) {
+    printf(isprint(byte) && byte != '\\' ? "output: %c\n" : "output: \\x%02x\n", byte);
 }
 
 /* The guest's `out`. */
-static void bus_write(struct machine *machine, uint16_t port, uint8_t value) {
-    uint8_t offset = port & 7;
-    if (port == KEYBOARD || port == COMMAND)
-        machine->resets += superio_i8042_write(offset, value).resets;
-    if (port - offset != COM1)
-        return;
-    superio_serial_write_effects done = superio_serial_write(&machine->serial, offset, value, false);
-    if (done.sends)
-        printf("output: %c\n", value);
-    interrupt(machine, done.interrupts);
-    if (offset == 4) /* loopback may have ended */
-        feed(machine);
-}
-
-/* The guest's `in`. */
-static uint8_t bus_read(struct machine *machine, uint16_t port) {
-    uint8_t offset = port & 7;
-    if (port - offset == COM1) {
-        superio_serial_read_effects done = superio_serial_read(&machine->serial, offset);
-        if (done.in_buffer_empty)
+static void port_write(struct machine *machine, uint16_t port, uint8_t value) {
+    if (port == SUPERIO_I8042_DATA_PORT || port == SUPERIO_I8042_COMMAND_PORT) {
+        if (superio_i8042_write((uint8_t)(port - SUPERIO_I8042_DATA_PORT), value).resets)
+            puts("reset");
+    } else if (port >= COM1 && port < COM1 + SUPERIO_SERIAL_PORTS) {
+        superio_serial_write_effects done = superio_serial_write(&machine->serial, (uint8_t)(port - COM1), value);
+        if (done.sends)
+            print_output(value);
+        interrupt(machine, done.interrupts);
+        if (port == COM1 + 4) /* loopback may have ended */
             feed(machine);
-        return done.byte;
     }
-    return port == KEYBOARD || port == COMMAND ? superio_i8042_read(offset) : 0xFF;
 }
 
-static void check(int is_good, const char *what) {
-    if (!is_good) {
-        fprintf(stderr, "%s failed\n", what);
-        exit(1);
-    }
+/* The guest's `in`. No device answers at other ports, 0x61 among them. */
+static uint8_t port_read(struct machine *machine, uint16_t port) {
+    if (port == SUPERIO_I8042_DATA_PORT || port == SUPERIO_I8042_COMMAND_PORT)
+        return superio_i8042_read((uint8_t)(port - SUPERIO_I8042_DATA_PORT));
+    if (port < COM1 || port >= COM1 + SUPERIO_SERIAL_PORTS)
+        return 0xFF;
+    superio_serial_read_effects done = superio_serial_read(&machine->serial, (uint8_t)(port - COM1));
+    if (done.in_buffer_empty)
+        feed(machine);
+    return done.byte;
+}
+
+/* What follows each access of the clock: its line is a level, and a timer has to go off when the alarm is due. */
+static void follow_clock(const struct machine *machine) {
+    uint64_t due = superio_rtc_due(&machine->clock, machine->now);
+    printf("clock: line %s, ", superio_rtc_line(&machine->clock) ? "up" : "down");
+    if (due == SUPERIO_RTC_NEVER)
+        puts("no alarm");
+    else
+        printf("alarm in %llu s\n", (unsigned long long)due);
+}
+
+/* The guest writes four bytes to memory. */
+static void memory_write(struct machine *machine, uint64_t address, uint32_t value) {
+    if (address < CLOCK || address - CLOCK >= SUPERIO_RTC_WINDOW)
+        return;
+    superio_rtc_write(&machine->clock, (uint16_t)(address - CLOCK), value, machine->now);
+    follow_clock(machine);
+}
+
+/* The timer of the alarm goes off: an access of the monitor's own, of RTCMIS, finds the alarm reached. */
+static void alarm_is_due(struct machine *machine) {
+    superio_rtc_read(&machine->clock, 0x018, machine->now);
+    follow_clock(machine);
+}
+
+/* Moves the devices to another machine as saved bytes, with the input that waits beside them. */
+static struct machine migrate(const struct machine *machine) {
+    uint8_t serial[SUPERIO_SERIAL_SAVED_MAX], clock[SUPERIO_RTC_SAVED_SIZE];
+    size_t count = superio_serial_save(&machine->serial, serial);
+    superio_rtc_save(&machine->clock, clock);
+    struct machine other = {.now = machine->now};
+    strcpy(other.input, machine->input);
+    check(superio_serial_load(&other.serial, serial, count) == SUPERIO_LOAD_OK, "loading the serial port");
+    check(superio_rtc_load(&other.clock, clock, sizeof clock) == SUPERIO_LOAD_OK, "loading the clock");
+    printf("moved %zu and %zu bytes, and %zu of input\n", count, sizeof clock, strlen(other.input));
+    interrupt(&other, superio_serial_interrupts_due(&other.serial)); /* what the guest has not taken */
+    follow_clock(&other);
+    return other;
 }
 
 int main(void) {
     check(SUPERIO_ABI_MATCHES(), "the comparison of header and library");
-    char input[101] = {0};
-    memset(input, 'x', 100);
-    struct machine machine = {.serial = superio_serial_new(), .input = input, .line_is_down = 1};
+    struct machine machine = {.serial = superio_serial_new(), .clock = superio_rtc_new(), .now = 1000};
 
-    bus_write(&machine, COM1 + 1, 0x01); /* the guest enables the interrupt for received data */
+    memset(machine.input, 'x', 100);
+    port_write(&machine, COM1 + 4, 0x18); /* the guest tests its port in loopback, so no input goes in */
     feed(&machine);
-    printf("%zu of 100 bytes wait\n", strlen(machine.input));
-    machine.line_is_down = 0; /* so what was refused is asked for again */
-    interrupt(&machine, superio_serial_interrupts_due(&machine.serial));
+    printf("%zu of 100 bytes wait in loopback\n", strlen(machine.input));
+    port_write(&machine, COM1 + 4, 0x08);
+    printf("%zu of 100 bytes wait after it\n", strlen(machine.input));
 
-    FILE *file = tmpfile();
-    check(file && fwrite(&machine.serial, sizeof machine.serial, 1, file) == 1, "saving");
-    struct machine other = {.input = machine.input};
-    rewind(file);
-    check(fread(&other.serial, sizeof other.serial, 1, file) == 1, "restoring");
-    check(superio_serial_is_coherent(&other.serial), "the check of the saved port");
-    interrupt(&other, superio_serial_interrupts_due(&other.serial)); /* what the guest has not taken */
+    machine.line_is_down = true;
+    port_write(&machine, COM1 + 1, 0x03); /* enables both interrupts, and the first is refused */
+    retry(&machine);
+    machine.line_is_down = false;
+    retry(&machine);
+    printf("IIR %02x\n", port_read(&machine, COM1 + 2));
 
+    memory_write(&machine, CLOCK + 0x010, 1);    /* RTCIMSC: the alarm may raise the line */
+    memory_write(&machine, CLOCK + 0x004, 1060); /* RTCMR */
+    machine.now += 60;
+    alarm_is_due(&machine);
+
+    port_write(&machine, COM1, '!'); /* its interrupt is not taken before the move */
+    struct machine other = migrate(&machine);
     int received = 0;
-    while (bus_read(&other, COM1 + 5) & 0x01) /* data ready */
-        received += bus_read(&other, COM1) == 'x';
+    while (port_read(&other, COM1 + 5) & 0x01) /* data ready */
+        received += port_read(&other, COM1) == 'x';
     printf("%d bytes received\n", received);
-    bus_write(&other, COM1, '!');
-    bus_write(&other, COMMAND, 0xFE);
-    printf("%d reset\n", other.resets);
+    port_write(&other, COM1, 0x1B); /* escape */
+    printf("port 0x61 reads %02x, and the controller %02x\n", port_read(&other, 0x61), port_read(&other, 0x64));
+    port_write(&other, SUPERIO_I8042_COMMAND_PORT, 0xFE);
     return 0;
 }

@@ -1,2 +1,2 @@
-pub mod Called
 pub mod Clock
+pub mod Saved

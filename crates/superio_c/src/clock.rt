@@ -1,58 +1,15 @@
 //! The clock. Its struct is `superio_rtc` of the header.
 ghost use Rattle.std.specs.Prelude.{◌≡◌, not};
-ghost use Rattle.superio_c.specs.Clock.{state_of_clock, effects_of_response};
+ghost use Rattle.superio_c.specs.Clock.{effects_of_response, due_of};
+ghost use Rattle.vm_superio.specs.Clock.Alarm.{is_line_up, IsAlarmDue};
+ghost use Rattle.vm_superio.specs.Clock.Fields.{state_of_clock};
 ghost use Rattle.vm_superio.specs.Clock.Registers.{fresh_clock, read, write, clock_register_at, is_writable};
 ghost use Rattle.vm_superio.specs.Clock.Step.{clock_response, clock_step};
 
-use vm_superio::RtcState;
+use vm_superio::rtc_pl031::fields::RtcFields;
 
-/// A clock in a plain struct. Any numbers are a clock.
-#[repr(C)]
-#[derive(Clone, Copy, Debug, Eq, PartialEq)]
-pub struct RtcFields {
-    /// RTCLR, the load register.
-    pub lr: u32,
-    /// RTCMR, the match register.
-    pub mr: u32,
-    /// RTCIMSC, the interrupt mask.
-    pub imsc: u32,
-    /// RTCRIS, the raw interrupt status.
-    pub ris: u32,
-    /// How far guest time is ahead of the host's time, in seconds.
-    pub offset: i64,
-    /// Whether an alarm is set: 0 where none is. It is eight bytes wide, so that the struct has no padding.
-    pub armed: u64,
-}
-
-impl RtcFields {
-    /// The fields of a clock.
-    fn of(state: RtcState) -> RtcFields
-        ensures { state_of_clock result ≡ state }
-    {
-        RtcFields {
-            lr: state.lr,
-            mr: state.mr,
-            imsc: state.imsc,
-            ris: state.ris,
-            offset: state.offset,
-            armed: u64::from(state.armed),
-        }
-    }
-
-    /// The clock of these fields.
-    fn state(&self) -> RtcState
-        ensures { result ≡ state_of_clock self.now }
-    {
-        RtcState {
-            lr: self.lr,
-            offset: self.offset,
-            mr: self.mr,
-            imsc: self.imsc,
-            ris: self.ris,
-            armed: self.armed != 0,
-        }
-    }
-}
+/// The answer if the alarm is never due.
+const NEVER: u64 = u64::MAX;
 
 /// What a read of the clock gives, and whether it reports an invalid read.
 #[repr(C)]
@@ -77,7 +34,7 @@ pub struct RtcWriteEffects {
 pub extern "C" fn superio_rtc_new() -> RtcFields
     ensures { state_of_clock result ≡ fresh_clock }
 {
-    RtcFields::of(RtcState::default())
+    RtcFields::new()
 }
 
 /// The guest reads four bytes at `offset`, at the moment `now`.
@@ -86,10 +43,7 @@ pub extern "C" fn superio_rtc_read(clock: &mut RtcFields, offset: u16, now: u64)
     ensures response { result ≡ effects_of_response (clock_response (state_of_clock clock.old) (read offset now)) }
     ensures state { state_of_clock clock.new ≡ clock_step (state_of_clock clock.old) (read offset now) }
 {
-    let mut state = clock.state();
-    let shown = state.read(offset, now);
-    *clock = RtcFields::of(state);
-    match shown {
+    match clock.read(offset, now) {
         Some(value) => RtcReadEffects {
             value,
             invalid_read: false,
@@ -112,10 +66,24 @@ pub extern "C" fn superio_rtc_write(
     ensures invalid { result.invalid_write ≡ not (is_writable (clock_register_at offset)) }
     ensures state { state_of_clock clock.new ≡ clock_step (state_of_clock clock.old) (write offset value now) }
 {
-    let mut state = clock.state();
-    let taken = state.write(offset, value, now);
-    *clock = RtcFields::of(state);
+    let is_taken = clock.write(offset, value, now);
     RtcWriteEffects {
-        invalid_write: !taken,
+        invalid_write: !is_taken,
     }
+}
+
+/// Whether the interrupt line is up.
+#[unsafe(no_mangle)]
+pub extern "C" fn superio_rtc_line(clock: &RtcFields) -> bool
+    ensures { result ≡ is_line_up (state_of_clock clock.now) }
+{
+    clock.interrupt_line()
+}
+
+/// In how many seconds after the moment `now` the alarm is due, if the guest makes no access.
+#[unsafe(no_mangle)]
+pub extern "C" fn superio_rtc_due(clock: &RtcFields, now: u64) -> u64
+    ensures { IsAlarmDue (state_of_clock clock.now) now (due_of result) }
+{
+    clock.alarm_due(now).unwrap_or(NEVER)
 }

@@ -2,8 +2,7 @@
 ghost use Rattle.std.specs.Prelude.{◌≡◌};
 ghost use Rattle.vm_superio.specs.I8042.{is_reset_command};
 
-use crate::called::Called;
-use vm_superio::I8042Device;
+use vm_superio::i8042::is_reset_command;
 
 /// Whether a write to the controller resets the machine.
 #[repr(C)]
@@ -15,10 +14,10 @@ pub struct I8042WriteEffects {
 
 /// The guest reads at `offset`.
 #[unsafe(no_mangle)]
-pub extern "C" fn superio_i8042_read(offset: u8) -> u8
+pub extern "C" fn superio_i8042_read(_offset: u8) -> u8
     ensures { result ≡ 0 }
 {
-    I8042Device::new(Called { called: false }).read(offset)
+    0
 }
 
 /// The guest writes `value` at `offset`.
@@ -26,9 +25,7 @@ pub extern "C" fn superio_i8042_read(offset: u8) -> u8
 pub extern "C" fn superio_i8042_write(offset: u8, value: u8) -> I8042WriteEffects
     ensures { result.resets ≡ is_reset_command offset value }
 {
-    let mut controller = I8042Device::new(Called { called: false });
-    let _answer = controller.write(offset, value);
     I8042WriteEffects {
-        resets: controller.reset_evt().called,
+        resets: is_reset_command(offset, value),
     }
 }

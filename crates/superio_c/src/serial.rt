@@ -1,9 +1,8 @@
 //! The serial port. Its struct is `superio_serial` of the header: nine registers, then the received bytes.
 ghost use Rattle.std.specs.Prelude.{◌≡◌, ◌↔◌, ◌≤◌, ◌-◌, length, IsTrue};
-ghost use Rattle.vm_superio.specs.Port.Coherent.{Coherent};
-ghost use Rattle.vm_superio.specs.Port.Fields.{state_of_fields};
+ghost use Rattle.vm_superio.specs.Port.Fields.{state_of_fields, CoherentFields};
 ghost use Rattle.vm_superio.specs.Port.SavedState.{fresh_state};
-ghost use Rattle.vm_superio.specs.Step.FieldsStep.{IsFieldsRead, IsFieldsWrite, IsFieldsEnqueue};
+ghost use Rattle.vm_superio.specs.Step.FieldsStep.{IsFieldsRead, IsFieldsWrite, IsFieldsEnqueue, IsFirstRefused, without_thre};
 ghost use Rattle.vm_superio.specs.Step.Restore.{restore_calls};
 
 use vm_superio::serial::fields::{EnqueueEffects, ReadEffects, SerialFields, WriteEffects};
@@ -12,7 +11,7 @@ use vm_superio::serial::fields::{EnqueueEffects, ReadEffects, SerialFields, Writ
 #[unsafe(no_mangle)]
 pub extern "C" fn superio_serial_new() -> SerialFields
     ensures state { state_of_fields result ≡ fresh_state }
-    ensures coherent { Coherent (state_of_fields result) }
+    ensures coherent { CoherentFields result }
 {
     SerialFields::new()
 }
@@ -21,30 +20,39 @@ pub extern "C" fn superio_serial_new() -> SerialFields
 #[unsafe(no_mangle)]
 pub extern "C" fn superio_serial_read(port: &mut SerialFields, offset: u8) -> ReadEffects
     ensures step { IsFieldsRead offset result (state_of_fields port.old) (state_of_fields port.new) }
-    ensures coherent { Coherent (state_of_fields port.old) → Coherent (state_of_fields port.new) }
+    ensures coherent { CoherentFields port.old → CoherentFields port.new }
 {
     port.read(offset)
 }
 
-/// The guest writes `value` at `offset`. `refuses` tells that the first interrupt of the call is refused.
+/// The guest writes `value` at `offset`.
 #[unsafe(no_mangle)]
 pub extern "C" fn superio_serial_write(
     port: &mut SerialFields,
     offset: u8,
     value: u8,
-    refuses: bool,
 ) -> WriteEffects
-    ensures step { IsFieldsWrite offset value refuses result (state_of_fields port.old) (state_of_fields port.new) }
-    ensures coherent { Coherent (state_of_fields port.old) → Coherent (state_of_fields port.new) }
+    ensures step { IsFieldsWrite offset value result (state_of_fields port.old) (state_of_fields port.new) }
+    ensures coherent { CoherentFields port.old → CoherentFields port.new }
 {
-    port.write(offset, value, refuses)
+    port.write(offset, value)
+}
+
+/// Call it after a write that asked for two interrupts, if the first was refused.
+#[unsafe(no_mangle)]
+pub extern "C" fn superio_serial_first_refused(port: &mut SerialFields)
+    ensures step { IsFirstRefused (state_of_fields port.old) (state_of_fields port.new) }
+    ensures state { state_of_fields port.new ≡ without_thre (state_of_fields port.old) }
+    ensures coherent { CoherentFields port.old → CoherentFields port.new }
+{
+    port.first_refused();
 }
 
 /// Bytes arrive for the guest.
 #[unsafe(no_mangle)]
 pub extern "C" fn superio_serial_enqueue(port: &mut SerialFields, bytes: &[u8]) -> EnqueueEffects
     ensures step { IsFieldsEnqueue bytes.now result (state_of_fields port.old) (state_of_fields port.new) }
-    ensures coherent { Coherent (state_of_fields port.old) → Coherent (state_of_fields port.new) }
+    ensures coherent { CoherentFields port.old → CoherentFields port.new }
 {
     port.enqueue_raw_bytes(bytes)
 }
@@ -69,7 +77,7 @@ pub extern "C" fn superio_serial_interrupts_due(port: &SerialFields) -> u8
 /// Whether the port is one that calls could have led to from a coherent one.
 #[unsafe(no_mangle)]
 pub extern "C" fn superio_serial_is_coherent(port: &SerialFields) -> bool
-    ensures { IsTrue result ↔ ((port.now.in_buffer.held ≤ 64) × Coherent (state_of_fields port.now)) }
+    ensures { IsTrue result ↔ CoherentFields port.now }
 {
     port.is_coherent()
 }

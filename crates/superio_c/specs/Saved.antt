@@ -1,0 +1,17 @@
+-- What a load of a saved state returns.
+use Rattle.std.specs.Prelude.{ℕ, Option, Some, None}
+use Rattle.vm_superio.specs.declared.saved.Error.{Error}
+use Rattle.vm_superio.specs.declared.saved.Error.TheVariants.{TooShort, NotASavedState, OtherDevice, UnknownVersion, WrongLength, TooManyBytes, InvalidArmed, Memory}
+
+-- the numbers of `enum superio_load`: 0 where no check fails
+abbrev pub load_status : (fault : Option Error) → ℕ
+load_status None = 0
+load_status (Some TooShort) = 1
+load_status (Some NotASavedState) = 2
+load_status (Some OtherDevice) = 3
+load_status (Some (UnknownVersion _)) = 4
+load_status (Some WrongLength) = 5
+load_status (Some TooManyBytes) = 6
+load_status (Some InvalidArmed) = 7
+-- no check
+load_status (Some Memory) = 8

@@ -1,0 +1,147 @@
+"""Compares the header with the declarations of the Rattle side, from which the library is compiled.
+
+The prover sees neither the header nor the layout of a struct. So this reads the exported functions of crates/superio_c
+and the structs that are `repr(C)`, and says what the header has to declare: each name, each parameter in its order, each
+type. A C file of assertions, which a compiler checks, has the layout of the structs and the types of the functions.
+"""
+import re
+
+from libraries import HEADER, ROOT, SOURCE_FOLDERS
+
+# The header's name of each struct and number that crosses.
+STRUCTS = {
+    "SerialFields": "superio_serial",
+    "ReadEffects": "superio_serial_read_effects",
+    "WriteEffects": "superio_serial_write_effects",
+    "EnqueueEffects": "superio_serial_enqueue_effects",
+    "RtcFields": "superio_rtc",
+    "RtcReadEffects": "superio_rtc_read_effects",
+    "RtcWriteEffects": "superio_rtc_write_effects",
+    "I8042WriteEffects": "superio_i8042_write_effects",
+}
+NUMBERS = {
+    "u8": ("uint8_t", 1), "u16": ("uint16_t", 2), "u32": ("uint32_t", 4), "u64": ("uint64_t", 8),
+    "i64": ("int64_t", 8), "usize": ("size_t", 8), "bool": ("bool", 1),
+}
+EXPORT = re.compile(r'pub extern "C" fn (\w+)\((.*?)\)(?: -> (\w+))?\s*(?:ensures|\{)', re.S)
+STRUCT = re.compile(r"#\[repr\(C\)\]\s*(?:#\[[^\]]*\]\s*)*pub(?:\(\w+\))? struct (\w+) \{(.*?)\n\}", re.S)
+FIELD = re.compile(r"^\s*pub(?:\(\w+\))? (\w+): ([^,]+),", re.M)
+PROTOTYPE = re.compile(r"^(?:[\w ]+[ *])(superio_\w+)\(([^;]*?)\)[^;)]*(?:\([^)]*\)[^;)]*)*;", re.M)
+
+
+def sources():
+    paths = (path for folder in SOURCE_FOLDERS for path in sorted((ROOT / folder).rglob("*.rt")))
+    return [path.read_text(encoding="utf-8") for path in paths]
+
+
+def exports():
+    """Beside each exported function its parameters, as names with types, and what it returns."""
+    found = {}
+    for text in sources():
+        for name, parameters, returned in EXPORT.findall(text):
+            pairs = [re.match(r"_?(\w+): (.+)", part.strip()).groups() for part in parameters.split(",") if part.strip()]
+            found[name] = (pairs, returned or "()")
+    return found
+
+
+def structs():
+    """Beside each `repr(C)` struct its fields, as names with types."""
+    return {name: FIELD.findall(body) for text in sources() for name, body in STRUCT.findall(text)}
+
+
+def shape(kind, known):
+    """The size and the alignment of a type, by the rules of C."""
+    if kind in NUMBERS:
+        return NUMBERS[kind][1], NUMBERS[kind][1]
+    if array := re.fullmatch(r"\[(\w+); (\d+)\]", kind):
+        size, alignment = shape(array[1], known)
+        return size * int(array[2]), alignment
+    fields = list(flattened(kind, known))
+    alignment = max(shape(its_kind, known)[1] for _, its_kind, _ in fields)
+    end = fields[-1][2] + shape(fields[-1][1], known)[0]
+    return -(-end // alignment) * alignment, alignment
+
+
+def flattened(name, known, start=0):
+    """The fields of a struct with their types and offsets. A struct within it stands for its own fields."""
+    for field, kind in known[name]:
+        size, alignment = shape(kind, known)
+        start = -(-start // alignment) * alignment
+        if kind in known:
+            yield from flattened(kind, known, start)
+        else:
+            yield field, kind, start
+        start += size
+
+
+def c_parameters(pairs):
+    """The parameters in C, as names with types: a slice is a pointer and a count."""
+    for name, kind in pairs:
+        if kind == "&[u8]":
+            yield from ((name, "const uint8_t *"), ("count", "size_t"))
+        elif array := re.fullmatch(r"&mut \[u8; \w+\]", kind):
+            yield name, "uint8_t *"
+        elif pointer := re.fullmatch(r"&(mut )?(\w+)", kind):
+            yield name, f"{'' if pointer[1] else 'const '}{STRUCTS[pointer[2]]} *"
+        else:
+            yield name, NUMBERS[kind][0]
+
+
+def c_returned(kind):
+    return "void" if kind == "()" else STRUCTS.get(kind) or NUMBERS[kind][0]
+
+
+def header_code():
+    return re.sub(r"/\*.*?\*/|^\s*#.*?(?<!\\)$", "", HEADER.read_text(encoding="utf-8"), flags=re.S | re.M)
+
+
+def declared():
+    """Beside each function that the header declares the names of its parameters."""
+    found = {}
+    for name, parameters in PROTOTYPE.findall(header_code()):
+        parts = [part for part in re.sub(r"\[[^\]]*\]", "", parameters).split(",") if part.strip() != "void"]
+        found[name] = [re.search(r"(\w+)\s*$", part)[1] for part in parts]
+    return found
+
+
+def differences():
+    """What the header declares otherwise than the Rattle side, by name: functions, and parameters in their order."""
+    wanted = {name: [parameter for parameter, _ in c_parameters(pairs)] for name, (pairs, _) in exports().items()}
+    found = declared()
+    for name in sorted(wanted.keys() | found.keys()):
+        if wanted.get(name) != found.get(name):
+            yield f"{name}: the header has the parameters {found.get(name)}, and the library {wanted.get(name)}"
+    for name in STRUCTS.keys() - structs().keys():
+        yield f"no struct {name} is repr(C)"
+
+
+def struct_assertions(name, known):
+    """Assertions on the size of a struct, and on the place and type of each field."""
+    c_name = STRUCTS[name]
+    yield f"_Static_assert(sizeof({c_name}) == {shape(name, known)[0]}, \"size of {c_name}\");"
+    for field, kind, offset in flattened(name, known):
+        array = re.fullmatch(r"\[(\w+); (\d+)\]", kind)
+        pointer = f"{NUMBERS[array[1]][0]} (*)[{array[2]}]" if array else f"{NUMBERS[kind][0]} *"
+        yield f"_Static_assert(offsetof({c_name}, {field}) == {offset}, \"place of {c_name}.{field}\");"
+        is_typed = f"_Generic(&(({c_name} *)0)->{field}, {pointer}: 1, default: 0)"
+        yield f"_Static_assert({is_typed}, \"type of {c_name}.{field}\");"
+
+
+def assertions():
+    """A file in C, and in C++ but for the layout, that compiles if the header's types are those of the Rattle side."""
+    known = structs()
+    lines = ["#include <superio.h>", "#ifndef __cplusplus"]
+    for name in STRUCTS:
+        lines += struct_assertions(name, known)
+    lines += ["#endif", "int main(void) {"]
+    for name, (pairs, returned) in sorted(exports().items()):
+        types = ", ".join(kind for _, kind in c_parameters(pairs)) or "void"
+        lines.append(f"    {{ {c_returned(returned)} (*function)({types}) = {name}; (void)function; }}")
+    return "\n".join([*lines, "    return 0;", "}", ""])
+
+
+def versions():
+    """What the header has to have: the number of the binary interface, and the version that CHANGELOG.md begins with."""
+    abi = next(found[1] for text in sources() if (found := re.search(r"^const ABI: u32 = (\d+);", text, re.M)))
+    changes = (ROOT / "CHANGELOG.md").read_text(encoding="utf-8")
+    return abi, re.search(r"^## (\d+\.\d+\.\d+)", changes, re.M)[1]

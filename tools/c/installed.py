@@ -1,0 +1,115 @@
+"""The libraries that the repository holds, and what tools/c/install makes of them."""
+import os
+import re
+import sys
+import tempfile
+from pathlib import Path
+
+from declarations import declared, differences, versions
+from libraries import (HEADER, NEEDS_KIT, PREBUILT, ROOT, SHARED, STATIC, TARGETS, BuildError, build, host_target,
+                       source_line, sums_of)
+from programs import DEMO, check_demo
+from tally import run
+
+# What the libraries may need: a compiler copies structs by it, so each C program has it.
+NEEDED = {"memcpy"}
+INSTALL = ROOT / "tools" / "c" / "install"
+
+
+def check_prebuilt(tally):
+    """Counts whether the libraries are those of SHA256SUMS, and of the sources as they are."""
+    try:
+        sums, line = ((PREBUILT / name).read_text(encoding="ascii") for name in ("SHA256SUMS", "SOURCES"))
+        tally.check(sums == sums_of(PREBUILT), "prebuilt/SHA256SUMS has other sums than the files")
+        tally.check(line == source_line(), "prebuilt was built from other sources: run tools/c/prebuild")
+    except OSError as error:
+        tally.check(False, f"prebuilt is not whole: {error}")
+
+
+def has_same_bytes(path, other):
+    return path.is_file() and other.is_file() and path.read_bytes() == other.read_bytes()
+
+
+def check_build(tally):
+    """Counts whether a build from the proofs gives the same bytes."""
+    names = [f"{target}/{name}" for target in TARGETS for name in (STATIC, SHARED)]
+    if not tally.has("rt", "a build of the libraries from the proofs"):
+        return
+    with tempfile.TemporaryDirectory() as name:
+        try:
+            build(Path(name))
+        except BuildError as error:
+            tally.check(False, str(error))
+            return
+        for library in names:
+            tally.check(has_same_bytes(Path(name) / library, PREBUILT / library),
+                        f"prebuilt/{library} has other bytes than a build: run tools/c/prebuild")
+
+
+def symbols(library):
+    """The functions that a library defines, and the names that it needs."""
+    words = ["nm", "--dynamic"] if library.name == SHARED else ["nm"]
+    pairs = [line.split()[-2:] for line in run([*words, library]).stdout.splitlines() if len(line.split()) > 1]
+    return {name for kind, name in pairs if kind == "T"}, {name for kind, name in pairs if kind == "U"}
+
+
+def check_symbols(tally):
+    """Counts whether each library has the functions that the header declares, and needs no other library."""
+    if not tally.has("nm", "the symbols of the libraries"):
+        return
+    for library in (PREBUILT / target / name for target in sorted(TARGETS) for name in (STATIC, SHARED)):
+        defined, needed = symbols(library)
+        tally.check(defined == declared().keys(), f"{library}: not as declared: {sorted(defined ^ declared().keys())}")
+        tally.check(needed <= NEEDED, f"{library} needs {sorted(needed - NEEDED)}")
+
+
+def check_declarations(tally):
+    """Counts whether the header declares what the Rattle side has, and has the right versions."""
+    found = list(differences())
+    tally.check(not found, "\n".join(found))
+    text = HEADER.read_text(encoding="utf-8")
+    abi, version = versions()
+    tally.check(f"\n#define SUPERIO_ABI {abi}\n" in text, f"SUPERIO_ABI is not {abi}, the library's")
+    parts = re.findall(r"^#define SUPERIO_VERSION_(MAJOR|MINOR|PATCH) (\d+)$", text, re.M)
+    wanted = list(zip(["MAJOR", "MINOR", "PATCH"], version.split(".")))
+    tally.check(parts == wanted, f"the header's numbers are not {version}")
+    tally.check(f'\n#define SUPERIO_VERSION "{version}"\n' in text, f"SUPERIO_VERSION is not {version}, of CHANGELOG.md")
+
+
+def check_installed_files(tally, machine, prefix):
+    """Counts whether an installation has the files of the repository."""
+    for source, place in ((machine.library, "lib"), (machine.library.parent / SHARED, "lib"), (HEADER, "include"),
+                          (ROOT / "LICENSE", "share/licenses/superio")):
+        installed = prefix / place / source.name
+        tally.check(has_same_bytes(installed, source), f"{installed} is not {source}")
+
+
+def check_installed_demo(tally, machine, prefix, folder):
+    """Counts whether pkg-config knows an installation, and the demo builds with it."""
+    if not all(tally.has(tool, "the installed demo") for tool in ("pkg-config", "make", "cc")):
+        return
+    environment = dict(os.environ, PKG_CONFIG_PATH=str(prefix / "lib" / "pkgconfig"))
+    found = run(["pkg-config", "--modversion", "superio"], env=environment).stdout.strip()
+    tally.check(found == versions()[1], f"pkg-config says version {found}")
+    flags = run(["pkg-config", "--cflags", "--libs", "superio"], env=environment).stdout.strip()
+    check_demo(tally, "the installed demo", [f"FLAGS={flags}"], machine, folder)
+
+
+def check_install(tally, machine, folder):
+    """Counts what an installation has, and what an installation from the proofs says without the kit."""
+    prefix = folder / "prefix"
+    ran = run([sys.executable, INSTALL, "--prove", prefix], env=dict(os.environ, PATH=""))
+    tally.check((ran.returncode, ran.stdout) == (1, f"tools/c/install: {NEEDS_KIT}\n"),
+                f"tools/c/install --prove without rt: status {ran.returncode}\n{ran.stdout}")
+    if host_target() is None:
+        tally.skip("a library for this processor", "an installation")
+    elif tally.run("tools/c/install", [INSTALL, prefix], ""):
+        check_installed_files(tally, machine, prefix)
+        check_installed_demo(tally, machine, prefix, folder)
+
+
+def check_missing_library(tally, folder):
+    """Counts whether the demo's Makefile says what to do without a library."""
+    if tally.has("make", "the demo"):
+        ran = run(["make", "-s", "-C", DEMO, f"ROOT={folder / 'nothing'}", "-B"])
+        tally.check(ran.returncode != 0 and "Set ROOT" in ran.stdout, f"make without a library:\n{ran.stdout}")

@@ -1,0 +1,104 @@
+"""The C library of each processor: where it stands in `prebuilt`, and how it is built from the proofs."""
+import hashlib
+import platform
+import shutil
+import subprocess
+import sys
+import tempfile
+import time
+from pathlib import Path
+
+ROOT = Path(__file__).resolve().parent.parent.parent
+CRATE = ROOT / "crates" / "superio_c"
+PREBUILT = ROOT / "prebuilt"
+# What Cargo packs with the Rust crate has to stand in its folder, and links have no place in this repository.
+PACKED = ROOT / "bindings" / "rust" / "prebuilt"
+HEADER = ROOT / "include" / "superio.h"
+
+STATIC = "libsuperio_c.a"
+SHARED = "libsuperio.so.0"
+# Beside each folder of `prebuilt`: what `rt lib` is told to build for, and the linker's name of it. The host's is last,
+# so that it is what `out/` keeps.
+TARGETS = {
+    "aarch64-linux": (["--target", "aarch64-unknown-linux-gnu"], "aarch64linux"),
+    "x86_64-linux": (["--cpu=x86-64"], "elf_x86_64"),
+}
+# The crates whose sources are compiled into the library.
+SOURCE_FOLDERS = ["crates/superio_c/src", "crates/vm_superio/src"]
+NEEDS_KIT = "this needs the Rattle kit, whose command is `rt`. It is not public yet. The libraries in prebuilt need none"
+
+
+class BuildError(Exception):
+    """The library was not built, for the reason that the text gives."""
+
+
+def digest(path):
+    return hashlib.sha256(path.read_bytes()).hexdigest()
+
+
+def sums_of(folder):
+    """The text of SHA256SUMS for the libraries of a folder, as `sha256sum --check` reads it."""
+    names = [f"{target}/{name}" for target in sorted(TARGETS) for name in (STATIC, SHARED)]
+    return "".join(f"{digest(folder / name)}  {name}\n" for name in names)
+
+
+def source_line():
+    """What SOURCES says: the digest of what `sha256sum` prints of the sources, in the order of their paths."""
+    paths = sorted(path for folder in SOURCE_FOLDERS for path in (ROOT / folder).rglob("*.rt"))
+    names = sorted(path.relative_to(ROOT).as_posix() for path in paths)
+    listing = "".join(f"{digest(ROOT / name)}  {name}\n" for name in names)
+    return f"{hashlib.sha256(listing.encode()).hexdigest()}  the sources in {' and '.join(SOURCE_FOLDERS)}\n"
+
+
+def host_target():
+    """The folder of `prebuilt` for this machine, or `None` where there is none."""
+    target = f"{platform.machine()}-{platform.system().lower()}"
+    return target if target in TARGETS else None
+
+
+def run_logged(what, command, log, **options):
+    """Runs a command with a status line on standard error. Its output goes to a file, which is named if it fails."""
+    started = time.monotonic()
+    with open(log, "a", encoding="utf-8") as output:
+        running = subprocess.Popen(command, stdin=subprocess.DEVNULL, stdout=output, stderr=output, **options)
+        while running.poll() is None:
+            if sys.stderr.isatty():
+                print(f"\r\x1b[K{what}, {time.monotonic() - started:.0f} s", end="", file=sys.stderr, flush=True)
+            time.sleep(0.2)
+    if sys.stderr.isatty():
+        print("\r\x1b[K", end="", file=sys.stderr, flush=True)
+    if running.returncode != 0:
+        raise BuildError(f"{what} failed: {log} has what it printed")
+
+
+def linker():
+    """The linker of the kit, so that each machine links the same bytes."""
+    page = subprocess.run(["rt", "doc"], stdout=subprocess.PIPE, text=True, check=True).stdout.strip()
+    return Path(page).parent / "toolchain" / "bin" / "ld.lld"
+
+
+def link_shared(static, emulation, shared):
+    command = [linker(), "-shared", "-m", emulation, "-soname", SHARED, "--whole-archive", static, "-o", shared]
+    ran = subprocess.run(command, stdout=subprocess.PIPE, stderr=subprocess.STDOUT, text=True)
+    if ran.returncode != 0:
+        raise BuildError(f"linking {SHARED} failed: {ran.stdout}")
+
+
+def build(folder):
+    """Proves the crate, and builds what `prebuilt` holds into a folder."""
+    if not shutil.which("rt"):
+        raise BuildError(NEEDS_KIT)
+    log = Path(tempfile.mkdtemp(prefix="superio-")) / "log"
+    built = CRATE / "out" / STATIC
+    for target, (words, emulation) in TARGETS.items():
+        place = folder / target
+        place.mkdir(parents=True, exist_ok=True)
+        run_logged(f"proving and building the library for {target}", ["rt", "lib", *words], log, cwd=CRATE)
+        shutil.copyfile(built, place / STATIC)
+        link_shared(place / STATIC, emulation, place / SHARED)
+    shutil.rmtree(log.parent)
+    (folder / "SHA256SUMS").write_text(sums_of(folder), encoding="ascii")
+    (folder / "SOURCES").write_text(source_line(), encoding="ascii")
+    if folder == PREBUILT:
+        for target in TARGETS:
+            shutil.copyfile(PREBUILT / target / STATIC, PACKED / target / STATIC)

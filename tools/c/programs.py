@@ -1,0 +1,90 @@
+"""The programs that are built with the C library: tests, the comparison with a model, and the demo."""
+import shutil
+
+from declarations import assertions
+from libraries import ROOT
+from machines import C
+
+TESTS = ROOT / "tools" / "c" / "tests"
+DEMO = ROOT / "examples" / "c"
+CALLS = 1000000
+SANITIZERS = ["-g", "-O1", "-fsanitize=address,undefined", "-fno-sanitize-recover=all"]
+# A library whose number is another by DIFFERENCE.
+OTHER_ABI = """#include <superio.h>
+uint32_t superio_abi(void) { return (uint32_t)(SUPERIO_ABI + DIFFERENCE); }
+int main(void) { return SUPERIO_ABI_MATCHES() == (DIFFERENCE == 0) ? 0 : 1; }
+"""
+
+
+def build_and_run(tally, what, build, program, expected=None, runner=()):
+    """Counts whether a program is built, and then whether it does what it should."""
+    if tally.run(f"{what} is built", build):
+        tally.run(what, [*runner, program], expected)
+
+
+def check_header(tally, machine, folder):
+    """Counts whether the header compiles by itself, and has the types and the layout of the Rattle side."""
+    alone, compared = folder / "alone.c", folder / "compared.c"
+    alone.write_text("#include <superio.h>\n", encoding="ascii")
+    compared.write_text(assertions(), encoding="ascii")
+    for compiler in machine.compilers:
+        if tally.has(compiler.name, "the header"):
+            tally.run(f"the header under {compiler.title}", compiler.command([alone], ["-fsyntax-only"]))
+            newer = ["-std=c11"] if compiler.language == C else []
+            tally.run(f"the header's types and layout under {compiler.title}",
+                      compiler.command([compared], [*newer, "-fsyntax-only"]))
+
+
+def check_calls(tally, machine, folder):
+    """Counts whether each function does what the data sheets say, called from C and from C++."""
+    for compiler in machine.compilers:
+        if machine.can(tally, compiler, "calls of each function"):
+            program = folder / "calls"
+            build = machine.program(compiler, [TESTS / "calls.c"], program, ["-O1"])
+            what = f"calls.c for {machine.target} under {compiler.title}"
+            build_and_run(tally, what, build, program, "", machine.runner)
+
+
+def check_other_abi(tally, machine, folder):
+    """Counts whether a program notices a library of another binary interface."""
+    source, program = folder / "other_abi.c", folder / "other_abi"
+    source.write_text(OTHER_ABI, encoding="ascii")
+    for compiler in machine.compilers:
+        for difference in (0, 1, -1, 256, 65536):
+            if machine.can(tally, compiler, "a library of another binary interface"):
+                build = compiler.command([source], [*machine.options, f"-DDIFFERENCE={difference}", "-o", program])
+                build_and_run(tally, f"a library of interface {difference:+}", build, program, None, machine.runner)
+
+
+def fuzz_build(machine, compiler, program):
+    """The words that build the comparison with the model. What is emulated has no sanitizers."""
+    options = SANITIZERS if machine.is_host else ["-O2"]
+    return machine.program(compiler, [TESTS / "fuzz.c", TESTS / "model.c"], program, options)
+
+
+def check_fuzz(tally, machine, folder):
+    """Counts whether a million random calls do what the model does."""
+    compiler = next((it for it in machine.compilers if it.language == C and shutil.which(it.name)), machine.compilers[0])
+    if machine.can(tally, compiler, "random calls"):
+        program = folder / "fuzz"
+        if tally.run("the comparison with the model is built", fuzz_build(machine, compiler, program)):
+            command = [*machine.runner, program, str(CALLS), "1"]
+            tally.run(f"random calls for {machine.target}", command, f"{CALLS} calls\n")
+
+
+def check_demo(tally, what, make, machine, folder):
+    """Counts whether the demo builds by its Makefile, and prints what it should."""
+    place = folder / "demo"
+    shutil.rmtree(place, ignore_errors=True)
+    shutil.copytree(DEMO, place, ignore=shutil.ignore_patterns("monitor"))
+    expected = (DEMO / "expected").read_text(encoding="utf-8")
+    if tally.run(f"{what} is built", ["make", "-s", *make], cwd=place):
+        tally.run(what, [*machine.runner, "./monitor"], expected, cwd=place)
+
+
+def check_demos(tally, machine, folder):
+    """Counts what the demo does with the library of the repository."""
+    for compiler in machine.compilers:
+        if compiler.language == C and machine.can(tally, compiler, "the demo") and tally.has("make", "the demo"):
+            make = [f"CC={' '.join([compiler.name, *machine.options])}", f"ROOT={ROOT}", f"LIBRARY={machine.library}"]
+            check_demo(tally, f"the demo for {machine.target} under {compiler.name}", make, machine, folder)
