@@ -9,7 +9,7 @@ and with its standard output and standard error, each after its length.
 
 A script with an effective match is left out: the match register of the original has no effect, and that of the program
 is an alarm. Prints each script on which the two differ, up to ten, and how often each case was reached. With `--sample`
-it also writes the first N short scripts with the original's answers into FILE, as tests that replay them.
+it also writes the first N short scripts with the original's answers into FILE, a file of tests/.
 
 The program of tools/compare/original is such an ORIGINAL, for 64-bit Linux. To build it with Cargo, and to run both:
 
@@ -20,7 +20,9 @@ Without a registry, let FOLDER hold the package vm-superio 0.8.2, and add to the
 `--offline --config 'patch.crates-io.vm-superio.path="FOLDER"'`.
 """
 import argparse
+import json
 import os
+import re
 import shlex
 import struct
 import subprocess
@@ -34,8 +36,6 @@ CHUNK = 2_000
 
 # The scripts of the sample are no longer than this.
 SHORT = 200
-
-ESCAPES = {9: r"\t", 10: r"\n", 13: r"\r", 34: r'\"', 92: r"\\"}
 
 
 def by_original(original, chunk):
@@ -163,55 +163,34 @@ WANTED = {b"sr": 1, b"sw": 2, b"sq": 1, b"sc": 0, b"sd": 0, b"ss": 0, b"so": 0, 
           b"kw": 2, b"refuse": 1}
 
 
-def field(text):
-    """A field of the sample, which a byte FF ends. A space at its head is escaped: Rust skips it there in a line."""
-    if 0xFF in text:
-        raise ValueError(f"a byte FF in {text!r}")
-    shown = "".join(ESCAPES.get(byte) or (chr(byte) if 32 <= byte < 127 else rf"\x{byte:02X}") for byte in text)
-    return (r"\x20" + shown[1:] if shown.startswith(" ") else shown) + r"\xFF"
+def is_plain(script):
+    """Whether a script can stand line by line in a file of tests/."""
+    lines = script.split(b"\n")
+    return lines.pop() == b"" and lines and all(re.fullmatch(rb"[!-~]+( [!-~]+)*", line) for line in lines)
+
+
+def rows_of(script, answer):
+    """A script and its answer as `tools/scripts` reads them."""
+    status, out, err = answer
+    end = [err.decode().rstrip()] if status else []
+    if not is_plain(script):
+        replies = [f"replies {json.dumps(out.decode())}"] if out else []
+        return [f"script {json.dumps(script.decode('latin-1'))}", *replies, *end]
+    replies = [reply.decode() or "(empty)" for reply in out.split(b"\n")[:-1]]
+    lines = script.decode().splitlines()
+    has_mask = lines[0].startswith("refuse ") and err != b"bad line 1\n"
+    replies = [""] * has_mask + replies
+    replies += [""] * (len(lines) - len(replies))
+    return [f"{line:35}  {reply}".rstrip() for line, reply in zip(lines, replies)] + end
 
 
 def write_sample(path, seed, rows):
-    """A test that replays these scripts."""
-    with open(path, "w", encoding="ascii") as file:
-        file.write(f"""//! Scripts with what the original Rust crate, vm-superio 0.8.2, replies to them.
-//!
-//! Written by `tools/compare/compare.py --seed {seed} --sample`: the first {len(rows)} scripts of that seed that have at most
-//! {SHORT} bytes, with the replies of the original's own sources.
-use crate::scripts::expect_run;
-use std::str;
-use std::test::Fail;
-use superio_script::ScriptFault;
-
-/// A line for each script: the script, its replies and the number of its bad line, 0 if it has none. A byte FF ends each
-/// of them. One literal is proved in a third of the time of an array of rows.
-const SAMPLE: &[u8] = b"\\
-""")
-        lines = []
-        for script, (status, out, err) in rows:
-            bad_line = "0" if status == 0 else str(int(err.split()[2]))
-            lines.append(field(script) + field(out) + field(bad_line.encode()))
-        file.write("\\\n".join(lines))
-        file.write(f"""";
-
-#[test]
-fn replies_as_the_original(rt: HostRuntime) -> Result<(), Fail> {{
-    let mut fields = SAMPLE.split(|byte| *byte == 0xFF);
-    for _ in 0..{len(rows)} {{
-        let script = fields.next().ok_or("no script")?;
-        let replies = fields.next().ok_or("no replies")?;
-        let bad_line = fields.next().ok_or("no bad line")?;
-        let end = match str::from_utf8(bad_line)?.parse()? {{
-            0 => Ok(()),
-            line => Err(ScriptFault::Bad(line)),
-        }};
-        expect_run(&rt, rt.alloc(), script, replies, end);
-    }}
-    assert_eq!(rt; fields.next(), Some(b"".as_slice()));
-    assert_eq!(rt; fields.next(), None);
-    Ok(())
-}}
-""")
+    """Writes these scripts and their answers as a file of tests/."""
+    with open(path, "w", encoding="utf-8") as file:
+        file.write(f"# Scripts with the replies of the Rust crate vm-superio 0.8.2: the first {len(rows)} of seed {seed} that have at "
+                   f"most {SHORT} bytes, as\n# `tools/compare/compare.py --seed {seed} --sample` wrote them.\n")
+        for script, answer in rows:
+            file.write("\n" + "".join(row + "\n" for row in rows_of(script, answer)))
 
 
 def main():

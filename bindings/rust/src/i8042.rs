@@ -1,7 +1,31 @@
-//! An i8042 keyboard controller that only resets the machine.
+//! An i8042 keyboard controller, reduced to CPU reset.
 use crate::{ffi, Trigger};
 
 /// A keyboard controller that knows one command: 0xFE, written at offset 4, resets the machine.
+///
+/// # Example
+///
+/// ```
+/// use std::cell::Cell;
+/// use vm_superio::{I8042Device, Trigger};
+///
+/// #[derive(Default)]
+/// struct Reset(Cell<bool>);
+///
+/// impl Trigger for Reset {
+///     type E = std::convert::Infallible;
+///
+///     fn trigger(&self) -> Result<(), Self::E> {
+///         self.0.set(true);
+///         Ok(())
+///     }
+/// }
+///
+/// let mut controller = I8042Device::new(Reset::default());
+/// assert_eq!(controller.read(0), 0);
+/// controller.write(4, 0xFE).unwrap();
+/// assert!(controller.reset_evt().0.get());
+/// ```
 #[derive(Debug)]
 pub struct I8042Device<T: Trigger> {
     reset_evt: T,
@@ -28,7 +52,7 @@ impl<T: Trigger> I8042Device<T> {
     ///
     /// # Errors
     ///
-    /// That of the trigger, where the write is the reset command and the trigger refused the call.
+    /// The trigger's refusal of a reset command.
     pub fn write(&mut self, offset: u8, value: u8) -> Result<(), T::E> {
         if ffi::controller_write(offset, value).resets {
             self.reset_evt.trigger()?;

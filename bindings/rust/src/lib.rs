@@ -7,9 +7,12 @@
 //!
 //! - The match register of the clock is an [alarm](rtc_pl031), where that of vm-superio 0.8.2 has no effect.
 //! - A host whose clock is before 1970 has the moment 0, where vm-superio 0.8.2 panics.
-//! - [`Serial::retry_interrupts`], [`Rtc::is_armed`] and [`Rtc::set_armed`] are new.
 //! - Making a device or a default `SerialState` panics if the linked library has another binary interface than this
 //!   crate.
+//!
+//! New are [`Serial::retry_interrupts`], the [saved form](saved) of a state, [`SerialState::is_coherent`], the whole
+//! state of a clock ([`RtcSnapshot`](rtc_pl031::RtcSnapshot)), its accesses at a given moment, [`Rtc::line`] and
+//! [`Rtc::due`]. The feature `serde` derives `Serialize` and `Deserialize` for the states.
 //!
 //! # Example
 //!
@@ -42,6 +45,7 @@
 mod ffi;
 pub mod i8042;
 pub mod rtc_pl031;
+pub mod saved;
 pub mod serial;
 
 pub use i8042::I8042Device;
@@ -51,6 +55,27 @@ pub use serial::{Serial, SerialState};
 /// Notifies whoever raises an interrupt, or resets the machine.
 ///
 /// A device owns its trigger, and calls it for one event at a time.
+///
+/// # Example
+///
+/// A trigger that writes to an eventfd, which KVM has as an irqfd.
+///
+/// ```
+/// use std::fs::File;
+/// use std::io::{self, Write};
+/// use vm_superio::Trigger;
+///
+/// struct EventFd(File);
+///
+/// impl Trigger for EventFd {
+///     type E = io::Error;
+///
+///     fn trigger(&self) -> io::Result<()> {
+///         (&self.0).write_all(&1u64.to_ne_bytes())
+///     }
+/// }
+/// # EventFd(File::options().write(true).open("/dev/null").unwrap()).trigger().unwrap();
+/// ```
 pub trait Trigger {
     /// Why a call was refused.
     type E: std::fmt::Debug;

@@ -5,16 +5,46 @@
 //! In vm-superio 0.8.2 the match register RTCMR (0x004) only reads back what was written. Here it is an alarm. It raises
 //! bit 0 of the raw interrupt status at the first access at which guest time has come to a match that was not past when
 //! it was written. The clock has no trigger: a monitor that has an interrupt line for it sets the line after each access
-//! to whether `ris & imsc` of [`Rtc::state`] is not 0.
-//!
-//! [`RtcState`] has the five fields of vm-superio 0.8.2. Whether an alarm waits is beside it, in [`Rtc::is_armed`] and
-//! [`Rtc::set_armed`]. A clock that is restored from the five fields alone has no alarm that waits.
+//! to [`Rtc::line`], and makes an access when [`Rtc::due`] says so.
+use std::fmt;
 use std::sync::Arc;
 use std::time::{SystemTime, UNIX_EPOCH};
 
 use crate::ffi::Clock;
+use crate::saved::SavedStateError;
+
+/// The offset of RTCDR, which shows guest time.
+const RTCDR: u16 = 0x000;
+/// The offset of RTCMR, which sets an alarm if its value is not past.
+const RTCMR: u16 = 0x004;
+/// The offset of RTCLR, which sets guest time.
+const RTCLR: u16 = 0x008;
 
 /// Hears of the accesses that a clock cannot serve. A clock calls it for nothing else.
+///
+/// # Example
+///
+/// ```
+/// use std::cell::Cell;
+/// use std::sync::Arc;
+/// use vm_superio::rtc_pl031::{Rtc, RtcEvents};
+///
+/// #[derive(Default)]
+/// struct Refusals(Cell<u32>);
+///
+/// impl RtcEvents for Refusals {
+///     fn invalid_read(&self) { self.0.set(self.0.get() + 1); }
+///     fn invalid_write(&self) { self.0.set(self.0.get() + 1); }
+/// }
+///
+/// let refusals = Arc::new(Refusals::default()); // an `Arc` of an events object is one too
+/// let mut clock = Rtc::with_events(Arc::clone(&refusals));
+/// let mut data = [7; 4];
+/// clock.read(0x01C, &mut data); // RTCICR is write-only
+/// assert_eq!(data, [7; 4]);
+/// clock.write(0x000, &data); // RTCDR is read-only
+/// assert_eq!(refusals.0.get(), 2);
+/// ```
 pub trait RtcEvents {
     /// The guest read at an offset that shows nothing.
     fn invalid_read(&self);
@@ -43,8 +73,13 @@ impl<EV: RtcEvents> RtcEvents for Arc<EV> {
     }
 }
 
-/// What a clock's registers hold. Any numbers may be restored. The default state has zeros.
+/// What a clock's registers hold, as vm-superio 0.8.2 saves them. Any numbers may be restored. The default state has
+/// zeros.
+///
+/// These five fields do not say whether an alarm waits, so a clock that is restored from them has none.
+/// [`RtcSnapshot`] has the whole state.
 #[derive(Clone, Copy, Debug, Default, Eq, PartialEq)]
+#[cfg_attr(feature = "serde", derive(serde::Deserialize, serde::Serialize))]
 pub struct RtcState {
     /// The load register, RTCLR: the value that was loaded last, or 0 after a reset.
     pub lr: u32,
@@ -58,15 +93,100 @@ pub struct RtcState {
     pub ris: u32,
 }
 
+/// The whole state of a clock: its registers, and whether an alarm waits.
+///
+/// # Example
+///
+/// ```
+/// use vm_superio::rtc_pl031::{NoEvents, Rtc, RtcSnapshot};
+///
+/// let mut clock = Rtc::new();
+/// clock.write_at(0x004, &1_000u32.to_le_bytes(), 900); // an alarm in 100 seconds
+/// let bytes = clock.snapshot().to_bytes(); // goes to a file, or to another host
+///
+/// let snapshot = RtcSnapshot::from_bytes(&bytes).unwrap();
+/// assert!(snapshot.armed);
+/// let restored = Rtc::from_snapshot(&snapshot, NoEvents);
+/// assert_eq!(restored.due(950), Some(50));
+/// ```
+#[derive(Clone, Copy, Debug, Default, Eq, PartialEq)]
+#[cfg_attr(feature = "serde", derive(serde::Deserialize, serde::Serialize))]
+pub struct RtcSnapshot {
+    /// The registers.
+    pub state: RtcState,
+    /// Whether an alarm waits for guest time to come to the match.
+    pub armed: bool,
+}
+
+impl RtcSnapshot {
+    /// The saved form: 33 bytes, the same on every machine. A state has exactly one.
+    pub fn to_bytes(&self) -> Vec<u8> {
+        self.clock().save()
+    }
+
+    /// The state of a saved form.
+    ///
+    /// # Errors
+    ///
+    /// That which [`SavedStateError`] names first, if the bytes are the saved form of no clock.
+    pub fn from_bytes(bytes: &[u8]) -> Result<RtcSnapshot, SavedStateError> {
+        Clock::load(bytes).map(|clock| RtcSnapshot::of(&clock))
+    }
+
+    fn of(clock: &Clock) -> RtcSnapshot {
+        let Clock { lr, mr, imsc, ris, offset, armed } = *clock;
+        RtcSnapshot { state: RtcState { lr, offset, mr, imsc, ris }, armed: armed != 0 }
+    }
+
+    fn clock(&self) -> Clock {
+        let RtcState { lr, offset, mr, imsc, ris } = self.state;
+        Clock { lr, mr, imsc, ris, offset, armed: self.armed.into() }
+    }
+}
+
 /// A PL031 real-time clock, which shows the host's time until the guest sets another.
-#[derive(Debug)]
+///
+/// # Example
+///
+/// ```
+/// use vm_superio::Rtc;
+///
+/// const RTCDR: u16 = 0x000;
+/// const RTCLR: u16 = 0x008;
+///
+/// let mut clock = Rtc::new();
+/// clock.write(RTCLR, &1_000u32.to_le_bytes()); // the guest sets its time
+///
+/// let mut data = [0; 4];
+/// clock.read(RTCDR, &mut data);
+/// assert!((1_000..1_010).contains(&u32::from_le_bytes(data)));
+///
+/// // A test passes the moments, in seconds since 1970, and needs no clock.
+/// clock.write_at(RTCLR, &1_000u32.to_le_bytes(), 70_000);
+/// clock.read_at(RTCDR, &mut data, 70_007);
+/// assert_eq!(u32::from_le_bytes(data), 1_007);
+/// ```
 pub struct Rtc<EV: RtcEvents> {
     clock: Clock,
     events: EV,
 }
 
-/// The moment of an access, in seconds since 1970. A host whose clock is before that has the moment 0.
-fn now() -> u64 {
+impl<EV: RtcEvents + fmt::Debug> fmt::Debug for Rtc<EV> {
+    fn fmt(&self, f: &mut fmt::Formatter) -> fmt::Result {
+        let RtcState { lr, offset, mr, imsc, ris } = self.state();
+        f.debug_struct("Rtc")
+            .field("lr", &lr)
+            .field("offset", &offset)
+            .field("mr", &mr)
+            .field("imsc", &imsc)
+            .field("ris", &ris)
+            .field("events", &self.events)
+            .finish()
+    }
+}
+
+/// The host's time, in seconds since 1970, or 0 if its clock is before that.
+fn host_time() -> u64 {
     SystemTime::now().duration_since(UNIX_EPOCH).map_or(0, |time| time.as_secs())
 }
 
@@ -87,13 +207,13 @@ impl<EV: RtcEvents> Rtc<EV> {
     /// Makes a clock of this state, whatever numbers it has, without an alarm that waits. The events object is not
     /// called.
     pub fn from_state(state: &RtcState, rtc_events: EV) -> Self {
-        let mut rtc = Self::with_events(rtc_events);
-        rtc.clock.lr = state.lr;
-        rtc.clock.offset = state.offset;
-        rtc.clock.mr = state.mr;
-        rtc.clock.imsc = state.imsc;
-        rtc.clock.ris = state.ris;
-        rtc
+        Self::from_snapshot(&RtcSnapshot { state: *state, armed: false }, rtc_events)
+    }
+
+    /// Makes a clock of this whole state, whatever numbers it has. The events object is not called.
+    pub fn from_snapshot(snapshot: &RtcSnapshot, rtc_events: EV) -> Self {
+        crate::ffi::check_library();
+        Rtc { clock: snapshot.clock(), events: rtc_events }
     }
 
     /// Makes a clock of the default state. The events object is not called.
@@ -101,10 +221,14 @@ impl<EV: RtcEvents> Rtc<EV> {
         Rtc { clock: Clock::new(), events: rtc_events }
     }
 
-    /// The state, from which `from_state` makes the same clock again, but for an alarm that waits.
+    /// The registers; [`from_state`](Rtc::from_state) recreates the clock, except for an alarm that waits.
     pub fn state(&self) -> RtcState {
-        let Clock { lr, offset, mr, imsc, ris, .. } = self.clock;
-        RtcState { lr, offset, mr, imsc, ris }
+        self.snapshot().state
+    }
+
+    /// The whole state; [`from_snapshot`](Rtc::from_snapshot) recreates the clock.
+    pub fn snapshot(&self) -> RtcSnapshot {
+        RtcSnapshot::of(&self.clock)
     }
 
     /// Whether an alarm waits for guest time to come to the match.
@@ -112,9 +236,15 @@ impl<EV: RtcEvents> Rtc<EV> {
         self.clock.armed != 0
     }
 
-    /// Sets whether an alarm waits, as `is_armed` gave it when the state was saved.
-    pub fn set_armed(&mut self, armed: bool) {
-        self.clock.armed = armed.into();
+    /// Whether the interrupt line is up: an interrupt is raised and the mask lets it pass.
+    pub fn line(&self) -> bool {
+        self.clock.line()
+    }
+
+    /// In how many seconds after the moment `now` the alarm is due if the guest does nothing until then, or `None` if it
+    /// never is. An access at that moment raises the interrupt, and none before it does.
+    pub fn due(&self, now: u64) -> Option<u64> {
+        Some(self.clock.due(now)).filter(|seconds| *seconds != u64::MAX)
     }
 
     /// The events object.
@@ -126,7 +256,13 @@ impl<EV: RtcEvents> Rtc<EV> {
     ///
     /// A write where the clock takes none stores nothing, and calls `invalid_write` of the events object once.
     pub fn write(&mut self, offset: u16, data: &[u8; 4]) {
-        if self.clock.write(offset, u32::from_le_bytes(*data), now()).invalid_write {
+        let now = self.moment(matches!(offset, RTCMR | RTCLR));
+        self.write_at(offset, data, now);
+    }
+
+    /// [`write`](Rtc::write), at the moment `now` in seconds since 1970 in place of the host's time.
+    pub fn write_at(&mut self, offset: u16, data: &[u8; 4], now: u64) {
+        if self.clock.write(offset, u32::from_le_bytes(*data), now).invalid_write {
             self.events.invalid_write();
         }
     }
@@ -135,11 +271,26 @@ impl<EV: RtcEvents> Rtc<EV> {
     ///
     /// A read where the clock shows nothing leaves `data` as it was, and calls `invalid_read` of the events object once.
     pub fn read(&mut self, offset: u16, data: &mut [u8; 4]) {
-        let read = self.clock.read(offset, now());
+        let now = self.moment(offset == RTCDR);
+        self.read_at(offset, data, now);
+    }
+
+    /// [`read`](Rtc::read), at the moment `now` in seconds since 1970 in place of the host's time.
+    pub fn read_at(&mut self, offset: u16, data: &mut [u8; 4], now: u64) {
+        let read = self.clock.read(offset, now);
         if read.invalid_read {
             self.events.invalid_read();
         } else {
             *data = read.value.to_le_bytes();
+        }
+    }
+
+    /// The moment of an access. The host is asked for it only if the register or an alarm that waits depends on it.
+    fn moment(&self, is_timed: bool) -> u64 {
+        if is_timed || self.is_armed() {
+            host_time()
+        } else {
+            0
         }
     }
 }

@@ -51,6 +51,8 @@ pub struct Call {
     /// Whether the triggers refuse their first call, and the next one.
     pub refuses: [bool; 2],
     pub writing: Writing,
+    /// How many calls of objects come before the one that panics, which is caught outside the device.
+    pub panics_after: Option<u32>,
 }
 
 /// A call of an object.
@@ -71,7 +73,7 @@ pub enum Event {
 /// What can be seen of a call.
 #[derive(Debug, Eq, PartialEq)]
 pub struct Observed {
-    /// The value, or the error with its text.
+    /// The value, or the error or the panic with its text.
     pub reply: Result<u64, String>,
     pub events: Vec<Event>,
     pub serial: Port,

@@ -2,6 +2,7 @@
 use std::cell::{Cell, RefCell};
 use std::fmt;
 use std::io::{self, ErrorKind, Write};
+use std::panic::{AssertUnwindSafe, catch_unwind};
 use std::rc::Rc;
 
 use super::superio::rtc_pl031::{Rtc, RtcEvents, RtcState};
@@ -14,12 +15,17 @@ use crate::call::{Action, Call, Clock, Event, Observed, Port, Writing};
 struct Script {
     refuses: Cell<[bool; 2]>,
     writing: Cell<Option<Writing>>,
+    panics_after: Cell<Option<u32>>,
     events: RefCell<Vec<Event>>,
 }
 
 impl Script {
+    /// Notes a call of an object, and panics if it is the one that is to.
     fn note(&self, event: Event) {
         self.events.borrow_mut().push(event);
+        let left = self.panics_after.get();
+        self.panics_after.set(left.and_then(|calls| calls.checked_sub(1)));
+        assert!(left != Some(0), "an object panics");
     }
 }
 
@@ -127,7 +133,12 @@ impl Devices {
     pub fn make(&mut self, call: &Call) -> Observed {
         self.object.0.refuses.set(call.refuses);
         self.object.0.writing.set(Some(call.writing));
-        let reply = self.carry_out(&call.action).map_err(|error| format!("{error}"));
+        self.object.0.panics_after.set(call.panics_after);
+        let reply = match catch_unwind(AssertUnwindSafe(|| self.carry_out(&call.action))) {
+            Ok(reply) => reply.map_err(|error| format!("{error}")),
+            Err(_) => Err("panics".to_string()),
+        };
+        self.object.0.panics_after.set(None);
         Observed {
             reply,
             events: self.object.0.events.take(),

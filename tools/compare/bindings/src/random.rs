@@ -62,10 +62,12 @@ impl Random {
         let refused = self.below(16) as u8;
         let writing = [Writing::TakesNone, Writing::IsInterruptedOnce, Writing::Fails, Writing::FailsToFlush];
         let writing = self.one_of(&writing);
+        let panics_after = self.below(4) as u32;
         Call {
             action,
             refuses: [refused & 3 == 3, refused & 12 == 12],
             writing: if self.below(3) == 0 { writing } else { Writing::Takes },
+            panics_after: (self.below(8) == 0).then_some(panics_after),
         }
     }
 

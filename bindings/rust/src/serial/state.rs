@@ -1,0 +1,123 @@
+//! The saved state of a serial port.
+use crate::ffi::{SerialPort, FIFO_SIZE};
+use crate::saved::SavedStateError;
+
+/// What a port's registers and its receive FIFO hold. The default state is that of a new port.
+///
+/// # Example
+///
+/// ```
+/// use vm_superio::serial::NoEvents;
+/// use vm_superio::{Serial, SerialState};
+/// # use vm_superio::Trigger;
+/// # struct Silent;
+/// # impl Trigger for Silent {
+/// #     type E = std::convert::Infallible;
+/// #     fn trigger(&self) -> Result<(), Self::E> { Ok(()) }
+/// # }
+///
+/// let mut serial = Serial::new(Silent, Vec::new());
+/// serial.enqueue_raw_bytes(b"waiting").unwrap();
+/// let bytes = serial.state().to_bytes().unwrap(); // goes to a file, or to another host
+///
+/// let state = SerialState::from_bytes(&bytes).unwrap();
+/// assert!(state.is_coherent());
+/// let mut restored = Serial::from_state(&state, Silent, NoEvents, serial.into_writer()).unwrap();
+/// assert_eq!(restored.read(0), b'w');
+/// ```
+#[derive(Clone, Debug, Eq, PartialEq)]
+#[cfg_attr(feature = "serde", derive(serde::Deserialize, serde::Serialize))]
+pub struct SerialState {
+    /// DLL, the low byte of the divisor.
+    pub baud_divisor_low: u8,
+    /// DLM, the high byte of the divisor.
+    pub baud_divisor_high: u8,
+    /// IER: 0x01 enables the interrupt of received data, 0x02 that of an empty transmitter.
+    pub interrupt_enable: u8,
+    /// IIR without 0xC0: 0x04 if received data is pending, 0x02 if an empty transmitter is, and 0x01 if neither is.
+    pub interrupt_identification: u8,
+    /// LCR. Bit 0x80 puts the divisor at offsets 0 and 1.
+    pub line_control: u8,
+    /// LSR. Bit 0x01 is data ready.
+    pub line_status: u8,
+    /// MCR. Bit 0x10 is loopback.
+    pub modem_control: u8,
+    /// MSR.
+    pub modem_status: u8,
+    /// SCR.
+    pub scratch: u8,
+    /// The received bytes that the guest has not read, the oldest first: at most 64.
+    pub in_buffer: Vec<u8>,
+}
+
+impl Default for SerialState {
+    fn default() -> Self {
+        SerialState::of(&SerialPort::new())
+    }
+}
+
+impl SerialState {
+    /// Whether a port can come to this state from a new one, as far as its registers and bytes have to agree: at most 64
+    /// bytes, data ready if and only if there is one, an IIR of 1, 2, 4 or 6, and received data pending only if there is
+    /// a byte.
+    ///
+    /// Restoring any other state is safe too. A monitor that takes states from a source that it does not trust may
+    /// refuse one that is not coherent.
+    pub fn is_coherent(&self) -> bool {
+        self.port().map_or(false, |port| port.is_coherent())
+    }
+
+    /// The saved form: at most 81 bytes, the same on every machine. A state has exactly one.
+    ///
+    /// # Errors
+    ///
+    /// [`SavedStateError::TooManyBytes`] if `in_buffer` has more than 64 bytes.
+    pub fn to_bytes(&self) -> Result<Vec<u8>, SavedStateError> {
+        self.port().map(|port| port.save()).ok_or(SavedStateError::TooManyBytes)
+    }
+
+    /// The state of a saved form. It may be incoherent.
+    ///
+    /// # Errors
+    ///
+    /// That which [`SavedStateError`] names first, if the bytes are the saved form of no serial port.
+    pub fn from_bytes(bytes: &[u8]) -> Result<SerialState, SavedStateError> {
+        SerialPort::load(bytes).map(|port| SerialState::of(&port))
+    }
+
+    pub(crate) fn of(port: &SerialPort) -> SerialState {
+        SerialState {
+            baud_divisor_low: port.baud_divisor_low,
+            baud_divisor_high: port.baud_divisor_high,
+            interrupt_enable: port.interrupt_enable,
+            interrupt_identification: port.interrupt_identification,
+            line_control: port.line_control,
+            line_status: port.line_status,
+            modem_control: port.modem_control,
+            modem_status: port.modem_status,
+            scratch: port.scratch,
+            in_buffer: port.in_buffer().collect(),
+        }
+    }
+
+    /// The port of this state, or `None` if it has more bytes than a port holds.
+    pub(crate) fn port(&self) -> Option<SerialPort> {
+        let count = self.in_buffer.len();
+        let mut places = [0; FIFO_SIZE];
+        places.get_mut(..count)?.copy_from_slice(&self.in_buffer);
+        Some(SerialPort {
+            baud_divisor_low: self.baud_divisor_low,
+            baud_divisor_high: self.baud_divisor_high,
+            interrupt_enable: self.interrupt_enable,
+            interrupt_identification: self.interrupt_identification,
+            line_control: self.line_control,
+            line_status: self.line_status,
+            modem_control: self.modem_control,
+            modem_status: self.modem_status,
+            scratch: self.scratch,
+            first: 0,
+            held: count as u8, // at most FIFO_SIZE
+            places,
+        })
+    }
+}

@@ -1,0 +1,170 @@
+//! The saved form of a state, and what the derived impls print and compare.
+use std::io;
+use std::sync::Arc;
+
+use vm_superio::rtc_pl031::{self, RtcEvents, RtcSnapshot};
+use vm_superio::saved::SavedStateError;
+use vm_superio::serial::{self, SerialEvents};
+use vm_superio::{I8042Device, Rtc, RtcState, Serial, SerialState, Trigger};
+
+#[derive(Debug)]
+struct Silent;
+
+impl Trigger for Silent {
+    type E = ();
+
+    fn trigger(&self) -> Result<(), ()> {
+        Ok(())
+    }
+}
+
+/// A port that holds `!`, and whose guest has read a password.
+fn port_with_a_read_password() -> Serial<Silent, serial::NoEvents, Vec<u8>> {
+    let mut serial = Serial::new(Silent, Vec::new());
+    serial.enqueue_raw_bytes(b"swordfish!").unwrap();
+    for byte in *b"swordfish" {
+        assert_eq!(serial.read(0), byte);
+    }
+    serial
+}
+
+#[test]
+fn a_port_is_saved_byte_by_byte_without_what_the_guest_has_read() {
+    let saved = port_with_a_read_password().state();
+    let bytes = saved.to_bytes().unwrap();
+    assert_eq!(bytes, *b"SIOS\x01\x01\x0A\x00\x0C\x00\x00\x01\x03\x61\x08\xB0\x00!");
+    assert_eq!(SerialState::from_bytes(&bytes), Ok(saved));
+}
+
+#[test]
+fn what_is_no_saved_port_is_refused_for_the_first_reason() {
+    let good = SerialState::default().to_bytes().unwrap();
+    let changed = |place: usize, byte: u8| {
+        let mut bytes = good.clone();
+        bytes[place] = byte;
+        bytes
+    };
+    let full = |count: u8| [b"SIOS\x01\x01", [9 + count, 0].as_slice(), &vec![0; 9 + usize::from(count)]].concat();
+    for (bytes, error) in [
+        (good[..7].to_vec(), SavedStateError::TooShort),
+        (changed(3, b's'), SavedStateError::NotASavedState),
+        (changed(4, 2), SavedStateError::OtherDevice),
+        (changed(5, 3), SavedStateError::UnknownVersion(3)),
+        (changed(6, 10), SavedStateError::WrongLength),
+        (good[..16].to_vec(), SavedStateError::WrongLength),
+        (full(65), SavedStateError::TooManyBytes),
+    ] {
+        assert_eq!(SerialState::from_bytes(&bytes), Err(error));
+    }
+    assert_eq!(SerialState::from_bytes(&full(64)).unwrap().in_buffer, [0; 64]);
+    let too_many = SerialState { in_buffer: vec![0; 65], ..SerialState::default() };
+    assert_eq!(too_many.to_bytes(), Err(SavedStateError::TooManyBytes));
+    assert!(!too_many.is_coherent());
+    assert_eq!(SavedStateError::UnknownVersion(3).to_string(), "version 3 of saved states is not known");
+}
+
+#[test]
+fn coherent_states_are_those_that_a_new_port_can_come_to() {
+    let fresh = SerialState::default();
+    assert!(fresh.is_coherent());
+    assert!(port_with_a_read_password().state().is_coherent());
+    assert!(!SerialState { line_status: 0x61, ..fresh.clone() }.is_coherent());
+    assert!(!SerialState { interrupt_identification: 0x04, ..fresh.clone() }.is_coherent());
+    assert!(!SerialState { in_buffer: vec![0], ..fresh }.is_coherent());
+}
+
+#[test]
+fn a_clock_is_saved_byte_by_byte_with_its_alarm() {
+    let state = RtcState { lr: 0x0102_0304, offset: -2, mr: 0x0506_0708, imsc: 1, ris: 0x8000_0000 };
+    let snapshot = RtcSnapshot { state, armed: true };
+    let bytes = snapshot.to_bytes();
+    let mut expected = b"SIOS\x02\x01\x19\x00\x04\x03\x02\x01\x08\x07\x06\x05\x01\0\0\0\0\0\0\x80".to_vec();
+    expected.extend([0xFE, 0xFF, 0xFF, 0xFF, 0xFF, 0xFF, 0xFF, 0xFF, 1]);
+    assert_eq!(bytes, expected);
+    assert_eq!(RtcSnapshot::from_bytes(&bytes), Ok(snapshot));
+    expected[32] = 2;
+    assert_eq!(RtcSnapshot::from_bytes(&expected), Err(SavedStateError::InvalidArmed));
+    assert_eq!(RtcSnapshot::from_bytes(&expected[..32]), Err(SavedStateError::WrongLength));
+}
+
+#[test]
+fn the_line_and_the_due_time_follow_from_the_moment() {
+    let mut clock = Rtc::new();
+    assert_eq!(clock.due(0), None);
+    clock.write_at(0x010, &1u32.to_le_bytes(), 50); // the mask lets the interrupt pass
+    clock.write_at(0x004, &100u32.to_le_bytes(), 50);
+    assert_eq!((clock.due(60), clock.due(100), clock.due(101)), (Some(40), Some(0), Some(0)));
+    let mut data = [0; 4];
+    clock.read_at(0x014, &mut data, 99);
+    assert!(!clock.line());
+    clock.read_at(0x014, &mut data, 100);
+    assert!(clock.line());
+    assert_eq!((data, clock.due(200)), ([1, 0, 0, 0], None));
+}
+
+#[test]
+fn devices_print_their_registers_and_no_byte_that_the_guest_has_read() {
+    let registers = "baud_divisor_low: 12, baud_divisor_high: 0, interrupt_enable: 0, interrupt_identification: 1, \
+         line_control: 3, line_status: 97, modem_control: 8, modem_status: 176, scratch: 0, in_buffer: [33]";
+    let serial = port_with_a_read_password();
+    let objects = "interrupt_evt: Silent, events: NoEvents, out: []";
+    assert_eq!(format!("{serial:?}"), format!("Serial {{ {registers}, {objects} }}"));
+    assert_eq!(format!("{:?}", serial.state()), format!("SerialState {{ {registers} }}"));
+    let clock = "lr: 0, offset: 0, mr: 0, imsc: 0, ris: 0";
+    assert_eq!(format!("{:?}", Rtc::new()), format!("Rtc {{ {clock}, events: NoEvents }}"));
+    assert_eq!(format!("{:?}", RtcState::default()), format!("RtcState {{ {clock} }}"));
+    assert_eq!(format!("{:?}", I8042Device::new(Silent)), "I8042Device { reset_evt: Silent }");
+    assert_eq!(format!("{:?}", serial::Error::<u8>::Trigger(1)), "Trigger(1)");
+}
+
+/// Says which of its methods was called.
+struct Named;
+
+impl SerialEvents for Named {
+    fn buffer_read(&self) {
+        panic!("buffer_read");
+    }
+
+    fn out_byte(&self) {
+        panic!("out_byte");
+    }
+
+    fn tx_lost_byte(&self) {
+        panic!("tx_lost_byte");
+    }
+
+    fn in_buffer_empty(&self) {
+        panic!("in_buffer_empty");
+    }
+}
+
+impl RtcEvents for Named {
+    fn invalid_read(&self) {
+        panic!("invalid_read");
+    }
+
+    fn invalid_write(&self) {
+        panic!("invalid_write");
+    }
+}
+
+/// The text of the panic of a call.
+fn said(call: impl FnOnce()) -> String {
+    let panic = std::panic::catch_unwind(std::panic::AssertUnwindSafe(call)).unwrap_err();
+    panic.downcast_ref::<&str>().map(|text| text.to_string()).unwrap_or_default()
+}
+
+#[test]
+fn an_arc_and_no_events_pass_each_event_on() {
+    let arc = Arc::new(Named);
+    assert_eq!(said(|| SerialEvents::buffer_read(&arc)), "buffer_read");
+    assert_eq!(said(|| SerialEvents::out_byte(&arc)), "out_byte");
+    assert_eq!(said(|| SerialEvents::tx_lost_byte(&arc)), "tx_lost_byte");
+    assert_eq!(said(|| SerialEvents::in_buffer_empty(&arc)), "in_buffer_empty");
+    assert_eq!(said(|| RtcEvents::invalid_read(&arc)), "invalid_read");
+    assert_eq!(said(|| RtcEvents::invalid_write(&arc)), "invalid_write");
+    let mut quiet = Serial::with_events(Silent, serial::NoEvents, io::sink());
+    quiet.write(0, b'a').unwrap();
+    quiet.read(0);
+    Rtc::with_events(rtc_pl031::NoEvents).read(0x01C, &mut [0; 4]);
+}

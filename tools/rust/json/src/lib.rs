@@ -1,0 +1,37 @@
+//! Takes saved states through JSON. The field names are those of vm-superio's states.
+#![cfg(test)]
+
+use serde_json::{from_value, json, to_value};
+use vm_superio::rtc_pl031::RtcSnapshot;
+use vm_superio::{RtcState, SerialState};
+
+#[test]
+fn a_state_of_the_serial_port() {
+    let state = SerialState { baud_divisor_high: 1, scratch: 7, in_buffer: b"ab".to_vec(), ..SerialState::default() };
+    let text = json!({
+        "baud_divisor_low": 12, "baud_divisor_high": 1, "interrupt_enable": 0, "interrupt_identification": 1,
+        "line_control": 3, "line_status": 96, "modem_control": 8, "modem_status": 176, "scratch": 7,
+        "in_buffer": [97, 98],
+    });
+    assert_eq!(to_value(&state).unwrap(), text);
+    assert_eq!(from_value::<SerialState>(text).unwrap(), state);
+}
+
+#[test]
+fn a_state_of_the_clock_and_its_snapshot() {
+    let state = RtcState { lr: 1, offset: -2, mr: u32::MAX, imsc: 1, ris: 3 };
+    let text = json!({ "lr": 1, "offset": -2, "mr": u32::MAX, "imsc": 1, "ris": 3 });
+    assert_eq!(to_value(state).unwrap(), text);
+    assert_eq!(from_value::<RtcState>(text.clone()).unwrap(), state);
+    let snapshot = RtcSnapshot { state, armed: true };
+    let text = json!({ "state": text, "armed": true });
+    assert_eq!(to_value(snapshot).unwrap(), text);
+    assert_eq!(from_value::<RtcSnapshot>(text).unwrap(), snapshot);
+}
+
+#[test]
+fn a_number_out_of_range_is_refused() {
+    let mut text = to_value(SerialState::default()).unwrap();
+    text["scratch"] = json!(256);
+    assert!(from_value::<SerialState>(text).is_err());
+}
