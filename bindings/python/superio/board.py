@@ -1,0 +1,221 @@
+"""The board that the lines of a script drive: three devices, an interrupt line and an output of 256 bytes.
+
+It replies to each line as the program `superio` does.
+"""
+from typing import Callable, Dict, List, NamedTuple, Optional, Tuple
+
+from .devices import I8042, Rtc, Serial
+from .saved import SavedStateError
+from .script import Command
+from .states import RtcState, SerialState
+
+__all__ = ["Board", "Call", "Counts", "InterruptLine", "OUTPUT_SIZE", "Snapshot"]
+
+OUTPUT_SIZE = 256
+"""How many bytes the board's output takes. Each byte after them is lost."""
+
+
+class InterruptLine:
+    """An interrupt line that numbers its calls from 0. It refuses call k, below 64, if bit k of its mask is set."""
+
+    def __init__(self, mask: int = 0) -> None:
+        self.mask = mask
+        self.calls = 0
+
+    def ask(self) -> bool:
+        """Calls the line. Returns whether it took the call."""
+        number = self.calls
+        self.calls += 1
+        return not self.mask >> number & 1
+
+
+class Counts(NamedTuple):
+    """How often each event of the serial port was reported."""
+
+    buffer_read: int = 0
+    out_byte: int = 0
+    tx_lost_byte: int = 0
+    in_buffer_empty: int = 0
+
+
+class Snapshot(NamedTuple):
+    """What the board is at a moment."""
+
+    serial: SerialState
+    clock: RtcState
+    sent: int
+    """How many bytes went out."""
+    calls: int
+    """How often the interrupt line was called."""
+    counts: Counts
+
+
+class Call(NamedTuple):
+    """A line that the board carried out."""
+
+    number: int
+    """How many lines the board had carried out, this one included."""
+    command: Command
+    reply: Optional[str]
+    """What a script prints for it, without the LF; `None` if it prints nothing."""
+    before: Snapshot
+    after: Snapshot
+    answers: Tuple[bool, ...]
+    """What the interrupt line answered: whether it took each call."""
+    is_lost: bool
+    """Whether the line wrote a byte for which the output had no room."""
+
+
+class Board:
+    """A serial port, a clock and a reset controller, with an interrupt line and an output.
+
+    >>> board = Board()
+    >>> board.run(parse(b"sw 00 48")).reply
+    'ok'
+    >>> bytes(board.output)
+    b'H'
+    """
+
+    def __init__(self) -> None:
+        self.serial = Serial()
+        self.clock = Rtc()
+        self.controller = I8042()
+        self.line = InterruptLine()
+        self.output = bytearray()
+        self.counts = Counts()
+        self.number = 0
+        self._answers: List[bool] = []
+        self._is_lost = False
+        self._replies: Dict[str, Callable[..., Optional[str]]] = {
+            "refuse": self._refuse, "sr": self._serial_read, "sw": self._serial_write, "sq": self._enqueue,
+            "sc": self._capacity, "sd": self._drain, "ss": self._restore, "so": self._output, "st": self._line_calls,
+            "se": self._events, "cr": self._clock_read, "cw": self._clock_write, "kr": self._controller_read,
+            "kw": self._controller_write, "sb": self._save, "sl": self._load, "cb": self._clock_save,
+            "cl": self._clock_load,
+        }
+
+    def reply(self, command: Command) -> Optional[str]:
+        """Carries out a command. Returns the line that a script prints for it, without the LF, or `None` if none."""
+        self._answers = []
+        self._is_lost = False
+        self.number += 1
+        return self._replies[command.name](*command.values)
+
+    def run(self, command: Command) -> Call:
+        """Carries out a command. Returns what it did."""
+        before = self.snapshot()
+        reply = self.reply(command)
+        return Call(self.number, command, reply, before, self.snapshot(), tuple(self._answers), self._is_lost)
+
+    def snapshot(self) -> Snapshot:
+        """What the board is now."""
+        return Snapshot(self.serial.state, self.clock.state, len(self.output), self.line.calls, self.counts)
+
+    def _refuse(self, mask: int) -> None:
+        self.line = InterruptLine(mask)
+
+    def _ask(self, times: int) -> bool:
+        """Asks for the interrupt that often, up to a refusal. Returns whether there was none."""
+        for _ in range(times):
+            self._answers.append(self.line.ask())
+            if not self._answers[-1]:
+                return False
+        return True
+
+    def _serial_read(self, offset: int) -> str:
+        return f"{self._read(offset):02x}"
+
+    def _read(self, offset: int) -> int:
+        done = self.serial.read(offset)
+        self._count(buffer_read=done.buffer_read, in_buffer_empty=done.in_buffer_empty)
+        return done.byte
+
+    def _serial_write(self, offset: int, value: int) -> str:
+        done = self.serial.write(offset, value)
+        if done.sends:
+            self._send(value)
+        is_taken = self._ask(done.interrupts)
+        if done.interrupts == 2 and not self._answers[0]:
+            self.serial.first_refused()
+        return "trigger" if not is_taken else "io" if self._is_lost else "ok"
+
+    def _send(self, value: int) -> None:
+        self._is_lost = len(self.output) == OUTPUT_SIZE
+        if not self._is_lost:
+            self.output.append(value)
+        self._count(out_byte=not self._is_lost, tx_lost_byte=self._is_lost)
+
+    def _count(self, **events: bool) -> None:
+        if any(events.values()):
+            self.counts = self.counts._replace(**{name: getattr(self.counts, name) + happened
+                                                  for name, happened in events.items()})
+
+    def _enqueue(self, data: bytes = b"") -> str:
+        done = self.serial.enqueue(data)
+        is_taken = self._ask(done.interrupts)
+        return "full" if done.full else f"{done.taken:02x}" if is_taken else "trigger"
+
+    def _capacity(self) -> str:
+        return f"{self.serial.fifo_capacity():02x}"
+
+    def _drain(self) -> str:
+        """What the guest's driver reads: while LSR shows data ready, it reads RBR. With DLAB set it does not."""
+        drained = bytearray()
+        if not self._read(3) & 0x80:
+            while self._read(5) & 0x01:
+                drained.append(self._read(0))
+        return drained.hex()
+
+    def _restore(self) -> str:
+        return self._replace_port(Serial.from_state(self.serial.state))
+
+    def _replace_port(self, port: Serial) -> str:
+        """Puts another port in the place of this one. It asks for what is pending and enabled. If that is refused, this
+        one stays, and the calls do not count."""
+        calls = self.line.calls
+        if self._ask(port.interrupts_due()):
+            self.serial = port
+            return "ok"
+        self.line.calls = calls
+        return "trigger"
+
+    def _save(self) -> str:
+        return self.serial.to_bytes().hex()
+
+    def _load(self, data: bytes) -> str:
+        try:
+            return self._replace_port(Serial.from_bytes(data))
+        except SavedStateError as error:
+            return str(error)
+
+    def _clock_save(self) -> str:
+        return self.clock.to_bytes().hex()
+
+    def _clock_load(self, data: bytes) -> str:
+        try:
+            self.clock = Rtc.from_bytes(data)
+        except SavedStateError as error:
+            return str(error)
+        return "ok"
+
+    def _output(self) -> str:
+        return self.output.hex()
+
+    def _line_calls(self) -> str:
+        return f"{self.line.calls:016x}"
+
+    def _events(self) -> str:
+        return " ".join(f"{count:016x}" for count in self.counts)
+
+    def _clock_read(self, now: int, offset: int) -> str:
+        done = self.clock.read(offset, now)
+        return "invalid" if done.invalid_read else f"{done.value:08x}"
+
+    def _clock_write(self, now: int, offset: int, value: int) -> str:
+        return "invalid" if self.clock.write(offset, value, now).invalid_write else "ok"
+
+    def _controller_read(self, offset: int) -> str:
+        return f"{self.controller.read(offset):02x}"
+
+    def _controller_write(self, offset: int, value: int) -> str:
+        return "reset" if self.controller.write(offset, value).resets else "ok"

@@ -1,0 +1,342 @@
+"""The devices as Python objects, over the functions of superio.h.
+
+A call returns its effects: what is left for the caller to do. There are no callbacks. An offset is a number, or the
+name of a register. A number out of range raises `ValueError` and changes nothing.
+"""
+from ctypes import byref
+from operator import index
+from typing import NamedTuple, Optional, Union
+
+from .library import load
+from .registers import CLOCK, SERIAL, Register, bit_names, clock_offset, serial_offset
+from .saved import RTC_SAVED_SIZE, SERIAL_SAVED_MAX, load_bytes, saved_bytes
+from .states import RtcState, SerialState
+from .structs import FIFO_SIZE, RtcStruct, SerialStruct
+
+__all__ = ["EnqueueEffects", "I8042", "I8042WriteEffects", "ReadEffects", "Rtc", "RtcReadEffects", "RtcWriteEffects",
+           "Serial", "WriteEffects"]
+
+_NEVER = 2 ** 64 - 1
+_REGISTERS = ("baud_divisor_low", "baud_divisor_high", "interrupt_enable", "interrupt_identification", "line_control",
+              "line_status", "modem_control", "modem_status", "scratch")
+
+
+class ReadEffects(NamedTuple):
+    """What a read of the serial port did."""
+
+    byte: int
+    """What the guest reads."""
+    buffer_read: bool
+    """Event: the guest read the data register."""
+    in_buffer_empty: bool
+    """Event: it did, and no byte is held now."""
+
+
+class WriteEffects(NamedTuple):
+    """What a write to the serial port leaves to the caller."""
+
+    sends: bool
+    """The written value goes out."""
+    interrupts: int
+    """How often to ask for the interrupt: 0 to 2 times."""
+
+
+class EnqueueEffects(NamedTuple):
+    """What an enqueue did, and leaves to the caller."""
+
+    taken: int
+    """How many of the bytes were taken, first ones first."""
+    full: bool
+    """There were bytes, but room for none."""
+    interrupts: int
+    """How often to ask for the interrupt: 0 or 1 times."""
+
+
+class RtcReadEffects(NamedTuple):
+    """What a read of the clock did."""
+
+    value: int
+    """The number whose bytes are read, lowest first."""
+    invalid_read: bool
+    """Event: there is nothing to read here; `value` is 0."""
+
+
+class RtcWriteEffects(NamedTuple):
+    """What a write to the clock did."""
+
+    invalid_write: bool
+    """Event: this offset takes no write."""
+
+
+class I8042WriteEffects(NamedTuple):
+    """What a write to the reset controller leaves to the caller."""
+
+    resets: bool
+    """The guest asks to reset the machine."""
+
+
+def _number(name: str, value: int, bits: int) -> int:
+    number = index(value)
+    if not 0 <= number < 1 << bits:
+        raise ValueError(f"{name} is {value}, and a number of {bits} bits is wanted")
+    return number
+
+
+class Serial:
+    """A 16550 serial port with a receive FIFO of 64 bytes.
+
+    >>> port = Serial()
+    >>> port.write("IER", 0x01)
+    WriteEffects(sends=False, interrupts=0)
+    >>> port.enqueue(b"hi")
+    EnqueueEffects(taken=2, full=False, interrupts=1)
+    >>> chr(port.read("RBR").byte)
+    'h'
+    """
+
+    __slots__ = ("_library", "_struct", "_pointer", "_raw", "_state")
+
+    def __init__(self) -> None:
+        """A new port: divisor 12, 8 bits a character, OUT2 set, and nothing enabled, pending or held."""
+        self._library = load()
+        self._take(self._library.superio_serial_new())
+
+    def read(self, offset: Union[int, str]) -> ReadEffects:
+        """The guest reads at an offset, 0 to 255, or a register by its name. A read asks for no interrupt.
+
+        Raises `RegisterError` if no register has the name, or if the read would reach another one.
+        """
+        done = self._library.superio_serial_read(self._pointer, self._offset(offset, False))
+        return ReadEffects(done.byte, done.buffer_read, done.in_buffer_empty)
+
+    def write(self, offset: Union[int, str], value: int) -> WriteEffects:
+        """The guest writes a value, 0 to 255, at an offset, 0 to 255, or to a register by its name.
+
+        Afterwards send the value if `sends` is true, and then ask for the interrupt as often as `interrupts` says, up
+        to the first refusal. Call `first_refused` if `interrupts` is 2 and the first of the two was refused.
+
+        Raises `RegisterError` if no register has the name, or if the write would reach another one.
+        """
+        done = self._library.superio_serial_write(self._pointer, self._offset(offset, True), _number("value", value, 8))
+        return WriteEffects(done.sends, done.interrupts)
+
+    def first_refused(self) -> None:
+        """Tells the port, after a write that asked for two interrupts, that the first of them was refused."""
+        self._library.superio_serial_first_refused(self._pointer)
+
+    def enqueue(self, data: bytes) -> EnqueueEffects:
+        """Bytes arrive for the guest. The first of them are taken, as many as there is room for, and in loopback none.
+
+        Afterwards ask for the interrupt as often as `interrupts` says. Keep the bytes that were not taken, and offer
+        them again when a read tells `in_buffer_empty`, or when the guest leaves loopback.
+        """
+        data = bytes(data)
+        done = self._library.superio_serial_enqueue(self._pointer, data, len(data))
+        return EnqueueEffects(done.taken, done.full, done.interrupts)
+
+    def fifo_capacity(self) -> int:
+        """How many bytes there is room for: 64 less those that are held."""
+        return self._library.superio_serial_fifo_capacity(self._pointer)
+
+    def interrupts_due(self) -> int:
+        """How often to ask for the interrupt now: once for each condition that is pending and enabled, 0 to 2 times.
+
+        Ask that often after a restore, and again some time after a refusal. The port does not change.
+        """
+        return self._library.superio_serial_interrupts_due(self._pointer)
+
+    def is_coherent(self) -> bool:
+        """Whether the port is coherent, as a new one is and stays. A restored one need not be, and is safe anyway."""
+        return self._library.superio_serial_is_coherent(self._pointer)
+
+    def to_bytes(self) -> bytes:
+        """The port as a saved state, which `from_bytes`, C, Rust and Rattle read on any machine."""
+        return saved_bytes(self._library.superio_serial_save, self._struct, SERIAL_SAVED_MAX)
+
+    @classmethod
+    def from_bytes(cls, data: bytes) -> "Serial":
+        """The port of a saved state. Afterwards ask for the interrupt as often as `interrupts_due` says.
+
+        Raises `SavedStateError` if the bytes are no saved state of a serial port.
+        """
+        port = cls()
+        load_bytes(port._library.superio_serial_load, port._struct, data)
+        return port
+
+    @property
+    def state(self) -> SerialState:
+        """The registers and the held bytes, as a value."""
+        raw = bytes(self._struct)
+        if raw != self._raw:
+            self._raw, self._state = raw, _serial_state(self._struct)
+        return self._state
+
+    @classmethod
+    def from_state(cls, state: SerialState) -> "Serial":
+        """A port of this state. Afterwards ask for the interrupt as often as `interrupts_due` says."""
+        port = cls()
+        device = port._struct
+        for name in _REGISTERS:
+            setattr(device, name, getattr(state, name))
+        device.first, device.held = 0, len(state.in_buffer)
+        device.places[:] = state.in_buffer.ljust(FIFO_SIZE, b"\0")
+        return port
+
+    def __copy__(self) -> "Serial":
+        other = type(self)()
+        other._take(SerialStruct.from_buffer_copy(self._struct))
+        return other
+
+    def __repr__(self) -> str:
+        state = self.state
+        shown = [_decoded(SERIAL[name], getattr(state, field))
+                 for name, field in zip(("IER", "IIR", "LCR", "LSR", "MCR", "MSR", "SCR"), _REGISTERS[2:])]
+        divisor = state.baud_divisor_high << 8 | state.baud_divisor_low
+        return f"<Serial divisor={divisor} {' '.join(shown)} in_buffer={state.in_buffer!r}>"
+
+    def _take(self, struct: SerialStruct) -> None:
+        self._struct = struct
+        self._pointer = byref(struct)
+        self._raw = b""
+
+    def _offset(self, offset: Union[int, str], is_write: bool) -> int:
+        if isinstance(offset, str):
+            return serial_offset(offset, self._struct.line_control, is_write)
+        return _number("offset", offset, 8)
+
+
+class Rtc:
+    """A PL031 real-time clock, which counts seconds.
+
+    It reads no clock of the host: each access is given its moment `now`, in seconds since 1970, of which the low 32
+    bits count.
+
+    >>> clock = Rtc()
+    >>> clock.write("LR", 100, now=1000)
+    RtcWriteEffects(invalid_write=False)
+    >>> clock.read("DR", now=1007).value
+    107
+    """
+
+    __slots__ = ("_library", "_struct", "_pointer", "_raw", "_state")
+
+    def __init__(self) -> None:
+        """A new clock: guest time is the host's, and no alarm is set."""
+        self._library = load()
+        self._take(self._library.superio_rtc_new())
+
+    def read(self, offset: Union[int, str], now: int) -> RtcReadEffects:
+        """The guest reads four bytes at an offset, 0 to 0xFFFF, or a register by its name, at a moment.
+
+        Raises `RegisterError` if no register has the name.
+        """
+        done = self._library.superio_rtc_read(self._pointer, _clock_offset(offset), _number("now", now, 64))
+        return RtcReadEffects(done.value, done.invalid_read)
+
+    def write(self, offset: Union[int, str], value: int, now: int) -> RtcWriteEffects:
+        """The guest writes a value of 32 bits at an offset, 0 to 0xFFFF, or to a register by its name, at a moment.
+
+        Raises `RegisterError` if no register has the name.
+        """
+        done = self._library.superio_rtc_write(self._pointer, _clock_offset(offset), _number("value", value, 32),
+                                               _number("now", now, 64))
+        return RtcWriteEffects(done.invalid_write)
+
+    def line(self) -> bool:
+        """Whether the clock's interrupt line is up. Look after each access, and when the alarm is due."""
+        return self._library.superio_rtc_line(self._pointer)
+
+    def due(self, now: int) -> Optional[int]:
+        """In how many seconds from a moment the alarm is due if the guest does nothing, `None` if it never is."""
+        seconds = self._library.superio_rtc_due(self._pointer, _number("now", now, 64))
+        return None if seconds == _NEVER else seconds
+
+    def to_bytes(self) -> bytes:
+        """The clock as a saved state, which `from_bytes`, C, Rust and Rattle read on any machine."""
+        return saved_bytes(self._library.superio_rtc_save, self._struct, RTC_SAVED_SIZE)
+
+    @classmethod
+    def from_bytes(cls, data: bytes) -> "Rtc":
+        """The clock of a saved state.
+
+        Raises `SavedStateError` if the bytes are no saved state of a clock.
+        """
+        clock = cls()
+        load_bytes(clock._library.superio_rtc_load, clock._struct, data)
+        return clock
+
+    @property
+    def state(self) -> RtcState:
+        """The registers, the offset and the alarm, as a value."""
+        device = self._struct
+        raw = bytes(device)
+        if raw != self._raw:
+            self._raw = raw
+            self._state = RtcState(device.lr, device.mr, device.imsc, device.ris, device.offset, bool(device.armed))
+        return self._state
+
+    @classmethod
+    def from_state(cls, state: RtcState) -> "Rtc":
+        """A clock of this state."""
+        clock = cls()
+        device = clock._struct
+        device.lr, device.mr, device.imsc, device.ris = state.lr, state.mr, state.imsc, state.ris
+        device.offset, device.armed = state.offset, int(state.armed)
+        return clock
+
+    def __copy__(self) -> "Rtc":
+        other = type(self)()
+        other._take(RtcStruct.from_buffer_copy(self._struct))
+        return other
+
+    def __repr__(self) -> str:
+        state = self.state
+        shown = [_decoded(CLOCK[name], getattr(state, name.lower()), 10) for name in ("LR", "MR", "IMSC", "RIS")]
+        return f"<Rtc {' '.join(shown)} offset={state.offset} armed={state.armed}>"
+
+    def _take(self, struct: RtcStruct) -> None:
+        self._struct = struct
+        self._pointer = byref(struct)
+        self._raw = b""
+
+
+def _serial_state(device: SerialStruct) -> SerialState:
+    ring = bytes(device.places) * 2
+    first = device.first % FIFO_SIZE
+    held = ring[first:first + min(device.held, FIFO_SIZE)]
+    return SerialState(*[getattr(device, name) for name in _REGISTERS], in_buffer=held)
+
+
+class I8042:
+    """An i8042 keyboard controller that knows one command: 0xFE at offset 4 resets the machine. It has no state.
+
+    >>> I8042().write(4, 0xFE)
+    I8042WriteEffects(resets=True)
+    """
+
+    __slots__ = ("_library",)
+
+    def __init__(self) -> None:
+        self._library = load()
+
+    def read(self, offset: int) -> int:
+        """What the guest reads at an offset, 0 to 255: 0, at every one."""
+        return self._library.superio_i8042_read(_number("offset", offset, 8))
+
+    def write(self, offset: int, value: int) -> I8042WriteEffects:
+        """The guest writes a value, 0 to 255, at an offset, 0 to 255."""
+        done = self._library.superio_i8042_write(_number("offset", offset, 8), _number("value", value, 8))
+        return I8042WriteEffects(done.resets)
+
+    def __repr__(self) -> str:
+        return "<I8042>"
+
+
+def _clock_offset(offset: Union[int, str]) -> int:
+    return clock_offset(offset) if isinstance(offset, str) else _number("offset", offset, 16)
+
+
+def _decoded(register: Register, value: int, width: int = 4) -> str:
+    """A register as `repr` shows it: its name, its value, and the names of its bits."""
+    names = "|".join(bit_names(register, value))
+    return f"{register.name}={value:#0{width}x}" + (f"({names})" if names else "")

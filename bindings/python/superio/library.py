@@ -1,0 +1,129 @@
+"""Finds the shared library of the devices, checks it, and declares its functions."""
+import ctypes
+import os
+from ctypes import POINTER, c_bool, c_char_p, c_size_t, c_uint8, c_uint16, c_uint32, c_uint64
+from functools import lru_cache
+from pathlib import Path
+from typing import Any, Callable, Iterator, List, Tuple
+
+from .structs import (EnqueueEffectsStruct, I8042WriteEffectsStruct, ReadEffectsStruct, RtcReadEffectsStruct, RtcStruct,
+                      RtcWriteEffectsStruct, SerialStruct, WriteEffectsStruct)
+
+__all__ = ["ABI", "FILE_NAME", "VARIABLE", "LibraryError", "Library", "candidates", "load", "open_library"]
+
+ABI = 2
+"""The binary interface of superio.h that this package is written for."""
+
+FILE_NAME = "libsuperio.so.0"
+
+VARIABLE = "SUPERIO_LIBRARY"
+"""The environment variable that can name the library's file."""
+
+_SERIAL = POINTER(SerialStruct)
+_RTC = POINTER(RtcStruct)
+_BYTES_OUT = POINTER(c_uint8)
+
+PROTOTYPES = {
+    "superio_abi": (c_uint32, []),
+    "superio_serial_new": (SerialStruct, []),
+    "superio_serial_read": (ReadEffectsStruct, [_SERIAL, c_uint8]),
+    "superio_serial_write": (WriteEffectsStruct, [_SERIAL, c_uint8, c_uint8]),
+    "superio_serial_first_refused": (None, [_SERIAL]),
+    "superio_serial_enqueue": (EnqueueEffectsStruct, [_SERIAL, c_char_p, c_size_t]),
+    "superio_serial_fifo_capacity": (c_size_t, [_SERIAL]),
+    "superio_serial_interrupts_due": (c_uint8, [_SERIAL]),
+    "superio_serial_is_coherent": (c_bool, [_SERIAL]),
+    "superio_serial_save": (c_size_t, [_SERIAL, _BYTES_OUT]),
+    "superio_serial_load": (c_uint32, [_SERIAL, c_char_p, c_size_t]),
+    "superio_rtc_new": (RtcStruct, []),
+    "superio_rtc_read": (RtcReadEffectsStruct, [_RTC, c_uint16, c_uint64]),
+    "superio_rtc_write": (RtcWriteEffectsStruct, [_RTC, c_uint16, c_uint32, c_uint64]),
+    "superio_rtc_line": (c_bool, [_RTC]),
+    "superio_rtc_due": (c_uint64, [_RTC, c_uint64]),
+    "superio_rtc_save": (None, [_RTC, _BYTES_OUT]),
+    "superio_rtc_load": (c_uint32, [_RTC, c_char_p, c_size_t]),
+    "superio_i8042_write": (I8042WriteEffectsStruct, [c_uint8, c_uint8]),
+    "superio_i8042_read": (c_uint8, [c_uint8]),
+}
+"""The functions of superio.h: what each returns, and its parameters."""
+
+
+class LibraryError(Exception):
+    """The shared library of the devices cannot be found or loaded, or is another one than this package needs."""
+
+
+class Library:
+    """The functions of superio.h as attributes, under their names there.
+
+    Each call keeps Python's global lock, so calls from several threads do not overlap, as the header asks.
+    """
+
+    def __init__(self, path: str) -> None:
+        """Loads the library at `path`, or the one that the system finds under that name.
+
+        Raises `LibraryError` if it cannot be loaded, or has another binary interface.
+        """
+        self.path = path
+        try:
+            self._file = ctypes.PyDLL(path)
+        except OSError as error:
+            raise LibraryError(f"{path} cannot be loaded: {error}") from None
+        for name, (result, parameters) in PROTOTYPES.items():
+            setattr(self, name, self._function(name, result, parameters))
+        found = self.superio_abi()
+        if found != ABI:
+            raise LibraryError(f"{path} has the binary interface {found}, and this package needs {ABI}: "
+                               "take package and library from the same version")
+
+    def __getattr__(self, name: str) -> Any:
+        raise AttributeError(f"superio.h has no function {name}")
+
+    def _function(self, name: str, result: Any, parameters: List[Any]) -> Callable[..., Any]:
+        try:
+            function = self._file[name]
+        except AttributeError:
+            return self._missing(name)
+        function.restype = result
+        function.argtypes = parameters
+        return function
+
+    def _missing(self, name: str) -> Callable[..., Any]:
+        def call(*_: Any) -> Any:
+            raise LibraryError(f"{self.path} has no function {name}: take package and library from the same version")
+        return call
+
+
+def candidates() -> Iterator[Tuple[str, Path]]:
+    """Where the library may be, in the order in which it is looked for: what each place is, and its file."""
+    machine = os.uname().machine
+    package = Path(__file__).resolve().parent
+    yield "in the package", package / FILE_NAME
+    if len(package.parents) > 2:
+        yield "in the repository", package.parents[2] / "prebuilt" / f"{machine}-linux" / FILE_NAME
+
+
+def open_library() -> Library:
+    """Loads the library that `SUPERIO_LIBRARY` names, or the first that is found: in the package, in the repository's
+    `prebuilt`, or among the system's libraries.
+
+    Raises `LibraryError` if there is none, or if the first one found cannot be used.
+    """
+    named = os.environ.get(VARIABLE)
+    if named:
+        return Library(named)
+    for _, path in candidates():
+        if path.is_file():
+            return Library(str(path))
+    try:
+        ctypes.PyDLL(FILE_NAME)
+    except OSError:
+        places = ", ".join(f"{what} ({path})" for what, path in candidates())
+        raise LibraryError(f"{FILE_NAME} was not found {places} or among the system's libraries: "
+                           f"set {VARIABLE} to its path") from None
+    return Library(FILE_NAME)
+
+
+@lru_cache(maxsize=None)
+def load() -> Library:
+    """The library that all devices share. It is looked for and checked at the first call."""
+    return open_library()

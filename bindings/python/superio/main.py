@@ -1,0 +1,132 @@
+"""The command line of `python3 -m superio`."""
+import argparse
+import os
+import signal
+import sys
+from typing import IO, List, Optional
+
+from . import __version__
+from .arguments import BAD_LINE, FAULT, NO_MEMORY, OK, TOO_LONG, Parser
+from .faults import BadLine, FileFault, Leave, open_file
+from .library import LibraryError, load
+from .script import MAXIMUM, lines_of
+from .session import Session
+from .style import Style, is_wanted
+
+__all__ = ["main"]
+
+_EPILOG = """\
+exit status:
+  0  every line was carried out
+  1  a line was bad: standard error has its file, number and reason
+  2  a read or a write failed, or a file or the library cannot be opened
+  3  memory was refused
+  4  with --strict: the script has more than 65,536 bytes
+  5  the arguments are wrong
+
+python3 -m superio view --help describes the viewer of a trace.
+"""
+
+
+def _parser() -> Parser:
+    parser = Parser("python3 -m superio", formatter_class=argparse.RawDescriptionHelpFormatter, epilog=_EPILOG,
+                     description="A board with a serial port, a clock and a reset controller. At a terminal it is a "
+                                 "shell; help lists its commands. A file or a pipe runs without prompts, up to the "
+                                 "first bad line.")
+    parser.add_argument("file", nargs="?", metavar="FILE", help="the lines to carry out; - is standard input")
+    parser.add_argument("--strict", action="store_true", help="take only what the program superio takes")
+    parser.add_argument("--no-color", action="store_true", help="no colours, as with NO_COLOR in the environment")
+    parser.add_argument("--version", action="version", version=f"superio {__version__}")
+    return parser
+
+
+def _complain(text: str) -> None:
+    print(text, file=sys.stderr, flush=True)
+
+
+def _run_file(session: Session, name: str, file: "IO[bytes]") -> int:
+    """Carries out the lines of a file, or of a script as a whole if the session is strict."""
+    if not session.is_strict:
+        session.run_lines(name, iter(file.readline, b""))
+        return OK
+    script = file.read(MAXIMUM + 1)
+    if len(script) > MAXIMUM:
+        _complain("script too long")
+        return TOO_LONG
+    session.run_lines(name, lines_of(script))
+    return OK
+
+
+def _batch(path: Optional[str], is_strict: bool) -> int:
+    """Carries out a file, or standard input, without prompts."""
+    name = "<stdin>" if path in (None, "-") else str(path)
+    session = Session(sys.stdout, is_strict=is_strict)
+    try:
+        if name == "<stdin>":
+            sys.stdout.reconfigure(line_buffering=True)  # type: ignore[union-attr]
+            return _run_file(session, name, sys.stdin.buffer)
+        with open_file(name, "rb") as file:
+            return _run_file(session, name, file)
+    except Leave:
+        return OK
+    except BadLine as error:
+        sys.stdout.flush()
+        _complain(str(error))
+        return FAULT if isinstance(error.__cause__, FileFault) else BAD_LINE
+    finally:
+        sys.stdout.flush()
+
+
+def _interactive(has_colours: bool) -> int:
+    from .prompt import run_prompt
+    from .shell import Shell
+    style = Style(has_colours and is_wanted(sys.stdout))
+    errors = Style(has_colours and is_wanted(sys.stderr))
+    run_prompt(Shell(Session(sys.stdout, style, keeps_lines=True), sys.stderr, errors))
+    return OK
+
+
+def _closed(what: str) -> int:
+    if sys.stderr is not None:
+        _complain(f"python3 -m superio: standard {what} is closed")
+    return FAULT
+
+
+def _give_up_output() -> None:
+    """Lets Python's own flush at the end go nowhere."""
+    os.dup2(os.open(os.devnull, os.O_WRONLY), sys.stdout.fileno())
+
+
+def main(arguments: List[str]) -> int:
+    """Runs the command line. Returns the exit status."""
+    if sys.stdout is None:
+        return _closed("output")
+    if not sys.stdout.isatty():
+        signal.signal(signal.SIGPIPE, signal.SIG_DFL)  # a closed pipe ends in silence
+    try:
+        if arguments[:1] == ["view"]:
+            load()
+            from .view import main as view
+            return view(arguments[1:])
+        parser = _parser()
+        options = parser.parse_args(arguments)
+        load()
+        if sys.stdin is None and options.file in (None, "-"):
+            return _closed("input")
+        if options.file is not None or not sys.stdin.isatty():
+            return _batch(options.file, options.strict)
+        if options.strict:
+            parser.error("--strict is for a file or a pipe")
+        return _interactive(not options.no_color)
+    except (FileFault, LibraryError) as error:
+        _complain(f"python3 -m superio: {error}")
+        return FAULT
+    except OSError as error:
+        _complain(f"python3 -m superio: {error.strerror}")
+        _give_up_output()
+        return FAULT
+    except MemoryError:
+        _complain("out of memory")
+        return NO_MEMORY
+    except KeyboardInterrupt:
+        return 128 + signal.SIGINT

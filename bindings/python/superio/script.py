@@ -1,0 +1,156 @@
+"""The lines of a script, as the program `superio` takes them: docs/SCRIPT.md has their forms.
+
+`parse` accepts exactly the lines that the program accepts, and says of any other why it has no form.
+"""
+import re
+from typing import Dict, NamedTuple, Optional, Tuple, Union
+
+__all__ = ["Command", "FORMS", "Field", "MASK", "MAXIMUM", "SAVED_FORMS", "ScriptError", "TOO_MANY", "lines_of",
+           "missing", "parse", "shown", "text_of"]
+
+MAXIMUM = 65_536
+"""A script has at most this many bytes."""
+
+_DIGITS = re.compile(rb"[0-9A-Fa-f]*")
+_MANY_BYTES = 128
+
+_SPACES = "one space separates two fields, and none stands at the end"
+
+TOO_MANY = "it goes on after its last field"
+"""Why a line with too many fields has no form."""
+
+Value = Union[int, bytes]
+
+
+class ScriptError(ValueError):
+    """A line has no form. The message says why."""
+
+
+def shown(text: str, most: int = 24) -> str:
+    """A text as a message quotes it: in printing ASCII, and cut if it is long."""
+    data = text.encode("utf-8", "surrogateescape")
+    cut = "".join(chr(byte) if 32 <= byte < 127 else f"\\x{byte:02x}" for byte in data[:most])
+    return cut + ".." if len(data) > most else cut
+
+
+class Field(NamedTuple):
+    """A field of a line."""
+
+    name: str
+    article: str
+    digits: int
+    """How many hexadecimal digits it has; 0 for bytes of two digits each."""
+    words: str
+    """How many, in words."""
+
+
+OFFSET = Field("offset", "an", 2, "two digits")
+VALUE = Field("value", "a", 2, "two digits")
+MOMENT = Field("moment", "a", 16, "sixteen digits")
+CLOCK_OFFSET = Field("offset of the clock", "an", 4, "four digits")
+CLOCK_VALUE = Field("value of the clock", "a", 8, "eight digits")
+MASK_FIELD = Field("mask", "a", 16, "sixteen digits")
+BYTES = Field("bytes", "the", 0, "two digits each")
+SAVED = Field("saved state", "the", 0, "two digits each")
+
+MASK = "refuse"
+"""The name of the line that a script can only begin with."""
+
+FORMS: Dict[str, Tuple[Field, ...]] = {
+    MASK: (MASK_FIELD,),
+    "sr": (OFFSET,),
+    "sw": (OFFSET, VALUE),
+    "sq": (BYTES,),
+    "sc": (),
+    "sd": (),
+    "ss": (),
+    "so": (),
+    "st": (),
+    "se": (),
+    "cr": (MOMENT, CLOCK_OFFSET),
+    "cw": (MOMENT, CLOCK_OFFSET, CLOCK_VALUE),
+    "kr": (OFFSET,),
+    "kw": (OFFSET, VALUE),
+}
+"""The fields of each line, by its name. Those of `sq` may be left out."""
+
+SAVED_FORMS: Dict[str, Tuple[Field, ...]] = {"sb": (), "sl": (SAVED,), "cb": (), "cl": (SAVED,)}
+"""The lines that save and load a state as bytes."""
+
+
+class Command(NamedTuple):
+    """A line of a script: its name, and the values of its fields."""
+
+    name: str
+    values: Tuple[Value, ...] = ()
+
+
+def _value(field: Field, text: bytes) -> Optional[Value]:
+    """The value of a field's text, `None` if it has not the field's digits."""
+    if not _DIGITS.fullmatch(text):
+        return None
+    if field.digits:
+        return int(text, 16) if len(text) == field.digits else None
+    is_whole = len(text) % 2 == 0 and 2 <= len(text) <= 2 * _MANY_BYTES
+    return bytes.fromhex(text.decode("ascii")) if is_whole else None
+
+
+def _malformed(field: Field) -> str:
+    if not field.digits:
+        return f"1 to {_MANY_BYTES} bytes have {field.words}"
+    return f"{field.article} {field.name} has {field.words}"
+
+
+def missing(field: Field) -> str:
+    """Why a line without this field has no form."""
+    return f"{field.article} {field.name} {'is' if field.digits else 'are'} missing"
+
+
+def _values(fields: Tuple[Field, ...], texts: Tuple[bytes, ...]) -> Tuple[Value, ...]:
+    values = []
+    for place, field in enumerate(fields):
+        if place == len(texts):
+            raise ScriptError(missing(field))
+        value = _value(field, texts[place])
+        if value is None:
+            raise ScriptError(_malformed(field) if texts[place] else _SPACES)
+        values.append(value)
+    if len(texts) > len(fields):
+        raise ScriptError(TOO_MANY if texts[len(fields)] else _SPACES)
+    return tuple(values)
+
+
+def parse(line: bytes, is_first: bool = False) -> Command:
+    """The command of a script's line, without its LF. `is_first` says whether it is the script's first.
+
+    Raises `ScriptError`, which says why, if the line has no form.
+    """
+    name, *texts = line.split(b" ")
+    known = name.decode("ascii", "replace")
+    try:
+        if known not in FORMS:
+            raise ScriptError("no line has this name" if name else "a line begins with a name")
+        fields = FORMS[known] if texts or known != "sq" else ()
+        command = Command(known, _values(fields, tuple(texts)))
+        if known == MASK and not is_first:
+            raise ScriptError("a mask comes before every other line")
+        return command
+    except ScriptError:
+        if line.endswith(b"\r"):
+            raise ScriptError("it ends with a carriage return") from None
+        raise
+
+
+def lines_of(script: bytes) -> Tuple[bytes, ...]:
+    """The lines of a script. The last one may lack its LF."""
+    if not script:
+        return ()
+    return tuple(script[:-1].split(b"\n") if script.endswith(b"\n") else script.split(b"\n"))
+
+
+def text_of(command: Command) -> str:
+    """The line of a command, as a script has it."""
+    fields = FORMS.get(command.name) or SAVED_FORMS.get(command.name, ())
+    texts = [value.hex() if isinstance(value, bytes) else f"{value:0{field.digits}x}"
+             for field, value in zip(fields, command.values)]
+    return " ".join([command.name, *texts])

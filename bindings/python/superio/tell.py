@@ -1,0 +1,221 @@
+"""What a call did, and what a board is, in words."""
+from copy import copy
+from datetime import datetime, timedelta
+from typing import List, Optional
+
+from .board import OUTPUT_SIZE, Call, Snapshot
+from .devices import Rtc, Serial
+from .registers import CLOCK, LOOPBACK, SERIAL, Register, bit_names, clock_register, serial_register
+from .states import RtcState, SerialState
+from .structs import FIFO_SIZE
+
+__all__ = ["CONDITIONS", "changes", "pending", "plural", "quoted", "registers", "clock_registers", "told"]
+
+CONDITIONS = {"RDA": 0x04, "THRE": 0x02}
+"""The interrupt conditions, each with its bit of IIR."""
+
+ENABLES = {"RDA": 0x01, "THRE": 0x02}
+"""The bit of IER that enables each condition."""
+
+_REGISTERS = {"interrupt_enable": "IER", "line_control": "LCR", "modem_control": "MCR", "line_status": "LSR",
+              "modem_status": "MSR", "scratch": "SCR", "baud_divisor_low": "DLL", "baud_divisor_high": "DLM"}
+
+
+def plural(count: int, noun: str) -> str:
+    return f"{count} {noun}" if count == 1 else f"{count} {noun}s"
+
+
+def quoted(data: bytes, most: int = FIFO_SIZE) -> str:
+    """Bytes as a text in double quotes, with escapes that a shell's `type` takes."""
+    shown = "".join(chr(byte) if 32 <= byte < 127 and byte not in b'"\\' else
+                    {10: "\\n", 13: "\\r", 9: "\\t", 34: '\\"', 92: "\\\\"}.get(byte, f"\\x{byte:02x}")
+                    for byte in data[:most])
+    return f'"{shown}"' + (".." if len(data) > most else "")
+
+
+def _decoded(register: Optional[Register], name: str, value: int, width: int) -> str:
+    names = " ".join(bit_names(register, value)) if register else ""
+    return f"{register.name if register else name} = {value:#0{width}x}" + (f"  {names}" if names else "")
+
+
+def pending(state: SerialState) -> List[str]:
+    """The conditions that are pending."""
+    return [name for name, bit in CONDITIONS.items() if state.interrupt_identification & bit]
+
+
+def _raised(call: Call) -> List[str]:
+    return [name for name in pending(call.after.serial) if name not in pending(call.before.serial)]
+
+
+def _interrupts(call: Call) -> str:
+    """What the interrupt line was asked, empty if it was not called."""
+    if not call.answers:
+        return ""
+    raised = _raised(call) or pending(call.after.serial)
+    return "; interrupt for " + ", ".join(name + ("" if taken else " refused")
+                                          for name, taken in zip(raised, call.answers))
+
+
+def told(call: Call) -> str:
+    """What a call did, for a person who typed words."""
+    tell = _TELLERS.get(call.command.name)
+    return tell(call) if tell else call.reply or ""
+
+
+def _serial_read(call: Call) -> str:
+    (offset,) = call.command.values
+    register = serial_register(offset, call.before.serial.line_control, False)
+    value = int(call.reply or "0", 16)
+    text = _decoded(register, f"offset {offset:#04x}", value, 4)
+    if register and register.name == "RBR":
+        return f"{text}  {quoted(bytes([value]))}" if call.before.serial.in_buffer else f"{text}  no byte was held"
+    return text
+
+
+def _serial_write(call: Call) -> str:
+    offset, value = call.command.values
+    register = serial_register(offset, call.before.serial.line_control, True)
+    text = "ok"
+    if register is None or register.name in ("FCR", "LSR", "MSR"):
+        text = "ignored"
+    elif call.is_lost:
+        text = f"{quoted(bytes([value]))} lost: the output is full, with {OUTPUT_SIZE} bytes"
+    elif call.after.sent > call.before.sent:
+        text = f"sent {quoted(bytes([value]))}"
+    return text + _interrupts(call)
+
+
+def _enqueue(call: Call) -> str:
+    data = call.command.values[0] if call.command.values else b""
+    state = call.after.serial
+    taken = len(state.in_buffer) - len(call.before.serial.in_buffer)
+    of_all = f" of {len(data)}" if taken < len(data) else ""
+    text = f"{taken}{of_all} {'byte' if len(data) == 1 else 'bytes'} received"
+    if taken < len(data):
+        return text + (": the port is in loopback" if state.modem_control & LOOPBACK else ": the FIFO is full") \
+            + _interrupts(call)
+    if not call.answers and not state.interrupt_enable & ENABLES["RDA"]:
+        return text + "; no interrupt: IER does not enable RDA"
+    if not call.answers:
+        return text + "; no interrupt: RDA is pending already"
+    return text + _interrupts(call)
+
+
+def date_of(seconds: int) -> str:
+    """A guest time of 32 bits as a date and time of UTC."""
+    return f"{datetime(1970, 1, 1) + timedelta(seconds=seconds):%Y-%m-%d %H:%M:%S}"
+
+
+def _clock_read(call: Call) -> str:
+    _, offset = call.command.values
+    register = clock_register(offset)
+    if call.reply == "invalid":
+        return f"invalid: nothing can be read at {offset:#06x}" + (f", {register.name}" if register else "")
+    value = int(call.reply or "0", 16)
+    return _decoded(register, f"offset {offset:#06x}", value, 10) + (f"  {date_of(value)} UTC" if offset == 0 else "")
+
+
+def _clock_write(call: Call) -> str:
+    _, offset, value = call.command.values
+    register = clock_register(offset)
+    if call.reply == "invalid":
+        return f"invalid: nothing can be written at {offset:#06x}" + (f", {register.name}" if register else "")
+    if offset != CLOCK["MR"].offset:
+        return "ok"
+    if call.after.clock.armed:
+        return f"alarm set for guest time {value:#010x}  {date_of(value)} UTC"
+    return "ok: guest time is there, so the alarm is up" if call.after.clock.ris & 1 else "ok: that time is past"
+
+
+def _text_output(call: Call) -> str:
+    return quoted(bytes.fromhex(call.reply or ""), OUTPUT_SIZE)
+
+
+def _events(call: Call) -> str:
+    counts = call.after.counts
+    return (f"{plural(counts.buffer_read, 'read')} of RBR, {counts.in_buffer_empty} of them left no byte; "
+            f"{plural(counts.out_byte, 'byte')} out, {counts.tx_lost_byte} lost")
+
+
+_TELLERS = {
+    "sr": _serial_read, "sw": _serial_write, "sq": _enqueue, "sd": _text_output, "so": _text_output,
+    "sc": lambda call: f"room for {plural(int(call.reply or '0', 16), 'byte')}",
+    "st": lambda call: f"the interrupt line was called {plural(int(call.reply or '0', 16), 'time')}",
+    "ss": lambda call: ("restored" if call.reply == "ok" else "not restored") + _interrupts(call),
+    "se": _events, "cr": _clock_read, "cw": _clock_write,
+    "kr": lambda call: f"0x{call.reply}", "kw": lambda call: call.reply or "",
+}
+
+
+def _row(name: str, value: int, register: Register, width: int = 4) -> str:
+    return f"  {name:<4} {value:#0{width}x}  {' '.join(bit_names(register, value))}".rstrip()
+
+
+def registers(board: Snapshot) -> List[str]:
+    """The registers of the serial port as a guest reads them, the FIFO, and what is pending, below a heading."""
+    state, port = board.serial, Serial.from_state(board.serial)
+    rows = ["serial port", _row("IER", state.interrupt_enable, SERIAL["IER"])]
+    rows.extend(_row(name, port.read(name).byte, SERIAL[name]) for name in ("IIR", "LCR", "MCR", "LSR", "MSR", "SCR"))
+    divisor = state.baud_divisor_high << 8 | state.baud_divisor_low
+    rows.append(f"  divisor {divisor}, FIFO {len(state.in_buffer)} of {FIFO_SIZE}")
+    if state.in_buffer:
+        rows.append(f"  {quoted(state.in_buffer)}")
+    rows.append(f"  pending: {', '.join(pending(state)) or 'nothing'}")
+    rows.append(f"  line called {plural(board.calls, 'time')}, {plural(board.sent, 'byte')} out")
+    return rows
+
+
+def clock_registers(state: RtcState, now: Optional[int] = None) -> List[str]:
+    """The registers of the clock, and its alarm, below a heading. At a moment guest time stands there too."""
+    clock = Rtc.from_state(state)
+    rows = ["clock" if now is None else "clock, in UTC"]
+    if now is not None:
+        guest_time = copy(clock).read("DR", now).value
+        rows.append(f"  DR   {guest_time:#010x}  {date_of(guest_time)}")
+    rows.extend(_row(name, getattr(state, name.lower()), CLOCK[name], 10) for name in ("MR", "LR", "IMSC", "RIS"))
+    rows.append(f"  {_alarm(clock, now)}")
+    rows.append(f"  interrupt line {'up' if clock.line() else 'down'}")
+    return rows
+
+
+def _alarm(clock: Rtc, now: Optional[int]) -> str:
+    if not clock.state.armed:
+        return "no alarm is set"
+    due = None if now is None else clock.due(now)
+    return "alarm set" if due is None else f"alarm due in {due} s" if due else "alarm due now"
+
+
+def changes(call: Call) -> List[str]:
+    """What a call changed, a row for each register, the FIFO, the output and the line; empty if nothing."""
+    before, after = call.before, call.after
+    rows = [_change(name, getattr(before.serial, field), getattr(after.serial, field), SERIAL[name], 4)
+            for field, name in _REGISTERS.items() if getattr(before.serial, field) != getattr(after.serial, field)]
+    identification = [state.interrupt_identification | 0xC0 for state in (before.serial, after.serial)]
+    if identification[0] != identification[1]:
+        rows.append(_change("IIR", *identification, SERIAL["IIR"], 4))
+    rows.extend(_change(name, getattr(before.clock, name.lower()), getattr(after.clock, name.lower()), CLOCK[name], 10)
+                for name in ("MR", "LR", "IMSC", "RIS")
+                if getattr(before.clock, name.lower()) != getattr(after.clock, name.lower()))
+    return rows + _other_changes(before, after) + _answers(call)
+
+
+def _change(name: str, before: int, after: int, register: Register, width: int) -> str:
+    names = " ".join(bit_names(register, after))
+    return f"{name} {before:#0{width}x} -> {after:#0{width}x}" + (f"  {names}" if names else "")
+
+
+def _other_changes(before: Snapshot, after: Snapshot) -> List[str]:
+    rows = []
+    if before.serial.in_buffer != after.serial.in_buffer:
+        rows.append(f"FIFO {len(before.serial.in_buffer)} -> {plural(len(after.serial.in_buffer), 'byte')}")
+    if before.sent != after.sent:
+        rows.append(f"output {before.sent} -> {plural(after.sent, 'byte')}")
+    if before.clock.offset != after.clock.offset:
+        rows.append(f"clock offset {before.clock.offset} -> {after.clock.offset} s")
+    if before.clock.armed != after.clock.armed:
+        rows.append("alarm set" if after.clock.armed else "alarm over")
+    return rows
+
+
+def _answers(call: Call) -> List[str]:
+    return [f"interrupt {'taken' if taken else 'refused'}" for taken in call.answers]

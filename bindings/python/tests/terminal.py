@@ -1,0 +1,70 @@
+"""A program in a pseudo-terminal."""
+import fcntl
+import os
+import pty
+import re
+import select
+import struct
+import termios
+import time
+
+TIMEOUT = 60
+_CONTROL = re.compile(r"\x1b\[\??[0-9;]*[a-zA-Z]|\x07")
+
+
+class Terminal:
+    """Types into a program, and reads what it shows. `log` has all of it, with colours and cursor movements."""
+
+    def __init__(self, command, environment, columns=80):
+        self._pid, self._end = pty.fork()
+        if self._pid == 0:
+            os.execve(command[0], command, {**environment, "TERM": "xterm"})
+        self.resize(columns)
+        self.raw = ""
+        self.log = ""
+
+    def resize(self, columns):
+        fcntl.ioctl(self._end, termios.TIOCSWINSZ, struct.pack("HHHH", 24, columns, 0, 0))
+
+    def type(self, text):
+        os.write(self._end, text.encode())
+
+    def read_until(self, text):
+        """What the terminal shows up to this text, and the text, without colours and cursor movements.
+
+        Raises `AssertionError` if the text does not come."""
+        deadline = time.monotonic() + TIMEOUT
+        while text not in self.shown():
+            ready, _, _ = select.select([self._end], [], [], max(0, deadline - time.monotonic()))
+            try:
+                piece = os.read(self._end, 4096) if ready else b""
+            except OSError:  # the program closed the terminal
+                piece = b""
+            if not piece:
+                raise AssertionError(f"{text!r} does not come after {self.shown()!r}")
+            self._take(piece)
+        head, found, rest = self.shown().partition(text)
+        self.raw = rest
+        return head + found
+
+    def _take(self, piece):
+        text = piece.decode(errors="replace")
+        self.raw += text
+        self.log += text
+
+    def shown(self):
+        return _CONTROL.sub("", self.raw).replace("\r\n", "\n")
+
+    def status(self):
+        """The exit status, once the program has ended and the terminal shows no more."""
+        while True:
+            try:
+                piece = os.read(self._end, 4096)
+            except OSError:
+                piece = b""
+            if not piece:
+                break
+            self._take(piece)
+        _, status = os.waitpid(self._pid, 0)
+        os.close(self._end)
+        return os.WEXITSTATUS(status) if os.WIFEXITED(status) else -os.WTERMSIG(status)

@@ -1,0 +1,176 @@
+"""`python3 -m superio` with a file, a pipe and wrong arguments: replies, statuses and messages."""
+import resource
+import signal
+import subprocess
+import sys
+import tempfile
+import unittest
+from pathlib import Path
+
+from support import ENVIRONMENT, ROOT, TIMEOUT, run
+
+EXAMPLE = ROOT / "examples" / "three_devices.script"
+BOOT = ROOT / "examples" / "linux-boot" / "boot.recording"
+
+
+class Files(unittest.TestCase):
+    def setUp(self):
+        self.folder = tempfile.TemporaryDirectory()
+        self.addCleanup(self.folder.cleanup)
+        self.path = Path(self.folder.name) / "a file"
+
+    def test_file_pipe_and_dash_are_the_same(self):
+        expected = run(script=EXAMPLE.read_bytes())
+        self.assertEqual(0, expected[0])
+        self.assertEqual(15, len(expected[1].splitlines()))
+        self.assertEqual(expected, run(EXAMPLE))
+        self.assertEqual(expected, run("-", script=EXAMPLE.read_bytes()))
+        self.assertEqual(expected, run("--strict", EXAMPLE))
+
+    def test_first_bad_line_ends_a_file(self):
+        self.path.write_bytes(b"# comment\nkr 04\nread XYZ\nkr 04\n")
+        self.assertEqual((1, "00\n", f"{self.path}:3: \"read XYZ\": XYZ is no offset, and no register: those are "
+                          "RBR THR DLL IER DLM IIR FCR LCR MCR LSR MSR SCR\n"), run(self.path))
+
+    def test_first_bad_line_ends_a_pipe(self):
+        self.assertEqual((1, "00\n", '<stdin>:2: "sr": an offset is missing\n'), run(script=b"kr 04\nsr\nkr 04\n"))
+        self.assertEqual((1, "", '<stdin>:1: "\\xff\\x1b": no command is called \\xff\\x1b: help lists them\n'),
+                         run(script=b"\xff\x1b\n"))
+
+    def test_what_people_write_in_files(self):
+        self.path.write_bytes(b"\n   # indented\n  kr 04  \t\r\nread LSR\r\n\r\nkr 04")
+        self.assertEqual((0, "00\nLSR = 0x60  THRE TEMT\n00\n", ""), run(self.path))
+
+    def test_strict_takes_what_the_program_takes(self):
+        for script, number, reason in ((b"kr 04\r\n", 1, "it ends with a carriage return"),
+                                       (b"kr 04\n\n", 2, "a line begins with a name"),
+                                       (b"kr 04\nread LSR\n", 2, "no line has this name")):
+            status, output, errors = run("--strict", script=script)
+            self.assertEqual((1, "00\n" * (number - 1)), (status, output))
+            self.assertTrue(errors.startswith(f"<stdin>:{number}: ") and errors.endswith(f": {reason}\n"), errors)
+        self.assertEqual((4, "", "script too long\n"), run("--strict", script=b"kr 04\n" * 10923))
+
+    def test_a_file_has_no_limit(self):
+        status, output, _ = run(script=b"kr 04\n" * 20000)
+        self.assertEqual((0, "00\n" * 20000), (status, output))
+
+    def test_line_numbers_of_many_lines(self):
+        status, _, errors = run(script=b"kr 04\n" * 99999 + b"kr\n")
+        self.assertEqual((1, '<stdin>:100000: "kr": an offset is missing\n'), (status, errors))
+
+    def test_long_line_is_cut(self):
+        self.assertEqual(f'<stdin>:1: "kr {"1" * 57}..": {"1" * 24}.. is no offset: it has 8 bits\n',
+                         run(script=b"kr " + b"1" * 100)[2])
+
+    def test_quit_ends_a_file(self):
+        self.assertEqual((0, "00\n", ""), run(script=b"kr 04\nquit\nkr 04\n"))
+
+    def test_folder_and_missing_file(self):
+        self.assertEqual((2, "", "python3 -m superio: /: Is a directory\n"), run("/"))
+        self.assertEqual((2, "", f"python3 -m superio: {self.path}: No such file or directory\n"), run(self.path))
+
+    def test_save_and_load(self):
+        saving = f"write SCR 7\ntype hi\nclock write LR 100 1000\nsave '{self.path}'\n"
+        self.assertEqual(0, run(script=saving.encode())[0])
+        lines = self.path.read_text().splitlines()
+        self.assertEqual(["sl 53494f53", "cl 53494f53"], [line[:11] for line in lines])
+        loading = f"load '{self.path}'\nread SCR\nsd\ncr 00000000000003ef 0000\n"
+        self.assertEqual((0, "ok\nok\nSCR = 0x07\n6869\n0000006b\n", ""), run(script=loading.encode()))
+        for wrong in (b"", b"kr 04\n", b"sl 00\ncl zz\n", b"sl\ncl\n", b"\xff"):
+            self.path.write_bytes(wrong)
+            status, _, errors = run(script=f"load '{self.path}'\n".encode())
+            self.assertEqual((1, True), (status, "is no file that save wrote" in errors), wrong)
+
+    def test_source(self):
+        self.path.write_bytes(b"write SCR 7\nread SCR\n")
+        self.assertEqual((0, "ok\nSCR = 0x07\n", ""), run(script=f"source '{self.path}'\n".encode()))
+        self.path.write_bytes(b"kr 04\nkr 4 4\n")
+        status, output, errors = run(script=f"source '{self.path}'\n".encode())
+        self.assertEqual((1, "00\n"), (status, output))
+        self.assertIn(f'{self.path}:2: "kr 4 4": it goes on after its last field', errors)
+        self.path.write_bytes(f"source '{self.path}'\n".encode())
+        self.assertIn("at most 10 deep", run(self.path)[2])
+
+    def test_trace_file_is_a_script(self):
+        session = f"trace on '{self.path}'\nwrite IER RDA\ntype hi\nread RBR\nclock read DR 5\ntrace off\nread LSR\n"
+        self.assertEqual(0, run(script=session.encode())[0])
+        self.assertEqual("sw 01 01\nsq 6869\nsr 00\ncr 0000000000000005 0000\n", self.path.read_text())
+        self.assertEqual((0, "ok\n02\n68\n00000005\n", ""), run("--strict", self.path))
+
+    def test_reset(self):
+        self.assertEqual((0, "ok\na fresh board\nSCR = 0x00\n", ""), run(script=b"write SCR 7\nreset\nread SCR\n"))
+
+
+class Streams(unittest.TestCase):
+    def test_closed_pipe_ends_in_silence(self):
+        command = f"yes 'kr 04' | {sys.executable} -m superio | head -n 1; echo ${{PIPESTATUS[1]}}"
+        done = subprocess.run(["bash", "-c", command], capture_output=True, env=ENVIRONMENT, timeout=TIMEOUT)
+        self.assertEqual((b"00\n%d\n" % (128 + signal.SIGPIPE), b""), (done.stdout, done.stderr))
+
+        command = f"{sys.executable} -m superio view {BOOT} --table | head -n 1; echo ${{PIPESTATUS[0]}}"
+        done = subprocess.run(["bash", "-c", command], capture_output=True, env=ENVIRONMENT, timeout=TIMEOUT)
+        self.assertEqual((b"piece 1\n%d\n" % (128 + signal.SIGPIPE), b""), (done.stdout, done.stderr))
+
+    def test_full_device(self):
+        done = subprocess.run(["bash", "-c", f"echo 'kr 04' | {sys.executable} -m superio > /dev/full"],
+                              capture_output=True, env=ENVIRONMENT, timeout=TIMEOUT)
+        self.assertEqual((2, b"python3 -m superio: No space left on device\n"), (done.returncode, done.stderr))
+
+    def test_closed_streams(self):
+        for closed, what in (("<&-", "input"), (">&-", "output")):
+            done = subprocess.run(["bash", "-c", f"{sys.executable} -m superio {closed}"], input=b"kr 04\n",
+                                  stderr=subprocess.PIPE, env=ENVIRONMENT, timeout=TIMEOUT)
+            self.assertEqual((2, b"python3 -m superio: standard %s is closed\n" % what.encode()),
+                             (done.returncode, done.stderr))
+        done = subprocess.run(["bash", "-c", f"{sys.executable} -m superio {EXAMPLE} <&-"], stdout=subprocess.PIPE,
+                              env=ENVIRONMENT, timeout=TIMEOUT)
+        self.assertEqual((0, 15), (done.returncode, done.stdout.count(b"\n")))
+
+    def test_each_reply_goes_out_at_once(self):
+        with subprocess.Popen([sys.executable, "-m", "superio"], stdin=subprocess.PIPE, stdout=subprocess.PIPE,
+                              env=ENVIRONMENT) as process:
+            for line, reply in ((b"kr 04\n", b"00\n"), (b"read LSR\n", b"LSR = 0x60  THRE TEMT\n")):
+                process.stdin.write(line)
+                process.stdin.flush()
+                self.assertEqual(reply, process.stdout.readline())
+            process.stdin.close()
+
+    def test_no_colours_in_a_pipe(self):
+        self.assertNotIn("\x1b", "".join(map(str, run(script=b"regs\nfoo\n"))))
+
+
+class Arguments(unittest.TestCase):
+    def test_version_and_help(self):
+        self.assertEqual((0, "superio 0.1.0\n", ""), run("--version"))
+        status, output, _ = run("--help")
+        self.assertEqual(0, status)
+        for word in ("FILE", "--strict", "--no-color", "exit status", "view"):
+            self.assertIn(word, output)
+
+    def test_wrong_arguments(self):
+        for arguments in (["--unknown"], ["a", "b"], ["view"], ["view", "--unknown", "a"]):
+            status, output, errors = run(*arguments)
+            self.assertEqual((5, ""), (status, output), errors)
+            self.assertIn("usage:", errors)
+
+    def test_without_the_library(self):
+        status, output, errors = run(env={**ENVIRONMENT, "SUPERIO_LIBRARY": "/nowhere/lib.so"})
+        self.assertEqual((2, ""), (status, output))
+        self.assertTrue(errors.startswith("python3 -m superio: /nowhere/lib.so cannot be loaded"), errors)
+        self.assertEqual(1, errors.count("\n"))
+
+    def test_it_starts_quickly(self):
+        """In processor seconds, and beyond what Python itself takes, so that a busy machine is no reason to fail."""
+        plain = min(self._seconds("-c", "pass") for _ in range(3))
+        self.assertLess(min(self._seconds("-m", "superio") for _ in range(3)) - plain, 0.2)
+
+    @staticmethod
+    def _seconds(*arguments):
+        before = resource.getrusage(resource.RUSAGE_CHILDREN)
+        subprocess.run([sys.executable, *arguments], input=b"", env=ENVIRONMENT, timeout=TIMEOUT, check=True)
+        after = resource.getrusage(resource.RUSAGE_CHILDREN)
+        return after.ru_utime + after.ru_stime - before.ru_utime - before.ru_stime
+
+
+if __name__ == "__main__":
+    unittest.main()

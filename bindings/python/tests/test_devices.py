@@ -1,0 +1,291 @@
+"""The devices: each call with an effect of its own, and values from the data sheets."""
+import copy
+import dataclasses
+import doctest
+import os
+import random
+import re
+import unittest
+from unittest import mock
+
+from support import ROOT
+
+from superio import (Board, EnqueueEffects, I8042, LibraryError, LoadStatus, ReadEffects, RegisterError, Rtc, RtcState,
+                     SavedStateError, Serial, SerialState, WriteEffects, board, devices, library, parse)
+
+SAVED_STATES = ROOT / "docs" / "SAVED-STATES.md"
+
+# The registers of a 16550 by name, with a value that the guest writes and the field of the state that keeps it.
+KEPT = [("IER", 0x0A, "interrupt_enable"), ("LCR", 0x1B, "line_control"), ("MCR", 0x0B, "modem_control"),
+        ("SCR", 0x5A, "scratch")]
+
+
+class SerialPort(unittest.TestCase):
+    def setUp(self):
+        self.port = Serial()
+
+    def test_new_port_is_the_default_state(self):
+        self.assertEqual(SerialState(), self.port.state)
+
+    def test_each_register_is_kept_in_its_field_and_read_by_its_name(self):
+        for name, value, field in KEPT:
+            with self.subTest(name):
+                self.port.write(name, value)
+                self.assertEqual(value, getattr(self.port.state, field))
+                self.assertEqual(value, self.port.read(name).byte)
+
+    def test_each_field_is_read_in_its_register(self):
+        state = SerialState(1, 2, 3, 4, 5, 6, 7, 8, 9, b"\x0a")
+        port = Serial.from_state(state)
+        self.assertEqual(state, port.state)
+        self.assertEqual([3, 5, 6, 7, 8, 9, 0xC4], [port.read(name).byte for name in
+                                                   ("IER", "LCR", "LSR", "MCR", "MSR", "SCR", "IIR")])
+        self.assertEqual(10, port.read("RBR").byte)
+        port.write("LCR", 0x80)
+        self.assertEqual([1, 2], [port.read("DLL").byte, port.read("DLM").byte])
+
+    def test_divisor_latch_is_reached_while_dlab_is_set(self):
+        self.port.write("LCR", 0x83)
+        self.port.write("DLL", 0x34)
+        self.port.write("DLM", 0x12)
+        self.assertEqual((0x34, 0x12), (self.port.state.baud_divisor_low, self.port.state.baud_divisor_high))
+        for name in ("RBR", "THR", "IER"):
+            with self.subTest(name), self.assertRaisesRegex(RegisterError, "while DLAB is set"):
+                self.port.write(name, 0)
+        self.port.write("LCR", 0x03)
+        with self.assertRaisesRegex(RegisterError, "while DLAB is clear"):
+            self.port.read("DLM")
+
+    def test_names_of_one_direction(self):
+        for name, other in (("THR", "RBR"), ("FCR", "IIR")):
+            with self.assertRaisesRegex(RegisterError, f"{name} can only be written: a read at its offset reaches {other}"):
+                self.port.read(name)
+            with self.assertRaisesRegex(RegisterError, f"{other} can only be read: a write at its offset reaches {name}"):
+                self.port.write(other, 0)
+        with self.assertRaisesRegex(RegisterError, "no register is called XYZ"):
+            self.port.read("XYZ")
+        self.assertEqual(0x60, self.port.read("lsr").byte)
+
+    def test_effects_of_reads(self):
+        self.port.enqueue(b"ab")
+        self.assertEqual(ReadEffects(0x61, True, False), self.port.read(0))
+        self.assertEqual(ReadEffects(0x62, True, True), self.port.read(0))
+        self.assertEqual(ReadEffects(0x60, False, False), self.port.read(5))
+
+    def test_effects_of_writes(self):
+        self.assertEqual(WriteEffects(True, 0), self.port.write("THR", 0x41))
+        self.port.enqueue(b"a")
+        self.assertEqual(WriteEffects(False, 2), self.port.write("IER", 0x03))
+        self.assertEqual(2, self.port.interrupts_due())
+
+    def test_effects_of_an_enqueue(self):
+        self.port.write("IER", 0x01)
+        self.assertEqual(EnqueueEffects(60, False, 1), self.port.enqueue(bytes(range(60))))
+        self.assertEqual(EnqueueEffects(4, False, 0), self.port.enqueue(bytes(10)))
+        self.assertEqual(EnqueueEffects(0, True, 0), self.port.enqueue(b"a"))
+        self.assertEqual(EnqueueEffects(0, False, 0), self.port.enqueue(b""))
+        self.assertEqual(0, self.port.fifo_capacity())
+        self.assertEqual(bytes(range(60)) + bytes(4), self.port.state.in_buffer)
+
+    def test_first_refused_leaves_thre_not_pending(self):
+        self.port.enqueue(b"a")
+        self.port.write("IER", 0x03)
+        self.port.first_refused()
+        self.assertEqual((0x04, 1), (self.port.state.interrupt_identification, self.port.interrupts_due()))
+
+    def test_coherence(self):
+        self.assertTrue(self.port.is_coherent())
+        self.assertFalse(Serial.from_state(SerialState(interrupt_identification=0x04)).is_coherent())
+
+    def test_numbers_out_of_range_change_nothing(self):
+        for offset, value in ((256, 0), (-1, 0), (7, 256), (7, -1)):
+            with self.subTest((offset, value)), self.assertRaises(ValueError):
+                self.port.write(offset, value)
+        with self.assertRaises(TypeError):
+            self.port.write(7, 1.5)
+        self.assertEqual(SerialState(), self.port.state)
+        for wrong in ({"scratch": 256}, {"scratch": -1}, {"in_buffer": bytes(65)}):
+            with self.subTest(wrong), self.assertRaises(ValueError):
+                SerialState(**wrong)
+
+    def test_copy_goes_its_own_way(self):
+        other = copy.copy(self.port)
+        other.write("SCR", 1)
+        self.assertEqual((0, 1), (self.port.state.scratch, other.state.scratch))
+
+    def test_repr_names_bits(self):
+        self.port.write("IER", 0x03)
+        self.port.enqueue(b"hi")
+        self.assertEqual("<Serial divisor=12 IER=0x03(RDA|THRE) IIR=0x06(RDA|THRE) LCR=0x03(8N1) LSR=0x61(DR|THRE|TEMT) "
+                         "MCR=0x08(OUT2) MSR=0xb0(CTS|DSR|DCD) SCR=0x00 in_buffer=b'hi'>", repr(self.port))
+
+
+class Clock(unittest.TestCase):
+    def test_each_register(self):
+        clock = Rtc()
+        for name, value in (("LR", 0x12345678), ("MR", 0x9ABCDEF0), ("IMSC", 1)):
+            self.assertFalse(clock.write(name, value, 1 << 40).invalid_write)
+            self.assertEqual(value, clock.read(name, 1 << 40).value)
+        state = clock.state
+        self.assertEqual((0x12345678, 0x9ABCDEF0, 1), (state.lr, state.mr, state.imsc))
+        self.assertEqual(0x12345678, state.offset)
+        self.assertEqual([0x31, 0x10, 0x04, 0x00, 0x0D, 0xF0, 0x05, 0xB1],
+                         [clock.read(f"ID{index}", 0).value for index in range(8)])
+
+    def test_moments_have_64_bits_of_which_32_count(self):
+        self.assertEqual(7, Rtc().read("DR", (1 << 63) + 7).value)
+        for now in (1 << 64, -1):
+            with self.assertRaises(ValueError):
+                Rtc().read("DR", now)
+
+    def test_invalid_accesses(self):
+        self.assertEqual((0, True), Rtc().read("ICR", 0))
+        self.assertTrue(Rtc().write("RTCDR", 1, 0).invalid_write)
+        with self.assertRaises(RegisterError):
+            Rtc().read("LSR", 0)
+
+    def test_alarm(self):
+        clock = Rtc()
+        self.assertIsNone(clock.due(100))
+        clock.write("IMSC", 1, 100)
+        clock.write("MR", 105, 100)
+        self.assertEqual((5, 1, False), (clock.due(100), clock.due(104), clock.line()))
+        self.assertEqual(0, clock.read("MIS", 104).value)
+        self.assertEqual(1, clock.read("MIS", 105).value)
+        self.assertTrue(clock.line())
+        self.assertIsNone(clock.due(106))
+
+    def test_states(self):
+        state = RtcState(1, 2, 3, 4, -5, True)
+        clock = Rtc.from_state(state)
+        self.assertEqual(state, clock.state)
+        self.assertEqual(state, copy.copy(clock).state)
+        self.assertEqual(state, Rtc.from_bytes(clock.to_bytes()).state)
+        self.assertEqual("<Rtc LR=0x00000001 MR=0x00000002 IMSC=0x00000003(ALARM) RIS=0x00000004 offset=-5 armed=True>",
+                         repr(clock))
+        for wrong in ({"lr": 1 << 32}, {"offset": 1 << 63}, {"offset": -(1 << 63) - 1}):
+            with self.subTest(wrong), self.assertRaises(ValueError):
+                RtcState(**wrong)
+
+
+class Controller(unittest.TestCase):
+    def test_reset(self):
+        controller = I8042()
+        self.assertTrue(controller.write(4, 0xFE).resets)
+        self.assertFalse(controller.write(0xFE, 4).resets)
+        self.assertEqual(0, controller.read(4))
+
+
+class SavedStates(unittest.TestCase):
+    def test_round_trips(self):
+        randomness = random.Random(1)
+        for held in range(65):
+            registers = [randomness.randrange(256) for _ in range(9)]
+            state = SerialState(*registers, randomness.randbytes(held) if hasattr(randomness, "randbytes")
+                                else bytes(randomness.randrange(256) for _ in range(held)))
+            saved = Serial.from_state(state).to_bytes()
+            self.assertEqual(state, Serial.from_bytes(saved).state)
+            self.assertEqual(saved, Serial.from_bytes(saved).to_bytes())
+
+    def test_what_the_guest_has_read_is_not_saved(self):
+        port = Serial()
+        for byte in b"password":
+            port.enqueue(bytes([byte]))
+            port.read("RBR")
+        port.enqueue(b"ab")
+        self.assertNotIn(b"p", port.to_bytes()[8:])
+        self.assertTrue(port.to_bytes().endswith(b"ab"))
+
+    def test_bytes_that_are_refused(self):
+        saved, clock = Serial().to_bytes(), Rtc().to_bytes()
+        full = Serial.from_state(SerialState(in_buffer=bytes(64))).to_bytes()
+        cases = [(b"", LoadStatus.TOO_SHORT), (saved[:7], LoadStatus.TOO_SHORT), (b"X" + saved[1:], LoadStatus.NOT_A_SAVED_STATE),
+                 (clock, LoadStatus.OTHER_DEVICE), (saved[:5] + b"\2" + saved[6:], LoadStatus.UNKNOWN_VERSION),
+                 (saved[:-1], LoadStatus.WRONG_LENGTH), (saved + b"\0", LoadStatus.WRONG_LENGTH),
+                 (full[:6] + b"\x4a" + full[7:] + b"\0", LoadStatus.TOO_MANY_BYTES)]
+        for data, status in cases:
+            with self.subTest(data), self.assertRaises(SavedStateError) as caught:
+                Serial.from_bytes(data)
+            self.assertIs(status, caught.exception.status)
+        with self.assertRaises(SavedStateError) as caught:
+            Rtc.from_bytes(clock[:-1] + b"\2")
+        self.assertIs(LoadStatus.INVALID_ARMED, caught.exception.status)
+
+    def test_worked_examples(self):
+        """Those of docs/SAVED-STATES.md, made by what the document says that the guest did."""
+        port, clock = re.findall(r"^53494f53[0-9a-f]+$", SAVED_STATES.read_text(encoding="utf-8"), re.MULTILINE)
+        made = Serial()
+        made.write("IER", 0x01)
+        made.write("SCR", 0x5A)
+        made.enqueue(b"ab")
+        self.assertEqual(port, made.to_bytes().hex())
+        made = Rtc()
+        moment = 0x65920080 + 3600
+        made.write("LR", 0x65920080, moment)
+        made.write("IMSC", 1, moment)
+        made.write("MR", 0x65920080 + 60, moment)
+        self.assertEqual(clock, made.to_bytes().hex())
+
+    def test_hostile_bytes(self):
+        """Every prefix of a good state, and every change of one byte."""
+        port = Serial.from_state(SerialState(1, 2, 3, 4, 5, 6, 7, 8, 9, b"abc")).to_bytes()
+        clock = Rtc.from_state(RtcState(1, 2, 3, 4, -5, True)).to_bytes()
+        for device, kind, good in ((Serial, 1, port), (Rtc, 2, clock)):
+            changed = [good[:place] + bytes([byte]) + good[place + 1:] for place in range(len(good)) for byte in range(256)]
+            for data in changed + [good[:length] for length in range(len(good))]:
+                self.assertEqual(self.status_of(kind, data), self.load(device, data), data.hex())
+
+    @staticmethod
+    def status_of(kind, data):
+        """What docs/SAVED-STATES.md says of bytes that are loaded."""
+        contents = data[8:]
+        checks = [(len(data) < 8, LoadStatus.TOO_SHORT), (data[:4] != b"SIOS", LoadStatus.NOT_A_SAVED_STATE),
+                  (data[4:5] != bytes([kind]), LoadStatus.OTHER_DEVICE), (data[5:6] != b"\1", LoadStatus.UNKNOWN_VERSION),
+                  (int.from_bytes(data[6:8], "little") != len(contents), LoadStatus.WRONG_LENGTH),
+                  (len(contents) < 9 if kind == 1 else len(contents) != 25, LoadStatus.WRONG_LENGTH),
+                  (kind == 1 and len(contents) > 73, LoadStatus.TOO_MANY_BYTES),
+                  (kind == 2 and contents[-1:] > b"\1", LoadStatus.INVALID_ARMED)]
+        return next((status for fails, status in checks if fails), LoadStatus.OK)
+
+    def load(self, device, data):
+        try:
+            self.assertEqual(data, device.from_bytes(data).to_bytes())
+        except SavedStateError as error:
+            return error.status
+        return LoadStatus.OK
+
+    def test_a_state_can_be_replaced_in_parts(self):
+        state = dataclasses.replace(SerialState(), scratch=7)
+        self.assertEqual(7, Serial.from_state(state).read("SCR").byte)
+
+
+class Finding(unittest.TestCase):
+    def test_another_interface_is_refused(self):
+        with mock.patch.object(library, "ABI", 99), self.assertRaisesRegex(LibraryError, r"interface \d+, .* needs 99"):
+            library.open_library()
+
+    def test_a_named_library_that_is_not_there(self):
+        with mock.patch.dict(os.environ, {library.VARIABLE: "/nowhere/lib.so"}), \
+                self.assertRaisesRegex(LibraryError, "/nowhere/lib.so cannot be loaded"):
+            library.open_library()
+
+    def test_no_library(self):
+        environment = {name: value for name, value in os.environ.items() if name != library.VARIABLE}
+        with mock.patch.dict(os.environ, environment, clear=True), mock.patch.object(library, "FILE_NAME", "none.so"), \
+                self.assertRaisesRegex(LibraryError, "none.so was not found .* set SUPERIO_LIBRARY"):
+            library.open_library()
+
+    def test_a_missing_function_says_so_when_it_is_called(self):
+        found = library.open_library()
+        with self.assertRaisesRegex(LibraryError, "has no function superio_nothing"):
+            found._missing("superio_nothing")()
+
+
+def load_tests(loader, tests, ignored):
+    tests.addTests(doctest.DocTestSuite(devices))
+    tests.addTests(doctest.DocTestSuite(board, extraglobs={"Board": Board, "parse": parse}))
+    return tests
+
+
+if __name__ == "__main__":
+    unittest.main()

@@ -1,0 +1,106 @@
+"""The package as pip installs it, and what every Python that it is for needs."""
+import ast
+import os
+import re
+import subprocess
+import sys
+import tempfile
+import unittest
+import zipfile
+from pathlib import Path
+
+from support import ENVIRONMENT, PACKAGE, TIMEOUT
+
+from superio import library
+
+SOURCES = sorted((PACKAGE / "superio").glob("*.py"))
+CLEAN = {name: value for name, value in ENVIRONMENT.items() if name not in ("PYTHONPATH", library.VARIABLE)}
+
+try:
+    LIBRARY = library.open_library().path
+except library.LibraryError:
+    LIBRARY = ""
+
+
+class Sources(unittest.TestCase):
+    def test_syntax_of_python_3_8(self):
+        for path in [*SOURCES, PACKAGE / "build_wheel.py"]:
+            ast.parse(path.read_text(encoding="utf-8"), str(path), feature_version=(3, 8))
+
+    @unittest.skipUnless(hasattr(sys, "stdlib_module_names"), "this Python does not list its library")
+    def test_standard_library_alone(self):
+        for path in SOURCES:
+            for node in ast.walk(ast.parse(path.read_text(encoding="utf-8"))):
+                names = [alias.name for alias in node.names] if isinstance(node, ast.Import) else \
+                    [node.module] if isinstance(node, ast.ImportFrom) and node.level == 0 else []
+                for name in names:
+                    self.assertIn(name.split(".")[0], sys.stdlib_module_names, path)
+
+    def test_public_calls_are_documented_and_typed(self):
+        for path in SOURCES:
+            for node in ast.walk(ast.parse(path.read_text(encoding="utf-8"))):
+                if isinstance(node, ast.FunctionDef):
+                    self.assertIsNotNone(node.returns, f"{path.name}: {node.name} has no type")
+                    self.assertLessEqual(node.end_lineno - node.lineno, 40, f"{path.name}: {node.name} is long")
+            self.assertTrue(ast.get_docstring(ast.parse(path.read_text(encoding="utf-8"))), path)
+
+
+@unittest.skipUnless(LIBRARY, "no library is there")
+class Wheel(unittest.TestCase):
+    def setUp(self):
+        folder = tempfile.TemporaryDirectory()
+        self.addCleanup(folder.cleanup)
+        self.folder = Path(folder.name)
+
+    def test_installed_by_pip(self):
+        """A venv without pip takes little time: this Python's pip installs into it."""
+        command = [sys.executable, "-m", "pip"]
+        if subprocess.run([*command, "--version"], capture_output=True).returncode:
+            self.skipTest("no pip is there")
+        environment = {**CLEAN, library.VARIABLE: LIBRARY, "PIP_DISABLE_PIP_VERSION_CHECK": "1"}
+        subprocess.run([*command, "install", "--quiet", "--no-index", "--no-deps", "--target", str(self.folder), str(PACKAGE)],
+                       check=True, env=environment, timeout=TIMEOUT * 5, cwd=self.folder)
+        done = subprocess.run([sys.executable, "-m", "superio"], input=b"read LSR\n", capture_output=True, cwd="/",
+                              env={**CLEAN, "PYTHONPATH": str(self.folder)}, timeout=TIMEOUT)
+        self.assertEqual((0, b"LSR = 0x60  THRE TEMT\n", b""), (done.returncode, done.stdout, done.stderr))
+        self.assertEqual(Path(LIBRARY).read_bytes(), (self.folder / "superio" / library.FILE_NAME).read_bytes())
+
+    def test_contents(self):
+        environment = {**CLEAN, library.VARIABLE: LIBRARY}
+        code = f"import build_wheel; print(build_wheel.build_wheel({str(self.folder)!r}))"
+        name = subprocess.run([sys.executable, "-c", code], check=True, capture_output=True, text=True, cwd=PACKAGE,
+                              env=environment).stdout.strip()
+        self.assertRegex(name, r"^superio-\d+\.\d+\.\d+-py3-none-linux_\w+\.whl$")
+        with zipfile.ZipFile(self.folder / name) as wheel:
+            names = set(wheel.namelist())
+            record = wheel.read(next(name for name in names if name.endswith("/RECORD"))).decode()
+        self.assertEqual(names, {line.split(",")[0] for line in record.splitlines()})
+        for path in SOURCES:
+            self.assertIn(f"superio/{path.name}", names)
+        self.assertTrue(any(re.search(r"dist-info/LICENSE$", name) for name in names))
+
+    def test_a_wheel_wants_a_library(self):
+        code = f"import build_wheel; build_wheel.build_wheel({str(self.folder)!r})"
+        done = subprocess.run([sys.executable, "-c", code], capture_output=True, text=True, cwd=PACKAGE,
+                              env={**CLEAN, library.VARIABLE: "/nowhere/lib.so"})
+        self.assertIn("/nowhere/lib.so is not there: set SUPERIO_LIBRARY", done.stderr)
+        self.assertEqual([], list(self.folder.iterdir()))
+
+
+@unittest.skipUnless(LIBRARY, "no library is there")
+class Paths(unittest.TestCase):
+    def test_the_library_of_the_system(self):
+        """A library that the system finds serves a package that has none beside it."""
+        with tempfile.TemporaryDirectory() as folder:
+            os.symlink(LIBRARY, Path(folder, library.FILE_NAME))
+            package = Path(folder, "superio")
+            package.mkdir()
+            for path in SOURCES:
+                (package / path.name).write_bytes(path.read_bytes())
+            done = subprocess.run([sys.executable, "-m", "superio"], input=b"kr 04\n", capture_output=True, cwd="/",
+                                  env={**CLEAN, "PYTHONPATH": folder, "LD_LIBRARY_PATH": folder}, timeout=TIMEOUT)
+            self.assertEqual((0, b"00\n", b""), (done.returncode, done.stdout, done.stderr))
+
+
+if __name__ == "__main__":
+    unittest.main()

@@ -1,0 +1,187 @@
+"""Recorded traces: how they are read, made again, searched, listed and drawn."""
+import io
+import tempfile
+import unittest
+import xml.etree.ElementTree
+from pathlib import Path
+
+from support import ROOT, run
+
+from superio.faults import BadLine
+from superio.recording import entries_of, replay
+from superio.style import Style
+from superio.svg import picture
+from superio.view import Viewer, table
+
+RECORDING = ROOT / "examples" / "linux-boot" / "boot.recording"
+FIGURE = ROOT / "docs" / "linux-boot.svg"
+
+TRACE = b"""\
+# both conditions, a refusal, and a reset
+refuse 0000000000000002
+sw 01 01                             ok
+sq 6162                              02
+sr 05                                61
+sr 00                                61
+sw 01 03                             trigger
+sr 02                                c4
+sw 00 41                             ok
+
+2 kr 04  00
+kw 04 fe  ok
+"""
+
+ROWS = [
+    ("sr 05  60", [("sr 05", "60")]),
+    ("sr 05", [("sr 05", None)]),
+    ("so   (empty)", [("so", "")]),
+    ("3 kr 04  00", [("kr 04", "00")] * 3),
+    ('sent "Hi"', [("sw 00 48", "ok"), ("sw 00 69", "ok")]),
+    ('polled "H"', [("sr 05", "60"), ("sw 00 48", "ok")]),
+    (r'so "H\n"', [("so", "480a")]),
+]
+
+
+def steps_of(trace):
+    return list(replay("trace", trace.splitlines(keepends=True)))
+
+
+class Recordings(unittest.TestCase):
+    def test_rows(self):
+        for row, entries in ROWS:
+            with self.subTest(row):
+                self.assertEqual(entries, entries_of(row))
+
+    def test_each_piece_begins_on_a_fresh_board(self):
+        steps = steps_of(b"sw 07 05\n\nsr 07\n# comment\nsr 07\n\n\nrefuse 0000000000000001\n")
+        self.assertEqual([1, 2, 2, 3], [step.piece for step in steps])
+        self.assertEqual(["ok", "00", "00", None], [step.call.reply for step in steps])
+
+    def test_faults(self):
+        for trace, reason in ((b"sr 05\nsr 5\n", 'trace:2: "sr 5": an offset has two digits'),
+                              (b'sent "\xc3\xa9"\n', "the text is no JSON string of ASCII"),
+                              (b'sent "\\q"\n', "the text is no JSON string of ASCII"),
+                              (b"sr 05\nrefuse 0000000000000001\n", "a mask comes before every other line")):
+            with self.subTest(trace), self.assertRaises(BadLine) as caught:
+                steps_of(trace)
+            self.assertIn(reason, str(caught.exception))
+
+    def test_a_reply_that_differs(self):
+        steps = steps_of(TRACE)
+        self.assertEqual([11], [number for number, step in enumerate(steps, 1) if step.differs])
+        self.assertTrue(table(steps).endswith("     11  kw 04 fe                  reset  recorded: ok\n"))
+
+
+class Stepping(unittest.TestCase):
+    def setUp(self):
+        self.out = io.StringIO()
+        self.viewer = Viewer(steps_of(TRACE), "trace", self.out, Style(False))
+
+    def place_after(self, line):
+        """The call that is shown after a command, or what is said where none is."""
+        self.out.seek(0)
+        self.out.truncate()
+        self.viewer.onecmd(line)
+        said = self.out.getvalue()
+        return int(said.split()[1]) if said.startswith("call ") else said.strip()
+
+    def test_places(self):
+        for line, place in [("next", 2), ("next 3", 5), ("back 2", 3), ("next thre", 8), ("back rda", 6), ("first", 1),
+                            ("next interrupt", 3), ("next refused", 6), ("next sent", 8), ("next reset", 11),
+                            ("back IIR", 7), ("back lsr", 4), ("first", 1), ("next difference", 11), ("goto 4", 4),
+                            ("next change", 5), ("back input", 3), ("last", 11), ("next", "there is no call further on"),
+                            ("next thre", "no thre further on"), ("goto 12", "there is no call further on"),
+                            ("goto 0", "there is no call before"), ("goto x", "the form is: goto N"), ("first", 1),
+                            ("back", "there is no call before"), ("", 2)]:
+            with self.subTest(line):
+                self.assertEqual(place, self.place_after(line))
+
+    def test_what_is_shown(self):
+        self.viewer.onecmd("goto 6")
+        self.assertEqual("call 6 of 11, piece 1: sw 01 03  trigger\n  IER: ok; interrupt for RDA refused\n"
+                         "  IER 0x01 -> 0x03  RDA THRE\n  IIR 0xc1 -> 0xc4  RDA\n  interrupt refused\n", self.out.getvalue())
+
+    def test_registers_and_list(self):
+        self.viewer.onecmd("goto 3")
+        self.assertNotIsInstance(self.place_after("regs"), int)
+        self.assertIn("  pending: RDA\n", self.out.getvalue())
+        self.place_after("list")
+        self.assertIn(">       3  sq 6162", self.out.getvalue())
+
+    def test_unknown_words(self):
+        self.assertIn("nothing is called foo", self.place_after("next foo"))
+        self.assertIn("no command is called foo", self.place_after("foo"))
+
+    def test_files(self):
+        with tempfile.TemporaryDirectory() as folder:
+            for command in ("table", "svg"):
+                path = Path(folder, command)
+                self.place_after(f"{command} {path}")
+                self.assertGreater(path.stat().st_size, 500)
+            self.assertIn("No such file", self.place_after(f"svg {folder}/none/x"))
+
+
+class Pictures(unittest.TestCase):
+    @staticmethod
+    def lanes(svg):
+        """The paths that have bars, by the name of their lane."""
+        found, name = {}, ""
+        for element in xml.etree.ElementTree.fromstring(svg):
+            if element.tag.endswith("text") and element.get("class") is None:
+                name = element.text
+            if element.tag.endswith("path") and element.get("fill"):
+                found[name] = element.get("d")
+        return found
+
+    def test_bars_stand_where_something_was(self):
+        lanes = self.lanes(picture(steps_of(b"sw 01 01\nsq 61\nsr 02\nsr 05\n"), "a <title> & more"))
+        self.assertEqual({"RDA pending": "M340 80v-34h200v34z", "FIFO": "M340 176v-5h600v5z", "interrupts":
+                          "M340 224v-34h200v34z"}, lanes)
+
+    def test_heights_of_the_fifo(self):
+        lanes = self.lanes(picture(steps_of(b"sq " + b"00" * 64 + b"\n" + b"sr 00\n" * 32), "fifo"))
+        bars = lanes["FIFO"].split("M")[1:]
+        self.assertEqual(33, len(bars))
+        self.assertIn("v-34h", bars[0])
+        self.assertIn("v-17h", bars[-1])
+
+    def test_empty_lanes(self):
+        self.assertEqual({}, self.lanes(picture(steps_of(b"sr 05\n"), "nothing")))
+
+    def test_figure_of_the_recorded_boot(self):
+        with tempfile.TemporaryDirectory() as folder:
+            path = Path(folder, "boot.svg")
+            self.assertEqual((0, "", ""), run("view", RECORDING, "--svg", path))
+            self.assertEqual(FIGURE.read_text(), path.read_text())
+        lanes = self.lanes(FIGURE.read_text())
+        self.assertEqual({"THRE pending", "interrupts", "output", "controller"}, set(lanes))
+
+
+class CommandLine(unittest.TestCase):
+    def test_table_of_the_recorded_boot(self):
+        status, output, errors = run("view", RECORDING, "--table")
+        self.assertEqual((0, ""), (status, errors))
+        rows = output.splitlines()
+        self.assertEqual(42839 + 66, len(rows))
+        self.assertNotIn("recorded:", output)
+        self.assertEqual("  26491  sw 01 0f                  ok        IER 0x00 -> 0x0f  RDA THRE RLS MS, "
+                         "IIR 0xc1 -> 0xc2  THRE, interrupt taken", next(row for row in rows if "  26491  " in row))
+
+    def test_standard_input_and_commands(self):
+        with tempfile.TemporaryDirectory() as folder:
+            path = Path(folder, "trace")
+            path.write_bytes(TRACE)
+            status, output, _ = run("view", path, script=b"next thre\nquit\n")
+        self.assertEqual(0, status)
+        self.assertIn("11 calls in 2 pieces, 1 with another reply than recorded", output)
+        self.assertIn("call 8 of 11, piece 1: sw 00 41  ok", output)
+        self.assertEqual(0, run("view", "-", "--table", script=TRACE)[0])
+
+    def test_faults(self):
+        self.assertEqual((1, "", '<stdin>:1: "sr": an offset is missing\n'), run("view", "-", script=b"sr\n"))
+        self.assertEqual((1, "", "- has no call\n"), run("view", "-", script=b"# nothing\n"))
+        self.assertEqual((2, "", "python3 -m superio: /nowhere: No such file or directory\n"), run("view", "/nowhere"))
+
+
+if __name__ == "__main__":
+    unittest.main()

@@ -1,0 +1,244 @@
+"""What people type: the commands that it means, what is said of it, and why it means none."""
+import io
+import unittest
+
+import support  # noqa: F401
+
+from superio import ScriptError
+from superio.session import Session
+from superio.words import characters
+
+NOW = 0x6553F100
+
+# A line, and the line of a script that it means.
+MEANINGS = [
+    ("read LSR", "sr 05"),
+    ("read lsr", "sr 05"),
+    ("read 5", "sr 05"),
+    ("read 05", "sr 05"),
+    ("read 0x0a", "sr 0a"),
+    ("read 10", "sr 0a"),
+    ("write SCR 10", "sw 07 0a"),
+    ("write SCR 0x10", "sw 07 10"),
+    ("write SCR 0b11", "sw 07 03"),
+    ("write IER RDA|THRE", "sw 01 03"),
+    ("write ier rda|0x08", "sw 01 09"),
+    ("write MCR LOOP", "sw 04 10"),
+    ("write THR 'A'", "sw 00 41"),
+    ("write THR ' '", "sw 00 20"),
+    (r"write THR '\n'", "sw 00 0a"),
+    ('type "hello\\n"', "sq 68656c6c6f0a"),
+    ("type 'a \"b\"'", "sq 6120226222"),
+    ("type two words", "sq 74776f20776f726473"),
+    (r'type "\x00\xff\\\e"', "sq 00ff5c1b"),
+    ('type "é"', "sq c3a9"),
+    ("clock read DR now", "cr 000000006553f100 0000"),
+    ("clock read rtcmis", "cr 000000006553f100 0018"),
+    ("clock read 0xfe4 +5", "cr 000000006553f105 0fe4"),
+    ("clock read MR now-1", "cr 000000006553f0ff 0004"),
+    ("clock write LR 100 1000", "cw 00000000000003e8 0008 00000064"),
+    ("clock write IMSC ALARM", "cw 000000006553f100 0010 00000001"),
+    ("alarm +5", "cw 000000006553f100 0004 6553f105"),
+    ("alarm 0x10 now+1", "cw 000000006553f101 0004 00000010"),
+    ("i8042 read 4", "kr 04"),
+    ("i8042 write 4 0xfe", "kw 04 fe"),
+    ("drain", "sd"), ("room", "sc"), ("output", "so"), ("calls", "st"), ("events", "se"), ("restore", "ss"),
+    ("sr LSR", "sr 05"),
+    ("sr 5", "sr 05"),
+    ("sr 0x05", "sr 05"),
+    ("sr 10", "sr 10"),
+    ("sw IER 1", "sw 01 01"),
+    ("sw LCR DLAB", "sw 03 80"),
+    ('sq "hi"', "sq 6869"),
+    ("cr now DR", "cr 000000006553f100 0000"),
+    ("cw 3e8 LR 64", "cw 00000000000003e8 0008 00000064"),
+    ("kr 4", "kr 04"),
+    ("refuse 2", "refuse 0000000000000002"),
+    ("  sr 05\t\r", "sr 05"),
+]
+
+# A line, and a part of why it is none.
+FAULTS = [
+    ("reed LSR", "no command is called reed: help lists them"),
+    ("sr", "an offset is missing"),
+    ("sr XYZ", "XYZ is no offset, and no register: those are RBR"),
+    ("read", "the form is: read REGISTER"),
+    ("read LSR now", "the form is: read REGISTER"),
+    ("read 256", "256 is no offset"),
+    ("read -1", "-1 is no offset"),
+    ("write IER", "the form is: write REGISTER VALUE"),
+    ("write IER FOO", "FOO is no value, and IER has the bits RDA THRE RLS MS"),
+    ("write THR 'AB'", "'AB' is not one byte"),
+    ("write THR 256", "256 is no value"),
+    ("type", 'the form is: type "TEXT"'),
+    ('type "a', 'the text has no closing "'),
+    ('type "a" b', 'the text has no closing "'),
+    (r'type "\q"', "no escape is called \\q"),
+    ("type " + "x" * 129, "1 to 128 bytes"),
+    ('type ""', "1 to 128 bytes"),
+    ("sq 4", "1 to 128 bytes have two digits each"),
+    ("clock", "the form is: clock read"),
+    ("clock read", "the form is: clock read"),
+    ("clock set DR 1", "the form is: clock read"),
+    ("clock read DR noon", "noon is no moment"),
+    ("alarm +4294967295", "guest time has 32 bits"),
+    ("i8042 read", "the form is: i8042 read"),
+    ("room 5", "room stands alone"),
+    ("why not", "why stands alone"),
+    ("regs i8042", "the form is: regs"),
+    ("save", "the form is: save FILE"),
+    ("save a b", "the form is: save FILE"),
+    ('load "a', "the form is: load FILE"),
+    ("load /nowhere/at/all", "/nowhere/at/all: No such file or directory"),
+    ("source /", "/: Is a directory"),
+    ("help foo", "no command is called foo"),
+    ("trace of", "the form is: trace"),
+    ("diff", "no call was made yet"),
+]
+
+# Lines, and what is said of them, from a fresh board.
+DIALOGUES = [
+    (["write IER RDA", 'type "hi"', "read IIR", "read RBR", "read RBR", "read RBR"],
+     ["ok", "2 bytes received; interrupt for RDA", "IIR = 0xc4  RDA", 'RBR = 0x68  "h"', 'RBR = 0x69  "i"',
+      "RBR = 0x00  no byte was held"]),
+    (['type "hi"', "write IER RDA|THRE", "write IER RDA|THRE"],
+     ["2 bytes received; no interrupt: IER does not enable RDA", "ok; interrupt for RDA, THRE", "ok"]),
+    (["write IER RDA", "type a", "type b"],
+     ["ok", "1 byte received; interrupt for RDA", "1 byte received; no interrupt: RDA is pending already"]),
+    (["refuse 1", "write IER RDA", "type a", "restore"],
+     ["ok", "1 byte received; interrupt for RDA refused", "restored; interrupt for RDA"]),
+    (["type " + "x" * 60, "type 12345", "type 6", "write MCR LOOP", "type 7", "room"],
+     ["60 bytes received; no interrupt: IER does not enable RDA", "4 of 5 bytes received: the FIFO is full",
+      "0 of 1 byte received: the FIFO is full", "ok", "0 of 1 byte received: the port is in loopback", "room for 0 bytes"]),
+    (["write THR 'A'", "write FCR 7", "write 9 1", "output", "events", "calls"],
+     ['sent "A"', "ignored", "ignored", '"A"', "0 reads of RBR, 0 of them left no byte; 1 byte out, 0 lost",
+      "the interrupt line was called 0 times"]),
+    (["clock read DR", "clock write DR 1", "clock read ICR", "clock write LR 100", "clock write MR 99", "clock write MR 100",
+      "clock read RIS"],
+     ["DR = 0x6553f100  2023-11-14 22:13:20 UTC", "invalid: nothing can be written at 0x0000, DR",
+      "invalid: nothing can be read at 0x001c, ICR", "ok", "ok: that time is past",
+      "ok: guest time is there, so the alarm is up", "RIS = 0x00000001  ALARM"]),
+    (["i8042 read 4", "i8042 write 4 0xfe", "i8042 write 4 0xff"], ["0x00", "reset", "ok"]),
+    (["sr LSR", "sq 6869", "sd"], ["60", "02", "6869"]),
+]
+
+WHY = [
+    ([], "RDA is not pending: no call has raised it. IER does not enable it.",
+     "THRE is not pending: no call has raised it. IER does not enable it."),
+    (["sq 61"], "RDA is not pending: no call has raised it. IER does not enable it, and 1 byte is held.", None),
+    (["sw 01 01", "sq 61"],
+     "RDA is pending: call 2, sq 61, raised it, and the line took the interrupt. A read of IIR or of RBR acknowledges it.",
+     None),
+    (["sw 01 01", "sq 6162", "sr 02"], "RDA is not pending: call 3, sr 02, acknowledged it. 2 bytes are held: the next byte "
+     "or a write to IER raises it.", None),
+    (["sw 01 01", "sq 61", "sd"], "RDA is not pending: call 3, sd, acknowledged it. The next byte raises it.", None),
+    (["refuse 1", "sw 01 01", "sq 61", "sw 01 00"],
+     "RDA is pending: call 3, sq 61, raised it, and the line refused the interrupt. IER does not enable it now.", None),
+    (["refuse 1", "sw 01 01", "sq 61", "ss"],
+     "RDA is pending: call 4, ss, raised it, and the line took the interrupt. A read of IIR or of RBR acknowledges it.", None),
+    (["sw 01 02"], None,
+     "THRE is pending: call 1, sw 01 02, raised it, and the line took the interrupt. A read of IIR acknowledges it."),
+    (["sw 01 02", "sr 02"], None,
+     "THRE is not pending: call 2, sr 02, acknowledged it. The next byte that goes out raises it, or a write to IER."),
+]
+
+DIFFS = [
+    (["sw 01 02"], ["IER 0x00 -> 0x02  THRE", "IIR 0xc1 -> 0xc2  THRE", "interrupt taken"]),
+    (["sq 6869"], ["LSR 0x60 -> 0x61  DR THRE TEMT", "FIFO 0 -> 2 bytes"]),
+    (["sw 00 41"], ["output 0 -> 1 byte"]),
+    (["sr 05"], ["nothing changed"]),
+    (["cw 0000000000000064 0004 00000069"], ["MR 0x00000000 -> 0x00000069", "alarm set"]),
+    (["cw 0000000000000064 0008 00000069"], ["LR 0x00000000 -> 0x00000069", "clock offset 0 -> 5 s"]),
+    (["refuse 1", "sq 61", "sw 01 03"], ["IER 0x00 -> 0x03  RDA THRE", "IIR 0xc1 -> 0xc4  RDA", "interrupt refused"]),
+]
+
+
+class Words(unittest.TestCase):
+    def setUp(self):
+        self.out = io.StringIO()
+        self.session = Session(self.out, keeps_lines=True, host_time=lambda: NOW + 0.75)
+
+    def said(self, *lines):
+        """What is said of lines, as lines."""
+        for line in lines:
+            self.session.carry_out(line.encode())
+        said = self.out.getvalue().splitlines()
+        self.out.seek(0)
+        self.out.truncate()
+        return said
+
+    def test_meanings(self):
+        for line, meaning in MEANINGS:
+            with self.subTest(line):
+                self.setUp()
+                self.said(line)
+                self.assertEqual([meaning], self.session.trace.lines)
+
+    def test_faults(self):
+        for line, reason in FAULTS:
+            with self.subTest(line):
+                self.setUp()
+                with self.assertRaises(Exception) as caught:
+                    self.said(line)
+                self.assertIn(reason, str(caught.exception))
+                self.assertEqual([], self.session.trace.lines)
+
+    def test_dialogues(self):
+        for lines, replies in DIALOGUES:
+            with self.subTest(lines):
+                self.setUp()
+                self.assertEqual(replies, self.said(*lines))
+
+    def test_why(self):
+        for lines, *sentences in WHY:
+            with self.subTest(lines):
+                self.setUp()
+                self.said(*lines)
+                for sentence, said in zip(sentences, self.said("why")):
+                    self.assertIn(sentence, (said, None))
+
+    def test_diff(self):
+        for lines, rows in DIFFS:
+            with self.subTest(lines):
+                self.setUp()
+                self.said(*lines)
+                self.assertEqual([lines[-1], *("  " + row for row in rows)], self.said("diff"))
+
+    def test_comments_and_blank_lines(self):
+        self.assertEqual([], self.said("", "   ", "\t\r", "# sr 05", "   # sr 05"))
+
+    def test_registers_of_another_dlab(self):
+        self.said("write LCR 0x83", "write DLL 1")
+        with self.assertRaisesRegex(ValueError, "RBR is out of reach while DLAB is set"):
+            self.said("read RBR")
+
+    def test_mask_before_every_call(self):
+        self.said("# comment", "regs")
+        self.said("refuse 1")
+        with self.assertRaisesRegex(ScriptError, "a mask comes before every other line"):
+            self.said("refuse 2")
+
+    def test_regs(self):
+        self.said("write IER RDA|THRE", 'type "hi"')
+        said = self.said("regs")
+        for row in ("  IER  0x03  RDA THRE", "  IIR  0xc6  RDA THRE", "  LSR  0x61  DR THRE TEMT", '  "hi"',
+                    "  pending: RDA, THRE", "  divisor 12, FIFO 2 of 64", "  DR   0x6553f100  2023-11-14 22:13:20"):
+            self.assertIn(row, said)
+        self.said("alarm +5")
+        self.assertIn("  alarm due in 5 s", self.said("regs clock"))
+
+    def test_characters(self):
+        self.assertEqual(b'a"b', characters(r'"a\"b"'))
+        self.assertEqual(b"\\", characters(r'"\\"'))
+        with self.assertRaises(ScriptError):
+            characters('"\\"')
+
+    def test_help_names_every_command(self):
+        listed = "\n".join(self.said("help"))
+        for name in ("read", "write", "type", "regs", "why", "save", "source", "sr", "cw", "refuse", "quit"):
+            self.assertIn(f"  {name}", listed)
+            self.assertTrue(self.said(f"help {name}"))
+
+
+if __name__ == "__main__":
+    unittest.main()
