@@ -3,5 +3,3 @@ pub mod ReadLemmas
 pub mod SerialScriptLemmas
 pub mod DriverLemmas
 pub mod ScriptLemmas
-pub mod FlawLemmas
-pub mod ShellLemmas

@@ -9,5 +9,3 @@ pub mod SerialScript
 pub mod Board
 pub mod Script
 pub mod ScriptFault
-pub mod Flaw
-pub mod Shell

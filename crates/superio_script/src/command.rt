@@ -124,35 +124,35 @@ fn bytes<const N: usize>(field: &[u8]) -> Option<[u8; N]>
 }
 
 /// The byte of a field of two digits.
-pub(crate) fn byte(field: &[u8]) -> Option<u8>
+fn byte(field: &[u8]) -> Option<u8>
     ensures { result ≡ number_of w8 field.now }
 {
     Some(u8::from_be_bytes(bytes(field)?))
 }
 
 /// The number of a field of sixteen digits.
-pub(crate) fn number64(field: &[u8]) -> Option<u64>
+fn number64(field: &[u8]) -> Option<u64>
     ensures { result ≡ number_of w64 field.now }
 {
     Some(u64::from_be_bytes(bytes(field)?))
 }
 
 /// The number of a field of four digits.
-pub(crate) fn number16(field: &[u8]) -> Option<u16>
+fn number16(field: &[u8]) -> Option<u16>
     ensures { result ≡ number_of w16 field.now }
 {
     Some(u16::from_be_bytes(bytes(field)?))
 }
 
 /// The number of a field of eight digits.
-pub(crate) fn number32(field: &[u8]) -> Option<u32>
+fn number32(field: &[u8]) -> Option<u32>
     ensures { result ≡ number_of w32 field.now }
 {
     Some(u32::from_be_bytes(bytes(field)?))
 }
 
 /// The bytes of a field of two digits for each: 1 to 128 of them.
-pub(crate) fn parse_arrival(field: &[u8]) -> Option<Arrival>
+fn parse_arrival(field: &[u8]) -> Option<Arrival>
     ensures { result ≡ arrival_of field.now }
 {
     let mut bytes = [0; ARRIVAL_LIMIT];
@@ -268,7 +268,7 @@ fn command_of_name(name: &[u8], fields: Fields) -> Option<Command>
 }
 
 /// What a line of this name alone asks for.
-pub(crate) fn line_of_name(name: &[u8]) -> Option<SerialLine>
+fn line_of_name(name: &[u8]) -> Option<SerialLine>
     ensures { result ≡ line_of_name name.now }
 {
     match name {
@@ -302,7 +302,7 @@ fn one_number64(mut fields: Fields) -> Option<u64>
 
 /// The mask of a line `refuse MMMMMMMMMMMMMMMM`, given without its LF, or `None` where the line has another form or
 /// none.
-pub fn refused_mask(line: &[u8]) -> Option<u64>
+pub(crate) fn refused_mask(line: &[u8]) -> Option<u64>
     ensures { result ≡ mask_of line.now }
 {
     let mut fields = Fields::of(line);

@@ -1,15 +1,11 @@
-//! Tests of scripts and of the board that they drive: replies from outside, broken scripts, streams that fail, and memory
-//! that is refused.
+//! Tests of what no script shows of the board and of a run: streams that fail, memory that is refused, and the objects of a
+//! board by themselves. Scripts and their replies are in tests/.
 #![tactic(auto)]
 
-#[cfg(test)]
-mod broken;
 #[cfg(test)]
 mod driver;
 #[cfg(test)]
 mod objects;
-#[cfg(test)]
-mod sample;
 #[cfg(test)]
 mod scripts;
 #[cfg(test)]

@@ -6,6 +6,7 @@ use crate::scaffold::{EventCounts, event_counts};
 use std::process::Abort;
 use std::test::Fail;
 use superio_script::Counts;
+use vm_superio::rtc_pl031::fields::RtcFields;
 use vm_superio::rtc_pl031::{NoEvents, RtcEvents};
 use vm_superio::{Rtc, RtcState, laws};
 
@@ -14,8 +15,6 @@ const RTCDR: u16 = 0x000;
 const RTCMR: u16 = 0x004;
 
 const RTCLR: u16 = 0x008;
-
-const RTCCR: u16 = 0x00C;
 
 const RTCIMSC: u16 = 0x010;
 
@@ -98,38 +97,6 @@ fn saved_clocks_are_compared_and_printed_by_all_six_fields(rt: HostRuntime) -> R
 }
 
 #[test]
-fn a_load_sets_guest_time(rt: HostRuntime) {
-    let mut clock = Rtc::new();
-    follow(&rt, &mut clock, 1000, &[Write(RTCLR, 100)]);
-    follow(&rt, &mut clock, 1007, &[Read(RTCDR, 107)]);
-}
-
-#[test]
-fn only_a_control_write_of_1_resets(rt: HostRuntime) {
-    let mut clock = Rtc::with_events(Counts::new());
-    follow(&rt, &mut clock, 1000, &[Write(RTCLR, 100)]);
-    follow(&rt, &mut clock, 1001, &[Write(RTCCR, 2)]);
-    follow(&rt, &mut clock, 1007, &[Read(RTCDR, 107)]);
-    follow(&rt, &mut clock, 1008, &[Write(RTCCR, 1)]);
-    follow(
-        &rt,
-        &mut clock,
-        1009,
-        &[Read(RTCDR, 1009), Read(RTCLR, 0), Read(RTCCR, 1)],
-    );
-    assert_eq!(rt; event_counts(clock.events()), EventCounts::default());
-}
-
-#[test]
-fn guest_time_before_0_is_the_host_time(rt: HostRuntime) {
-    let mut clock = Rtc::new();
-    follow(&rt, &mut clock, 1000, &[Write(RTCLR, 5)]);
-    for (now, guest_time) in [(996, 1), (995, 0), (994, 994)] {
-        follow(&rt, &mut clock, now, &[Read(RTCDR, guest_time)]);
-    }
-}
-
-#[test]
 fn any_offset_may_be_restored(rt: HostRuntime) {
     for (offset, now, guest_time) in [
         (i64::MIN, 0, 0),
@@ -158,19 +125,6 @@ fn only_the_low_32_bits_of_a_time_are_used(rt: HostRuntime) {
     follow(&rt, &mut clock, 4_294_967_297, &[Write(RTCLR, 5)]);
     follow(&rt, &mut clock, 3, &[Read(RTCDR, 7)]);
     assert_eq!(rt; clock.state().offset, 4);
-}
-
-#[test]
-fn the_mask_is_one_bit(rt: HostRuntime) {
-    let mut clock = with_interrupts(1, 1);
-    follow(&rt, &mut clock, 1000, &[Read(RTCRIS, 1), Read(RTCMIS, 1)]);
-    follow(
-        &rt,
-        &mut clock,
-        1000,
-        &[Write(RTCIMSC, 2), Read(RTCIMSC, 0), Read(RTCMIS, 0)],
-    );
-    follow(&rt, &mut clock, 1000, &[Write(RTCICR, 1), Read(RTCRIS, 0)]);
 }
 
 #[test]
@@ -228,4 +182,5 @@ fn no_events_accepts_every_event(rt: HostRuntime) {
 fn the_laws_are_calls() {
     laws::clock_is_history();
     laws::raw_bits_by_history();
+    laws::alarm_due_by_history();
 }

@@ -1,5 +1,5 @@
-//! Tests of what no contract says, and of whether the contracts say what is meant: values from outside, printed text,
-//! and streams that fail.
+//! Tests of what neither a script of tests/ nor a contract shows: objects that fail or log their calls, states that no
+//! device reaches, memory that is refused, and printed text.
 #![tactic(auto)]
 
 #[cfg(test)]
@@ -8,6 +8,8 @@ mod clock;
 mod memory;
 #[cfg(test)]
 mod runs;
+#[cfg(test)]
+mod saved_forms;
 #[cfg(test)]
 mod scaffold;
 #[cfg(test)]

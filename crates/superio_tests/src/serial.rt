@@ -100,11 +100,3 @@ fn one_lost() -> EventCounts {
         ..EventCounts::default()
     }
 }
-
-/// The identification, which an IIR read would change.
-fn identification<EV: SerialEvents, W: Write>(
-    alloc: Global,
-    serial: &Serial<Line, EV, W>,
-) -> Result<u8, AllocError> {
-    Ok(serial.state(alloc)?.interrupt_identification)
-}
