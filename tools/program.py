@@ -1,11 +1,27 @@
-"""What the tools share: the built program, the built C library, and where Cargo finds the Rust crate."""
+"""What the tools share: the built program and its runs, the built C library, and where Cargo finds the Rust crate."""
 import os
+import re
 import subprocess
+import sys
+import tempfile
+from concurrent.futures import ThreadPoolExecutor
 from pathlib import Path
+
+from status import Status, progress
 
 CRATES = Path(__file__).resolve().parent.parent / "crates"
 SOURCES = ["superio", "superio_script", "vm_superio"]
 LIBRARY_SOURCES = ["superio_c", "vm_superio"]
+
+# How rt says which crate it works on.
+CRATE = re.compile(r"rt: chose --jobs \d+ for (\w+)|checked (\w+)::")
+
+# The longest that one run of the program may take, in seconds.
+TIMEOUT = 60
+
+
+class NotBuilt(Exception):
+    """A program or a library could not be built. The text says why."""
 
 
 def is_current(built, sources):
@@ -14,23 +30,49 @@ def is_current(built, sources):
     return built.exists() and built.stat().st_mtime >= max(path.stat().st_mtime for path in paths)
 
 
-def built_program(arguments):
-    """The program that the arguments name, or else the built one, which `rt run` builds anew where it has to."""
+def run_rt(crate, command, log):
+    """Runs a command of rt in the folder of a crate with a status line, and its exit status. `log` takes what it prints."""
+    with Status(f"building {crate}", counts=False) as status, status.task("starting") as task, subprocess.Popen(
+            ["rt", command], cwd=CRATES / crate, stdin=subprocess.DEVNULL, stdout=subprocess.PIPE,
+            stderr=subprocess.STDOUT, text=True, errors="replace") as process:
+        for line in process.stdout:
+            log.write(line)
+            if found := CRATE.match(line):
+                task.name = f"proving {found[1] or found[2]}"
+            progress(task, line)
+    return process.returncode
+
+
+def build(crate, *commands):
+    """Builds a crate by commands of rt. What they print is kept, in a file that the error names, where one fails."""
+    handle, name = tempfile.mkstemp(prefix=f"{crate}-", suffix=".log")
+    with os.fdopen(handle, "w", encoding="utf-8") as log:
+        for command in commands:
+            try:
+                status = run_rt(crate, command, log)
+            except OSError as error:
+                raise NotBuilt(f"{crate} was not built: {error}") from error
+            if status != 0:
+                raise NotBuilt(f"{crate} was not built: `rt {command}` ended with status {status}, and {name} has what "
+                               "it printed")
+    os.unlink(name)
+
+
+def built_program(arguments=()):
+    """The program that the arguments name, or else the built one, which is built anew where it has to be."""
     if arguments:
         return Path(arguments[0]).resolve()
     program = CRATES / "superio" / "out" / "superio"
     if not is_current(program, SOURCES):
-        subprocess.run(["rt", "run"], cwd=CRATES / "superio", stdin=subprocess.DEVNULL, check=True)
+        build("superio", "run")
     return program
 
 
 def built_library():
-    """The static library, which `rt lib` builds anew where it has to, of a crate that `rt check` has proved."""
-    folder = CRATES / "superio_c"
-    library = folder / "out" / "libsuperio_c.a"
+    """The static library, which is built anew where it has to be, of a crate that `rt check` has proved."""
+    library = CRATES / "superio_c" / "out" / "libsuperio_c.a"
     if not is_current(library, LIBRARY_SOURCES):
-        for command in ("check", "lib"):
-            subprocess.run(["rt", command], cwd=folder, stdin=subprocess.DEVNULL, check=True)
+        build("superio_c", "check", "lib")
     return library
 
 
@@ -41,3 +83,52 @@ def original_crate():
     if not folder:
         return []
     return ["--offline", "--config", f'patch.crates-io.vm-superio.path="{Path(folder).resolve()}"']
+
+
+def run(program, script):
+    """Runs a script: its status, standard output and standard error. `None` where it did not end."""
+    try:
+        got = subprocess.run([program], input=script, capture_output=True, timeout=TIMEOUT)
+    except subprocess.TimeoutExpired:
+        return None
+    return got.returncode, got.stdout, got.stderr
+
+
+def run_all(program, scripts):
+    """Runs scripts side by side. The results come in their order."""
+    with ThreadPoolExecutor(len(os.sched_getaffinity(0))) as pool:
+        yield from pool.map(lambda script: run(program, script), scripts)
+
+
+def side_by_side(block):
+    """Script lines and their replies, of lines that have both with two spaces or more between them. A line without a
+    reply has `None`."""
+    for line in block:
+        row, _, reply = line.partition("  ")
+        yield row, reply.lstrip(" ") or None
+
+
+def report(results):
+    """Prints each message, where `None` stands for a pass, and then `N passed, M failed`. Returns the exit status: 1 where
+    something failed or nothing was checked."""
+    passed = failed = 0
+    for message in results:
+        if message is not None:
+            print(message)
+        passed += message is None
+        failed += message is not None
+    if passed + failed == 0:
+        print("nothing was checked")
+        failed = 1
+    print(f"{passed} passed, {failed} failed")
+    return 1 if failed else 0
+
+
+def check_program(check):
+    """Reports what a check of the built program yields, as `report` does. A first argument names another program."""
+    try:
+        program = built_program(sys.argv[1:])
+    except NotBuilt as error:
+        print(f"{error}\n0 passed, 1 failed")
+        return 1
+    return report(check(program))

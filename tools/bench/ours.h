@@ -21,7 +21,7 @@ ACCESS uint64_t serial_read(struct board *board, uint8_t offset) {
 }
 
 ACCESS uint64_t serial_write(struct board *board, uint8_t offset, uint8_t value) {
-    interrupt(board, superio_serial_write(&board->serial, offset, value, false).interrupts);
+    interrupt(board, superio_serial_write(&board->serial, offset, value).interrupts);
     return 0;
 }
 

@@ -1,0 +1,110 @@
+"""The crates of the repository, and copies of some in a folder of their own, where `rt` works without touching it."""
+import os
+import shutil
+import subprocess
+import tempfile
+from dataclasses import dataclass
+from pathlib import Path
+
+PARTS = ("src", "specs", "proofs")
+
+
+def link(source, target):
+    """Makes a second name for a file that nothing changes in place, or a copy if the file system has no such names."""
+    try:
+        os.link(source, target)
+    except OSError:
+        shutil.copy2(source, target)
+
+
+def place_for_rooms(root):
+    """A folder for rooms, in the file system of the repository, so that what they share is linked."""
+    for folder in (tempfile.gettempdir(), "/var/tmp"):
+        if os.path.isdir(folder) and os.stat(folder).st_dev == os.stat(root).st_dev:
+            return folder
+    (root / "out").mkdir(exist_ok=True)
+    return root / "out"
+
+
+def link_tree(source, target):
+    if source.is_dir():
+        shutil.copytree(source, target, copy_function=link, dirs_exist_ok=True)
+
+
+@dataclass
+class Crate:
+    """A crate of the repository, with the line of crates.txt and the crates that it uses."""
+    folder: Path
+    line: str
+    uses: list
+
+    @property
+    def name(self):
+        return self.folder.name
+
+    def below(self):
+        """The crates that it uses, and those that they use, each once and lowest first."""
+        found = []
+        for crate in self.uses:
+            found += [it for it in [*crate.below(), crate] if it not in found]
+        return found
+
+    def size(self):
+        """How much there is to prove: its lines."""
+        return sum(path.read_bytes().count(b"\n") for part in PARTS for path in (self.folder / part).rglob("*.*t"))
+
+
+def crates_of(root):
+    """The crates that crates.txt lists, by name."""
+    lines = {}
+    for line in (root / "crates.txt").read_text(encoding="utf-8").splitlines():
+        head, colon, _ = line.partition(":")
+        if colon and not line.startswith("#"):
+            lines[head.split()[0]] = line
+    crates = {name: Crate(root / "crates" / name, line, []) for name, line in lines.items()}
+    for crate in crates.values():
+        crate.uses += [crates[name] for name in crate.line.partition(":")[2].split() if name in crates]
+    return crates
+
+
+def make_room(folder, crate, texts=(), kept=None):
+    """Copies a crate, with these texts in place of its own and over kept work, and the libraries below it. Returns the
+    folder of the copy."""
+    below = crate.below()
+    for library in below:
+        for part in PARTS:
+            link_tree(library.folder / part, folder / "crates" / library.name / part)
+        link_tree(library.folder / "out" / "rlib", folder / "crates" / library.name / "out" / "rlib")
+    copy = folder / "crates" / crate.name
+    for part in PARTS:
+        if (crate.folder / part).is_dir():
+            shutil.copytree(crate.folder / part, copy / part)
+    for file, text in dict(texts).items():
+        (copy / file).write_text(text, encoding="utf-8")
+    if kept:
+        link_tree(kept, copy / "out" / "incremental")
+    (folder / "crates.txt").write_text("".join(it.line + "\n" for it in [*below, crate]), encoding="utf-8")
+    return copy
+
+
+@dataclass
+class Ran:
+    """What a command printed, how it ended, and what it took: processor seconds, and bytes of memory at its most."""
+    lines: list
+    status: int
+    seconds: float
+    memory: int
+
+
+def run(command, folder, on_line=None):
+    """Runs a command in a folder, and calls `on_line` with each line that it prints."""
+    lines = []
+    process = subprocess.Popen(command, cwd=folder, stdin=subprocess.DEVNULL, stdout=subprocess.PIPE,
+                               stderr=subprocess.STDOUT, text=True, errors="replace")
+    for line in process.stdout:
+        lines.append(line.rstrip("\n"))
+        if on_line:
+            on_line(lines[-1])
+    _, status, used = os.wait4(process.pid, 0)
+    process.returncode = os.WEXITSTATUS(status) if os.WIFEXITED(status) else -os.WTERMSIG(status)
+    return Ran(lines, process.returncode, used.ru_utime + used.ru_stime, used.ru_maxrss * 1024)

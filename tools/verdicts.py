@@ -1,0 +1,183 @@
+"""What `rt check` says of a crate with wrong bodies: which edits it refuses, and for which clause."""
+import re
+from dataclasses import dataclass, field
+
+from edits import functions_of, has_path
+
+PLACE = re.compile(r"(note: )?(?:\./)?((?:src|specs|proofs)/[^:\s]+):(\d+):\d+: (.*)")
+UNPROVED = re.compile(r"fn (\S+): (?:not proved|no proof)\b(.*)")
+EXPECTED = re.compile(r"expected answers in (?:\./)?(proofs/\S+/)\w+\.antt")
+GOAL = re.compile(r"\((?:in )?`([^`]+)`\)|^error: `([^`]+)`: ")
+# An error of the compiler, and one of a text that the prover could not even read.
+NO_COMPILE = re.compile(r"error\[")
+NOT_READ = re.compile(r"is not in scope|has no field|is no name|operand is missing|expected the end|cannot continue")
+# A goal that joins clauses, with the statement of each.
+JOINED = re.compile(r"note: `([^`]+)` of (?:\./)?(proofs/\S+/)\w+\.antt must prove: record \{(.*)\}$")
+LINES_OF_TAIL = 5
+
+
+def fields_of(record):
+    """The names of the fields of a record type, written `name : type; ..`."""
+    names, depth, start = [], 0, 0
+    for place, character in enumerate(record + ";"):
+        depth += (character in "([{") - (character in ")]}")
+        if character == ";" and depth == 0:
+            names.append(record[start:place].partition(":")[0].strip())
+            start = place + 1
+    return names
+
+
+@dataclass
+class Error:
+    """An error that the check prints at a place."""
+    file: str
+    line: int
+    text: str
+
+    def __str__(self):
+        return f"{self.file}:{self.line}: {self.text}"[:300]
+
+    @property
+    def goals(self):
+        """The goals that it says are not proved."""
+        return [first or second for first, second in GOAL.findall(self.text)]
+
+    @property
+    def is_of_text(self):
+        """Whether it is no refusal of a contract: an error of names, types or syntax."""
+        if NO_COMPILE.match(self.text):
+            return True
+        if not self.text.startswith("error: "):
+            return False
+        said = re.sub(r"`[^`]*`", "", self.text)
+        return self.file.startswith(("src/", "specs/")) and not self.text.startswith("error: `") \
+            or bool(NOT_READ.search(said))
+
+
+@dataclass
+class Said:
+    """What a check said."""
+    has_verdict: bool
+    unproved: dict = field(default_factory=dict)
+    errors: list = field(default_factory=list)
+    # The clauses of each goal that joins several, by the folder of its function's proofs and its name.
+    joined: dict = field(default_factory=dict)
+    is_proved: bool = False
+    tail: str = ""
+
+    def clauses(self, path, function, error):
+        """The clauses that an error in a function says are not proved: all that its goal joins. Of what is no clause with a
+        name, `returns` or the goal."""
+        for goal in error.goals:
+            _, has_name, name = goal.rpartition("clause-")
+            if has_name:
+                yield name
+            elif (proofs_of(path), goal) in self.joined:
+                yield from self.joined[proofs_of(path), goal]
+            elif goal.startswith("returns"):
+                yield function.main_clause or "returns"
+            else:
+                yield goal
+
+    @property
+    def errors_of_text(self):
+        """The errors of names, types or syntax, save in the proofs of a function, which concern it alone."""
+        folders = tuple(map(proofs_of, self.unproved))
+        return [error for error in self.errors if error.is_of_text and not error.file.startswith(folders)]
+
+
+def read_said(lines, status):
+    """Reads the lines and the exit status of a check."""
+    verdicts = [line for line in lines if line.startswith("logic=")]
+    said = Said(status == 1 and bool(verdicts) and verdicts[-1].startswith("logic=not-proved"))
+    said.is_proved = status == 0 and bool(verdicts) and verdicts[-1].startswith("logic=proved ")
+    for line in lines:
+        if found := UNPROVED.match(line):
+            said.unproved[found[1]] = found[2]
+        elif found := JOINED.match(line):
+            said.joined[found[2], found[1]] = fields_of(found[3])
+        elif found := PLACE.match(line):
+            if found[1] and "it is not proved" in found[4] or found[4].startswith("error"):
+                said.errors.append(Error(found[2], int(found[3]), found[4]))
+    said.tail = " / ".join(line for line in lines[-LINES_OF_TAIL:] if line)
+    return said
+
+
+@dataclass
+class Outcome:
+    """What became of an edit: REFUSED for its clause, or what is wrong, with the words to print."""
+    kind: str
+    text: str
+    # Whether no other edit beside it can be the cause.
+    is_final: bool = False
+
+    @property
+    def is_good(self):
+        return self.kind == "REFUSED"
+
+
+@dataclass
+class Place:
+    """Where a function stands, in lines."""
+    file: str
+    first: int
+    last: int
+    function: object
+
+    def has(self, error):
+        return error.file == self.file and self.first <= error.line <= self.last
+
+
+def functions_of_edit(edit, texts):
+    """Where the functions stand that an edit may be refused in: those that it changes and whose path it names, or if it
+    changes something outside any, all that have this path."""
+    found = []
+    for file, text in texts.items():
+        for function in functions_of(text):
+            place = Place(file, *function.lines(text), function)
+            is_changed = any(it.file == file and place.first <= it.line <= place.last for it in edit.replacements)
+            if (edit.is_outside or is_changed) and (not edit.function or has_path(file, function, edit.function)):
+                found.append(place)
+    return found
+
+
+def proofs_of(path):
+    """The folder of a function's proof files."""
+    return "/".join(["proofs", *path.split("::")[1:], ""])
+
+
+def judge(edit, said, texts):
+    """What a check of a crate with these sources says of an edit."""
+    places = functions_of_edit(edit, texts)
+    changed = {(it.file, it.line) for it in edit.replacements}
+    for error in said.errors_of_text:
+        if (error.file, error.line) in changed or any(it.has(error) for it in places):
+            return Outcome("BAD", f"an error of names, types or syntax: {error}", is_final=True)
+    if said.errors_of_text:
+        return Outcome("BAD", f"the crate cannot be read: {said.errors_of_text[0]}")
+    if not said.has_verdict and not said.is_proved:
+        return Outcome("BAD", f"the check did not reach a verdict: {said.tail}")
+    if not places:
+        return Outcome("BAD", f"it changes no function of the path `{edit.function}`")
+    refused, clauses, unread = set(), set(), []
+    for path, why in said.unproved.items():
+        proofs = {proofs_of(path), *EXPECTED.findall(why)}
+        for place in places:
+            if has_path(place.file, place.function, path) and edit.function in ("", path):
+                own = [error for error in said.errors if place.has(error) or error.file.startswith(tuple(proofs))]
+                unread += [error for error in own if error.is_of_text]
+                # What cites another function's proof fails with that one, whatever its own body is.
+                own = [error for error in own if not error.is_of_text and "was not admitted" not in error.text]
+                refused |= {path} if own else set()
+                clauses |= {clause for error in own for clause in said.clauses(path, place.function, error)}
+    seen = f"{', '.join(sorted(refused))}: {', '.join(sorted(clauses))}"
+    if unread and not set(edit.clauses) & clauses:
+        return Outcome("BAD", f"a proof names what the edit takes away: {unread[0]}; refused is {seen}", is_final=True)
+    if not refused:
+        return Outcome("NOT REFUSED", "its function is proved, or has no error of its own")
+    if edit.problem:
+        return Outcome("BAD", f"{edit.problem}; refused is {seen}")
+    missed = [clause for clause in edit.clauses if clause not in clauses]
+    if missed:
+        return Outcome("ANOTHER CLAUSE", f"{', '.join(missed)} does not refuse it, but {seen}")
+    return Outcome("REFUSED", seen)
