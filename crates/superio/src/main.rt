@@ -7,9 +7,6 @@ ghost use Rattle.std.specs.Io.Buffered.{writer_inner, writer_contents};
 ghost use Rattle.superio_script.specs.Script.{RunsUpTo, EndsAtRestore, ReadsBytes};
 ghost use Rattle.superio_script.specs.ScriptFault.{status_of};
 
-#[cfg(test)]
-mod tests;
-
 use std::alloc::Global;
 use std::io;
 use std::io::{BufWriter, Read, Write};

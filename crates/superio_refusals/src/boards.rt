@@ -1,7 +1,6 @@
 //! The calls of the board and of scripts that take memory.
 use std::alloc::{AllocError, Global};
 use superio_script::{Board, LineFault, ScriptFault, run_script};
-use superio_test_objects::{EVERY_FORM, EVERY_REPLY};
 
 pub fn new(alloc: Global) -> &'static str {
     match Board::new(alloc, 0) {
@@ -57,6 +56,33 @@ pub fn restore_line(alloc: Global) -> Result<&'static str, AllocError> {
         && has_replies(alloc, &mut board, &AFTER);
     Ok(if is_as_told { outcome } else { "another board" })
 }
+
+/// A script of each form. Its mask refuses the second call of the interrupt line.
+const EVERY_FORM: &[u8] = b"\
+refuse 0000000000000002\nsw 01 01\nsq 48656c6c6f\nsr 02\nsr 00\nsc\nsq\nsw 00 21\nso\nsw 01 01\nss\nst\nse\nsd\n\
+cw 00000000000003e8 0008 00000064\ncr 00000000000003ef 0000\ncr 00000000000003ef 0020\nkw 04 fe\nkr 04\n";
+
+/// The replies to its lines. `refuse` has none.
+const EVERY_REPLY: [&[u8]; 18] = [
+    b"ok\n",
+    b"05\n",
+    b"c4\n",
+    b"48\n",
+    b"3c\n",
+    b"00\n",
+    b"ok\n",
+    b"21\n",
+    b"trigger\n",
+    b"ok\n",
+    b"0000000000000003\n",
+    b"0000000000000001 0000000000000001 0000000000000000 0000000000000000\n",
+    b"656c6c6f\n",
+    b"ok\n",
+    b"0000006b\n",
+    b"invalid\n",
+    b"reset\n",
+    b"00\n",
+];
 
 /// How many of the first replies of the script of each form make up a text, or `None` if it is another text.
 fn reply_count(mut text: &[u8]) -> Option<usize> {

@@ -1,11 +1,8 @@
-//! What the tests of several crates share: a reader and a writer that fail at calls of one's choice, memory that runs
-//! out, and a script of each form of line.
+//! What the tests of several crates share: a writer that fails at calls of one's choice, and memory that runs out.
 #![tactic(auto)]
 
-mod every_form;
 mod memory;
 mod streams;
 
-pub use every_form::{ARRIVALS, EVERY_FORM, EVERY_REPLY};
 pub use memory::all_memory;
-pub use streams::{FAULT_KINDS, FEW_KINDS, Piece, Source, Target, WriteOutcome};
+pub use streams::{FAULT_KINDS, Target, WriteOutcome};

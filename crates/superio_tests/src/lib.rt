@@ -13,4 +13,6 @@ mod saved_forms;
 #[cfg(test)]
 mod scaffold;
 #[cfg(test)]
+mod script;
+#[cfg(test)]
 mod serial;
