@@ -1,9 +1,10 @@
-//! What neither a script nor `tools/failing_io` shows of a run: when its writer is flushed, which the program's output does
-//! not show, and faults of kinds that no operating system reports.
+//! What neither a script nor `tools/failing_io` shows of a run: when its writer is flushed, reads of no byte, and faults of
+//! kinds that no operating system reports.
 use std::alloc::Global;
 use std::io;
 use std::io::{ErrorKind, Read, Write};
 use std::process::Abort;
+use std::test::Fail;
 use superio_script::{ScriptFault, run_script};
 
 /// Gives its bytes, and then fails, or ends if it has no fault.
@@ -11,10 +12,22 @@ use superio_script::{ScriptFault, run_script};
 struct Input<'a> {
     bytes: &'a [u8],
     fault: Option<ErrorKind>,
+    reads: u32,
+}
+
+impl Input<'_> {
+    fn new(bytes: &[u8]) -> Input<'_> {
+        Input {
+            bytes,
+            fault: None,
+            reads: 0,
+        }
+    }
 }
 
 impl Read for Input<'_> {
     fn read(&mut self, buf: &mut [u8]) -> io::Result<usize> {
+        self.reads = self.reads.saturating_add(1);
         match self.fault {
             Some(kind) if self.bytes.is_empty() => Err(io::Error::from(kind)),
             _ => self.bytes.read(buf),
@@ -60,31 +73,45 @@ impl Write for Log {
     }
 }
 
-/// Runs a script, and asserts how it ends, and what its writer was called for.
+/// Runs a script, and asserts how it ends, how often its reader was called, and what its writer was called for.
 fn expect_run(
     rt: &impl Abort,
     alloc: Global,
     mut reader: Input<'_>,
     mut writer: Log,
     end: Result<(), ScriptFault>,
+    reads: u32,
     calls: &[u8],
 ) {
     let got = run_script(alloc, &mut reader, &mut writer);
-    assert_eq!(rt; (got, writer.calls.as_slice()), (end, calls));
+    assert_eq!(rt; got, end);
+    assert_eq!(rt; reader.reads, reads);
+    assert_eq!(rt; writer.calls.as_slice(), calls);
 }
 
 #[test]
-fn a_good_script_is_flushed_once(rt: HostRuntime) {
-    let rows: [(&[u8], Result<(), ScriptFault>, &[u8]); 4] = [
-        (b"kw 04 fe\nkr 04\n", Ok(()), b"reset\n00\n."),
-        (b"", Ok(()), b"."),
-        (b"refuse 0000000000000001\n", Ok(()), b"."),
-        (b"kr 04\nkr 5\n", Err(ScriptFault::Bad(2)), b"00\n"),
+fn a_script_calls_its_streams_no_more_than_it_has_to(rt: HostRuntime) -> Result<(), Fail> {
+    let alloc = rt.alloc();
+    let too_long = vec![in alloc; b'\n'; 70_000]?;
+    let rows: [(&[u8], Result<(), ScriptFault>, u32, &[u8]); 5] = [
+        (b"kw 04 fe\nkr 04\n", Ok(()), 2, b"reset\n00\n."),
+        (b"", Ok(()), 1, b"."),
+        (b"refuse 0000000000000001\n", Ok(()), 2, b"."),
+        (b"kr 04\nkr 5\n", Err(ScriptFault::Bad(2)), 2, b"00\n"),
+        (&too_long, Err(ScriptFault::TooLong), 1, b""),
     ];
-    for (bytes, end, calls) in rows {
-        let reader = Input { bytes, fault: None };
-        expect_run(&rt, rt.alloc(), reader, Log::new(rt.alloc()), end, calls);
+    for (bytes, end, reads, calls) in rows {
+        expect_run(
+            &rt,
+            alloc,
+            Input::new(bytes),
+            Log::new(alloc),
+            end,
+            reads,
+            calls,
+        );
     }
+    Ok(())
 }
 
 const SCRIPT: &[u8] = b"kr 04\n";
@@ -94,15 +121,12 @@ fn a_flush_that_fails_by_any_kind_is_io(rt: HostRuntime) {
     let alloc = rt.alloc();
     // Every error of the operating system, also one that was interrupted.
     for number in 1..=133 {
-        let reader = Input {
-            bytes: SCRIPT,
-            fault: None,
-        };
         let writer = Log {
             flush_fault: Some(io::Error::from_raw_os_error(number).kind()),
             ..Log::new(alloc)
         };
-        expect_run(&rt, alloc, reader, writer, Err(ScriptFault::Io), b"00\n.");
+        let end = Err(ScriptFault::Io);
+        expect_run(&rt, alloc, Input::new(SCRIPT), writer, end, 2, b"00\n.");
     }
 }
 
@@ -115,28 +139,23 @@ fn a_fault_of_no_operating_system_is_io(rt: HostRuntime) {
         ErrorKind::UnexpectedEof,
         ErrorKind::Other,
     ] {
-        let fault = Some(kind);
-        let rows: [(
-            Option<ErrorKind>,
-            Option<ErrorKind>,
-            Option<ErrorKind>,
-            &[u8],
-        ); 3] = [
-            (fault, None, None, b""),
-            (None, fault, None, b""),
-            (None, None, fault, b"00\n."),
+        // Of the read that finds the end, of the first write, and of the flush.
+        let faults: [([Option<ErrorKind>; 3], &[u8]); 3] = [
+            ([Some(kind), None, None], b""),
+            ([None, Some(kind), None], b""),
+            ([None, None, Some(kind)], b"00\n."),
         ];
-        for (read_fault, write_fault, flush_fault, calls) in rows {
+        for ([read_fault, write_fault, flush_fault], calls) in faults {
             let reader = Input {
-                bytes: SCRIPT,
                 fault: read_fault,
+                ..Input::new(SCRIPT)
             };
             let writer = Log {
-                calls: Vec::new(alloc),
                 write_fault,
                 flush_fault,
+                ..Log::new(alloc)
             };
-            expect_run(&rt, alloc, reader, writer, Err(ScriptFault::Io), calls);
+            expect_run(&rt, alloc, reader, writer, Err(ScriptFault::Io), 2, calls);
         }
     }
 }
