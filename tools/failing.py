@@ -1,4 +1,4 @@
-"""Runs of the built program in which a call fails: one by which it takes memory, reads its script or writes its replies."""
+"""Runs of the built program in which a call fails, by which it takes memory, reads its script or writes replies."""
 import os
 import subprocess
 import tempfile
@@ -63,7 +63,8 @@ class FailingCalls:
         environment.update(LD_PRELOAD=str(self.library), CALLS=calls)
         with open(self.file_of(script), "rb") as source:
             try:
-                got = subprocess.run([self.program], stdin=source, capture_output=True, timeout=TIMEOUT, env=environment)
+                got = subprocess.run([self.program], stdin=source, capture_output=True, env=environment,
+                                     timeout=TIMEOUT)
             except subprocess.TimeoutExpired:
                 return None
         rows = (line.split() for line in Path(calls).read_text(encoding="ascii").splitlines())
@@ -73,5 +74,8 @@ class FailingCalls:
 
     def run_all(self, pairs):
         """Runs pairs of a script and settings side by side. The results come in their order."""
+        pairs = list(pairs)
+        for script, _ in pairs:
+            self.file_of(script)
         with ThreadPoolExecutor(len(os.sched_getaffinity(0))) as pool:
             yield from pool.map(lambda pair: self.run(*pair), pairs)

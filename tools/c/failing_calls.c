@@ -98,8 +98,9 @@ static size_t least(size_t first, size_t second)
 static ssize_t read_line(char *room, size_t size)
 {
     size_t count = 0;
-    while (count < size && (count == 0 || room[count - 1] != '\n') && syscall(SYS_read, STDIN_FILENO, room + count, 1) == 1)
-        count++;
+    while (count < size && syscall(SYS_read, STDIN_FILENO, room + count, 1) == 1)
+        if (room[count++] == '\n')
+            break;
     return (ssize_t)count;
 }
 

@@ -1,5 +1,5 @@
-//! What neither a script nor `tools/failing_io` shows of a run: when its writer is flushed, reads of no byte, and faults of
-//! kinds that no operating system reports.
+//! What neither a script nor `tools/failing_io` shows of a run: when its writer is flushed, reads of no byte, and faults
+//! of kinds that no operating system reports.
 use std::alloc::Global;
 use std::io;
 use std::io::{ErrorKind, Read, Write};
@@ -114,48 +114,45 @@ fn a_script_calls_its_streams_no_more_than_it_has_to(rt: HostRuntime) -> Result<
     Ok(())
 }
 
-const SCRIPT: &[u8] = b"kr 04\n";
-
-#[test]
-fn a_flush_that_fails_by_any_kind_is_io(rt: HostRuntime) {
-    let alloc = rt.alloc();
-    // Every error of the operating system, also one that was interrupted.
-    for number in 1..=133 {
+/// Lets the last read of a script fail, then its write, then its flush.
+fn expect_faults(rt: &impl Abort, alloc: Global, kind: ErrorKind) {
+    let fault = Err(ScriptFault::Io);
+    // `write_all` makes a write again.
+    let (end, calls): (Result<(), ScriptFault>, &[u8]) = match kind {
+        ErrorKind::Interrupted => (Ok(()), b"00\n."),
+        _ => (fault, b""),
+    };
+    let rows: [([Option<ErrorKind>; 3], Result<(), ScriptFault>, &[u8]); 3] = [
+        ([Some(kind), None, None], fault, b""),
+        ([None, Some(kind), None], end, calls),
+        ([None, None, Some(kind)], fault, b"00\n."),
+    ];
+    for ([read_fault, write_fault, flush_fault], end, calls) in rows {
+        let reader = Input {
+            fault: read_fault,
+            ..Input::new(b"kr 04\n")
+        };
         let writer = Log {
-            flush_fault: Some(io::Error::from_raw_os_error(number).kind()),
+            write_fault,
+            flush_fault,
             ..Log::new(alloc)
         };
-        let end = Err(ScriptFault::Io);
-        expect_run(&rt, alloc, Input::new(SCRIPT), writer, end, 2, b"00\n.");
+        expect_run(rt, alloc, reader, writer, end, 2, calls);
     }
 }
 
 #[test]
-fn a_fault_of_no_operating_system_is_io(rt: HostRuntime) {
-    let alloc = rt.alloc();
+fn a_fault_of_any_kind_is_io(rt: HostRuntime) {
+    // Every error of the operating system, and the kinds of the others.
+    for number in 1..=133 {
+        expect_faults(&rt, rt.alloc(), io::Error::from_raw_os_error(number).kind());
+    }
     for kind in [
         ErrorKind::InvalidData,
         ErrorKind::WriteZero,
         ErrorKind::UnexpectedEof,
         ErrorKind::Other,
     ] {
-        // Of the read that finds the end, of the first write, and of the flush.
-        let faults: [([Option<ErrorKind>; 3], &[u8]); 3] = [
-            ([Some(kind), None, None], b""),
-            ([None, Some(kind), None], b""),
-            ([None, None, Some(kind)], b"00\n."),
-        ];
-        for ([read_fault, write_fault, flush_fault], calls) in faults {
-            let reader = Input {
-                fault: read_fault,
-                ..Input::new(SCRIPT)
-            };
-            let writer = Log {
-                write_fault,
-                flush_fault,
-                ..Log::new(alloc)
-            };
-            expect_run(&rt, alloc, reader, writer, Err(ScriptFault::Io), 2, calls);
-        }
+        expect_faults(&rt, rt.alloc(), kind);
     }
 }
