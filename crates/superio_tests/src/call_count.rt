@@ -12,10 +12,14 @@ use vm_superio::serial::SerialEvents;
 /// A trigger, an events object or a writer. Each of its calls succeeds, and adds 1 to a count that the test shares with it.
 #[derive(Clone, Copy)]
 pub struct CallCount<'a> {
-    pub calls: &'a Cell<u64>,
+    calls: &'a Cell<u64>,
 }
 
 impl CallCount<'_> {
+    pub fn new(calls: &Cell<u64>) -> CallCount<'_> {
+        CallCount { calls }
+    }
+
     fn add(&self) {
         self.calls.set(self.calls.get().wrapping_add(1));
     }

@@ -1,4 +1,5 @@
 //! The saved state of a clock, and what each form of a clock says of its interrupt.
+use std::test::Fail;
 use vm_superio::rtc_pl031::NoEvents;
 use vm_superio::rtc_pl031::fields::RtcFields;
 use vm_superio::{Rtc, RtcState, laws};
@@ -11,25 +12,27 @@ const CLOCK: [u8; 33] = [
 ];
 
 #[test]
-fn a_clock_is_read_written_and_printed_by_all_six_fields(rt: HostRuntime) {
-    let state = RtcState::from_bytes(&CLOCK).expect(&rt, "a state");
-    assert_eq!(rt; state.to_bytes(), CLOCK);
-    let text = format!(in rt.alloc(); "{state:?}").expect(&rt, "memory");
-    assert_eq!(rt;
-        text.as_str(),
-        "RtcState { lr: 1704067200, offset: -3600, mr: 1704067260, imsc: 1, ris: 0, armed: true }"
+fn a_clock_is_printed_by_all_six_fields(rt: HostRuntime) -> Result<(), Fail> {
+    let state = RtcState::from_bytes(&CLOCK)?;
+    let text = format!(in rt.alloc(); "{state:?}")?;
+    assert!(rt;
+        text.as_str()
+            == "RtcState { lr: 1704067200, offset: -3600, mr: 1704067260, imsc: 1, ris: 0, \
+                armed: true }"
     );
+    Ok(())
 }
 
 #[test]
-fn clocks_are_compared_by_all_six_fields(rt: HostRuntime) {
-    let state = RtcState::from_bytes(&CLOCK);
+fn a_clock_is_read_written_and_compared_by_all_six_fields(rt: HostRuntime) -> Result<(), Fail> {
+    let state = RtcState::from_bytes(&CLOCK)?;
     for place in 8..33usize {
         let mut form = CLOCK;
-        assert!(rt; RtcState::from_bytes(&form) == state);
         form[place] ^= 0x01;
-        assert!(rt; RtcState::from_bytes(&form) != state, "{place}");
+        let other = RtcState::from_bytes(&form)?;
+        assert!(rt; other != state && other.to_bytes() == form, "{place}");
     }
+    Ok(())
 }
 
 #[test]
@@ -40,14 +43,13 @@ fn each_form_of_a_clock_says_the_same_of_its_interrupt(rt: HostRuntime) {
     };
     let clock = Rtc::from_state(&state, NoEvents);
     let fields = RtcFields::from_state(&state);
-    assert_eq!(rt;
-        [
-            state.alarm_due(100),
-            clock.alarm_due(100),
-            fields.alarm_due(100)
-        ],
-        [Some(5); 3]
-    );
+    for due in [
+        state.alarm_due(100),
+        clock.alarm_due(100),
+        fields.alarm_due(100),
+    ] {
+        assert!(rt; due == Some(5));
+    }
     assert!(rt; state.interrupt_line() && clock.interrupt_line() && fields.interrupt_line());
 }
 

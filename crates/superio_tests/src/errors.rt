@@ -28,7 +28,7 @@ fn errors_print_what_failed_and_why(rt: HostRuntime) -> Result<(), Fail> {
         (Error::FullFifo, "No space left in FIFO"),
         (Error::Memory, "Out of memory"),
     ] {
-        assert_eq!(rt; text(rt.alloc(), &error)?.as_str(), printed);
+        assert!(rt; text(rt.alloc(), &error)?.as_str() == printed, "{printed}");
     }
     Ok(())
 }
@@ -57,7 +57,7 @@ fn errors_of_saved_forms_print_the_check_that_failed(rt: HostRuntime) -> Result<
         ),
         (saved::Error::Memory, "Out of memory"),
     ] {
-        assert_eq!(rt; text(rt.alloc(), &error)?.as_str(), printed);
+        assert!(rt; text(rt.alloc(), &error)?.as_str() == printed, "{printed}");
     }
     Ok(())
 }

@@ -1,6 +1,6 @@
 //! The saved state of a port: its byte form, its text, its copies, and the writer that moves on.
 use std::test::Fail;
-use superio_script::{Line, LineRefused};
+use superio_script::Line;
 use vm_superio::serial::Refused;
 use vm_superio::{Serial, SerialState};
 
@@ -11,31 +11,31 @@ const PORT: [u8; 19] = [
 ];
 
 #[test]
-fn a_port_is_read_written_and_printed_by_all_ten_fields(rt: HostRuntime) {
-    let state = SerialState::from_bytes(rt.alloc(), &PORT).expect(&rt, "a state");
-    let form = state.to_bytes().expect(&rt, "a form");
-    assert_eq!(rt; form.as_slice(), PORT.as_slice());
-    assert!(rt; state.is_coherent());
-    let text = format!(in rt.alloc(); "{state:?}").expect(&rt, "memory");
-    assert_eq!(rt;
-        text.as_str(),
-        "SerialState { baud_divisor_low: 12, baud_divisor_high: 0, interrupt_enable: 1, \
-         interrupt_identification: 4, line_control: 3, line_status: 97, modem_control: 8, \
-         modem_status: 176, scratch: 90, in_buffer: [97, 98] }"
+fn a_port_is_printed_by_all_ten_fields(rt: HostRuntime) -> Result<(), Fail> {
+    let state = SerialState::from_bytes(rt.alloc(), &PORT)?;
+    let text = format!(in rt.alloc(); "{state:?}")?;
+    assert!(rt;
+        text.as_str()
+            == "SerialState { baud_divisor_low: 12, baud_divisor_high: 0, interrupt_enable: 1, \
+                interrupt_identification: 4, line_control: 3, line_status: 97, modem_control: 8, \
+                modem_status: 176, scratch: 90, in_buffer: [97, 98] }"
     );
+    Ok(())
 }
 
 #[test]
-fn ports_are_compared_by_all_ten_fields(rt: HostRuntime) -> Result<(), Fail> {
+fn a_port_is_read_written_and_compared_by_all_ten_fields(rt: HostRuntime) -> Result<(), Fail> {
     let state = SerialState::from_bytes(rt.alloc(), &PORT)?;
+    assert!(rt; state.is_coherent());
     for place in 8..19usize {
         let mut form = PORT;
-        assert!(rt; SerialState::from_bytes(rt.alloc(), &form)? == state);
         form[place] ^= 0x10;
+        let other = SerialState::from_bytes(rt.alloc(), &form)?;
         assert!(rt;
-            SerialState::from_bytes(rt.alloc(), &form)? != state,
+            other != state && other == other.clone(rt.alloc())?,
             "{place}"
         );
+        assert!(rt; other.to_bytes()?.as_slice() == form.as_slice(), "{place}");
     }
     Ok(())
 }
@@ -56,27 +56,9 @@ fn a_state_of_any_size_is_copied(rt: HostRuntime) -> Result<(), Fail> {
 fn a_writer_may_be_changed_and_taken_out(rt: HostRuntime) -> Result<(), Fail> {
     let serial = Serial::new(rt.alloc(), Line::new(0), Vec::new(rt.alloc()));
     let mut serial = serial.map_err(Refused::into_error)?;
-    serial.write(0, b'f')?;
-    serial.writer_mut().push(b'i')?;
-    serial.write(0, b'g')?;
-    assert_eq!(rt; serial.into_writer().as_slice(), b"fig".as_slice());
-    Ok(())
-}
-
-#[test]
-fn a_refused_interrupt_is_tried_again_until_it_is_taken(rt: HostRuntime) -> Result<(), Fail> {
-    let serial = Serial::new(rt.alloc(), Line::new(0b011), Vec::new(rt.alloc()));
-    let mut serial = serial.map_err(Refused::into_error)?;
-    assert!(rt; serial.write(1, 0x02).is_err());
-    // The condition is pending, so no later byte calls the trigger.
-    serial.write(0, b'a')?;
-    assert_eq!(rt;
-        [serial.retry_interrupts(), serial.retry_interrupts()],
-        [Err(LineRefused), Ok(())]
-    );
-    // The guest acknowledges it, so nothing is due.
-    assert_eq!(rt; serial.read(2), 0xC2);
-    assert_eq!(rt; serial.retry_interrupts(), Ok(()));
-    assert_eq!(rt; serial.interrupt_evt().calls(), 3);
+    assert!(rt; serial.write(0, b'f').is_ok());
+    serial.writer_mut().clear();
+    assert!(rt; serial.write(0, b'g').is_ok());
+    assert!(rt; serial.into_writer().as_slice() == b"g".as_slice());
     Ok(())
 }

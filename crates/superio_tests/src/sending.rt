@@ -18,7 +18,7 @@ fn sent(
     let writer = Target::with_outcomes(alloc, outcomes)?;
     let serial = Serial::new(alloc, Line::new(0), writer);
     let mut serial = serial.map_err(Refused::into_error)?;
-    let kind = match serial.write(0, b'A') {
+    let kind = match &serial.write(0, b'A') {
         Err(Error::IOError(fault)) => Some(fault.kind()),
         _ => None,
     };
@@ -32,10 +32,16 @@ fn a_fault_of_any_kind_is_returned_and_nothing_is_made_again(rt: HostRuntime) ->
         // After an interrupted `write` the byte is written again.
         if kind != ErrorKind::Interrupted {
             let outcomes = [WriteOutcome::WriteFails(kind), WriteOutcome::Taken];
-            assert_eq!(rt; sent(rt.alloc(), &outcomes)?, (1, 0, 0, Some(kind)));
+            assert!(rt;
+                sent(rt.alloc(), &outcomes)? == (1, 0, 0, Some(kind)),
+                "{kind:?}"
+            );
         }
         let outcomes = [WriteOutcome::FlushFails(kind), WriteOutcome::Taken];
-        assert_eq!(rt; sent(rt.alloc(), &outcomes)?, (1, 1, 1, Some(kind)));
+        assert!(rt;
+            sent(rt.alloc(), &outcomes)? == (1, 1, 1, Some(kind)),
+            "{kind:?}"
+        );
     }
     Ok(())
 }
@@ -44,10 +50,7 @@ fn a_fault_of_any_kind_is_returned_and_nothing_is_made_again(rt: HostRuntime) ->
 fn an_interrupted_byte_is_taken_and_flushed_once(rt: HostRuntime) -> Result<(), Fail> {
     let mut outcomes = [WriteOutcome::WriteFails(ErrorKind::Interrupted); 301];
     outcomes[300] = WriteOutcome::Taken;
-    for interruptions in [0, 1, 2, 3, 300usize] {
-        let made = sent(rt.alloc(), &outcomes[300 - interruptions..])?;
-        assert_eq!(rt; made, (1 + interruptions, 1, 1, None));
-    }
+    assert!(rt; sent(rt.alloc(), &outcomes)? == (301, 1, 1, None));
     Ok(())
 }
 
@@ -86,9 +89,9 @@ impl Write for Faulty {
 fn printed_fault(alloc: Global, writer: Faulty) -> Result<String, Fail> {
     let serial = Serial::new(alloc, Line::new(0), writer);
     let mut serial = serial.map_err(Refused::into_error)?;
-    match serial.write(0, b'A') {
-        Err(Error::IOError(fault)) => Ok(format!(in alloc; "{:?}, {fault}", fault.raw_os_error())?),
-        _ => Err(Fail::new("the byte was not lost")),
+    match &serial.write(0, b'A') {
+        Err(Error::IOError(fault)) => Ok(fault.to_string(alloc)?),
+        _ => Ok(String::new(alloc)),
     }
 }
 
@@ -96,16 +99,16 @@ fn printed_fault(alloc: Global, writer: Faulty) -> Result<String, Fail> {
 fn a_lost_byte_has_the_fault_of_the_writer_itself(rt: HostRuntime) -> Result<(), Fail> {
     for takes_bytes in [false, true] {
         for (number, text) in [
-            (5, "Some(5), Input/output error (os error 5)"),
-            (28, "Some(28), No space left on device (os error 28)"),
-            (32, "Some(32), Broken pipe (os error 32)"),
-            (0, "None, the far end is silent"),
+            (5, "Input/output error (os error 5)"),
+            (28, "No space left on device (os error 28)"),
+            (32, "Broken pipe (os error 32)"),
+            (0, "the far end is silent"),
         ] {
             let writer = Faulty {
                 takes_bytes,
                 number,
             };
-            assert_eq!(rt; printed_fault(rt.alloc(), writer)?.as_str(), text);
+            assert!(rt; printed_fault(rt.alloc(), writer)?.as_str() == text);
         }
     }
     Ok(())
