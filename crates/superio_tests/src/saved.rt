@@ -27,15 +27,14 @@ fn a_port_is_printed_by_all_ten_fields(rt: HostRuntime) -> Result<(), Fail> {
 fn a_port_is_read_written_and_compared_by_all_ten_fields(rt: HostRuntime) -> Result<(), Fail> {
     let state = SerialState::from_bytes(rt.alloc(), &PORT)?;
     assert!(rt; state.is_coherent());
+    assert!(rt; state.to_bytes()?.as_slice() == PORT.as_slice());
     for place in 8..19usize {
         let mut form = PORT;
         form[place] ^= 0x10;
-        let other = SerialState::from_bytes(rt.alloc(), &form)?;
         assert!(rt;
-            other != state && other == other.clone(rt.alloc())?,
+            SerialState::from_bytes(rt.alloc(), &form)? != state,
             "{place}"
         );
-        assert!(rt; other.to_bytes()?.as_slice() == form.as_slice(), "{place}");
     }
     Ok(())
 }

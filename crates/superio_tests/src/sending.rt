@@ -4,10 +4,18 @@ use std::alloc::Global;
 use std::io;
 use std::io::{ErrorKind, Write};
 use std::test::Fail;
-use superio_script::Line;
+use superio_script::{Line, LineRefused};
 use superio_test_objects::{FAULT_KINDS, Target, WriteOutcome};
 use vm_superio::Serial;
 use vm_superio::serial::{Error, Refused};
+
+/// The kind of the writer's fault, if it was that.
+fn kind_of(error: &Error<LineRefused>) -> Option<ErrorKind> {
+    match error {
+        Error::IOError(fault) => Some(fault.kind()),
+        _ => None,
+    }
+}
 
 /// Sends a byte over a writer with these outcomes: the calls of `write` and of `flush`, how many bytes the writer took,
 /// and the kind of its fault.
@@ -18,9 +26,9 @@ fn sent(
     let writer = Target::with_outcomes(alloc, outcomes)?;
     let serial = Serial::new(alloc, Line::new(0), writer);
     let mut serial = serial.map_err(Refused::into_error)?;
-    let kind = match &serial.write(0, b'A') {
-        Err(Error::IOError(fault)) => Some(fault.kind()),
-        _ => None,
+    let kind = match serial.write(0, b'A') {
+        Ok(()) => None,
+        Err(error) => kind_of(&error),
     };
     let writer = serial.writer();
     Ok((writer.writes, writer.flushes, writer.bytes.len(), kind))
@@ -89,9 +97,9 @@ impl Write for Faulty {
 fn printed_fault(alloc: Global, writer: Faulty) -> Result<String, Fail> {
     let serial = Serial::new(alloc, Line::new(0), writer);
     let mut serial = serial.map_err(Refused::into_error)?;
-    match &serial.write(0, b'A') {
-        Err(Error::IOError(fault)) => Ok(fault.to_string(alloc)?),
-        _ => Ok(String::new(alloc)),
+    match serial.write(0, b'A') {
+        Ok(()) => Ok(String::new(alloc)),
+        Err(error) => Ok(error.to_string(alloc)?),
     }
 }
 
@@ -99,10 +107,22 @@ fn printed_fault(alloc: Global, writer: Faulty) -> Result<String, Fail> {
 fn a_lost_byte_has_the_fault_of_the_writer_itself(rt: HostRuntime) -> Result<(), Fail> {
     for takes_bytes in [false, true] {
         for (number, text) in [
-            (5, "Input/output error (os error 5)"),
-            (28, "No space left on device (os error 28)"),
-            (32, "Broken pipe (os error 32)"),
-            (0, "the far end is silent"),
+            (
+                5,
+                "Couldn't write/flush to the given destination: Input/output error (os error 5)",
+            ),
+            (
+                28,
+                "Couldn't write/flush to the given destination: No space left on device (os error 28)",
+            ),
+            (
+                32,
+                "Couldn't write/flush to the given destination: Broken pipe (os error 32)",
+            ),
+            (
+                0,
+                "Couldn't write/flush to the given destination: the far end is silent",
+            ),
         ] {
             let writer = Faulty {
                 takes_bytes,
