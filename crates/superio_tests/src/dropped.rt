@@ -1,6 +1,5 @@
 //! Objects that a call takes and drops, and that it must not call before that. No contract says this.
-use crate::call_count::CallCount;
-use std::cell::Cell;
+use crate::objects::{Log, Object};
 use std::io;
 use std::io::ErrorKind;
 use std::test::Fail;
@@ -10,8 +9,6 @@ use vm_superio::{I8042Device, Rtc, Serial, SerialState};
 
 #[test]
 fn a_port_is_dropped_and_taken_apart_in_silence(rt: HostRuntime) -> Result<(), Fail> {
-    let calls = Cell::new(0);
-    let count = CallCount::new(&calls);
     let mut state = SerialState::default(rt.alloc());
     state.line_status = 0x61;
     state.in_buffer.push(b'a')?;
@@ -20,18 +17,18 @@ fn a_port_is_dropped_and_taken_apart_in_silence(rt: HostRuntime) -> Result<(), F
             state.interrupt_identification = identification;
             state.interrupt_enable = enable;
             for is_taken_apart in [true, false] {
-                let port = Serial::from_state(rt.alloc(), &state, count, count, count).ok();
+                let log = Log::new();
+                let object = Object::new(&log);
+                let port = Serial::from_state(rt.alloc(), &state, object, object, object).ok();
                 let mut port = port.expect(&rt, "a port");
-                // The writer is called twice and the events object once, beside the trigger.
-                calls.set(0);
                 assert!(rt; port.write(0, b'A').is_ok());
-                assert!(rt; calls.replace(0) >= 3);
+                let calls = log.calls();
                 if is_taken_apart {
                     let _ = port.into_writer();
                 } else {
                     drop(port);
                 }
-                assert!(rt; calls.get() == 0, "{state:?}");
+                assert!(rt; calls >= 3 && log.calls() == calls, "{state:?}");
             }
         }
     }
@@ -40,31 +37,31 @@ fn a_port_is_dropped_and_taken_apart_in_silence(rt: HostRuntime) -> Result<(), F
 
 #[test]
 fn a_clock_and_a_controller_are_dropped_in_silence(rt: HostRuntime) {
-    let calls = Cell::new(0);
-    let count = CallCount::new(&calls);
-    let mut clock = Rtc::with_events(count);
-    let mut controller = I8042Device::new(count);
+    let log = Log::new();
+    let object = Object::new(&log);
+    let mut clock = Rtc::with_events(object);
+    let mut controller = I8042Device::new(object);
     // An invalid write, and the reset command.
     clock.write(0x000, &[0; 4], 1_000);
     assert!(rt; controller.write(0x04, 0xFE).is_ok());
-    assert!(rt; calls.replace(0) == 2);
+    assert!(rt; log.calls() == 2);
     drop(clock);
     drop(controller);
-    assert!(rt; calls.get() == 0);
+    assert!(rt; log.calls() == 2);
 }
 
 /// How many calls of objects a refusal makes that is taken apart.
 fn calls_of_refusal(error: Error<LineRefused>) -> u64 {
-    let calls = Cell::new(0);
-    let count = CallCount::new(&calls);
+    let log = Log::new();
+    let object = Object::new(&log);
     let refused = Refused {
         error,
-        trigger: count,
-        events: count,
-        out: count,
+        trigger: object,
+        events: object,
+        out: object,
     };
     let _ = refused.into_error();
-    calls.get()
+    log.calls()
 }
 
 #[test]

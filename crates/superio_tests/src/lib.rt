@@ -3,13 +3,13 @@
 #![tactic(auto)]
 
 #[cfg(test)]
-mod call_count;
-#[cfg(test)]
 mod clock;
 #[cfg(test)]
 mod dropped;
 #[cfg(test)]
 mod errors;
+#[cfg(test)]
+mod objects;
 #[cfg(test)]
 mod runs;
 #[cfg(test)]

@@ -1,111 +1,112 @@
 //! Runs: lists of calls of a serial port, each as one call.
-use crate::call_count::CallCount;
+use crate::objects::{Log, Object, Port, port};
 use std::alloc::{AllocError, Global};
-use std::cell::Cell;
-use std::io::{ErrorKind, sink};
 use std::test::Fail;
-use superio_script::Line;
-use superio_test_objects::{Target, WriteOutcome, all_memory};
-use vm_superio::Serial;
+use superio_test_objects::all_memory;
 use vm_superio::run::{Asked, Call, Done, Reply, Sent, run};
-use vm_superio::serial::{NoEvents, Refused};
 
-/// What a record shows: the trigger's answers, the outcome of the byte that was sent, and whether the port is another one.
-type Shown = (Asked, Sent, bool);
+type PortCall<'a> = Call<Object<'a>, Object<'a>, Object<'a>>;
 
-fn shown(alloc: Global, done: &[Done<Line, NoEvents, Target>]) -> Result<Vec<Shown>, AllocError> {
-    let mut shown = Vec::new(alloc);
-    for record in done {
-        let is_another = matches!(&record.reply, Reply::Restored(_));
-        shown.push((record.asked, record.sent, is_another))?;
-    }
-    Ok(shown)
+type Record<'a> = Done<Object<'a>, Object<'a>, Object<'a>>;
+
+/// A restore to the objects of this log.
+fn restore(log: &Log) -> PortCall<'_> {
+    let object = Object::new(log);
+    Call::Restore(object, object, object)
 }
 
-/// What the records of the run below show.
-const SHOWN: [Shown; 13] = [
-    (Asked::Nothing, Sent::Nothing, false),
-    (Asked::Refused, Sent::Nothing, false),
-    (Asked::Nothing, Sent::Nothing, false),
-    (Asked::TookTook, Sent::Nothing, false),
-    (Asked::Nothing, Sent::Out, false),
-    (Asked::Nothing, Sent::Nothing, false),
-    (Asked::TookRefused, Sent::Nothing, false),
-    // The calls of a restore are those of another trigger, of which the second is refused here.
-    (Asked::Nothing, Sent::Nothing, false),
-    (Asked::Nothing, Sent::Out, false),
-    (Asked::Nothing, Sent::Nothing, true),
-    (Asked::Nothing, Sent::Lost, false),
-    (Asked::Nothing, Sent::Nothing, false),
-    (Asked::Took, Sent::Nothing, false),
-];
-
-#[test]
-fn a_run_records_each_call_and_goes_on_over_restores(rt: HostRuntime) -> Result<(), Fail> {
-    let alloc = rt.alloc();
-    // Of its trigger, call number 0 and call number 4 are refused.
-    let serial = Serial::new(alloc, Line::new(0b10001), Target::new(alloc));
-    let mut serial = serial.map_err(Refused::into_error)?;
-    let (two_bytes, one_byte) = (b"ab".to_vec(alloc)?, b"c".to_vec(alloc)?);
+/// Two bytes arrive, the guest enables both interrupts, and the port moves to other objects. `taken` take it, and
+/// `refusing` do not.
+fn run_over_restores<'a>(
+    alloc: Global,
+    serial: &mut Port<'a>,
+    refusing: &'a Log,
+    taken: &'a Log,
+) -> Result<Vec<Record<'a>>, AllocError> {
+    let bytes = b"ab".to_vec(alloc)?;
     let calls = vec![in alloc;
-        Call::Enqueue(two_bytes),
+        Call::Enqueue(bytes),
         Call::Write(1, 0x03),
         Call::Read(2),
         Call::Write(1, 0x03),
         Call::Write(0, b'x'),
-        Call::Read(2),
-        Call::Write(1, 0x03),
-        Call::Restore(Line::new(0b10), NoEvents, Target::new(alloc)),
+        restore(refusing),
+        restore(taken),
         Call::Write(0, b'y'),
-        Call::Restore(Line::new(0), NoEvents, Target::with_room(alloc, 0)),
-        Call::Write(0, b'z'),
         Call::Read(0),
-        Call::Enqueue(one_byte),
     ]?;
-    let done = run(alloc, &mut serial, calls)?;
-    assert!(rt; shown(alloc, &done)?.as_slice() == SHOWN.as_slice());
-    assert!(rt; serial.interrupt_evt().calls() == 3 && serial.writer().writes == 1);
+    run(alloc, serial, calls)
+}
+
+#[test]
+fn a_run_records_each_call_and_goes_on_over_restores(rt: HostRuntime) -> Result<(), Fail> {
+    let (first, refusing, taken) = (Log::new(), Log::new(), Log::new());
+    first.refused.set(1);
+    refusing.refused.set(2);
+    taken.write_fault.set(5);
+    let mut serial = port(rt.alloc(), &first)?;
+    let done = run_over_restores(rt.alloc(), &mut serial, &refusing, &taken)?;
+    assert!(rt; done.len() == 9);
+    assert!(rt; matches!(done[0].reply, Reply::Enqueued(Ok(2))));
+    assert!(rt; done[1].asked == Asked::Refused && done[3].asked == Asked::TookTook);
+    assert!(rt; done[4].sent == Sent::Out && done[7].sent == Sent::Lost);
+    // The calls of a restore are those of another trigger.
+    assert!(rt; matches!(done[5].reply, Reply::NotRestored(_)) && done[5].asked == Asked::Nothing);
+    assert!(rt; matches!(done[6].reply, Reply::Restored(_)) && done[6].asked == Asked::Nothing);
+    assert!(rt; matches!(done[8].reply, Reply::Byte(b'a')));
+    assert!(rt;
+        first.triggers.get() == 3 && refusing.triggers.get() == 2 && taken.triggers.get() == 2
+    );
+    assert!(rt; first.writes.get() == 1 && refusing.writes.get() == 0 && taken.writes.get() == 1);
     Ok(())
 }
 
-/// Sends 70,000 bytes over a writer with this outcome by one run: how many records there are, and how often `write` and
-/// `flush` were called.
-fn sent_by_a_run(alloc: Global, outcome: WriteOutcome) -> Result<(usize, usize, usize), Fail> {
-    let writer = Target::with_outcomes(alloc, &[outcome])?;
-    let serial = Serial::new(alloc, Line::new(0), writer);
-    let mut serial = serial.map_err(Refused::into_error)?;
-    let mut calls = Vec::new(alloc);
+/// Sends 70,000 bytes by one run over the objects of this log, and returns how many records there are.
+fn records_of_many<'a>(alloc: Global, log: &'a Log) -> Result<usize, Fail> {
+    let mut serial = port(alloc, log)?;
+    let mut calls: Vec<PortCall<'a>> = Vec::new(alloc);
     for number in 0..70_000u32 {
-        calls.push(Call::Write(0, (number % 251) as u8))?;
+        let call: PortCall<'a> = Call::Write(0, (number % 251) as u8);
+        calls.push(call)?;
     }
-    let records = run(alloc, &mut serial, calls)?.len();
-    Ok((records, serial.writer().writes, serial.writer().flushes))
+    Ok(run(alloc, &mut serial, calls)?.len())
 }
 
 #[test]
 fn a_run_of_many_calls_asks_the_writer_once_for_each_byte(rt: HostRuntime) -> Result<(), Fail> {
-    for (outcome, flushes) in [
-        (WriteOutcome::Taken, 70_000),
-        (WriteOutcome::WriteFails(ErrorKind::Other), 0),
-        (WriteOutcome::FlushFails(ErrorKind::Other), 70_000),
-    ] {
-        let made = sent_by_a_run(rt.alloc(), outcome)?;
-        assert!(rt; made == (70_000, 70_000, flushes), "{outcome:?}");
+    // The faults of `write` and `flush`, and how often `flush` is called.
+    for (write_fault, flush_fault, flushes) in [(0, 0, 70_000), (5, 0, 0), (0, 5, 70_000)] {
+        let log = Log::new();
+        log.write_fault.set(write_fault);
+        log.flush_fault.set(flush_fault);
+        assert!(rt; records_of_many(rt.alloc(), &log)? == 70_000);
+        assert!(rt;
+            log.writes.get() == 70_000 && log.flushes.get() == flushes,
+            "{write_fault}"
+        );
     }
     Ok(())
 }
 
+/// Enqueues this byte and restores the port by a run, and returns whether the port is another one.
+fn is_restored<'a>(
+    alloc: Global,
+    serial: &mut Port<'a>,
+    log: &'a Log,
+    byte: u8,
+) -> Result<bool, AllocError> {
+    let bytes = vec![in alloc; byte]?;
+    let calls = vec![in alloc; Call::Enqueue(bytes), restore(log)]?;
+    let done = run(alloc, serial, calls)?;
+    Ok(matches!(done[1].reply, Reply::Restored(_)))
+}
+
 #[test]
 fn a_restore_keeps_the_bytes_however_many_are_held(rt: HostRuntime) -> Result<(), Fail> {
-    let alloc = rt.alloc();
-    let serial = Serial::new(alloc, Line::new(0), sink());
-    let mut serial = serial.map_err(Refused::into_error)?;
+    let log = Log::new();
+    let mut serial = port(rt.alloc(), &log)?;
     for held in 1..=64u8 {
-        let mut calls = Vec::new(alloc);
-        calls.push(Call::Enqueue(vec![in alloc; held]?))?;
-        calls.push(Call::Restore(Line::new(0), NoEvents, sink()))?;
-        let done = run(alloc, &mut serial, calls)?;
-        assert!(rt; matches!(done[1].reply, Reply::Restored(_)), "{held}");
+        assert!(rt; is_restored(rt.alloc(), &mut serial, &log, held)?, "{held}");
     }
     for held in 1..=64u8 {
         assert!(rt; serial.read(0) == held);
@@ -113,26 +114,23 @@ fn a_restore_keeps_the_bytes_however_many_are_held(rt: HostRuntime) -> Result<()
     Ok(())
 }
 
-/// Runs restores without room for their records, and returns whether the run was refused. Each object, of the port and
-/// of the restores, adds its calls to one count.
-fn is_refused_without_room(alloc: Global, calls: &Cell<u64>) -> bool {
-    let count = CallCount::new(calls);
-    let Ok(mut serial) = Serial::with_events(alloc, count, count, count) else {
-        return false;
-    };
-    let mut list = Vec::new(alloc);
+/// Runs restores without room for their records, and returns whether the run was refused.
+fn is_refused_without_room(alloc: Global, log: &Log) -> Result<bool, Fail> {
+    let mut serial = port(alloc, log)?;
+    let mut calls = Vec::new(alloc);
     for _ in 0..64 {
-        let _ = list.push(Call::Restore(count, count, count));
+        calls.push(restore(log))?;
     }
-    let blocks = all_memory(alloc, 1024);
-    let is_refused = run(alloc, &mut serial, list).is_err();
+    let blocks = all_memory(alloc, 1024)?;
+    let is_refused = run(alloc, &mut serial, calls).is_err();
     drop(blocks);
-    is_refused
+    Ok(is_refused)
 }
 
 #[test]
-fn a_run_without_room_for_its_records_calls_no_object(rt: HostRuntime) {
-    let calls = Cell::new(0);
-    assert!(rt; is_refused_without_room(rt.alloc(), &calls));
-    assert!(rt; calls.get() == 0);
+fn a_run_without_room_for_its_records_calls_no_object(rt: HostRuntime) -> Result<(), Fail> {
+    let log = Log::new();
+    assert!(rt; is_refused_without_room(rt.alloc(), &log)?);
+    assert!(rt; log.calls() == 0);
+    Ok(())
 }
