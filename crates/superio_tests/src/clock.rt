@@ -36,7 +36,7 @@ fn a_clock_is_read_written_and_compared_by_all_six_fields(rt: HostRuntime) -> Re
 }
 
 #[test]
-fn each_form_of_a_clock_says_the_same_of_its_interrupt(rt: HostRuntime) {
+fn each_form_of_a_clock_says_the_same(rt: HostRuntime) {
     let state = RtcState {
         armed: true,
         ..RtcState::from_five(0, 0, 105, 1, 1)
@@ -51,6 +51,7 @@ fn each_form_of_a_clock_says_the_same_of_its_interrupt(rt: HostRuntime) {
         assert!(rt; due == Some(5));
     }
     assert!(rt; state.interrupt_line() && clock.interrupt_line() && fields.interrupt_line());
+    assert!(rt; RtcState::default() == RtcState::from_five(0, 0, 0, 0, 0));
 }
 
 #[test]

@@ -15,49 +15,45 @@ fn restore(log: &Log) -> PortCall<'_> {
     Call::Restore(object, object, object)
 }
 
-/// Two bytes arrive, the guest enables both interrupts, and the port moves to other objects. `taken` take it, and
-/// `refusing` do not.
-fn run_over_restores<'a>(
+/// Makes two calls by a run.
+fn run_two<'a>(
     alloc: Global,
     serial: &mut Port<'a>,
-    refusing: &'a Log,
-    taken: &'a Log,
+    first: PortCall<'a>,
+    second: PortCall<'a>,
 ) -> Result<Vec<Record<'a>>, AllocError> {
-    let bytes = b"ab".to_vec(alloc)?;
-    let calls = vec![in alloc;
-        Call::Enqueue(bytes),
-        Call::Write(1, 0x03),
-        Call::Read(2),
-        Call::Write(1, 0x03),
-        Call::Write(0, b'x'),
-        restore(refusing),
-        restore(taken),
-        Call::Write(0, b'y'),
-        Call::Read(0),
-    ]?;
+    let calls = vec![in alloc; first, second]?;
     run(alloc, serial, calls)
 }
 
 #[test]
 fn a_run_records_each_call_and_goes_on_over_restores(rt: HostRuntime) -> Result<(), Fail> {
-    let (first, refusing, taken) = (Log::new(), Log::new(), Log::new());
+    let alloc = rt.alloc();
+    let (first, refusing, other) = (Log::new(), Log::new(), Log::new());
     first.refused.set(1);
     refusing.refused.set(2);
-    taken.write_fault.set(5);
-    let mut serial = port(rt.alloc(), &first)?;
-    let done = run_over_restores(rt.alloc(), &mut serial, &refusing, &taken)?;
-    assert!(rt; done.len() == 9);
-    assert!(rt; matches!(done[0].reply, Reply::Enqueued(Ok(2))));
-    assert!(rt; done[1].asked == Asked::Refused && done[3].asked == Asked::TookTook);
-    assert!(rt; done[4].sent == Sent::Out && done[7].sent == Sent::Lost);
-    // The calls of a restore are those of another trigger.
-    assert!(rt; matches!(done[5].reply, Reply::NotRestored(_)) && done[5].asked == Asked::Nothing);
-    assert!(rt; matches!(done[6].reply, Reply::Restored(_)) && done[6].asked == Asked::Nothing);
-    assert!(rt; matches!(done[8].reply, Reply::Byte(b'a')));
+    other.write_fault.set(5);
+    let mut serial = port(alloc, &first)?;
+    let bytes = b"ab".to_vec(alloc)?;
+    let done = run_two(
+        alloc,
+        &mut serial,
+        Call::Enqueue(bytes),
+        Call::Write(1, 0x03),
+    )?;
+    assert!(rt; matches!(done[0].reply, Reply::Enqueued(Ok(2))) && done[1].asked == Asked::Refused);
+    let done = run_two(alloc, &mut serial, Call::Read(2), Call::Write(1, 0x03))?;
+    assert!(rt; matches!(done[0].reply, Reply::Byte(0xC4)) && done[1].asked == Asked::TookTook);
+    // The calls of a restore are those of another trigger. The port stays, and sends one more byte.
+    let done = run_two(alloc, &mut serial, restore(&refusing), Call::Write(0, b'x'))?;
+    assert!(rt; matches!(done[0].reply, Reply::NotRestored(_)) && done[0].asked == Asked::Nothing);
+    assert!(rt; done[1].sent == Sent::Out && first.writes.get() == 1);
+    let done = run_two(alloc, &mut serial, restore(&other), Call::Write(0, b'y'))?;
+    assert!(rt; matches!(done[0].reply, Reply::Restored(_)) && done[0].asked == Asked::Nothing);
+    assert!(rt; done[1].sent == Sent::Lost && other.writes.get() == 1);
     assert!(rt;
-        first.triggers.get() == 3 && refusing.triggers.get() == 2 && taken.triggers.get() == 2
+        first.triggers.get() == 3 && refusing.triggers.get() == 2 && other.triggers.get() == 2
     );
-    assert!(rt; first.writes.get() == 1 && refusing.writes.get() == 0 && taken.writes.get() == 1);
     Ok(())
 }
 
@@ -96,8 +92,7 @@ fn is_restored<'a>(
     byte: u8,
 ) -> Result<bool, AllocError> {
     let bytes = vec![in alloc; byte]?;
-    let calls = vec![in alloc; Call::Enqueue(bytes), restore(log)]?;
-    let done = run(alloc, serial, calls)?;
+    let done = run_two(alloc, serial, Call::Enqueue(bytes), restore(log))?;
     Ok(matches!(done[1].reply, Reply::Restored(_)))
 }
 

@@ -1,6 +1,4 @@
-//! The saved state of a port: its text, its copies, and the writer that moves on.
-use crate::objects::{Log, Object, port};
-use std::io::Write;
+//! The saved state of a port: its text, its comparison and its copies.
 use std::test::Fail;
 use vm_superio::SerialState;
 
@@ -47,16 +45,5 @@ fn a_state_of_any_size_is_copied(rt: HostRuntime) -> Result<(), Fail> {
         }
         state.in_buffer.push((count % 251) as u8)?;
     }
-    Ok(())
-}
-
-#[test]
-fn a_writer_may_be_changed_and_taken_out(rt: HostRuntime) -> Result<(), Fail> {
-    let (log, other) = (Log::new(), Log::new());
-    let mut serial = port(rt.alloc(), &log)?;
-    *serial.writer_mut() = Object::new(&other);
-    assert!(rt; serial.write(0, b'f').is_ok());
-    assert!(rt; serial.into_writer().write(b"g").is_ok());
-    assert!(rt; log.writes.get() == 0 && other.writes.get() == 2);
     Ok(())
 }
