@@ -10,8 +10,6 @@ mod clock;
 mod controller;
 mod saved;
 mod serial;
-#[cfg(test)]
-mod tests;
 
 /// It changes with every change of a struct, or of what a call means.
 const ABI: u32 = 2;

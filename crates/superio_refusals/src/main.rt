@@ -33,6 +33,7 @@ fn outcome_of(alloc: Global, call: &str) -> Result<&'static str, AllocError> {
         "Serial::from_state" => ports::from_state(alloc),
         "Serial::state" => ports::state(alloc),
         "SerialState::clone" => ports::clone(alloc),
+        "SerialState::from_bytes" => ports::from_bytes(alloc),
         "run" => ports::run_over_a_restore(alloc),
         "Board::new" => Ok(boards::new(alloc)),
         "Board::line" => boards::restore_line(alloc),

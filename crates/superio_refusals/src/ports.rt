@@ -4,7 +4,7 @@ use std::io::Write;
 use superio_script::{Counts, Line, Output};
 use vm_superio::run::{Call, Done, Reply, run};
 use vm_superio::serial::{Error, Refused, SerialEvents};
-use vm_superio::{Serial, SerialState};
+use vm_superio::{Serial, SerialState, saved};
 
 type Port = Serial<Line, Counts, Output>;
 
@@ -108,6 +108,18 @@ pub fn state(alloc: Global) -> Result<&'static str, AllocError> {
 pub fn clone(alloc: Global) -> Result<&'static str, AllocError> {
     let state = pending_state(alloc)?;
     Ok(copied(state.clone(alloc), &state))
+}
+
+pub fn from_bytes(alloc: Global) -> Result<&'static str, AllocError> {
+    let state = pending_state(alloc)?;
+    let Ok(form) = state.to_bytes() else {
+        return Ok("no form");
+    };
+    match SerialState::from_bytes(alloc, &form) {
+        Ok(copy) => Ok(copied(Ok(copy), &state)),
+        Err(saved::Error::Memory) => Ok("Memory"),
+        Err(_) => Ok("another refusal"),
+    }
 }
 
 /// The calls of a run: a byte arrives, the port moves to new objects, and the guest reads the byte.

@@ -1,18 +1,20 @@
-//! Tests of what neither a script of tests/ nor a contract shows: objects that fail or log their calls, states that no
-//! device reaches, memory that is refused, and printed text.
+//! Tests of what no contract says, and neither a script of tests/ nor a recorded call shows: printed text, objects that
+//! are dropped, a writer's own faults, and runs of many calls.
 #![tactic(auto)]
 
 #[cfg(test)]
 mod clock;
 #[cfg(test)]
-mod memory;
+mod dropped;
+#[cfg(test)]
+mod errors;
+#[cfg(test)]
+mod objects;
 #[cfg(test)]
 mod runs;
 #[cfg(test)]
-mod saved_forms;
-#[cfg(test)]
-mod scaffold;
+mod saved;
 #[cfg(test)]
 mod script;
 #[cfg(test)]
-mod serial;
+mod sending;

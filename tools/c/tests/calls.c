@@ -125,6 +125,38 @@ static void received_bytes(void) {
     CHECK(!read_at(&port, 0) && port.held == 63 && superio_serial_is_coherent(&port));
 }
 
+/* Bytes go round the 64 places in order, however often: 30 come in and go out at a time, until all are read. */
+static void ring(void) {
+    superio_serial port = superio_serial_new();
+    uint8_t next = 0, expected = 0;
+    for (int i = 0; i < 300; i++) {
+        if (i % 30 == 0)
+            while (superio_serial_enqueue(&port, &next, 1).taken == 1)
+                next++;
+        CHECK(read_at(&port, 0) == expected++);
+    }
+    for (size_t left = 64 - superio_serial_fifo_capacity(&port); left > 0; left--) {
+        superio_serial_read_effects read = superio_serial_read(&port, 0);
+        CHECK(read.byte == expected++ && read.in_buffer_empty == (left == 1));
+    }
+    CHECK(expected == next && read_at(&port, 0) == 0 && superio_serial_is_coherent(&port));
+}
+
+/* Any bytes are a port: 255 stands for 64 held bytes, and the place of the oldest counts from 0 again after each 64. */
+static void any_bytes(void) {
+    superio_serial port = superio_serial_new();
+    port.first = port.held = 255;
+    for (uint8_t i = 0; i < 64; i++)
+        port.places[i] = i;
+    CHECK(!superio_serial_is_coherent(&port) && superio_serial_fifo_capacity(&port) == 0);
+    CHECK(read_at(&port, 0) == 63);
+    for (uint8_t byte = 0; byte < 63; byte++) {
+        superio_serial_read_effects read = superio_serial_read(&port, 0);
+        CHECK(read.byte == byte && read.in_buffer_empty == (byte == 62));
+    }
+    CHECK(superio_serial_fifo_capacity(&port) == 64);
+}
+
 /* An IER write raises both conditions. A refusal of the first leaves RDA alone pending. */
 static void interrupts(void) {
     superio_serial port = superio_serial_new();
@@ -138,6 +170,14 @@ static void interrupts(void) {
     superio_serial_write_effects done = write_at(&port, 0, '!');
     CHECK(done.sends && done.interrupts == 1 && superio_serial_interrupts_due(&port) == 2);
     CHECK(read_at(&port, 2) == 0xC6 && superio_serial_interrupts_due(&port) == 0);
+    /* Told at another moment, it leaves nothing pending where THRE alone was. */
+    done = write_at(&port, 0, '!');
+    superio_serial_first_refused(&port);
+    CHECK(done.interrupts == 1 && superio_serial_is_coherent(&port) && read_at(&port, 2) == 0xC1);
+    /* In loopback a byte is received, and none goes out. */
+    CHECK(!write_at(&port, 4, 0x10).sends);
+    done = write_at(&port, 0, 'b');
+    CHECK(!done.sends && done.interrupts == 1 && read_at(&port, 0) == 'x' && read_at(&port, 0) == 'b');
     port.held = 65;
     CHECK(!superio_serial_is_coherent(&port) && superio_serial_fifo_capacity(&port) == 0);
     CHECK(read_at(&port, 0x80) == 0 && read_at(&port, 0xFF) == 0);
@@ -197,6 +237,63 @@ static void clock_alarm(void) {
     CHECK(!superio_rtc_write(&clock, 0x010, 0, NOW).invalid_write && !superio_rtc_line(&clock));
 }
 
+/* In how many seconds an alarm is due, by the match, the offset and the moment. */
+static void clock_due(void) {
+    static const struct { uint32_t mr; int64_t offset; uint64_t now, due; } ROWS[] = {
+        {105, 0, 100, 5},
+        {105, 0, 105, 0},
+        {105, 0, 5000, 0},
+        {105, 0, (uint64_t)1 << 32, 105},
+        {105, 0, UINT64_MAX - UINT32_MAX, 105},
+        {5003, 4000, 1001, 2},
+        {UINT32_MAX, 0, 0, UINT32_MAX},
+        /* The counter leaves 32 bits at 6, and guest time is the host's from there on. */
+        {100, 4294967290, 5, 0},
+        {100, 4294967290, 6, 94},
+        /* Guest time is the host's before 10, and the counter from there on. */
+        {5, -10, 0, 5},
+        {5, -10, 10, 5},
+        {10, -4294967290, 4294967290, 16},
+        {UINT32_MAX, -1, 7, SUPERIO_RTC_NEVER},
+        {7, INT64_MAX, 3, 4},
+        {7, INT64_MIN, 3, 4},
+    };
+    for (size_t i = 0; i < sizeof ROWS / sizeof *ROWS; i++) {
+        superio_rtc clock = superio_rtc_new();
+        clock.mr = ROWS[i].mr;
+        clock.offset = ROWS[i].offset;
+        CHECK(superio_rtc_due(&clock, ROWS[i].now) == SUPERIO_RTC_NEVER);
+        clock.armed = 1;
+        CHECK(superio_rtc_due(&clock, ROWS[i].now) == ROWS[i].due);
+    }
+}
+
+/* The interrupt line is bit 0 of the masked status: the other bits of a restored state belong to no interrupt. */
+static void clock_line(void) {
+    static const struct { uint32_t ris, imsc; bool is_up; } ROWS[] = {
+        {1, 1, true}, {1, 0, false}, {0, 1, false}, {3, 5, true}, {6, 7, false}, {0xFFFFFFFE, 0xFFFFFFFF, false},
+    };
+    for (size_t i = 0; i < sizeof ROWS / sizeof *ROWS; i++) {
+        superio_rtc clock = superio_rtc_new();
+        clock.ris = ROWS[i].ris;
+        clock.imsc = ROWS[i].imsc;
+        CHECK(superio_rtc_line(&clock) == ROWS[i].is_up);
+    }
+}
+
+/* An alarm is over once it was found, by an invalid access too, and a clear takes the line down. */
+static void clock_alarm_is_over(void) {
+    superio_rtc clock = superio_rtc_new();
+    CHECK(!superio_rtc_write(&clock, 0x008, 5000, 1000).invalid_write);
+    CHECK(!superio_rtc_write(&clock, 0x004, 5003, 1001).invalid_write);
+    CHECK(!superio_rtc_write(&clock, 0x010, 1, 1001).invalid_write);
+    CHECK(superio_rtc_read(&clock, 0x014, 1002).value == 0 && clock.armed && superio_rtc_due(&clock, 1002) == 1);
+    superio_rtc_read_effects read = superio_rtc_read(&clock, 0x01C, 1003);
+    CHECK(read.invalid_read && read.value == 0 && !clock.armed && clock.ris == 1 && superio_rtc_line(&clock));
+    CHECK(superio_rtc_due(&clock, 1003) == SUPERIO_RTC_NEVER && superio_rtc_read(&clock, 0x000, 1003).value == 5003);
+    CHECK(!superio_rtc_write(&clock, 0x01C, 1, 1003).invalid_write && !superio_rtc_line(&clock));
+}
+
 static void controller(void) {
     CHECK(superio_i8042_write(4, 0xFE).resets && !superio_i8042_write(0xFE, 4).resets);
     CHECK(!superio_i8042_write(0, 0xFE).resets && !superio_i8042_write(4, 0xFF).resets);
@@ -243,10 +340,15 @@ int main(void) {
     guest_reads();
     loopback();
     received_bytes();
+    ring();
+    any_bytes();
     interrupts();
     clock_registers();
     clock_offsets();
     clock_alarm();
+    clock_due();
+    clock_line();
+    clock_alarm_is_over();
     controller();
     saved_port();
     saved_clock();

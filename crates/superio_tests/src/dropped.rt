@@ -1,0 +1,78 @@
+//! Objects that a call takes and drops, and that it must not call before that. No contract says this.
+use crate::objects::{Log, Object};
+use std::io;
+use std::io::ErrorKind;
+use std::test::Fail;
+use superio_script::LineRefused;
+use vm_superio::serial::{Error, Refused};
+use vm_superio::{I8042Device, Rtc, Serial, SerialState};
+
+#[test]
+fn a_port_is_dropped_and_taken_apart_in_silence(rt: HostRuntime) -> Result<(), Fail> {
+    let mut state = SerialState::default(rt.alloc());
+    state.line_status = 0x61;
+    state.in_buffer.push(b'a')?;
+    for identification in [0x01, 0x02, 0x04, 0x06] {
+        for enable in 0..=0x03 {
+            state.interrupt_identification = identification;
+            state.interrupt_enable = enable;
+            for is_taken_apart in [true, false] {
+                let log = Log::new();
+                let object = Object::new(&log);
+                let port = Serial::from_state(rt.alloc(), &state, object, object, object).ok();
+                let mut port = port.expect(&rt, "a port");
+                assert!(rt; port.write(0, b'A').is_ok());
+                let calls = log.calls();
+                if is_taken_apart {
+                    let _ = port.into_writer();
+                } else {
+                    drop(port);
+                }
+                assert!(rt; calls >= 3 && log.calls() == calls, "{state:?}");
+            }
+        }
+    }
+    Ok(())
+}
+
+#[test]
+fn a_clock_and_a_controller_are_dropped_in_silence(rt: HostRuntime) {
+    let log = Log::new();
+    let object = Object::new(&log);
+    let mut clock = Rtc::with_events(object);
+    let mut controller = I8042Device::new(object);
+    // An invalid write, and the reset command.
+    clock.write(0x000, &[0; 4], 1_000);
+    assert!(rt; controller.write(0x04, 0xFE).is_ok());
+    assert!(rt; log.calls() == 2);
+    drop(clock);
+    drop(controller);
+    assert!(rt; log.calls() == 2);
+}
+
+/// How many calls of objects a refusal makes that is taken apart.
+fn calls_of_refusal(error: Error<LineRefused>) -> u64 {
+    let log = Log::new();
+    let object = Object::new(&log);
+    let refused = Refused {
+        error,
+        trigger: object,
+        events: object,
+        out: object,
+    };
+    let _ = refused.into_error();
+    log.calls()
+}
+
+#[test]
+fn a_refusal_is_taken_apart_in_silence(rt: HostRuntime) {
+    let fault = io::Error::from(ErrorKind::Other);
+    for calls in [
+        calls_of_refusal(Error::Trigger(LineRefused)),
+        calls_of_refusal(Error::IOError(fault)),
+        calls_of_refusal(Error::FullFifo),
+        calls_of_refusal(Error::Memory),
+    ] {
+        assert!(rt; calls == 0);
+    }
+}

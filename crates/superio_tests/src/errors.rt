@@ -1,0 +1,93 @@
+//! What errors print, what becomes one, and events objects that do nothing.
+use std::alloc::{AllocError, AllocFailed, Global};
+use std::error::Error as StdError;
+use std::io;
+use std::io::ErrorKind;
+use superio_script::LineRefused;
+use vm_superio::rtc_pl031::RtcEvents;
+use vm_superio::serial::{Error, SerialEvents};
+use vm_superio::{rtc_pl031, saved, serial};
+
+/// Whether an error prints this, to a caller that knows it as an error of std alone.
+fn prints<E: StdError>(alloc: Global, error: &E, text: &str) -> bool {
+    match error.to_string(alloc) {
+        Ok(printed) => printed.as_str() == text,
+        Err(AllocError) => false,
+    }
+}
+
+#[test]
+fn errors_print_what_failed_and_why(rt: HostRuntime) {
+    let lost = Error::<LineRefused>::IOError(io::Error::from(ErrorKind::BrokenPipe));
+    let text = "Couldn't write/flush to the given destination: broken pipe";
+    assert!(rt; prints(rt.alloc(), &lost, text));
+    let refused = Error::Trigger(LineRefused);
+    let text = "Failed to trigger interrupt: line refused";
+    assert!(rt; prints(rt.alloc(), &refused, text));
+    let full = Error::<LineRefused>::FullFifo;
+    assert!(rt; prints(rt.alloc(), &full, "No space left in FIFO"));
+    let refused = Error::<LineRefused>::Memory;
+    assert!(rt; prints(rt.alloc(), &refused, "Out of memory"));
+}
+
+#[test]
+fn errors_of_saved_forms_print_the_check_that_failed(rt: HostRuntime) {
+    for (error, text) in [
+        (saved::Error::TooShort, "Too short for a saved state"),
+        (saved::Error::NotASavedState, "Not a saved state"),
+        (
+            saved::Error::OtherDevice,
+            "The saved state of another device",
+        ),
+        (
+            saved::Error::UnknownVersion(2),
+            "A saved state of an unknown version",
+        ),
+        (
+            saved::Error::WrongLength,
+            "A saved state of the wrong length",
+        ),
+        (saved::Error::TooManyBytes, "More than 64 received bytes"),
+        (
+            saved::Error::InvalidArmed,
+            "An alarm that is neither set nor clear",
+        ),
+        (saved::Error::Memory, "Out of memory"),
+    ] {
+        assert!(rt; prints(rt.alloc(), &error, text));
+    }
+}
+
+/// Takes this much memory, as a monitor does that returns the port's own error.
+fn take(alloc: Global, size: usize) -> Result<Vec<u8>, Error<LineRefused>> {
+    Ok(Vec::with_capacity(alloc, size)?)
+}
+
+/// Keeps a byte, likewise.
+fn keep(bytes: &mut Vec<u8>, byte: u8) -> Result<(), Error<LineRefused>> {
+    Ok(bytes.push(byte)?)
+}
+
+#[test]
+fn a_refused_allocation_is_an_error_of_the_port(rt: HostRuntime) {
+    assert!(rt; take(rt.alloc(), 64).is_ok());
+    assert!(rt; matches!(take(rt.alloc(), usize::MAX), Err(Error::Memory)));
+
+    // A push gives the byte back, which `?` drops.
+    let mut bytes = Vec::new(rt.alloc());
+    assert!(rt; keep(&mut bytes, b'a').is_ok());
+    let refused = Error::<LineRefused>::from(AllocFailed { value: b'b' });
+    assert!(rt; matches!(refused, Error::Memory));
+}
+
+#[test]
+fn no_events_accept_every_event(_rt: HostRuntime) {
+    let mut events = serial::NoEvents;
+    events.buffer_read();
+    events.out_byte();
+    events.tx_lost_byte();
+    events.in_buffer_empty();
+    let mut events = rtc_pl031::NoEvents;
+    events.invalid_read();
+    events.invalid_write();
+}

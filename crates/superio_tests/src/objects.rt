@@ -1,0 +1,165 @@
+//! The objects that the tests give to a device: a trigger, an events object and a writer, which share what they do.
+//!
+//! All tests use this one type of object, since the prover takes ten seconds for each type of port.
+ghost use Rattle.vm_superio.specs.Silent.{Silent, Silent-nil, Silent-append};
+
+use std::alloc::Global;
+use std::cell::Cell;
+use std::io;
+use std::io::{ErrorKind, Write};
+use std::test::Fail;
+use superio_script::LineRefused;
+use vm_superio::rtc_pl031::RtcEvents;
+use vm_superio::serial::{Refused, SerialEvents};
+use vm_superio::{Serial, Trigger};
+
+/// What objects do, and how often they were called.
+#[derive(Drop)]
+pub struct Log {
+    pub triggers: Cell<u64>,
+    pub events: Cell<u64>,
+    pub writes: Cell<u64>,
+    pub flushes: Cell<u64>,
+    /// The trigger call of this number, from 1, is refused. 0: none is.
+    pub refused: Cell<u64>,
+    /// So many calls of `write` are interrupted.
+    pub interruptions: Cell<u64>,
+    /// Each later call of `write`, or of `flush`, fails by this error of the operating system. 0: it succeeds.
+    pub write_fault: Cell<i32>,
+    pub flush_fault: Cell<i32>,
+}
+
+impl Log {
+    /// Objects that were not called, and whose calls succeed.
+    pub fn new() -> Log {
+        Log {
+            triggers: Cell::new(0),
+            events: Cell::new(0),
+            writes: Cell::new(0),
+            flushes: Cell::new(0),
+            refused: Cell::new(0),
+            interruptions: Cell::new(0),
+            write_fault: Cell::new(0),
+            flush_fault: Cell::new(0),
+        }
+    }
+
+    /// How often the objects were called.
+    pub fn calls(&self) -> u64 {
+        self.triggers
+            .get()
+            .wrapping_add(self.events.get())
+            .wrapping_add(self.writes.get())
+            .wrapping_add(self.flushes.get())
+    }
+}
+
+/// Counts a call, and returns its number, from 1.
+fn counted(calls: &Cell<u64>) -> u64 {
+    let number = calls.get().wrapping_add(1);
+    calls.set(number);
+    number
+}
+
+/// What a call of the writer returns that has this fault.
+fn outcome(fault: i32) -> io::Result<()> {
+    match fault {
+        0 => Ok(()),
+        number => Err(io::Error::from_raw_os_error(number)),
+    }
+}
+
+/// A trigger, an events object or a writer.
+#[derive(Clone, Copy)]
+pub struct Object<'a> {
+    log: &'a Log,
+}
+
+impl Object<'_> {
+    pub fn new(log: &Log) -> Object<'_> {
+        Object { log }
+    }
+}
+
+/// A port over three objects of a log.
+pub type Port<'a> = Serial<Object<'a>, Object<'a>, Object<'a>>;
+
+/// A new port.
+pub fn port(alloc: Global, log: &Log) -> Result<Port<'_>, Fail> {
+    let object = Object::new(log);
+    let made = Serial::with_events(alloc, object, object, object);
+    Ok(made.map_err(Refused::into_error)?)
+}
+
+impl Trigger for Object<'_> {
+    type E = LineRefused;
+
+    ghost link = { Silent };
+
+    ghost no_call = { Silent-nil };
+
+    ghost joined = { Silent-append };
+
+    fn trigger(&mut self) -> Result<(), LineRefused> {
+        if counted(&self.log.triggers) == self.log.refused.get() {
+            Err(LineRefused)
+        } else {
+            Ok(())
+        }
+    }
+}
+
+impl SerialEvents for Object<'_> {
+    ghost link = { Silent };
+
+    ghost no_event = { Silent-nil };
+
+    ghost joined = { Silent-append };
+
+    fn buffer_read(&mut self) {
+        counted(&self.log.events);
+    }
+
+    fn out_byte(&mut self) {
+        counted(&self.log.events);
+    }
+
+    fn tx_lost_byte(&mut self) {
+        counted(&self.log.events);
+    }
+
+    fn in_buffer_empty(&mut self) {
+        counted(&self.log.events);
+    }
+}
+
+impl RtcEvents for Object<'_> {
+    ghost link = { Silent };
+
+    ghost no_event = { Silent-nil };
+
+    ghost joined = { Silent-append };
+
+    fn invalid_read(&mut self) {
+        counted(&self.log.events);
+    }
+
+    fn invalid_write(&mut self) {
+        counted(&self.log.events);
+    }
+}
+
+impl Write for Object<'_> {
+    fn write(&mut self, buf: &[u8]) -> io::Result<usize> {
+        if counted(&self.log.writes) <= self.log.interruptions.get() {
+            return Err(io::Error::from(ErrorKind::Interrupted));
+        }
+        outcome(self.log.write_fault.get())?;
+        Ok(buf.len())
+    }
+
+    fn flush(&mut self) -> io::Result<()> {
+        counted(&self.log.flushes);
+        outcome(self.log.flush_fault.get())
+    }
+}

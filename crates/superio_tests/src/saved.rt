@@ -1,0 +1,49 @@
+//! The saved state of a port: its text, its comparison and its copies.
+use std::test::Fail;
+use vm_superio::SerialState;
+
+/// The form of docs/SAVED-STATES.md. Each of its ten fields differs from the others.
+const PORT: [u8; 19] = [
+    0x53, 0x49, 0x4F, 0x53, 0x01, 0x01, 0x0B, 0x00, 0x0C, 0x00, 0x01, 0x04, 0x03, 0x61, 0x08, 0xB0,
+    0x5A, 0x61, 0x62,
+];
+
+#[test]
+fn a_port_is_printed_by_all_ten_fields(rt: HostRuntime) -> Result<(), Fail> {
+    let state = SerialState::from_bytes(rt.alloc(), &PORT)?;
+    let text = format!(in rt.alloc(); "{state:?}")?;
+    assert!(rt;
+        text.as_str()
+            == "SerialState { baud_divisor_low: 12, baud_divisor_high: 0, interrupt_enable: 1, \
+                interrupt_identification: 4, line_control: 3, line_status: 97, modem_control: 8, \
+                modem_status: 176, scratch: 90, in_buffer: [97, 98] }"
+    );
+    Ok(())
+}
+
+#[test]
+fn ports_are_compared_by_all_ten_fields(rt: HostRuntime) -> Result<(), Fail> {
+    let state = SerialState::from_bytes(rt.alloc(), &PORT)?;
+    assert!(rt; state.is_coherent());
+    for place in 8..19usize {
+        let mut form = PORT;
+        form[place] ^= 0x10;
+        assert!(rt;
+            SerialState::from_bytes(rt.alloc(), &form)? != state,
+            "{place}"
+        );
+    }
+    Ok(())
+}
+
+#[test]
+fn a_state_of_any_size_is_copied(rt: HostRuntime) -> Result<(), Fail> {
+    let mut state = SerialState::default(rt.alloc());
+    for count in 0..=65_536u32 {
+        if count <= 300 || count % 4096 == 0 {
+            assert!(rt; state.clone(rt.alloc())? == state, "{count} bytes");
+        }
+        state.in_buffer.push((count % 251) as u8)?;
+    }
+    Ok(())
+}
