@@ -5,6 +5,8 @@
 #[cfg(test)]
 mod clock;
 #[cfg(test)]
+mod examples;
+#[cfg(test)]
 mod memory;
 #[cfg(test)]
 mod runs;
