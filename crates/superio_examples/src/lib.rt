@@ -10,8 +10,5 @@ pub mod first_claim;
 pub mod input;
 pub mod migration;
 pub mod mmio;
-#[cfg(test)]
-mod monitor;
+pub mod monitor;
 pub mod port_io;
-#[cfg(test)]
-mod tests;

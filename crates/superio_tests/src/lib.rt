@@ -9,6 +9,10 @@ mod dropped;
 #[cfg(test)]
 mod errors;
 #[cfg(test)]
+mod examples;
+#[cfg(test)]
+mod memory;
+#[cfg(test)]
 mod objects;
 #[cfg(test)]
 mod runs;

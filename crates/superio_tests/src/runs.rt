@@ -1,8 +1,8 @@
 //! Runs: lists of calls of a serial port, each as one call.
+use crate::memory::all_memory;
 use crate::objects::{Log, Object, Port, port};
 use std::alloc::{AllocError, Global};
 use std::test::Fail;
-use superio_test_objects::all_memory;
 use vm_superio::run::{Asked, Call, Done, Reply, Sent, run};
 
 type PortCall<'a> = Call<Object<'a>, Object<'a>, Object<'a>>;

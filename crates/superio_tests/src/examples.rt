@@ -1,0 +1,3 @@
+//! The modules of superio_examples at work.
+mod input;
+mod ports;

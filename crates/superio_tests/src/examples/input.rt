@@ -1,0 +1,208 @@
+//! Input on its way to a guest, drivers that read it, and devices that move to another machine.
+use crate::objects::{Log, Object, port};
+use std::test::Fail;
+use superio_examples::console::Console;
+use superio_examples::driver::{receive_all, run_polled};
+use superio_examples::first_claim::read_back;
+use superio_examples::input::Input;
+use superio_examples::migration::{restore, restore_input, save};
+use superio_examples::monitor::saved_devices;
+use vm_superio::Rtc;
+use vm_superio::run::{Call, Reply};
+
+/// A hundred bytes.
+const INPUT: [u8; 100] = *b"\
+0123456789abcdefghijABCDEFGHIJ)!@#$%^&*(9876543210\
+jihgfedcbaJIHGFEDCBA(*&^%$#@!)5678901234efghijabcd";
+
+#[test]
+fn input_takes_as_many_bytes_as_there_is_room_for(rt: HostRuntime) -> Result<(), Fail> {
+    let mut input = Input::new(rt.alloc(), 65_536)?;
+    let bytes = b"a".repeat(rt.alloc(), 40_000)?;
+    for (taken, room) in [(40_000, 25_536), (25_536, 0), (0, 0)] {
+        assert!(rt; input.push(&bytes) == taken && input.room() == room);
+    }
+    assert!(rt; input.waiting(rt.alloc())?.len() == 65_536);
+    Ok(())
+}
+
+#[test]
+fn every_byte_of_the_input_is_read_once(rt: HostRuntime) -> Result<(), Fail> {
+    let log = Log::new();
+    log.refused.set(1);
+    let mut serial = port(rt.alloc(), &log)?;
+    let mut input = Input::new(rt.alloc(), 100)?;
+    let bytes = INPUT;
+    input.push(&bytes);
+    // In loopback nothing goes in. When it ends, 64 bytes do, though the interrupt is refused. The guest reads 10 bytes,
+    // and then all, as there is room for more.
+    for (register, value, fed, from, to) in [
+        (4, 0x10, Some(0), 0, 0),
+        (1, 0x01, Some(0), 0, 0),
+        (4, 0x00, None, 0, 10),
+        (7, 0x00, Some(10), 10, 74),
+        (7, 0x00, Some(26), 74, 100),
+    ] {
+        assert!(rt; serial.write(register, value).is_ok());
+        assert!(rt; input.feed(&mut serial).ok() == fed);
+        for byte in &bytes[from..to] {
+            assert!(rt; serial.read(0) == *byte);
+        }
+    }
+    assert!(rt; serial.read(5) == 0x60 && input.room() == 100);
+    Ok(())
+}
+
+#[test]
+fn input_stops_and_starts_and_a_refused_interrupt_is_tried_again(
+    rt: HostRuntime,
+) -> Result<(), Fail> {
+    let source = INPUT;
+    let log = Log::new();
+    let mut console = Console {
+        serial: port(rt.alloc(), &log)?,
+        input: Input::new(rt.alloc(), 16)?,
+        is_refused: false,
+    };
+    log.refused.set(1);
+    for ((register, value), input, taken, read, (room, is_refused, calls)) in [
+        // The guest enables interrupts, and the one for the first byte is refused. It is tried again.
+        ((1, 0x01), &source[0..1], 1, &source[0..0], (16, true, 1)),
+        // The FIFO takes 63 more bytes, and then the input is full.
+        (
+            (7, 0x00),
+            &source[1..100],
+            16,
+            &source[0..0],
+            (16, false, 2),
+        ),
+        (
+            (7, 0x00),
+            &source[17..100],
+            16,
+            &source[0..0],
+            (16, false, 2),
+        ),
+        (
+            (7, 0x00),
+            &source[33..100],
+            16,
+            &source[0..0],
+            (16, false, 2),
+        ),
+        (
+            (7, 0x00),
+            &source[49..100],
+            16,
+            &source[0..0],
+            (15, false, 2),
+        ),
+        (
+            (7, 0x00),
+            &source[65..100],
+            15,
+            &source[0..0],
+            (0, false, 2),
+        ),
+        // No byte is left, so the input goes in. Its interrupt is refused.
+        (
+            (7, 0x00),
+            &source[80..100],
+            0,
+            &source[0..64],
+            (16, true, 3),
+        ),
+        // In loopback no input goes in, and it does when loopback ends.
+        ((4, 0x10), &source[80..89], 9, &source[0..0], (7, false, 4)),
+        (
+            (4, 0x00),
+            &source[89..89],
+            0,
+            &source[64..89],
+            (16, false, 4),
+        ),
+    ] {
+        assert!(rt; console.write(register, value).is_ok());
+        assert!(rt; console.receive(input) == taken);
+        for byte in read {
+            assert!(rt; console.read(0) == *byte);
+        }
+        assert!(rt; console.input.room() == room && console.is_refused == is_refused);
+        assert!(rt; log.triggers.get() == calls);
+        console.retry();
+        log.refused.set(3);
+    }
+    Ok(())
+}
+
+#[test]
+fn devices_are_saved_however_many_bytes_are_held(rt: HostRuntime) -> Result<(), Fail> {
+    let log = Log::new();
+    let mut serial = port(rt.alloc(), &log)?;
+    let (clock, input) = (
+        Rtc::with_events(Object::new(&log)),
+        Input::new(rt.alloc(), 0)?,
+    );
+    for count in 0..=64usize {
+        let saved = save(rt.alloc(), &serial, &clock, &input)?;
+        assert!(rt; saved.serial.in_buffer.len() == count);
+        assert!(rt; serial.enqueue_raw_bytes(b"a").is_ok() == (count < 64));
+    }
+    Ok(())
+}
+
+#[test]
+fn devices_go_on_on_another_machine(rt: HostRuntime) -> Result<(), Fail> {
+    let saved = saved_devices(rt.alloc())?;
+    let input = restore_input(rt.alloc(), &saved, 2)?;
+    assert!(rt; input.waiting(rt.alloc())?.as_slice() == b"def");
+    let log = Log::new();
+    let object = Object::new(&log);
+    // The trigger is called for the interrupt, and first refuses.
+    log.refused.set(1);
+    let refused = restore(rt.alloc(), &saved, object, object, object, object);
+    assert!(rt; refused.is_err() && log.calls() == 1);
+    let restored = restore(rt.alloc(), &saved, object, object, object, object);
+    let mut moved = restored.ok().expect(&rt, "restored devices");
+    assert!(rt; log.calls() == 2);
+    for (offset, byte) in [(2, 0xC4), (0, b'a'), (0, b'b'), (0, b'c'), (5, 0x60)] {
+        assert!(rt; moved.serial.read(offset) == byte, "at {offset}");
+    }
+    let mut bytes = [0; 4];
+    moved.clock.read(0x000, &mut bytes, 5_000_007);
+    assert!(rt; u32::from_le_bytes(bytes) == 1_007);
+    Ok(())
+}
+
+#[test]
+fn a_guest_gets_the_input(rt: HostRuntime) -> Result<(), Fail> {
+    let log = Log::new();
+    let object = Object::new(&log);
+    let input = b"guest ".repeat(rt.alloc(), 25)?;
+    for count in [0, 1, 63, 64, 65, 150] {
+        let read = read_back(rt.alloc(), object, object, &input[..count])?;
+        assert!(rt; read.as_slice() == &input[..count.min(64)]);
+        let received = receive_all(rt.alloc(), object, object, &input[..count])?;
+        assert!(rt; received.as_slice() == &input[..count]);
+    }
+    // Nothing was sent, and no interrupt was enabled.
+    assert!(rt; log.calls() == 0);
+    Ok(())
+}
+
+#[test]
+fn a_run_of_a_driver_that_polls_reads_what_was_enqueued(rt: HostRuntime) -> Result<(), Fail> {
+    let log = Log::new();
+    let mut serial = port(rt.alloc(), &log)?;
+    let mut calls = Vec::new(rt.alloc());
+    calls.push(Call::Enqueue(b"ab".to_vec(rt.alloc())?))?;
+    for offset in [5, 0, 5, 0, 5] {
+        calls.push(Call::Read(offset))?;
+    }
+    let done = run_polled(rt.alloc(), &mut serial, calls)?;
+    for (done, want) in done.iter().skip(1).zip(b"\x61a\x61b\x60") {
+        assert!(rt; matches!(done.reply, Reply::Byte(byte) if byte == *want));
+    }
+    assert!(rt; done.len() == 6);
+    Ok(())
+}
