@@ -155,7 +155,7 @@ fn devices_are_saved_however_many_bytes_are_held(rt: HostRuntime) -> Result<(), 
 fn devices_go_on_on_another_machine(rt: HostRuntime) -> Result<(), Fail> {
     let saved = saved_devices(rt.alloc())?;
     let input = restore_input(rt.alloc(), &saved, 2)?;
-    assert!(rt; input.waiting(rt.alloc())?.as_slice() == b"def");
+    assert!(rt; input.waiting(rt.alloc())?.as_slice() == b"def".as_slice());
     let log = Log::new();
     let object = Object::new(&log);
     // The trigger is called for the interrupt, and first refuses.
