@@ -1,4 +1,4 @@
-"""What tools/hostile tries: random scripts for the program `superio`, and runs of recorded calls for `superio_calls`."""
+"""What tools/hostile tries: random scripts for the program `superio`, and runs of calls for `superio_calls`."""
 import random
 
 LINES = 40           # of a random script or run, at most
@@ -34,9 +34,10 @@ def clock_access(source):
     """An access of the clock, whose moments go back as well."""
     moment = source.choice((source.getrandbits(64), 2**32 + source.randrange(4), 2**32 - 1 - source.randrange(4),
                             source.randrange(4)))
-    offset = source.choice((source.randrange(8) * 4, source.randrange(8) * 4, source.randrange(8) * 4, source.randrange(0x24),
-                            0xFE0 + source.randrange(0x20), source.getrandbits(16)))
-    return f"cr {moment:016x} {offset:04x}" if source.random() < 0.5 else f"cw {moment:016x} {offset:04x} {number(source):08x}"
+    registers = [source.randrange(8) * 4 for _ in range(3)]
+    offset = source.choice((*registers, source.randrange(0x24), 0xFE0 + source.randrange(0x20), source.getrandbits(16)))
+    at = f"{moment:016x} {offset:04x}"
+    return f"cr {at}" if source.random() < 0.5 else f"cw {at} {number(source):08x}"
 
 
 def controller_access(source):
@@ -87,7 +88,8 @@ def random_script(source):
 # Runs of calls. Each begins with a state, so that many follow each other in one process.
 
 def port_state(source, *counts):
-    """A state of any registers, with no bytes, some, 64, or a number of `counts`. Of IIR the bits that a port sets are common."""
+    """A state of any registers, with no bytes, some, 64, or a number of `counts`. Of IIR the bits that a port sets are
+    common."""
     registers = bytearray(source.randbytes(9))
     if source.random() < 0.5:
         registers[3] %= 8
@@ -151,7 +153,7 @@ def every_write():
 
 
 def every_access():
-    """Every read and write of the clock by offset, and every write of the controller, whose trigger takes or refuses it."""
+    """Every read and write of the clock by offset, and every write of the controller, whose trigger takes it or not."""
     for first in range(0, 0x10000, 0x100):
         offsets = [f"{offset:04x}" for offset in range(first, first + 0x100)]
         yield ["cl 00000000 0 00000000 00000000 00000000", *(f"cr 3e8 {offset}" for offset in offsets),
@@ -168,6 +170,7 @@ def fixed_runs():
 
 
 def random_cases(make, what, seed, count):
-    """So many random scripts or runs, each with a name. Each has numbers of its own, so that more leave the first as they are."""
+    """So many random scripts or runs, each with a name, and with numbers of its own: the first are the same of any
+    count."""
     for place in range(count):
         yield f"{what} {place} of seed {seed}", make(random.Random(f"{what} {place} {seed}"))

@@ -10,8 +10,8 @@ def numbers(fields):
 
 
 class Board:
-    """The devices of a script, as docs/SCRIPT.md describes it. The interrupt line refuses the calls of a mask, and the output
-    takes 256 bytes."""
+    """The devices of a script, as docs/SCRIPT.md describes it. The interrupt line refuses the calls of a mask, and the
+    output takes 256 bytes."""
 
     def __init__(self, mask):
         self.mask = mask
@@ -43,9 +43,9 @@ class Board:
         if name == "sq":
             return self.port.enqueue(bytes.fromhex("".join(fields)))
         port = self.port
-        return {"sr": port.read, "sw": port.write, "sc": lambda: f"{port.room():02x}", "sd": port.drain, "ss": self.restore,
-                "so": lambda: port.output().hex(), "st": lambda: f"{self.count('T', 'R'):016x}", "se": self.counts,
-                "cr": self.of_clock, "cw": self.of_clock, "kr": lambda _: "00",
+        return {"sr": port.read, "sw": port.write, "sc": lambda: f"{port.room():02x}", "sd": port.drain,
+                "ss": self.restore, "so": lambda: port.output().hex(), "st": lambda: f"{self.count('T', 'R'):016x}",
+                "se": self.counts, "cr": self.of_clock, "cw": self.of_clock, "kr": lambda _: "00",
                 "kw": lambda *write: "reset" if resets(*write) else "ok"}[name](*numbers(fields))
 
 
@@ -57,8 +57,8 @@ def script_replies(lines):
 
 
 class Monitor:
-    """The devices of recorded calls, as tests/calls/README.md describes them. Each method makes the calls of its name, and
-    returns the reply and the calls of objects."""
+    """The devices of recorded calls, as tests/calls/README.md describes them. The methods with the name of a call return
+    its reply, and the calls of objects in it."""
 
     def __init__(self):
         self.refused, self.writing = set(), None
@@ -66,6 +66,7 @@ class Monitor:
         self.clock = Clock()
 
     def reply(self, line):
+        """What stands after ` = ` in a line of a recording, of what stands before."""
         name, *fields = line.split(" ")
         self.refused, self.writing = set(), None
         while fields and fields[-1] in ("1", "2", "n", "f", "i", "u"):
@@ -130,9 +131,3 @@ class Monitor:
     def kw(self, *fields):
         did = self.port.line_calls(1) if resets(*numbers(fields)) else ()
         return "trigger" if "R" in did else "ok", did
-
-
-def call_replies(lines):
-    """What recorded calls reply, of lines without ` = `. The first may follow any calls if it makes a device of a state."""
-    monitor = Monitor()
-    return [monitor.reply(line) for line in lines]

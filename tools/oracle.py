@@ -1,8 +1,9 @@
 """What devices show, by a search of all that was done before: slow, and plainly right.
 
-No register is kept. What a call shows is found in the calls before it: the last write of a register, the bytes that came in
-and were taken, what raised a condition and what acknowledged it. Each search ends at a start state at the latest, which is the
-first fact of the past. Of a call a few facts are remembered, each found once by such a search. docs/DEVICES.md has the rules.
+No register is kept. What a call shows is found in the calls before it: the last write of a register, the bytes that
+came in and were taken, what raised a condition and what acknowledged it. Each search ends at a start state at the latest,
+which is the first fact of the past. Of a call a few facts are remembered, each found once by such a search.
+docs/DEVICES.md has the rules.
 
 expected.py says by these devices what a script prints, and what recorded calls reply.
 """
@@ -14,7 +15,8 @@ ENABLED_BY = {RDA: 1, THRE: 2}
 LATCH = {0: "DLL", 1: "DLM", 3: "LCR", 4: "MCR", 7: "SCR"}
 REGISTERS = ("DLL", "DLM", "IER", "IIR", "LCR", "LSR", "MCR", "MSR", "SCR")
 FRESH = bytes([0x0C, 0, 0, 0x01, 0x03, 0x60, 0x08, 0xB0, 0])
-LOOPED = ((1, 0x20), (2, 0x10), (4, 0x40), (8, 0x80))  # an output of MCR, and the input of MSR that shows it in loopback
+# An output of MCR, and the input of MSR that shows it in loopback.
+LOOPED = ((1, 0x20), (2, 0x10), (4, 0x40), (8, 0x80))
 IDENTIFICATION = (0x31, 0x10, 0x04, 0x00, 0x0D, 0xF0, 0x05, 0xB1)
 
 
@@ -38,13 +40,14 @@ def start_fact(registers, held):
     """The start state of a port. Bits that mean nothing stay with the registers that show them."""
     stored = dict(zip(REGISTERS, registers))
     pending = tuple(condition for condition in (RDA, THRE) if stored["IIR"] & condition)
-    return Fact(stored=stored, accepted=held, ready=stored["LSR"] & 1 == 1, none=stored["IIR"] & NONE == NONE, raised=pending,
-                acknowledged=(RDA, THRE))
+    return Fact(stored=stored, accepted=held, ready=stored["LSR"] & 1 == 1, none=stored["IIR"] & NONE == NONE,
+                raised=pending, acknowledged=(RDA, THRE))
 
 
 class Port:
-    """A serial port, as a search of its past. `refuses` says whether the interrupt line refuses its call of a number in a
-    call of the port, from 1, and `writing` what the writer does with a byte: n, f, i or u as tests/calls says, or else None."""
+    """A serial port, as a search of its past. `refuses` says whether the interrupt line refuses its call of a number in
+    a call of the port, from 1, and `writing` what the writer does with a byte: n, f, i or u as tests/calls says, or else
+    None."""
 
     def __init__(self, refuses, writing):
         self.refuses, self.writing = refuses, writing
@@ -70,7 +73,9 @@ class Port:
         return accepted[sum(fact.took for fact in self.past):]
 
     def is_pending(self, condition):
-        return self.last(lambda fact: True if condition in fact.raised else False if condition in fact.acknowledged else None)
+        """Raised, and not acknowledged since."""
+        changed = (fact for fact in reversed(self.past) if condition in fact.raised or condition in fact.acknowledged)
+        return condition in next(changed).raised
 
     def identification(self):
         """IIR without the bits of the FIFOs. The start's bits that mean nothing last until IIR is read."""
@@ -111,8 +116,8 @@ class Port:
         return "trigger" if "R" in fact.did else reply
 
     def raises(self, conditions, enable):
-        """What becomes of conditions that a call raises in order: those that are raised, the calls of the line, and whether
-        NONE goes. After a refusal no other is raised."""
+        """What becomes of conditions that a call raises in order: those that are raised, the calls of the line, and
+        whether NONE goes. After a refusal no other is raised."""
         raised, did = [], []
         for condition in conditions:
             if enable & ENABLED_BY[condition] and "R" not in did:
@@ -159,8 +164,8 @@ class Port:
         return "ok"
 
     def send(self, value):
-        """A byte for the writer is written, again if that was interrupted, and flushed if it was taken. Then it is reported,
-        and THRE is raised, whatever became of it."""
+        """A byte for the writer is written, again if that was interrupted, and flushed if it was taken. Then it is
+        reported, and THRE is raised, whatever became of it."""
         writing = self.writing()
         is_taken = writing not in ("n", "f")
         is_lost = writing in ("n", "f", "u")
@@ -191,11 +196,11 @@ class Port:
         return got
 
     def restore(self, past):
-        """A port with another past takes the place of this one, if the line takes the calls for the conditions that are pending
-        and enabled. Returns these calls."""
+        """A port with another past takes the place of this one, if the line takes the calls for the conditions that are
+        pending and enabled. Returns these calls."""
         own, self.past = self.past, past
-        enable = self.register("IER")
-        did = self.line_calls(sum(1 for condition in (RDA, THRE) if self.is_pending(condition) and enable & ENABLED_BY[condition]))
+        enabled = [condition for condition in (RDA, THRE) if self.register("IER") & ENABLED_BY[condition]]
+        did = self.line_calls(sum(map(self.is_pending, enabled)))
         self.past = own if "R" in did else past + [Fact(did=did)]
         return did
 
@@ -207,7 +212,7 @@ class Access(NamedTuple):
     value: int | None                     # that is written
     time: int                             # of the host
     guest_time: int                       # before the access's own effect
-    raises: bool                          # the interrupt: the alarm was reached, or a match is written that is guest time
+    raises: bool                          # the interrupt: it reached the alarm, or wrote a match that is guest time
 
     def writes(self, offset):
         return self.offset == offset and self.value is not None
@@ -227,7 +232,8 @@ class Clock:
         return next((access.value for access in reversed(self.past) if access.writes(offset)), otherwise)
 
     def setting(self):
-        """The last load with its time, or the last reset of the counter, as the loaded value and what the counter is ahead."""
+        """The last load with its time, or the last reset of the counter: the loaded value, and how far the counter is
+        ahead."""
         for access in reversed(self.past):
             if access.writes(0x008):
                 return access.value, access.value - access.time
@@ -253,7 +259,7 @@ class Clock:
         return self.armed
 
     def raw_status(self):
-        """The start's bits and bit 0 of each access that raised it, without those that a write cleared there or later."""
+        """The start's bits, and bit 0 of an access that raised it, without those that a write cleared there or later."""
         bits = self.ris
         for access in self.past:
             bits |= access.raises
@@ -265,7 +271,7 @@ class Clock:
         return *self.setting(), self.match(), self.mask(), self.raw_status(), self.is_armed()
 
     def access(self, moment, offset, value):
-        """Makes an access. Returns the number that a read shows, or 0 for a write, or None for an access that is invalid."""
+        """Makes an access. Returns the number that a read shows, 0 for a write, or None for an invalid access."""
         time = moment % 2**32
         counter = time + self.setting()[1]
         guest_time = counter if 0 <= counter < 2**32 else time

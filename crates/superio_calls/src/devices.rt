@@ -3,6 +3,7 @@ use crate::objects::{Log, Object, Refusal};
 use anyhow::{Result, bail};
 use hex::FromHex;
 use std::alloc::Global;
+use std::fmt::Display;
 use vm_superio::serial::{Error, Refused};
 use vm_superio::{I8042Device, Rtc, RtcState, Serial, SerialState};
 
@@ -18,12 +19,16 @@ pub struct Devices<'a> {
     controller: I8042Device<Object<'a>>,
 }
 
-/// The reply to a call that fails so.
-fn reply_of_error(error: Error<Refusal>) -> Result<&'static str> {
+fn text(alloc: Global, text: impl Display + Drop) -> Result<String> {
+    Ok(text.to_string(alloc)?)
+}
+
+/// The reply to a call of the port that fails.
+fn failure(alloc: Global, error: Error<Refusal>) -> Result<String> {
     match error {
-        Error::Trigger(_) => Ok("trigger"),
-        Error::IOError(_) => Ok("io"),
-        Error::FullFifo => Ok("full"),
+        Error::Trigger(Refusal) => text(alloc, "trigger"),
+        Error::IOError(_) => text(alloc, "io"),
+        Error::FullFifo => text(alloc, "full"),
         Error::Memory => bail!("out of memory"),
     }
 }
@@ -96,19 +101,7 @@ fn text_of_port(alloc: Global, state: &SerialState, room: usize) -> Result<Strin
     ];
     let registers = hex::encode(alloc, registers.as_slice())?;
     let held = digits_of(alloc, &state.in_buffer)?;
-    Ok(format!(in alloc; "{registers} {held} {room:02x}")?)
-}
-
-fn clock_state(fields: [&str; 5], armed: bool) -> Result<RtcState> {
-    let [lr, offset, mr, imsc, ris] = fields;
-    Ok(RtcState {
-        lr: word(lr)?,
-        offset: offset.parse()?,
-        mr: word(mr)?,
-        imsc: word(imsc)?,
-        ris: word(ris)?,
-        armed,
-    })
+    text(alloc, format_args!("{registers} {held} {room:02x}"))
 }
 
 fn text_of_clock(alloc: Global, state: &RtcState) -> Result<String> {
@@ -141,38 +134,52 @@ impl<'a> Devices<'a> {
     /// Makes the call of these words, and returns the reply.
     pub fn make(&mut self, alloc: Global, words: &[&str]) -> Result<String> {
         match words {
-            ["sr", offset] => Ok(format!(in alloc; "{:02x}", self.serial.read(byte(offset)?))?),
-            ["sw", offset, value] => self.write(alloc, byte(offset)?, byte(value)?),
-            ["sq", bytes] => self.enqueue(alloc, bytes),
-            ["sc"] => Ok(format!(in alloc; "{:02x}", self.serial.fifo_capacity())?),
-            ["ss"] => {
-                let state = self.serial.state(alloc)?;
-                self.restore(alloc, &state)
+            ["sr", at] => self.read(alloc, at),
+            ["sw", at, value] => self.write(alloc, at, value),
+            ["sq", digits] => self.enqueue(alloc, digits),
+            ["sc"] => text(alloc, format_args!("{:02x}", self.serial.fifo_capacity())),
+            ["ss"] => self.restore_own(alloc),
+            ["sl", registers, held] => self.load(alloc, registers, held),
+            ["cr", now, at] => self.read_clock(alloc, now, at),
+            ["cw", now, at, value] => self.write_clock(alloc, now, at, value),
+            ["cs"] => text_of_clock(alloc, &self.clock.state()),
+            ["cl", lr, offset, mr, imsc, ris, armed @ ..] => {
+                self.load_clock(alloc, [lr, offset, mr, imsc, ris], armed)
             }
-            ["sl", registers, held] => {
-                let state = port_state(alloc, registers, held)?;
-                self.restore(alloc, &state)
-            }
-            ["kr", offset] => Ok(format!(in alloc; "{:02x}", self.controller.read(byte(offset)?))?),
-            ["kw", offset, value] => self.command(alloc, byte(offset)?, byte(value)?),
-            _ => self.make_of_clock(alloc, words),
+            ["kr", at] => self.read_controller(alloc, at),
+            ["kw", at, value] => self.command(alloc, at, value),
+            _ => bail!("no such call"),
         }
     }
 
-    fn write(&mut self, alloc: Global, offset: u8, value: u8) -> Result<String> {
-        let reply = match self.serial.write(offset, value) {
-            Ok(()) => "ok",
-            Err(error) => reply_of_error(error)?,
-        };
-        Ok(String::from_str(alloc, reply)?)
+    fn read(&mut self, alloc: Global, at: &str) -> Result<String> {
+        let byte = self.serial.read(byte(at)?);
+        text(alloc, format_args!("{byte:02x}"))
     }
 
-    fn enqueue(&mut self, alloc: Global, bytes: &str) -> Result<String> {
-        let bytes = bytes_of(alloc, bytes)?;
+    fn write(&mut self, alloc: Global, at: &str, value: &str) -> Result<String> {
+        match self.serial.write(byte(at)?, byte(value)?) {
+            Ok(()) => text(alloc, "ok"),
+            Err(error) => failure(alloc, error),
+        }
+    }
+
+    fn enqueue(&mut self, alloc: Global, digits: &str) -> Result<String> {
+        let bytes = bytes_of(alloc, digits)?;
         match self.serial.enqueue_raw_bytes(&bytes) {
-            Ok(count) => Ok(format!(in alloc; "{count:02x}")?),
-            Err(error) => Ok(String::from_str(alloc, reply_of_error(error)?)?),
+            Ok(count) => text(alloc, format_args!("{count:02x}")),
+            Err(error) => failure(alloc, error),
         }
+    }
+
+    fn restore_own(&mut self, alloc: Global) -> Result<String> {
+        let state = self.serial.state(alloc)?;
+        self.restore(alloc, &state)
+    }
+
+    fn load(&mut self, alloc: Global, registers: &str, held: &str) -> Result<String> {
+        let state = port_state(alloc, registers, held)?;
+        self.restore(alloc, &state)
     }
 
     /// Makes a port of a state, which takes the place of this one.
@@ -181,55 +188,49 @@ impl<'a> Devices<'a> {
         match Serial::from_state(alloc, state, object, object, object) {
             Ok(port) => {
                 self.serial = port;
-                text_of_port(
-                    alloc,
-                    &self.serial.state(alloc)?,
-                    self.serial.fifo_capacity(),
-                )
+                let state = self.serial.state(alloc)?;
+                text_of_port(alloc, &state, self.serial.fifo_capacity())
             }
-            Err(refused) => {
-                let reply = reply_of_error(refused.into_error())?;
-                Ok(String::from_str(alloc, reply)?)
-            }
+            Err(refused) => failure(alloc, refused.into_error()),
         }
     }
 
-    fn command(&mut self, alloc: Global, offset: u8, value: u8) -> Result<String> {
-        let reply = match self.controller.write(offset, value) {
-            Ok(()) => "ok",
-            Err(Refusal) => "trigger",
+    fn read_clock(&mut self, alloc: Global, now: &str, at: &str) -> Result<String> {
+        let mut bytes = UNREAD;
+        self.clock.read(offset(at)?, &mut bytes, moment(now)?);
+        text(alloc, format_args!("{:08x}", u32::from_le_bytes(bytes)))
+    }
+
+    fn write_clock(&mut self, alloc: Global, now: &str, at: &str, value: &str) -> Result<String> {
+        let bytes = word(value)?.to_le_bytes();
+        self.clock.write(offset(at)?, &bytes, moment(now)?);
+        text(alloc, "ok")
+    }
+
+    /// Makes a clock of a state. A word more says that an alarm is set.
+    fn load_clock(&mut self, alloc: Global, fields: [&str; 5], armed: &[&str]) -> Result<String> {
+        let [lr, offset, mr, imsc, ris] = fields;
+        let state = RtcState {
+            lr: word(lr)?,
+            offset: offset.parse()?,
+            mr: word(mr)?,
+            imsc: word(imsc)?,
+            ris: word(ris)?,
+            armed: !armed.is_empty(),
         };
-        Ok(String::from_str(alloc, reply)?)
-    }
-
-    fn make_of_clock(&mut self, alloc: Global, words: &[&str]) -> Result<String> {
-        match words {
-            ["cr", now, at] => {
-                let mut bytes = UNREAD;
-                self.clock.read(offset(at)?, &mut bytes, moment(now)?);
-                Ok(format!(in alloc; "{:08x}", u32::from_le_bytes(bytes))?)
-            }
-            ["cw", now, at, value] => {
-                let bytes = word(value)?.to_le_bytes();
-                self.clock.write(offset(at)?, &bytes, moment(now)?);
-                Ok(String::from_str(alloc, "ok")?)
-            }
-            ["cs"] => {
-                let state = self.clock.state();
-                self.restore_clock(alloc, &state)
-            }
-            ["cl", lr, ahead, mr, imsc, ris] => {
-                self.restore_clock(alloc, &clock_state([lr, ahead, mr, imsc, ris], false)?)
-            }
-            ["cl", lr, ahead, mr, imsc, ris, "armed"] => {
-                self.restore_clock(alloc, &clock_state([lr, ahead, mr, imsc, ris], true)?)
-            }
-            _ => bail!("no such call"),
-        }
-    }
-
-    fn restore_clock(&mut self, alloc: Global, state: &RtcState) -> Result<String> {
-        self.clock = Rtc::from_state(state, self.object);
+        self.clock = Rtc::from_state(&state, self.object);
         text_of_clock(alloc, &self.clock.state())
+    }
+
+    fn read_controller(&mut self, alloc: Global, at: &str) -> Result<String> {
+        let byte = self.controller.read(byte(at)?);
+        text(alloc, format_args!("{byte:02x}"))
+    }
+
+    fn command(&mut self, alloc: Global, at: &str, value: &str) -> Result<String> {
+        match self.controller.write(byte(at)?, byte(value)?) {
+            Ok(()) => text(alloc, "ok"),
+            Err(Refusal) => text(alloc, "trigger"),
+        }
     }
 }

@@ -3,9 +3,8 @@ ghost use Rattle.vm_superio.specs.Silent.{Silent, Silent-nil, Silent-append};
 
 use arrayvec::ArrayString;
 use std::cell::Cell;
-use std::fmt::{Display, Write as _};
-use std::io;
 use std::io::{ErrorKind, Write};
+use std::{io, str};
 use vm_superio::Trigger;
 use vm_superio::rtc_pl031::RtcEvents;
 use vm_superio::serial::SerialEvents;
@@ -65,11 +64,18 @@ impl Log {
         self.calls.take()
     }
 
-    fn note(&self, call: impl Display + Drop) {
+    fn note(&self, call: &str) {
         let mut calls = self.calls.take();
         // More calls than there is room for are more than any device makes.
-        let _ = write!(calls, " {call}");
+        let _ = calls.try_push_str(call);
         self.calls.set(calls);
+    }
+
+    fn note_write(&self, byte: u8) {
+        let mut digits = [0; 2];
+        let _ = hex::encode_to_slice([byte].as_slice(), &mut digits);
+        self.note(" W");
+        self.note(str::from_utf8(&digits).unwrap_or(""));
     }
 }
 
@@ -93,7 +99,7 @@ impl Trigger for Object<'_> {
     fn trigger(&mut self) -> Result<(), Refusal> {
         let (is_refused, next) = self.0.refusals.get();
         self.0.refusals.set((next, false));
-        self.0.note(if is_refused { "R" } else { "T" });
+        self.0.note(if is_refused { " R" } else { " T" });
         if is_refused { Err(Refusal) } else { Ok(()) }
     }
 }
@@ -106,19 +112,19 @@ impl SerialEvents for Object<'_> {
     ghost joined = { Silent-append };
 
     fn buffer_read(&mut self) {
-        self.0.note("b");
+        self.0.note(" b");
     }
 
     fn out_byte(&mut self) {
-        self.0.note("o");
+        self.0.note(" o");
     }
 
     fn tx_lost_byte(&mut self) {
-        self.0.note("l");
+        self.0.note(" l");
     }
 
     fn in_buffer_empty(&mut self) {
-        self.0.note("e");
+        self.0.note(" e");
     }
 }
 
@@ -130,18 +136,18 @@ impl RtcEvents for Object<'_> {
     ghost joined = { Silent-append };
 
     fn invalid_read(&mut self) {
-        self.0.note("i");
+        self.0.note(" i");
     }
 
     fn invalid_write(&mut self) {
-        self.0.note("j");
+        self.0.note(" j");
     }
 }
 
 impl Write for Object<'_> {
     fn write(&mut self, buf: &[u8]) -> io::Result<usize> {
         for byte in buf {
-            self.0.note(format_args!("W{byte:02x}"));
+            self.0.note_write(*byte);
         }
         match self.0.writing.get() {
             Writing::TakesNone => Ok(0),
@@ -155,7 +161,7 @@ impl Write for Object<'_> {
     }
 
     fn flush(&mut self) -> io::Result<()> {
-        self.0.note("F");
+        self.0.note(" F");
         match self.0.writing.get() {
             Writing::FailsToFlush => Err(io::Error::from(ErrorKind::WouldBlock)),
             _ => Ok(()),
