@@ -57,8 +57,8 @@ def script_replies(lines):
 
 
 class Monitor:
-    """The devices of recorded calls, as tests/calls/README.md describes them. The methods with the name of a call return
-    its reply, and the calls of objects in it."""
+    """The devices of recorded calls, as tests/calls/README.md describes them. The methods with the name of a call
+    return its reply, and the calls of objects in it."""
 
     def __init__(self):
         self.refused, self.writing = set(), None

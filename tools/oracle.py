@@ -1,8 +1,8 @@
 """What devices show, by a search of all that was done before: slow, and plainly right.
 
 No register is kept. What a call shows is found in the calls before it: the last write of a register, the bytes that
-came in and were taken, what raised a condition and what acknowledged it. Each search ends at a start state at the latest,
-which is the first fact of the past. Of a call a few facts are remembered, each found once by such a search.
+came in and were taken, what raised a condition and what acknowledged it. Each search ends at a start state at the
+latest, which is the first fact of the past. Of a call a few facts are remembered, each found once by such a search.
 docs/DEVICES.md has the rules.
 
 expected.py says by these devices what a script prints, and what recorded calls reply.
@@ -45,9 +45,9 @@ def start_fact(registers, held):
 
 
 class Port:
-    """A serial port, as a search of its past. `refuses` says whether the interrupt line refuses its call of a number in
-    a call of the port, from 1, and `writing` what the writer does with a byte: n, f, i or u as tests/calls says, or else
-    None."""
+    """A serial port, as a search of its past. `refuses` says whether the interrupt line refuses its call of a number
+    in a call of the port, from 1. `writing` says what the writer does with a byte: n, f, i or u, as tests/calls has it,
+    or else None."""
 
     def __init__(self, refuses, writing):
         self.refuses, self.writing = refuses, writing
@@ -259,7 +259,7 @@ class Clock:
         return self.armed
 
     def raw_status(self):
-        """The start's bits, and bit 0 of an access that raised it, without those that a write cleared there or later."""
+        """The start's bits, and bit 0 of an access that raised it, without what a write cleared there or later."""
         bits = self.ris
         for access in self.past:
             bits |= access.raises
