@@ -207,7 +207,7 @@ impl<'a> Devices<'a> {
         text(alloc, "ok")
     }
 
-    /// Makes a clock of a state. A word more says that an alarm is set.
+    /// Makes a clock of a state. A last word `armed` says that an alarm is set.
     fn load_clock(&mut self, alloc: Global, fields: [&str; 5], armed: &[&str]) -> Result<String> {
         let [lr, offset, mr, imsc, ris] = fields;
         let state = RtcState {
@@ -216,7 +216,11 @@ impl<'a> Devices<'a> {
             mr: word(mr)?,
             imsc: word(imsc)?,
             ris: word(ris)?,
-            armed: !armed.is_empty(),
+            armed: match armed {
+                [] => false,
+                ["armed"] => true,
+                _ => bail!("no such state"),
+            },
         };
         self.clock = Rtc::from_state(&state, self.object);
         text_of_clock(alloc, &self.clock.state())
