@@ -1,44 +1,66 @@
-"""What scripts show, by a search of all that was done before: slow, and plainly right.
+"""What devices show, by a search of all that was done before: slow, and plainly right.
 
-No register is kept. What a line shows is found in the lines before it: the last write of a register, the bytes that came in
-and were taken, what raised a condition and what acknowledged it. Of a line a few facts are remembered, each found once by such
-a search. docs/DEVICES.md has the rules.
+No register is kept. What a call shows is found in the calls before it: the last write of a register, the bytes that
+came in and were taken, what raised a condition and what acknowledged it. Each search ends at a start state at the
+latest, which is the first fact of the past. Of a call a few facts are remembered, each found once by such a search.
+docs/DEVICES.md has the rules.
+
+expected.py says by these devices what a script prints, and what recorded calls reply.
 """
-ROOM = 256           # bytes that the board's output takes
+from typing import NamedTuple
+
 RDA, THRE = 4, 2     # the bits of IIR
+NONE = 1             # the bit of IIR that shows that no condition is pending
 ENABLED_BY = {RDA: 1, THRE: 2}
-LATCH = {0: "divisor low", 1: "divisor high", 3: "LCR", 4: "MCR", 7: "SCR"}
+LATCH = {0: "DLL", 1: "DLM", 3: "LCR", 4: "MCR", 7: "SCR"}
+REGISTERS = ("DLL", "DLM", "IER", "IIR", "LCR", "LSR", "MCR", "MSR", "SCR")
+FRESH = bytes([0x0C, 0, 0, 0x01, 0x03, 0x60, 0x08, 0xB0, 0])
+# An output of MCR, and the input of MSR that shows it in loopback.
+LOOPED = ((1, 0x20), (2, 0x10), (4, 0x40), (8, 0x80))
 IDENTIFICATION = (0x31, 0x10, 0x04, 0x00, 0x0D, 0xF0, 0x05, 0xB1)
-FRESH = {"divisor low": 0x0C, "divisor high": 0, "IER": 0, "LCR": 0x03, "MCR": 0x08, "SCR": 0}
 
 
 class Fact:
-    """A line that was carried out, and what was found of it."""
+    """A call that was carried out, and what was found of it."""
 
-    register = value = sent = None        # a write of a register; a byte for the output
+    stored = {}                           # registers, with the values that were written to them
+    sent = None                           # a byte that the writer took
     accepted = b""                        # the bytes that came in and found room
+    took = False                          # whether it took the oldest byte
+    ready = None                          # what it made of data ready, if it changed that
+    none = None                           # what it made of NONE, if it changed that
     raised = acknowledged = ()            # conditions
-    is_rbr_read = took = left_none = lost = False
-    calls = 0                             # of the interrupt line
+    did = ()                              # the calls of objects, as tests/calls names them
 
     def __init__(self, **found):
         self.__dict__.update(found)
 
 
-class Port:
-    """The serial port of a board, as a search of its past."""
+def start_fact(registers, held):
+    """The start state of a port. Bits that mean nothing stay with the registers that show them."""
+    stored = dict(zip(REGISTERS, registers))
+    pending = tuple(condition for condition in (RDA, THRE) if stored["IIR"] & condition)
+    return Fact(stored=stored, accepted=held, ready=stored["LSR"] & 1 == 1, none=stored["IIR"] & NONE == NONE,
+                raised=pending, acknowledged=(RDA, THRE))
 
-    def __init__(self, mask):
-        self.mask = mask
-        self.past = []
+
+class Port:
+    """A serial port, as a search of its past. `refuses` says whether the interrupt line refuses its call of a number
+    in a call of the port, from 1. `writing` says what the writer does with a byte: n, f, i or u, as tests/calls has it,
+    or else None."""
+
+    def __init__(self, refuses, writing):
+        self.refuses, self.writing = refuses, writing
+        self.past = [start_fact(FRESH, b"")]
 
     # What the past says.
 
+    def last(self, found):
+        """What the last fact says that says something."""
+        return next(answer for answer in map(found, reversed(self.past)) if answer is not None)
+
     def register(self, name):
-        for fact in reversed(self.past):
-            if fact.register == name:
-                return fact.value
-        return FRESH[name]
+        return self.last(lambda fact: fact.stored.get(name))
 
     def has_latch(self):
         return self.register("LCR") & 0x80 != 0
@@ -51,40 +73,68 @@ class Port:
         return accepted[sum(fact.took for fact in self.past):]
 
     def is_pending(self, condition):
-        for fact in reversed(self.past):
-            if condition in fact.raised:
-                return True
-            if condition in fact.acknowledged:
-                return False
-        return False
+        """Raised, and not acknowledged since."""
+        changed = (fact for fact in reversed(self.past) if condition in fact.raised or condition in fact.acknowledged)
+        return condition in next(changed).raised
 
-    def calls(self):
-        return sum(fact.calls for fact in self.past)
+    def identification(self):
+        """IIR without the bits of the FIFOs. The start's bits that mean nothing last until IIR is read."""
+        conditions = sum(condition for condition in (RDA, THRE) if self.is_pending(condition))
+        return self.register("IIR") & 0xF8 | conditions | (NONE if self.last(lambda fact: fact.none) else 0)
 
-    def is_refused(self, more):
-        """Whether the line refuses the last of so many more calls."""
-        number = self.calls() + more - 1
-        return more > 0 and number < 64 and self.mask >> number & 1 == 1
+    def line_status(self):
+        return self.register("LSR") & 0xFE | self.last(lambda fact: fact.ready)
+
+    def state(self):
+        """The registers of a saved state."""
+        found = {"IIR": self.identification(), "LSR": self.line_status()}
+        return bytes(found[name] if name in found else self.register(name) for name in REGISTERS)
+
+    def did(self, start=0):
+        """The calls of objects, from a fact on."""
+        return [call for fact in self.past[start:] for call in fact.did]
 
     def output(self):
-        return bytes(fact.sent for fact in self.past if fact.sent is not None and not fact.lost)
+        """The bytes that the writer took."""
+        return bytes(fact.sent for fact in self.past if fact.sent is not None)
 
-    def calls_for(self, condition, enable):
-        """How often the line is called where a condition is raised, and which conditions are."""
-        if not enable & ENABLED_BY[condition]:
-            return 0, ()
-        return int(not self.is_pending(condition)), (condition,)
+    def room(self):
+        return 64 - len(self.held())
 
-    # Lines, each with its reply.
+    # Calls, each with its reply.
+
+    def line_calls(self, count):
+        """What the interrupt line does that is to be called so often: up to its first refusal."""
+        did = []
+        while len(did) < count and "R" not in did:
+            did.append("R" if self.refuses(len(did) + 1) else "T")
+        return did
+
+    def done(self, reply, fact):
+        """Remembers a call, and returns its reply. A refusal is the reply before any other."""
+        self.past.append(fact)
+        return "trigger" if "R" in fact.did else reply
+
+    def raises(self, conditions, enable):
+        """What becomes of conditions that a call raises in order: those that are raised, the calls of the line, and
+        whether NONE goes. After a refusal no other is raised."""
+        raised, did = [], []
+        for condition in conditions:
+            if enable & ENABLED_BY[condition] and "R" not in did:
+                raised.append(condition)
+                did = self.line_calls(len(did) + (not self.is_pending(condition)))
+        return {"raised": raised, "did": did, "none": False if did else None}
 
     def read(self, offset):
         if offset == 0 and not self.has_latch():
             held = self.held()
-            self.past.append(Fact(is_rbr_read=True, took=bool(held), left_none=len(held) <= 1, acknowledged=(RDA,)))
-            return f"{held[0] if held else 0:02x}"
+            shows_none = True if self.identification() & ~RDA == 0 else None
+            return self.done(f"{held[0] if held else 0:02x}", Fact(
+                took=bool(held), ready=None if len(held) > 1 else False, acknowledged=(RDA,), none=shows_none,
+                did=("b",) if len(held) > 1 else ("e", "b")))
         shown = self.shown(offset)
         if offset == 2:
-            self.past.append(Fact(acknowledged=(RDA, THRE)))
+            self.past.append(Fact(stored={"IIR": 0}, acknowledged=(RDA, THRE), none=True))
         return f"{shown:02x}"
 
     def shown(self, offset):
@@ -94,46 +144,42 @@ class Port:
         if offset in LATCH:
             return self.register(LATCH[offset])
         if offset == 2:
-            return 0xC0 | (sum(bit for bit in (RDA, THRE) if self.is_pending(bit)) or 1)
+            return self.identification() | 0xC0
         if offset == 5:
-            return 0x61 if self.held() else 0x60
+            return self.line_status()
         if offset == 6 and self.is_looped():
             outputs = self.register("MCR")
-            return sum(seen for bit, seen in ((1, 0x20), (2, 0x10), (4, 0x40), (8, 0x80)) if outputs & bit)
-        return 0xB0 if offset == 6 else 0
+            return self.register("MSR") & 0x0F | sum(seen for bit, seen in LOOPED if outputs & bit)
+        return self.register("MSR") if offset == 6 else 0
 
     def write(self, offset, value):
         if offset == 0 and not self.has_latch():
             return self.receive(bytes([value]), "ok") if self.is_looped() else self.send(value)
         if offset == 1 and not self.has_latch():
-            return self.enable(value & 0x0F)
+            enable = value & 0x0F
+            raises = self.raises((RDA, THRE) if self.held() else (THRE,), enable)
+            return self.done("ok", Fact(stored={"IER": enable}, **raises))
         if offset in LATCH:
-            self.past.append(Fact(register=LATCH[offset], value=value))
+            self.past.append(Fact(stored={LATCH[offset]: value}))
         return "ok"
 
-    def enable(self, value):
-        """An IER write raises RDA while bytes are held, and then THRE unless the first call was refused."""
-        calls, raised = self.calls_for(RDA, value) if self.held() else (0, ())
-        if not self.is_refused(calls):
-            more, thre = self.calls_for(THRE, value)
-            calls, raised = calls + more, raised + thre
-        is_refused = self.is_refused(calls)
-        self.past.append(Fact(register="IER", value=value, calls=calls, raised=raised))
-        return "trigger" if is_refused else "ok"
-
     def send(self, value):
-        calls, raised = self.calls_for(THRE, self.register("IER"))
-        is_refused, lost = self.is_refused(calls), len(self.output()) >= ROOM
-        self.past.append(Fact(sent=value, lost=lost, calls=calls, raised=raised))
-        return "trigger" if is_refused else "io" if lost else "ok"
+        """A byte for the writer is written, again if that was interrupted, and flushed if it was taken. Then it is
+        reported, and THRE is raised, whatever became of it."""
+        writing = self.writing()
+        is_taken = writing not in ("n", "f")
+        is_lost = writing in ("n", "f", "u")
+        written = [f"W{value:02x}"] * (2 if writing == "i" else 1) + ["F"] * is_taken + ["l" if is_lost else "o"]
+        raises = self.raises((THRE,), self.register("IER"))
+        raises["did"] = written + raises["did"]
+        return self.done("io" if is_lost else "ok", Fact(sent=value if is_taken else None, **raises))
 
     def receive(self, data, reply):
         """Bytes come in, as many as find room. One that does raises RDA."""
-        accepted = data[:64 - len(self.held())]
-        calls, raised = self.calls_for(RDA, self.register("IER")) if accepted else (0, ())
-        is_refused = self.is_refused(calls)
-        self.past.append(Fact(accepted=accepted, calls=calls, raised=raised))
-        return "trigger" if is_refused else reply or f"{len(accepted):02x}"
+        accepted = data[:self.room()]
+        raises = self.raises((RDA,) if accepted else (), self.register("IER"))
+        ready = True if accepted else None
+        return self.done(reply or f"{len(accepted):02x}", Fact(accepted=accepted, ready=ready, **raises))
 
     def enqueue(self, data):
         if self.is_looped():
@@ -145,115 +191,102 @@ class Port:
     def drain(self):
         """A driver reads RBR while LSR shows data ready. Without DLAB alone is that what it reads."""
         got = ""
-        while not self.has_latch() and self.held():
+        while not self.has_latch() and self.line_status() & 1:
             got += self.read(0)
         return got
 
-    def restore(self):
-        """A restore calls the line for each condition that is pending and enabled, up to the first refusal, which undoes it."""
-        enable, calls = self.register("IER"), 0
-        for condition in (RDA, THRE):
-            if self.is_pending(condition) and enable & ENABLED_BY[condition]:
-                calls += 1
-                if self.is_refused(calls):
-                    return "trigger"
-        self.past.append(Fact(calls=calls))
-        return "ok"
+    def restore(self, past):
+        """A port with another past takes the place of this one, if the line takes the calls for the conditions that are
+        pending and enabled. Returns these calls."""
+        own, self.past = self.past, past
+        enabled = [condition for condition in (RDA, THRE) if self.register("IER") & ENABLED_BY[condition]]
+        did = self.line_calls(sum(map(self.is_pending, enabled)))
+        self.past = own if "R" in did else past + [Fact(did=did)]
+        return did
 
-    def events(self):
-        sent = [fact.lost for fact in self.past if fact.sent is not None]
-        counts = (sum(fact.is_rbr_read for fact in self.past), sent.count(False), sent.count(True),
-                  sum(fact.left_none for fact in self.past))
-        return " ".join(f"{count:016x}" for count in counts)
 
-    def reply(self, name, fields):
-        if name == "sr":
-            return self.read(int(fields[0], 16))
-        if name == "sw":
-            return self.write(int(fields[0], 16), int(fields[1], 16))
-        if name == "sq":
-            return self.enqueue(bytes.fromhex(fields[0] if fields else ""))
-        return {"sc": lambda: f"{64 - len(self.held()):02x}", "sd": self.drain, "ss": self.restore,
-                "so": lambda: self.output().hex(), "st": lambda: f"{self.calls():016x}", "se": self.events}[name]()
+class Access(NamedTuple):
+    """An access of the clock, and what was found of it."""
+
+    offset: int
+    value: int | None                     # that is written
+    time: int                             # of the host
+    guest_time: int                       # before the access's own effect
+    raises: bool                          # the interrupt: it reached the alarm, or wrote a match that is guest time
+
+    def writes(self, offset):
+        return self.offset == offset and self.value is not None
 
 
 class Clock:
-    """The clock of a board, as a search of its past: accesses with guest time at each, and whether it raised the alarm."""
+    """The clock, as a search of its past: a start state and the accesses since."""
 
     def __init__(self):
+        self.start(0, 0, 0, 0, 0, False)
+
+    def start(self, *state):
+        self.lr, self.ahead, self.mr, self.imsc, self.ris, self.armed = state
         self.past = []
 
-    def last(self, offset):
-        for at, value, *_ in reversed(self.past):
-            if at == offset and value is not None:
-                return value
-        return 0
+    def last(self, offset, otherwise):
+        return next((access.value for access in reversed(self.past) if access.writes(offset)), otherwise)
 
     def setting(self):
-        """The last load with its time, or the last reset of the counter, as the loaded value and what the counter is ahead."""
-        for at, value, time, *_ in reversed(self.past):
-            if at == 0x008 and value is not None:
-                return value, value - time
-            if at == 0x00C and value == 1:
-                break
-        return 0, 0
+        """The last load with its time, or the last reset of the counter: the loaded value, and how far the counter is
+        ahead."""
+        for access in reversed(self.past):
+            if access.writes(0x008):
+                return access.value, access.value - access.time
+            if access.writes(0x00C) and access.value == 1:
+                return 0, 0
+        return self.lr, self.ahead
+
+    def match(self):
+        return self.last(0x004, self.mr)
+
+    def mask(self):
+        written = self.last(0x010, None)
+        return self.imsc if written is None else written & 1
 
     def is_armed(self):
         """The last match was to come when it was written, and guest time has not come to it at an access since."""
-        match = self.last(0x004)
-        for at, value, _, guest_time, _ in reversed(self.past):
-            if at == 0x004 and value is not None:
-                return value > guest_time
-            if guest_time >= match:
+        match = self.match()
+        for access in reversed(self.past):
+            if access.writes(0x004):
+                return access.value > access.guest_time
+            if access.guest_time >= match:
                 return False
-        return False
+        return self.armed
 
-    def is_raised(self):
-        """An access raised the interrupt, and no write cleared it there or later."""
-        for at, value, _, _, raises in reversed(self.past):
-            if at == 0x01C and value is not None and value & 1:
-                return False
-            if raises:
-                return True
-        return False
+    def raw_status(self):
+        """The start's bits, and bit 0 of an access that raised it, without what a write cleared there or later."""
+        bits = self.ris
+        for access in self.past:
+            bits |= access.raises
+            if access.writes(0x01C):
+                bits &= ~access.value
+        return bits
+
+    def state(self):
+        return *self.setting(), self.match(), self.mask(), self.raw_status(), self.is_armed()
 
     def access(self, moment, offset, value):
+        """Makes an access. Returns the number that a read shows, 0 for a write, or None for an invalid access."""
         time = moment % 2**32
         counter = time + self.setting()[1]
         guest_time = counter if 0 <= counter < 2**32 else time
-        reached = self.is_armed() and guest_time >= self.last(0x004)
+        reached = self.is_armed() and guest_time >= self.match()
         raises = reached or offset == 0x004 and value == guest_time
-        self.past.append((offset, value, time, guest_time, raises))
+        self.past.append(Access(offset, value, time, guest_time, raises))
         if value is not None:
-            return "ok" if offset in (0x004, 0x008, 0x00C, 0x010, 0x01C) else "invalid"
+            return 0 if offset in (0x004, 0x008, 0x00C, 0x010, 0x01C) else None
         if 0xFE0 <= offset <= 0xFFF:
-            return f"{IDENTIFICATION[(offset - 0xFE0) // 4]:08x}"
-        mask = self.last(0x010) & 1
-        shown = {0x000: guest_time, 0x004: self.last(0x004), 0x008: self.setting()[0], 0x00C: 1, 0x010: mask,
-                 0x014: int(self.is_raised()), 0x018: int(self.is_raised()) & mask}
-        return f"{shown[offset]:08x}" if offset in shown else "invalid"
-
-    def reply(self, _, fields):
-        moment, offset, *value = (int(field, 16) for field in fields)
-        return self.access(moment, offset, value[0] if value else None)
+            return IDENTIFICATION[(offset - 0xFE0) // 4]
+        status, mask = self.raw_status(), self.mask()
+        return {0x000: guest_time, 0x004: self.match(), 0x008: self.setting()[0], 0x00C: 1, 0x010: mask, 0x014: status,
+                0x018: status & mask}.get(offset)
 
 
-class Controller:
-    """The reset controller, which has no past."""
-
-    @staticmethod
-    def reply(name, fields):
-        if name == "kr":
-            return "00"
-        return "reset" if [int(field, 16) for field in fields] == [4, 0xFE] else "ok"
-
-
-def expected_replies(lines):
-    """The replies to a script, by the oracle."""
-    mask = int(lines[0][7:], 16) if lines[0].startswith("refuse ") else None
-    devices = {"s": Port(mask or 0), "c": Clock(), "k": Controller()}
-    replies = []
-    for line in lines[mask is not None:]:
-        name, *fields = line.split(" ")
-        replies.append(devices[name[0]].reply(name, fields) + "\n")
-    return "".join(replies)
+def resets(offset, value):
+    """Whether a write of the controller is the reset command."""
+    return (offset, value) == (4, 0xFE)

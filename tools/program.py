@@ -10,8 +10,12 @@ from pathlib import Path
 from status import Status, progress
 
 CRATES = Path(__file__).resolve().parent.parent / "crates"
-SOURCES = ["superio", "superio_script", "vm_superio"]
-LIBRARY_SOURCES = ["superio_c", "vm_superio"]
+# The programs and the library, each with the crates whose sources it is built of.
+SOURCES = {
+    "superio": ["superio", "superio_script", "vm_superio"],
+    "superio_calls": ["superio_calls", "vm_superio"],
+    "superio_c": ["superio_c", "vm_superio"],
+}
 
 # How rt says which crate it works on.
 CRATE = re.compile(r"rt: chose --jobs \d+ for (\w+)|checked (\w+)::")
@@ -58,20 +62,20 @@ def build(crate, *commands):
     os.unlink(name)
 
 
-def built_program(arguments=()):
-    """The program that the arguments name, or else the built one, which is built anew where it has to be."""
+def built_program(arguments=(), crate="superio"):
+    """The program that the arguments name, or else the built one of a crate, which is built anew where it has to be."""
     if arguments:
         return Path(arguments[0]).resolve()
-    program = CRATES / "superio" / "out" / "superio"
-    if not is_current(program, SOURCES):
-        build("superio", "run")
+    program = CRATES / crate / "out" / crate
+    if not is_current(program, SOURCES[crate]):
+        build(crate, "run")
     return program
 
 
 def built_library():
     """The static library, which is built anew where it has to be, of a crate that `rt check` has proved."""
     library = CRATES / "superio_c" / "out" / "libsuperio_c.a"
-    if not is_current(library, LIBRARY_SOURCES):
+    if not is_current(library, SOURCES["superio_c"]):
         build("superio_c", "check", "lib")
     return library
 

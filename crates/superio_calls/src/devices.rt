@@ -1,0 +1,240 @@
+//! The devices, and the calls that are made on them.
+use crate::objects::{Log, Object, Refusal};
+use anyhow::{Result, bail};
+use hex::FromHex;
+use std::alloc::Global;
+use std::fmt::Display;
+use vm_superio::serial::{Error, Refused};
+use vm_superio::{I8042Device, Rtc, RtcState, Serial, SerialState};
+
+/// What is in the bytes of a read of the clock before it.
+const UNREAD: [u8; 4] = [0xA5; 4];
+
+/// The devices, over objects that note their calls.
+#[derive(Drop)]
+pub struct Devices<'a> {
+    object: Object<'a>,
+    serial: Serial<Object<'a>, Object<'a>, Object<'a>>,
+    clock: Rtc<Object<'a>>,
+    controller: I8042Device<Object<'a>>,
+}
+
+fn text(alloc: Global, text: impl Display + Drop) -> Result<String> {
+    Ok(text.to_string(alloc)?)
+}
+
+/// The reply to a call of the port that fails.
+fn failure(alloc: Global, error: Error<Refusal>) -> Result<String> {
+    match error {
+        Error::Trigger(Refusal) => text(alloc, "trigger"),
+        Error::IOError(_) => text(alloc, "io"),
+        Error::FullFifo => text(alloc, "full"),
+        Error::Memory => bail!("out of memory"),
+    }
+}
+
+/// The bytes of a field of digits, where `-` stands for none.
+fn bytes_of(alloc: Global, digits: &str) -> Result<Vec<u8>> {
+    Ok(hex::decode(alloc, if digits == "-" { "" } else { digits })?)
+}
+
+fn digits_of(alloc: Global, bytes: &[u8]) -> Result<String> {
+    Ok(match bytes {
+        [] => String::from_str(alloc, "-")?,
+        _ => hex::encode(alloc, bytes)?,
+    })
+}
+
+fn byte(digits: &str) -> Result<u8> {
+    Ok(u8::from_str_radix(digits, 16)?)
+}
+
+fn offset(digits: &str) -> Result<u16> {
+    Ok(u16::from_str_radix(digits, 16)?)
+}
+
+fn word(digits: &str) -> Result<u32> {
+    Ok(u32::from_str_radix(digits, 16)?)
+}
+
+fn moment(digits: &str) -> Result<u64> {
+    Ok(u64::from_str_radix(digits, 16)?)
+}
+
+fn port_state(alloc: Global, registers: &str, held: &str) -> Result<SerialState> {
+    let [
+        baud_divisor_low,
+        baud_divisor_high,
+        interrupt_enable,
+        interrupt_identification,
+        line_control,
+        line_status,
+        modem_control,
+        modem_status,
+        scratch,
+    ] = <[u8; 9] as FromHex>::from_hex(registers)?;
+    Ok(SerialState {
+        baud_divisor_low,
+        baud_divisor_high,
+        interrupt_enable,
+        interrupt_identification,
+        line_control,
+        line_status,
+        modem_control,
+        modem_status,
+        scratch,
+        in_buffer: bytes_of(alloc, held)?,
+    })
+}
+
+fn text_of_port(alloc: Global, state: &SerialState, room: usize) -> Result<String> {
+    let registers = [
+        state.baud_divisor_low,
+        state.baud_divisor_high,
+        state.interrupt_enable,
+        state.interrupt_identification,
+        state.line_control,
+        state.line_status,
+        state.modem_control,
+        state.modem_status,
+        state.scratch,
+    ];
+    let registers = hex::encode(alloc, registers.as_slice())?;
+    let held = digits_of(alloc, &state.in_buffer)?;
+    text(alloc, format_args!("{registers} {held} {room:02x}"))
+}
+
+fn text_of_clock(alloc: Global, state: &RtcState) -> Result<String> {
+    let RtcState {
+        lr,
+        offset,
+        mr,
+        imsc,
+        ris,
+        armed,
+    } = *state;
+    let armed = if armed { " armed" } else { "" };
+    Ok(format!(in alloc; "{lr:08x} {offset} {mr:08x} {imsc:08x} {ris:08x}{armed}")?)
+}
+
+impl<'a> Devices<'a> {
+    pub fn new(alloc: Global, log: &'a Log) -> Result<Devices<'a>> {
+        let object = Object(log);
+        let Ok(serial) = Serial::with_events(alloc, object, object, object) else {
+            bail!("out of memory");
+        };
+        Ok(Devices {
+            object,
+            serial,
+            clock: Rtc::with_events(object),
+            controller: I8042Device::new(object),
+        })
+    }
+
+    /// Makes the call of these words, and returns the reply.
+    pub fn make(&mut self, alloc: Global, words: &[&str]) -> Result<String> {
+        match words {
+            ["sr", at] => self.read(alloc, at),
+            ["sw", at, value] => self.write(alloc, at, value),
+            ["sq", digits] => self.enqueue(alloc, digits),
+            ["sc"] => text(alloc, format_args!("{:02x}", self.serial.fifo_capacity())),
+            ["ss"] => self.restore_own(alloc),
+            ["sl", registers, held] => self.load(alloc, registers, held),
+            ["cr", now, at] => self.read_clock(alloc, now, at),
+            ["cw", now, at, value] => self.write_clock(alloc, now, at, value),
+            ["cs"] => text_of_clock(alloc, &self.clock.state()),
+            ["cl", lr, offset, mr, imsc, ris, armed @ ..] => {
+                self.load_clock(alloc, [lr, offset, mr, imsc, ris], armed)
+            }
+            ["kr", at] => self.read_controller(alloc, at),
+            ["kw", at, value] => self.command(alloc, at, value),
+            _ => bail!("no such call"),
+        }
+    }
+
+    fn read(&mut self, alloc: Global, at: &str) -> Result<String> {
+        let byte = self.serial.read(byte(at)?);
+        text(alloc, format_args!("{byte:02x}"))
+    }
+
+    fn write(&mut self, alloc: Global, at: &str, value: &str) -> Result<String> {
+        match self.serial.write(byte(at)?, byte(value)?) {
+            Ok(()) => text(alloc, "ok"),
+            Err(error) => failure(alloc, error),
+        }
+    }
+
+    fn enqueue(&mut self, alloc: Global, digits: &str) -> Result<String> {
+        let bytes = bytes_of(alloc, digits)?;
+        match self.serial.enqueue_raw_bytes(&bytes) {
+            Ok(count) => text(alloc, format_args!("{count:02x}")),
+            Err(error) => failure(alloc, error),
+        }
+    }
+
+    fn restore_own(&mut self, alloc: Global) -> Result<String> {
+        let state = self.serial.state(alloc)?;
+        self.restore(alloc, &state)
+    }
+
+    fn load(&mut self, alloc: Global, registers: &str, held: &str) -> Result<String> {
+        let state = port_state(alloc, registers, held)?;
+        self.restore(alloc, &state)
+    }
+
+    /// Makes a port of a state, which takes the place of this one.
+    fn restore(&mut self, alloc: Global, state: &SerialState) -> Result<String> {
+        let object = self.object;
+        match Serial::from_state(alloc, state, object, object, object) {
+            Ok(port) => {
+                self.serial = port;
+                let state = self.serial.state(alloc)?;
+                text_of_port(alloc, &state, self.serial.fifo_capacity())
+            }
+            Err(refused) => failure(alloc, refused.into_error()),
+        }
+    }
+
+    fn read_clock(&mut self, alloc: Global, now: &str, at: &str) -> Result<String> {
+        let mut bytes = UNREAD;
+        self.clock.read(offset(at)?, &mut bytes, moment(now)?);
+        text(alloc, format_args!("{:08x}", u32::from_le_bytes(bytes)))
+    }
+
+    fn write_clock(&mut self, alloc: Global, now: &str, at: &str, value: &str) -> Result<String> {
+        let bytes = word(value)?.to_le_bytes();
+        self.clock.write(offset(at)?, &bytes, moment(now)?);
+        text(alloc, "ok")
+    }
+
+    /// Makes a clock of a state. A last word `armed` says that an alarm is set.
+    fn load_clock(&mut self, alloc: Global, fields: [&str; 5], armed: &[&str]) -> Result<String> {
+        let [lr, offset, mr, imsc, ris] = fields;
+        let state = RtcState {
+            lr: word(lr)?,
+            offset: offset.parse()?,
+            mr: word(mr)?,
+            imsc: word(imsc)?,
+            ris: word(ris)?,
+            armed: match armed {
+                [] => false,
+                ["armed"] => true,
+                _ => bail!("no such state"),
+            },
+        };
+        self.clock = Rtc::from_state(&state, self.object);
+        text_of_clock(alloc, &self.clock.state())
+    }
+
+    fn read_controller(&mut self, alloc: Global, at: &str) -> Result<String> {
+        let byte = self.controller.read(byte(at)?);
+        text(alloc, format_args!("{byte:02x}"))
+    }
+
+    fn command(&mut self, alloc: Global, at: &str, value: &str) -> Result<String> {
+        match self.controller.write(byte(at)?, byte(value)?) {
+            Ok(()) => text(alloc, "ok"),
+            Err(Refusal) => text(alloc, "trigger"),
+        }
+    }
+}

@@ -1,0 +1,54 @@
+//! Makes the calls that lines of standard input ask for, and prints for each the reply and the calls of objects.
+//!
+//! `tests/calls/README.md` describes the lines. The program ends at a line of another form.
+#![tactic(auto)]
+
+mod devices;
+mod objects;
+
+use anyhow::{Context, Result};
+use devices::Devices;
+use objects::Log;
+use std::alloc::Global;
+use std::io;
+use std::io::{BufRead, BufReader, BufWriter, Read, Write};
+
+/// The words of a call, without those after it that say what the objects answer, which the log takes.
+fn call_of<'a>(log: &Log, words: &'a [&'a str]) -> &'a [&'a str] {
+    log.forget();
+    match words.iter().rposition(|word| !log.expects(word)) {
+        Some(last) => &words[..=last],
+        None => &[],
+    }
+}
+
+/// Makes the call of a line, and prints what it did.
+fn answer(
+    alloc: Global,
+    log: &Log,
+    devices: &mut Devices,
+    line: &str,
+    output: &mut impl Write,
+) -> Result<()> {
+    let words: Vec<&str> = line.split(' ').collect(alloc)?;
+    let reply = devices.make(alloc, call_of(log, &words))?;
+    writeln!(output, "{reply}{}", log.take())?;
+    Ok(())
+}
+
+fn answer_all(alloc: Global, input: impl Read + Drop, output: &mut impl Write) -> Result<()> {
+    let log = Log::new();
+    let mut devices = Devices::new(alloc, &log)?;
+    let lines = BufReader::new(alloc, input)?.lines(alloc);
+    for (number, line) in (1u64..).zip(lines) {
+        answer(alloc, &log, &mut devices, &line?, output).context(format_args!("line {number}"))?;
+    }
+    Ok(())
+}
+
+fn main(rt: HostRuntime) -> Result<()> {
+    let mut output = BufWriter::new(rt.alloc(), io::writer(&rt))?;
+    let end = answer_all(rt.alloc(), rt.reader(), &mut output);
+    output.flush()?;
+    end
+}

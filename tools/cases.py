@@ -1,0 +1,176 @@
+"""What tools/hostile tries: random scripts for the program `superio`, and runs of calls for `superio_calls`."""
+import random
+
+LINES = 40           # of a random script or run, at most
+ROOM = 256           # bytes that the output of a script's board takes
+SCRIPT_READS = [f"sr {offset:02x}" for offset in (0, 1, 2, 3, 4, 5, 6, 7, 8, 255)]
+SCRIPT_ENDS = ["st", "sc", "se", "so"]
+
+
+# Lines that scripts and calls share.
+
+def serial_access(source):
+    """A read or a write of the serial port. Those that matter to bytes and interrupts are common."""
+    byte = source.randrange(256)
+    kind = source.randrange(17)
+    if kind < 8:
+        return f"sr {(byte % 10, 2, 0)[(kind > 2) + (kind > 4)]:02x}"
+    if kind < 13:
+        return f"sw 00 {byte:02x}" if kind < 10 else f"sw 01 {byte % 5:02x}"
+    return (f"sw 03 {source.choice((0x80, 0x03, 0x03)):02x}", f"sw 04 {source.choice((0x10 | byte % 16, 0x08)):02x}",
+            f"sw {source.randrange(9):02x} {byte:02x}", f"sr {byte:02x}")[kind - 13]
+
+
+def any_bytes(source):
+    count = source.randrange(80) if source.randrange(3) == 0 else source.randrange(4)
+    return source.randbytes(count).hex()
+
+
+def number(source):
+    return source.choice((source.getrandbits(32), source.randrange(4), 2**32 - 1 - source.randrange(4)))
+
+
+def clock_access(source):
+    """An access of the clock, whose moments go back as well."""
+    moment = source.choice((source.getrandbits(64), 2**32 + source.randrange(4), 2**32 - 1 - source.randrange(4),
+                            source.randrange(4)))
+    registers = [source.randrange(8) * 4 for _ in range(3)]
+    offset = source.choice((*registers, source.randrange(0x24), 0xFE0 + source.randrange(0x20), source.getrandbits(16)))
+    at = f"{moment:016x} {offset:04x}"
+    return f"cr {at}" if source.random() < 0.5 else f"cw {at} {number(source):08x}"
+
+
+def controller_access(source):
+    offset, value = (source.choice((usual, source.randrange(256))) for usual in (4, 0xFE))
+    return f"kr {offset:02x}" if source.random() < 0.25 else f"kw {offset:02x} {value:02x}"
+
+
+# Scripts.
+
+def serial_line(source):
+    kind = source.randrange(24)
+    if kind < 18:
+        return serial_access(source)
+    if kind < 21:
+        return f"sq {any_bytes(source)}".rstrip()
+    return source.choice(("sd", "st", "sc", "se", "so")) if kind > 21 else "ss"
+
+
+def any_line(source):
+    return source.choice((serial_line, serial_line, clock_access, controller_access))(source)
+
+
+def full_output(source):
+    """An output with room for a few bytes more."""
+    return [f"sw 00 {source.randrange(256):02x}" for _ in range(ROOM - 4)] + [serial_line(source) for _ in range(LINES)]
+
+
+def two_writes(source):
+    """Two writes of registers, of values with no bit, one or all, and then every register."""
+    writes = [f"sw {source.randrange(8):02x} {source.choice((0, 255, 1 << source.randrange(8))):02x}" for _ in range(2)]
+    return [source.choice(("sq", "sq 61")), f"sw 03 {source.choice((0x03, 0x80)):02x}",
+            f"sw 04 {source.choice((0x08, 0x10)):02x}", *writes, *SCRIPT_READS]
+
+
+def random_script(source):
+    """The lines of a script, under a mask or none."""
+    kind = source.randrange(100)
+    mask = source.choice((None, None, source.getrandbits(64) & source.getrandbits(64), 1 << source.randrange(6)))
+    lines = [] if mask is None else [f"refuse {mask:016x}"]
+    if kind < 2:
+        return lines + full_output(source) + SCRIPT_ENDS
+    if kind < 17:
+        return lines + two_writes(source) + SCRIPT_ENDS
+    one = serial_line if kind < 70 else clock_access if kind < 90 else any_line if kind < 98 else controller_access
+    return lines + [one(source) for _ in range(source.randrange(1, LINES + 1))] + SCRIPT_ENDS
+
+
+# Runs of calls. Each begins with a state, so that many follow each other in one process.
+
+def port_state(source, *counts):
+    """A state of any registers, with no bytes, some, 64, or a number of `counts`. Of IIR the bits that a port sets are
+    common."""
+    registers = bytearray(source.randbytes(9))
+    if source.random() < 0.5:
+        registers[3] %= 8
+    held = source.randbytes(source.choice((0, 64, source.randrange(4), source.randrange(65), *counts)))
+    return f"sl {registers.hex()} {held.hex() or '-'}"
+
+
+def clock_state(source):
+    ahead = source.choice((source.getrandbits(64) - 2**63, 2**63 - 1 - number(source), number(source) - 2**63,
+                           number(source) - number(source)))
+    lr, mr, imsc, ris = (f"{number(source):08x}" for _ in range(4))
+    return f"cl {lr} {ahead} {mr} {imsc} {ris}" + source.choice(("", " armed"))
+
+
+def hindered(source, call):
+    """A call in which objects refuse or fail, or do not."""
+    refusals = "".join(f" {number}" for number in (1, 2) if source.randrange(4) == 0)
+    return call + refusals + source.choice(("", "", " n", " i", " f", " u"))
+
+
+def port_call(source):
+    kind = source.randrange(20)
+    if kind < 15:
+        return serial_access(source)
+    if kind < 18:
+        return f"sq {any_bytes(source) or '-'}"
+    return ("sc", source.choice(("ss", "ss", "ss", port_state(source, 65, 80))))[kind - 18]
+
+
+def port_run(source):
+    return [port_state(source), *(hindered(source, port_call(source)) for _ in range(LINES)), "ss"]
+
+
+def clock_run(source):
+    calls = (["cs"] * (source.randrange(8) == 0) + [clock_access(source)] for _ in range(LINES))
+    return [clock_state(source), *(call for some in calls for call in some), "cs"]
+
+
+def controller_run(source):
+    return [hindered(source, controller_access(source)) for _ in range(LINES)]
+
+
+def random_run(source):
+    kind = source.randrange(20)
+    return (port_run if kind < 15 else clock_run if kind < 19 else controller_run)(source)
+
+
+def every_write():
+    """Every write of the serial port, with and without the divisor latch, loopback and a held byte: those of the eight
+    registers each from a new state, and those of the other offsets by offset."""
+    reads = [*SCRIPT_READS, "ss"]
+    for held in ("-", "61"):
+        for latch in ("03", "80"):
+            for modem in ("08", "10"):
+                start = f"sl 0c000001{latch}{'60' if held == '-' else '61'}{modem}b000 {held}"
+                for offset in range(8):
+                    for value in range(256):
+                        yield [start, f"sw {offset:02x} {value:02x}", *reads]
+                for offset in range(8, 256):
+                    yield [start, *(f"sw {offset:02x} {value:02x}" for value in range(256)), *reads]
+
+
+def every_access():
+    """Every read and write of the clock by offset, and every write of the controller, whose trigger takes it or not."""
+    for first in range(0, 0x10000, 0x100):
+        offsets = [f"{offset:04x}" for offset in range(first, first + 0x100)]
+        yield ["cl 00000000 0 00000000 00000000 00000000", *(f"cr 3e8 {offset}" for offset in offsets),
+               *(f"cw 3e8 {offset} 00000002" for offset in offsets), "cs"]
+    for offset in range(256):
+        yield [f"kw {offset:02x} {value:02x}{refusal}" for value in range(256) for refusal in ("", " 1")]
+
+
+def fixed_runs():
+    """Each run with a name."""
+    for what, runs in (("every write", every_write()), ("every access", every_access())):
+        for place, run in enumerate(runs):
+            yield f"{what}, run {place}", run
+
+
+def random_cases(make, what, seed, count):
+    """So many random scripts or runs, each with a name, and with numbers of its own: the first are the same of any
+    count."""
+    for place in range(count):
+        yield f"{what} {place} of seed {seed}", make(random.Random(f"{what} {place} {seed}"))
