@@ -41,14 +41,18 @@ fn a_run_records_each_call_and_goes_on_over_restores(rt: HostRuntime) -> Result<
         Call::Enqueue(bytes),
         Call::Write(1, 0x03),
     )?;
+    assert!(rt; done.len() == 2);
     assert!(rt; matches!(done[0].reply, Reply::Enqueued(Ok(2))) && done[1].asked == Asked::Refused);
     let done = run_two(alloc, &mut serial, Call::Read(2), Call::Write(1, 0x03))?;
+    assert!(rt; done.len() == 2);
     assert!(rt; matches!(done[0].reply, Reply::Byte(0xC4)) && done[1].asked == Asked::TookTook);
     // The calls of a restore are those of another trigger. The port stays, and sends one more byte.
     let done = run_two(alloc, &mut serial, restore(&refusing), Call::Write(0, b'x'))?;
+    assert!(rt; done.len() == 2);
     assert!(rt; matches!(done[0].reply, Reply::NotRestored(_)) && done[0].asked == Asked::Nothing);
     assert!(rt; done[1].sent == Sent::Out && first.writes.get() == 1);
     let done = run_two(alloc, &mut serial, restore(&other), Call::Write(0, b'y'))?;
+    assert!(rt; done.len() == 2);
     assert!(rt; matches!(done[0].reply, Reply::Restored(_)) && done[0].asked == Asked::Nothing);
     assert!(rt; done[1].sent == Sent::Lost && other.writes.get() == 1);
     assert!(rt;
@@ -92,7 +96,8 @@ fn is_restored<'a>(
     byte: u8,
 ) -> Result<bool, AllocError> {
     let bytes = vec![in alloc; byte]?;
-    let done = run_two(alloc, serial, Call::Enqueue(bytes), restore(log))?;
+    let calls = vec![in alloc; Call::Enqueue(bytes), restore(log)]?;
+    let done = run(alloc, serial, calls)?;
     Ok(matches!(done[1].reply, Reply::Restored(_)))
 }
 
