@@ -1,5 +1,6 @@
 //! Input on its way to a guest, drivers that read it, and devices that move to another machine.
 use crate::objects::{Log, Object, port};
+use std::alloc::Global;
 use std::test::Fail;
 use superio_examples::console::Console;
 use superio_examples::driver::{receive_all, run_polled};
@@ -8,7 +9,7 @@ use superio_examples::input::Input;
 use superio_examples::migration::{restore, restore_input, save};
 use superio_examples::monitor::saved_devices;
 use vm_superio::Rtc;
-use vm_superio::run::{Call, Reply};
+use vm_superio::run::{Call, Done, Reply};
 
 /// A hundred bytes.
 const INPUT: [u8; 100] = *b"\
@@ -190,16 +191,25 @@ fn a_guest_gets_the_input(rt: HostRuntime) -> Result<(), Fail> {
     Ok(())
 }
 
+/// The records of a driver that polls a port to which two bytes came.
+fn polled<'a>(
+    alloc: Global,
+    log: &'a Log,
+) -> Result<Vec<Done<Object<'a>, Object<'a>, Object<'a>>>, Fail> {
+    let mut serial = port(alloc, log)?;
+    let mut calls: Vec<Call<Object<'a>, Object<'a>, Object<'a>>> = Vec::new(alloc);
+    calls.push(Call::Enqueue(b"ab".to_vec(alloc)?))?;
+    for offset in [5, 0, 5, 0, 5] {
+        let call: Call<Object<'a>, Object<'a>, Object<'a>> = Call::Read(offset);
+        calls.push(call)?;
+    }
+    Ok(run_polled(alloc, &mut serial, calls)?)
+}
+
 #[test]
 fn a_run_of_a_driver_that_polls_reads_what_was_enqueued(rt: HostRuntime) -> Result<(), Fail> {
     let log = Log::new();
-    let mut serial = port(rt.alloc(), &log)?;
-    let mut calls = Vec::new(rt.alloc());
-    calls.push(Call::Enqueue(b"ab".to_vec(rt.alloc())?))?;
-    for offset in [5, 0, 5, 0, 5] {
-        calls.push(Call::Read(offset))?;
-    }
-    let done = run_polled(rt.alloc(), &mut serial, calls)?;
+    let done = polled(rt.alloc(), &log)?;
     for (done, want) in done.iter().skip(1).zip(b"\x61a\x61b\x60") {
         assert!(rt; matches!(done.reply, Reply::Byte(byte) if byte == *want));
     }
