@@ -146,7 +146,7 @@ def differences():
 def struct_assertions(name, known):
     """Assertions on the size of a struct, and on the place and type of each field."""
     c_name = STRUCTS[name]
-    yield f"_Static_assert(sizeof({c_name}) == {shape(name, known)[0]}, \"size of {c_name}\");"
+    yield f"_Static_assert(sizeof(struct {c_name}) == {shape(name, known)[0]}, \"size of {c_name}\");"
     for field, kind, offset in flattened(name, known):
         array = re.fullmatch(r"\[(\w+); (\d+)\]", kind)
         pointer = f"{NUMBERS[array[1]][0]} (*)[{array[2]}]" if array else f"{NUMBERS[kind][0]} *"

@@ -75,6 +75,14 @@ class Layout(unittest.TestCase):
             with self.subTest(name):
                 self.assertEqual(prototype, library.PROTOTYPES[name])
 
+    def test_functions_of_the_library_have_their_prototypes(self):
+        """Otherwise ctypes passes and returns an `int`, whose 32 bits many numbers fit by chance."""
+        found = library.open_library()
+        for name, prototype in library.PROTOTYPES.items():
+            with self.subTest(name):
+                function = getattr(found, name)
+                self.assertEqual(prototype, (function.restype, function.argtypes))
+
     @unittest.skipUnless(shutil.which("cc"), "no C compiler is there")
     def test_offsets_are_those_of_the_compiler(self):
         asked = [(f"sizeof({name})", ctypes.sizeof(struct)) for name, struct in STRUCTS.items()]
