@@ -151,8 +151,8 @@ int main(void) {
 
     machine.line_is_down = true;
     port_write(&machine, COM1 + 1, 0x03); /* enables both interrupts, and the first is refused */
+    port_write(&machine, COM1, '?');      /* its interrupt is refused too, so now two are due */
     retry(&machine);
-    port_write(&machine, COM1, '?'); /* its interrupt is refused too, so now two are due */
     machine.line_is_down = false;
     retry(&machine);
     printf("IIR %02x\n", port_read(&machine, COM1 + 2));

@@ -29,7 +29,7 @@ CLOCK_OFFSETS = {"DR": 0x00, "MR": 0x04, "LR": 0x08, "CR": 0x0C, "IMSC": 0x10, "
 BITS = {"IER": "RDA THRE RLS MS - - - -", "IIR": "- THRE RDA - - - - -", "LCR": "- - - - - - BREAK DLAB",
         "MCR": "DTR RTS OUT1 OUT2 LOOP - - -", "LSR": "DR OE PE FE BI THRE TEMT -", "MSR": "- - - - CTS DSR RI DCD",
         **dict.fromkeys(("IMSC", "RIS", "MIS", "ICR"), "ALARM - - - - - - -")}
-FORMATS = [(0x00, "5N1"), (0x01, "6N1"), (0x02, "7N1"), (0x03, "8N1"), (0x07, "8N2"), (0x0B, "8O1"), (0x1B, "8E1"),
+FORMATS = [(0x00, "5N1"), (0x01, "6N1"), (0x02, "7N1"), (0x03, "8N1"), (0x06, "7N2"), (0x07, "8N2"), (0x0B, "8O1"), (0x1B, "8E1"),
            (0x2B, "8M1"), (0x3B, "8S1"), (0x33, "8N1")]
 
 
@@ -239,6 +239,13 @@ class SavedStates(unittest.TestCase):
         with self.assertRaises(SavedStateError) as caught:
             Rtc.from_bytes(clock[:-1] + b"\2")
         self.assertIs(LoadStatus.INVALID_ARMED, caught.exception.status)
+
+    def test_each_refusal_says_why(self):
+        reasons = ["too short for a saved state", "not a saved state", "the saved state of another device",
+                   "a saved state of an unknown version", "a saved state of the wrong length", "more than 64 received bytes",
+                   "an alarm that is neither set nor clear"]
+        for number, reason in enumerate(reasons, 1):
+            self.assertEqual(reason, str(SavedStateError(LoadStatus(number))))
 
     def test_worked_examples(self):
         """Those of docs/SAVED-STATES.md, made by what the document says that the guest did."""
