@@ -151,6 +151,7 @@ int main(void) {
 
     machine.line_is_down = true;
     port_write(&machine, COM1 + 1, 0x03); /* enables both interrupts, and the first is refused */
+    port_write(&machine, COM1, '?');      /* its interrupt is refused too, so now two are due */
     retry(&machine);
     machine.line_is_down = false;
     retry(&machine);
@@ -160,6 +161,9 @@ int main(void) {
     memory_write(&machine, CLOCK + 0x004, 1060); /* RTCMR */
     machine.now += 60;
     alarm_is_due(&machine);
+    memory_write(&machine, CLOCK + 0x004, 1059);   /* past, so no alarm is set */
+    memory_write(&machine, CLOCK + 0x004, 1100);
+    memory_write(&machine, CLOCK + 0x10004, 1200); /* beyond the clock */
 
     port_write(&machine, COM1, '!'); /* its interrupt is not taken before the move */
     struct machine other = migrate(&machine);
@@ -168,7 +172,8 @@ int main(void) {
         received += port_read(&other, COM1) == 'x';
     printf("%d bytes received\n", received);
     port_write(&other, COM1, 0x1B); /* escape */
-    printf("port 0x61 reads %02x, and the controller %02x\n", port_read(&other, 0x61), port_read(&other, 0x64));
+    printf("ports 0x61 and 0x400 read %02x and %02x, and the controller %02x\n", port_read(&other, 0x61),
+           port_read(&other, COM1 + SUPERIO_SERIAL_PORTS), port_read(&other, 0x64));
     port_write(&other, SUPERIO_I8042_COMMAND_PORT, 0xFE);
     return 0;
 }

@@ -2,7 +2,8 @@
 
 The prover sees neither the header nor the layout of a struct. So this reads the exported functions of crates/superio_c
 and the structs that are `repr(C)`, and says what the header has to declare: each name, each parameter in its order, each
-type. A C file of assertions, which a compiler checks, has the layout of the structs and the types of the functions.
+type, and what a compiler may warn of. A C file of assertions, which a compiler checks, has the layout of the structs and
+the types of the functions.
 """
 import re
 
@@ -27,6 +28,9 @@ EXPORT = re.compile(r'pub extern "C" fn (\w+)\((.*?)\)(?: -> (\w+))?\s*(?:ensure
 STRUCT = re.compile(r"#\[repr\(C\)\]\s*(?:#\[[^\]]*\]\s*)*pub(?:\(\w+\))? struct (\w+) \{(.*?)\n\}", re.S)
 FIELD = re.compile(r"^\s*pub(?:\(\w+\))? (\w+): ([^,]+),", re.M)
 PROTOTYPE = re.compile(r"^(?:[\w ]+[ *])(superio_\w+)\(([^;]*?)\)[^;)]*(?:\([^)]*\)[^;)]*)*;", re.M)
+ATTRIBUTE = re.compile(r"SUPERIO_(?:MUST_USE|NONNULL|COUNTED|ACCESS\([^)]*\))")
+# What these return may be ignored: a number, or events that leave nothing to do.
+MAY_BE_IGNORED = {"superio_abi", "superio_serial_read", "superio_rtc_read", "superio_rtc_write"}
 
 
 def sources():
@@ -104,13 +108,37 @@ def declared():
     return found
 
 
+def wanted_attributes(name, pairs, returned):
+    """What has to let a compiler warn of a wrong call: of a lost result, of NULL, of memory that is unset or too small."""
+    if returned != "()" and name not in MAY_BE_IGNORED:
+        yield "SUPERIO_MUST_USE"
+    for place, (_, kind) in enumerate(pairs, 1):
+        if kind == "&[u8]":
+            yield from ("SUPERIO_COUNTED", f"SUPERIO_ACCESS(read_only, {place}, {place + 1})")
+        elif kind.startswith("&mut ["):
+            yield f"SUPERIO_ACCESS(write_only, {place})"
+        elif kind.startswith("&"):
+            use = "write_only" if name.endswith("_load") else "read_write" if kind.startswith("&mut") else "read_only"
+            yield from ("SUPERIO_NONNULL", f"SUPERIO_ACCESS({use}, {place})")
+
+
+def attributes():
+    """Beside each function that the header declares its attributes."""
+    return {found[1]: sorted(ATTRIBUTE.findall(found[0])) for found in PROTOTYPE.finditer(header_code())}
+
+
 def differences():
-    """What the header declares otherwise than the Rattle side, by name: functions, and parameters in their order."""
+    """What the header declares otherwise than the Rattle side, by name: functions, parameters in their order, and
+    attributes."""
     wanted = {name: [parameter for parameter, _ in c_parameters(pairs)] for name, (pairs, _) in exports().items()}
     found = declared()
     for name in sorted(wanted.keys() | found.keys()):
         if wanted.get(name) != found.get(name):
             yield f"{name}: the header has the parameters {found.get(name)}, and the library {wanted.get(name)}"
+    for name, (pairs, returned) in exports().items():
+        wanted, found = sorted(wanted_attributes(name, pairs, returned)), attributes().get(name)
+        if wanted != found:
+            yield f"{name}: the header has the attributes {found}, and {wanted} are wanted"
     for name in STRUCTS.keys() - structs().keys():
         yield f"no struct {name} is repr(C)"
 
@@ -118,7 +146,7 @@ def differences():
 def struct_assertions(name, known):
     """Assertions on the size of a struct, and on the place and type of each field."""
     c_name = STRUCTS[name]
-    yield f"_Static_assert(sizeof({c_name}) == {shape(name, known)[0]}, \"size of {c_name}\");"
+    yield f"_Static_assert(sizeof(struct {c_name}) == {shape(name, known)[0]}, \"size of {c_name}\");"
     for field, kind, offset in flattened(name, known):
         array = re.fullmatch(r"\[(\w+); (\d+)\]", kind)
         pointer = f"{NUMBERS[array[1]][0]} (*)[{array[2]}]" if array else f"{NUMBERS[kind][0]} *"

@@ -14,6 +14,8 @@ from tally import run
 # What the libraries may need: a compiler copies structs by it, so each C program has it.
 NEEDED = {"memcpy"}
 INSTALL = ROOT / "tools" / "c" / "install"
+# The number that the header of an object file gives to a processor.
+PROCESSORS = {"aarch64-linux": 183, "x86_64-linux": 62}
 
 
 def check_prebuilt(tally):
@@ -51,6 +53,19 @@ def symbols(library):
     words = ["nm", "--dynamic"] if library.name == SHARED else ["nm"]
     pairs = [line.split()[-2:] for line in run([*words, library]).stdout.splitlines() if len(line.split()) > 1]
     return {name for kind, name in pairs if kind == "T"}, {name for kind, name in pairs if kind == "U"}
+
+
+def processors(library):
+    """The processors that the object files of a library are for."""
+    data = library.read_bytes()
+    return {int.from_bytes(data[at.start() + 18:at.start() + 20], "little") for at in re.finditer(rb"\x7fELF", data)}
+
+
+def check_processors(tally):
+    """Counts whether each library is for the processor of its folder. Here one may be neither linked nor run."""
+    for library in (PREBUILT / target / name for target in sorted(TARGETS) for name in (STATIC, SHARED)):
+        found = processors(library)
+        tally.check(found == {PROCESSORS[library.parent.name]}, f"{library} is for the processors {found}")
 
 
 def check_symbols(tally):

@@ -4,6 +4,7 @@ import shutil
 from declarations import assertions
 from libraries import ROOT
 from machines import C
+from tally import run
 
 TESTS = ROOT / "tools" / "c" / "tests"
 DEMO = ROOT / "examples" / "c"
@@ -16,6 +17,16 @@ int main(void) { return SUPERIO_ABI_MATCHES() == (DIFFERENCE == 0) ? 0 : 1; }
 """
 
 
+# The header, which may be read twice, and leaves none of the names that it uses for itself.
+ALONE = "#include <superio.h>\n#include <superio.h>\n" + "".join(
+    f"#ifdef SUPERIO_{name}\n#error SUPERIO_{name}\n#endif\n"
+    for name in ("HAS_ATTRIBUTE", "MUST_USE", "NONNULL", "ACCESS", "COUNTED", "AT_LEAST"))
+# Clang warns of this attribute, unless the header has turned that off for good.
+AFTERWARDS = """#include <superio.h>
+void never(int it) __attribute__((diagnose_if(it, "", "warning")));
+"""
+
+
 def build_and_run(tally, what, build, program, expected=None, runner=()):
     """Counts whether a program is built, and then whether it does what it should."""
     if tally.run(f"{what} is built", build):
@@ -24,15 +35,19 @@ def build_and_run(tally, what, build, program, expected=None, runner=()):
 
 def check_header(tally, machine, folder):
     """Counts whether the header compiles by itself, and has the types and the layout of the Rattle side."""
-    alone, compared = folder / "alone.c", folder / "compared.c"
-    alone.write_text("#include <superio.h>\n", encoding="ascii")
+    alone, compared, afterwards = folder / "alone.c", folder / "compared.c", folder / "afterwards.c"
+    alone.write_text(ALONE, encoding="ascii")
     compared.write_text(assertions(), encoding="ascii")
+    afterwards.write_text(AFTERWARDS, encoding="ascii")
     for compiler in machine.compilers:
         if tally.has(compiler.name, "the header"):
             tally.run(f"the header under {compiler.title}", compiler.command([alone], ["-fsyntax-only"]))
             newer = ["-std=c11"] if compiler.language == C else []
             tally.run(f"the header's types and layout under {compiler.title}",
                       compiler.command([compared], [*newer, "-fsyntax-only"]))
+            if compiler.name.startswith("clang"):
+                said = run(compiler.command([afterwards], ["-fsyntax-only"])).stdout
+                tally.check("[-Werror,-Wgcc-compat]" in said, f"the header silences {compiler.title}:\n{said}")
 
 
 def check_calls(tally, machine, folder):

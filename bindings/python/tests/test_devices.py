@@ -11,13 +11,42 @@ from unittest import mock
 from support import ROOT
 
 from superio import (Board, EnqueueEffects, I8042, LibraryError, LoadStatus, ReadEffects, RegisterError, Rtc, RtcState,
-                     SavedStateError, Serial, SerialState, WriteEffects, board, devices, library, parse)
+                     SavedStateError, Serial, SerialState, WriteEffects, board, devices, library, parse, registers)
 
 SAVED_STATES = ROOT / "docs" / "SAVED-STATES.md"
 
 # The registers of a 16550 by name, with a value that the guest writes and the field of the state that keeps it.
 KEPT = [("IER", 0x0A, "interrupt_enable"), ("LCR", 0x1B, "line_control"), ("MCR", 0x0B, "modem_control"),
         ("SCR", 0x5A, "scratch")]
+
+
+# The offsets and bits of the data sheets of the 16550A and the PL031, each bit from the lowest on.
+SERIAL_OFFSETS = {"RBR": 0, "THR": 0, "DLL": 0, "IER": 1, "DLM": 1, "IIR": 2, "FCR": 2, "LCR": 3, "MCR": 4, "LSR": 5,
+                  "MSR": 6, "SCR": 7}
+CLOCK_OFFSETS = {"DR": 0x00, "MR": 0x04, "LR": 0x08, "CR": 0x0C, "IMSC": 0x10, "RIS": 0x14, "MIS": 0x18, "ICR": 0x1C,
+                 "ID0": 0xFE0, "ID1": 0xFE4, "ID2": 0xFE8, "ID3": 0xFEC, "ID4": 0xFF0, "ID5": 0xFF4, "ID6": 0xFF8,
+                 "ID7": 0xFFC}
+BITS = {"IER": "RDA THRE RLS MS - - - -", "IIR": "- THRE RDA - - - - -", "LCR": "- - - - - - BREAK DLAB",
+        "MCR": "DTR RTS OUT1 OUT2 LOOP - - -", "LSR": "DR OE PE FE BI THRE TEMT -", "MSR": "- - - - CTS DSR RI DCD",
+        **dict.fromkeys(("IMSC", "RIS", "MIS", "ICR"), "ALARM - - - - - - -")}
+FORMATS = [(0x00, "5N1"), (0x01, "6N1"), (0x02, "7N1"), (0x03, "8N1"), (0x06, "7N2"), (0x07, "8N2"), (0x0B, "8O1"), (0x1B, "8E1"),
+           (0x2B, "8M1"), (0x3B, "8S1"), (0x33, "8N1")]
+
+
+class Registers(unittest.TestCase):
+    def test_offsets(self):
+        for table, wanted in ((registers.SERIAL, SERIAL_OFFSETS), (registers.CLOCK, CLOCK_OFFSETS)):
+            self.assertEqual(wanted, {name: register.offset for name, register in table.items()})
+
+    def test_bits(self):
+        for name, register in {**registers.SERIAL, **registers.CLOCK}.items():
+            found = {name: bit for bit, name in register.bits}
+            wanted = {bit: 1 << place for place, bit in enumerate(BITS.get(name, "").split()) if bit != "-"}
+            self.assertEqual(wanted, found, name)
+
+    def test_formats(self):
+        for value, name in FORMATS:
+            self.assertEqual([name], registers.bit_names(registers.SERIAL["LCR"], value), hex(value))
 
 
 class SerialPort(unittest.TestCase):
@@ -210,6 +239,13 @@ class SavedStates(unittest.TestCase):
         with self.assertRaises(SavedStateError) as caught:
             Rtc.from_bytes(clock[:-1] + b"\2")
         self.assertIs(LoadStatus.INVALID_ARMED, caught.exception.status)
+
+    def test_each_refusal_says_why(self):
+        reasons = ["too short for a saved state", "not a saved state", "the saved state of another device",
+                   "a saved state of an unknown version", "a saved state of the wrong length", "more than 64 received bytes",
+                   "an alarm that is neither set nor clear"]
+        for number, reason in enumerate(reasons, 1):
+            self.assertEqual(reason, str(SavedStateError(LoadStatus(number))))
 
     def test_worked_examples(self):
         """Those of docs/SAVED-STATES.md, made by what the document says that the guest did."""

@@ -65,7 +65,7 @@ class Layout(unittest.TestCase):
                 self.assertEqual(fields_of(name), struct._fields_)
 
     def test_structs_have_the_sizes_that_the_header_asserts(self):
-        sizes = {name: int(size) for name, size in re.findall(r"sizeof\((superio_\w+)\)\s*==\s*(\d+)", CODE)}
+        sizes = {name: int(size) for name, size in re.findall(r"sizeof\((superio_\w+)\)\s*==\s*(\d+) \? 1 : -1\]", CODE)}
         self.assertEqual(sizes, {name: ctypes.sizeof(struct) for name, struct in STRUCTS.items()})
 
     def test_functions_are_those_of_the_header(self):
@@ -74,6 +74,14 @@ class Layout(unittest.TestCase):
         for name, prototype in declared.items():
             with self.subTest(name):
                 self.assertEqual(prototype, library.PROTOTYPES[name])
+
+    def test_functions_of_the_library_have_their_prototypes(self):
+        """Otherwise ctypes passes and returns an `int`, whose 32 bits many numbers fit by chance."""
+        found = library.open_library()
+        for name, prototype in library.PROTOTYPES.items():
+            with self.subTest(name):
+                function = getattr(found, name)
+                self.assertEqual(prototype, (function.restype, function.argtypes))
 
     @unittest.skipUnless(shutil.which("cc"), "no C compiler is there")
     def test_offsets_are_those_of_the_compiler(self):

@@ -66,6 +66,12 @@ class Recordings(unittest.TestCase):
                 steps_of(trace)
             self.assertIn(reason, str(caught.exception))
 
+    def test_the_number_of_a_bad_row(self):
+        for number in [*range(1, 300), *range(990, 1110), 10001]:
+            with self.assertRaises(BadLine) as caught:
+                list(replay("trace", [b"#\n"] * (number - 1) + [b"kr\n"]))
+            self.assertIn(f"trace:{number}: ", str(caught.exception))
+
     def test_a_reply_that_differs(self):
         steps = steps_of(TRACE)
         self.assertEqual([11], [number for number, step in enumerate(steps, 1) if step.differs])
@@ -86,7 +92,8 @@ class Stepping(unittest.TestCase):
         return int(said.split()[1]) if said.startswith("call ") else said.strip()
 
     def test_places(self):
-        for line, place in [("next", 2), ("next 3", 5), ("back 2", 3), ("next thre", 8), ("back rda", 6), ("first", 1),
+        for line, place in [("next", 2), ("next 3", 5), ("back 2", 3), ("next thre", 8), ("back rda", 6), ("back rda", 3),
+                            ("next input", "no input further on"), ("first", 1),
                             ("next interrupt", 3), ("next refused", 6), ("next sent", 8), ("next reset", 11),
                             ("back IIR", 7), ("back lsr", 4), ("first", 1), ("next difference", 11), ("goto 4", 4),
                             ("next change", 5), ("back input", 3), ("last", 11), ("next", "there is no call further on"),
@@ -107,6 +114,9 @@ class Stepping(unittest.TestCase):
         self.assertIn("  pending: RDA\n", self.out.getvalue())
         self.place_after("list")
         self.assertIn(">       3  sq 6162", self.out.getvalue())
+        self.viewer.onecmd("goto 7")
+        listed = self.place_after("list").splitlines()
+        self.assertEqual([*range(2, 12)], [int(row.lstrip("> ").split()[0]) for row in listed])
 
     def test_unknown_words(self):
         self.assertIn("nothing is called foo", self.place_after("next foo"))

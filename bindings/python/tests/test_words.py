@@ -4,7 +4,8 @@ import unittest
 
 import support  # noqa: F401
 
-from superio import ScriptError
+from superio import Command, ScriptError
+from superio.faults import BadLine
 from superio.session import Session
 from superio.words import characters
 
@@ -136,6 +137,11 @@ WHY = [
      "RDA is pending: call 3, sq 61, raised it, and the line refused the interrupt. IER does not enable it now.", None),
     (["refuse 1", "sw 01 01", "sq 61", "ss"],
      "RDA is pending: call 4, ss, raised it, and the line took the interrupt. A read of IIR or of RBR acknowledges it.", None),
+    (["refuse 2", "sq 61", "sw 01 03"],
+     "RDA is pending: call 3, sw 01 03, raised it, and the line took the interrupt. A read of IIR or of RBR acknowledges it.",
+     "THRE is pending: call 3, sw 01 03, raised it, and the line refused the interrupt. A read of IIR acknowledges it."),
+    (["sw 01 01", "sq " + "61" * 20], "RDA is pending: call 2, sq 6161616161616161616.., raised it, and the line took the "
+     "interrupt. A read of IIR or of RBR acknowledges it.", None),
     (["sw 01 02"], None,
      "THRE is pending: call 1, sw 01 02, raised it, and the line took the interrupt. A read of IIR acknowledges it."),
     (["sw 01 02", "sr 02"], None,
@@ -143,6 +149,10 @@ WHY = [
 ]
 
 DIFFS = [
+    (["sq 6869", "sr 00"], ["FIFO 2 -> 1 byte"]),
+    (["cw 0000000000000064 0004 00000069", "cr 0000000000000069 0014"],
+     ["RIS 0x00000000 -> 0x00000001  ALARM", "alarm over"]),
+    (["cw 0000000000000069 0008 00000064"], ["LR 0x00000000 -> 0x00000064", "clock offset 0 -> -5 s"]),
     (["sw 01 02"], ["IER 0x00 -> 0x02  THRE", "IIR 0xc1 -> 0xc2  THRE", "interrupt taken"]),
     (["sq 6869"], ["LSR 0x60 -> 0x61  DR THRE TEMT", "FIFO 0 -> 2 bytes"]),
     (["sw 00 41"], ["output 0 -> 1 byte"]),
@@ -150,6 +160,28 @@ DIFFS = [
     (["cw 0000000000000064 0004 00000069"], ["MR 0x00000000 -> 0x00000069", "alarm set"]),
     (["cw 0000000000000064 0008 00000069"], ["LR 0x00000000 -> 0x00000069", "clock offset 0 -> 5 s"]),
     (["refuse 1", "sq 61", "sw 01 03"], ["IER 0x00 -> 0x03  RDA THRE", "IIR 0xc1 -> 0xc4  RDA", "interrupt refused"]),
+]
+
+
+# Lines, what `regs` is asked for after them, and the rows below its heading.
+REGS = [
+    (["write IER RDA|THRE", 'type "hi"'], "serial",
+     ["IER  0x03  RDA THRE", "IIR  0xc6  RDA THRE", "LCR  0x03  8N1", "MCR  0x08  OUT2", "LSR  0x61  DR THRE TEMT",
+      "MSR  0xb0  CTS DSR DCD", "SCR  0x00", "divisor 12, FIFO 2 of 64", '"hi"', "pending: RDA, THRE",
+      "line called 2 times, 0 bytes out"]),
+    (["sw 03 80", "sw 00 34", "sw 01 12", "sw 03 1a", "sw 04 10", "sw 07 5a", "sw 04 03", "sw 00 41"], "serial",
+     ["IER  0x00", "IIR  0xc1  none", "LCR  0x1a  7E1", "MCR  0x03  DTR RTS", "LSR  0x60  THRE TEMT",
+      "MSR  0xb0  CTS DSR DCD", "SCR  0x5a", "divisor 4660, FIFO 0 of 64", "pending: nothing",
+      "line called 0 times, 1 byte out"]),
+    (["clock write LR 100", "clock write IMSC 1", "alarm +5"], "clock",
+     ["DR   0x00000064  1970-01-01 00:01:40", "MR   0x00000069", "LR   0x00000064", "IMSC 0x00000001  ALARM",
+      "RIS  0x00000000", "alarm due in 5 s", "interrupt line down"]),
+    (["clock write LR 100", "clock write IMSC 1", "alarm +5", "clock read MIS +5"], "clock",
+     ["DR   0x00000064  1970-01-01 00:01:40", "MR   0x00000069", "LR   0x00000064", "IMSC 0x00000001  ALARM",
+      "RIS  0x00000001  ALARM", "no alarm is set", "interrupt line up"]),
+    (["clock write LR 100", "clock write MR 95 now-10"], "clock",
+     ["DR   0x00000064  1970-01-01 00:01:40", "MR   0x0000005f", "LR   0x00000064", "IMSC 0x00000000", "RIS  0x00000000",
+      "alarm due now", "interrupt line down"]),
 ]
 
 
@@ -217,6 +249,30 @@ class Words(unittest.TestCase):
         self.said("refuse 1")
         with self.assertRaisesRegex(ScriptError, "a mask comes before every other line"):
             self.said("refuse 2")
+
+    def test_the_number_of_a_bad_line(self):
+        for number in [*range(1, 300), *range(990, 1110), 10001, 65537]:
+            with self.assertRaises(BadLine) as caught:
+                self.session.run_lines("file", [b"#\n"] * (number - 1) + [b"kr\n", b"kr 04\n"])
+            self.assertEqual((number, f'file:{number}: "kr": an offset is missing'),
+                             (caught.exception.number, str(caught.exception)))
+
+    def test_rows_of_regs(self):
+        headings = {"serial": "serial port", "clock": "clock, in UTC"}
+        for lines, device, rows in REGS:
+            with self.subTest(lines):
+                self.setUp()
+                self.said(*lines)
+                self.assertEqual([headings[device], *("  " + row for row in rows)], self.said(f"regs {device}"))
+
+    def test_why_after_a_load(self):
+        self.said("sw 01 01", "sq 61")
+        saved = self.session.board.serial.to_bytes()
+        self.setUp()
+        self.session.run(Command("sl", (saved,)), is_short=True)
+        loaded = f"sl {saved.hex()}"[:22] + ".."
+        self.assertEqual(f"RDA is pending: call 1, {loaded}, raised it, and the line took the interrupt. A read of IIR or of "
+                         "RBR acknowledges it.", self.said("why")[-2])
 
     def test_regs(self):
         self.said("write IER RDA|THRE", 'type "hi"')

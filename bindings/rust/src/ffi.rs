@@ -330,6 +330,58 @@ mod tests {
         assert_layout!("superio_i8042_write_effects", ControllerWriteEffects { resets });
     }
 
+    /// A type of this module, as the header has it.
+    fn c_type(name: &str) -> String {
+        if let Some(pointee) = name.strip_prefix("*mut ") {
+            return format!("{} *", c_type(pointee));
+        }
+        match name {
+            "u8" | "u16" | "u32" | "u64" => format!("uint{}_t ", &name[1..]),
+            "usize" => "size_t ".into(),
+            "bool" => "bool ".into(),
+            "SerialPort" => "superio_serial ".into(),
+            "ReadEffects" => "superio_serial_read_effects ".into(),
+            "WriteEffects" => "superio_serial_write_effects ".into(),
+            "EnqueueEffects" => "superio_serial_enqueue_effects ".into(),
+            "Clock" => "superio_rtc ".into(),
+            "ClockReadEffects" => "superio_rtc_read_effects ".into(),
+            "ClockWriteEffects" => "superio_rtc_write_effects ".into(),
+            "ControllerWriteEffects" => "superio_i8042_write_effects ".into(),
+            _ => name.strip_prefix("*const ").map(|pointee| format!("const {} *", c_type(pointee))).expect(name),
+        }
+    }
+
+    /// A declaration of this module, as the header has it, without blanks.
+    fn c_declaration(declared: &str) -> String {
+        let (name, rest) = declared.trim().strip_prefix("fn ").unwrap().split_once('(').unwrap();
+        let (parameters, returned) = rest.trim_end_matches(';').split_once(')').unwrap();
+        let parameters: Vec<String> = parameters
+            .split(", ")
+            .filter_map(|parameter| parameter.split_once(": "))
+            .map(|(name, of_type)| c_type(of_type) + name)
+            .collect();
+        let parameters = if parameters.is_empty() { "void".into() } else { parameters.join(", ") };
+        let returned = returned.strip_prefix(" -> ").map_or("void ".into(), c_type);
+        format!("{returned}{name}({parameters})").split_whitespace().collect()
+    }
+
+    #[test]
+    fn the_functions_are_those_of_the_header() {
+        let lines: Vec<&str> = HEADER.lines().filter(|line| !line.starts_with('#')).collect();
+        let code: String = lines.join("\n").split("/*").map(|part| part.rsplit("*/").next().unwrap()).collect();
+        let code = code
+            .split_whitespace()
+            .collect::<String>()
+            .replace("bytes[SUPERIO_AT_LEAST(SUPERIO_SERIAL_SAVED_MAX)]", "*bytes")
+            .replace("bytes[SUPERIO_AT_LEAST(SUPERIO_RTC_SAVED_SIZE)]", "*bytes");
+        let declared = include_str!("ffi.rs").split("extern \"C\" {\n").nth(1).unwrap().split("\n}").next().unwrap();
+        for line in declared.lines() {
+            let wanted = c_declaration(line);
+            // Before it stands the end of a declaration, or the brace of C++'s `extern "C"`.
+            assert!([";", "{"].iter().any(|end| code.contains(&format!("{end}{wanted}"))), "{wanted}");
+        }
+    }
+
     #[test]
     fn the_constants_are_those_of_the_header() {
         for (name, value) in [

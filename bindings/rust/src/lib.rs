@@ -7,8 +7,8 @@
 //!
 //! - The match register of the clock is an [alarm](rtc_pl031), where that of vm-superio 0.8.2 has no effect.
 //! - A host whose clock is before 1970 has the moment 0, where vm-superio 0.8.2 panics.
-//! - Making a device or a default `SerialState` panics if the linked library has another binary interface than this
-//!   crate.
+//! - Making a device or a default `SerialState`, and saving or loading a state, panic if the linked library has another
+//!   binary interface than this crate.
 //!
 //! New are [`Serial::retry_interrupts`], the [saved form](saved) of a state, [`SerialState::is_coherent`], the whole
 //! state of a clock ([`RtcSnapshot`](rtc_pl031::RtcSnapshot)), its accesses at a given moment, [`Rtc::line`] and

@@ -10,7 +10,7 @@ use std::fmt;
 use std::sync::Arc;
 use std::time::{SystemTime, UNIX_EPOCH};
 
-use crate::ffi::Clock;
+use crate::ffi::{check_library, Clock};
 use crate::saved::SavedStateError;
 
 /// The offset of RTCDR, which shows guest time.
@@ -139,6 +139,7 @@ impl RtcSnapshot {
     }
 
     fn clock(&self) -> Clock {
+        check_library();
         let RtcState { lr, offset, mr, imsc, ris } = self.state;
         Clock { lr, mr, imsc, ris, offset, armed: self.armed.into() }
     }
@@ -212,7 +213,6 @@ impl<EV: RtcEvents> Rtc<EV> {
 
     /// Makes a clock of this whole state, whatever numbers it has. The events object is not called.
     pub fn from_snapshot(snapshot: &RtcSnapshot, rtc_events: EV) -> Self {
-        crate::ffi::check_library();
         Rtc { clock: snapshot.clock(), events: rtc_events }
     }
 

@@ -180,6 +180,17 @@ fn a_refused_interrupt_can_be_asked_for_until_the_guest_has_taken_it() {
 }
 
 #[test]
+fn a_retry_ends_at_the_first_refusal_and_asks_for_both_conditions_again() {
+    let mut serial = Serial::new(Line::refusing(0b0100), io::sink());
+    serial.enqueue_raw_bytes(b"a").unwrap();
+    serial.write(1, 0x03).unwrap();
+    assert_eq!(serial.retry_interrupts(), Err("refused"));
+    assert_eq!(serial.interrupt_evt().calls.get(), 3);
+    assert_eq!(serial.retry_interrupts(), Ok(()));
+    assert_eq!(serial.interrupt_evt().calls.get(), 5);
+}
+
+#[test]
 fn a_state_is_restored_and_pending_interrupts_come_again() {
     let mut serial = Serial::new(Line::default(), io::sink());
     serial.write(1, 0x03).unwrap();
@@ -202,6 +213,9 @@ fn a_state_is_restored_and_pending_interrupts_come_again() {
     let refused = Serial::from_state(&saved, line.clone(), NoEvents, io::sink());
     assert!(matches!(refused, Err(Error::Trigger("refused"))));
     assert_eq!(line.calls.get(), 2);
+    let line = Line::refusing(0b01);
+    assert!(Serial::from_state(&saved, line.clone(), NoEvents, io::sink()).is_err());
+    assert_eq!(line.calls.get(), 1);
 }
 
 #[test]

@@ -198,3 +198,18 @@ fn a_clock_and_a_controller_go_on_after_a_panic() {
     controller.write(4, 0xFE).unwrap();
     assert_eq!(fuse.calls(), calls + 1);
 }
+
+/// An access that finds an alarm due raises the interrupt, although it is invalid and its event panics.
+#[test]
+fn an_event_that_panics_leaves_the_alarm_that_the_access_found() {
+    for is_read in [true, false] {
+        let fuse = Fuse::default();
+        let mut clock = Rtc::with_events(Object(fuse.clone()));
+        clock.write_at(0x004, &100u32.to_le_bytes(), 50);
+        fuse.panic_after(0);
+        let access =
+            || if is_read { clock.read_at(0x01C, &mut [0; 4], 100) } else { clock.write_at(0x000, &[1; 4], 100) };
+        assert!(catch_unwind(AssertUnwindSafe(access)).is_err());
+        assert_eq!((clock.state().ris, clock.is_armed()), (1, false));
+    }
+}

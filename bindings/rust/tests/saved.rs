@@ -52,6 +52,7 @@ fn what_is_no_saved_port_is_refused_for_the_first_reason() {
         (changed(5, 3), SavedStateError::UnknownVersion(3)),
         (changed(6, 10), SavedStateError::WrongLength),
         (good[..16].to_vec(), SavedStateError::WrongLength),
+        ([good.as_slice(), &[0]].concat(), SavedStateError::WrongLength),
         (full(65), SavedStateError::TooManyBytes),
     ] {
         assert_eq!(SerialState::from_bytes(&bytes), Err(error));
@@ -60,7 +61,22 @@ fn what_is_no_saved_port_is_refused_for_the_first_reason() {
     let too_many = SerialState { in_buffer: vec![0; 65], ..SerialState::default() };
     assert_eq!(too_many.to_bytes(), Err(SavedStateError::TooManyBytes));
     assert!(!too_many.is_coherent());
-    assert_eq!(SavedStateError::UnknownVersion(3).to_string(), "version 3 of saved states is not known");
+}
+
+#[test]
+fn each_error_says_what_is_wrong() {
+    for (error, text) in [
+        (SavedStateError::TooShort, "the bytes are fewer than the header of a saved state"),
+        (SavedStateError::NotASavedState, "the bytes are no saved state"),
+        (SavedStateError::OtherDevice, "the saved state is that of another device"),
+        (SavedStateError::UnknownVersion(3), "version 3 of saved states is not known"),
+        (SavedStateError::WrongLength, "the saved state has another length than its header says"),
+        (SavedStateError::TooManyBytes, "a serial port holds at most 64 received bytes"),
+        (SavedStateError::InvalidArmed, "the byte of the alarm is neither 0 nor 1"),
+    ] {
+        let error: Box<dyn std::error::Error> = error.into();
+        assert_eq!(error.to_string(), text);
+    }
 }
 
 #[test]
@@ -85,6 +101,8 @@ fn a_clock_is_saved_byte_by_byte_with_its_alarm() {
     expected[32] = 2;
     assert_eq!(RtcSnapshot::from_bytes(&expected), Err(SavedStateError::InvalidArmed));
     assert_eq!(RtcSnapshot::from_bytes(&expected[..32]), Err(SavedStateError::WrongLength));
+    let longer = [bytes.as_slice(), &[0]].concat();
+    assert_eq!(RtcSnapshot::from_bytes(&longer), Err(SavedStateError::WrongLength));
 }
 
 #[test]

@@ -1,5 +1,5 @@
 //! The saved state of a serial port.
-use crate::ffi::{SerialPort, FIFO_SIZE};
+use crate::ffi::{check_library, SerialPort, FIFO_SIZE};
 use crate::saved::SavedStateError;
 
 /// What a port's registers and its receive FIFO hold. The default state is that of a new port.
@@ -102,6 +102,7 @@ impl SerialState {
 
     /// The port of this state, or `None` if it has more bytes than a port holds.
     pub(crate) fn port(&self) -> Option<SerialPort> {
+        check_library();
         let count = self.in_buffer.len();
         let mut places = [0; FIFO_SIZE];
         places.get_mut(..count)?.copy_from_slice(&self.in_buffer);
