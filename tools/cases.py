@@ -152,6 +152,12 @@ def every_write():
                     yield [start, *(f"sw {offset:02x} {value:02x}" for value in range(256)), *reads]
 
 
+def every_send():
+    """A write of THR under every value of LCR and MCR."""
+    for line in range(256):
+        yield [call for modem in range(256) for call in (f"sl 0c000001{line:02x}60{modem:02x}b000 -", "sw 00 41")]
+
+
 def every_access():
     """Every read and write of the clock by offset, and every write of the controller, whose trigger takes it or not."""
     for first in range(0, 0x10000, 0x100):
@@ -164,7 +170,7 @@ def every_access():
 
 def fixed_runs():
     """Each run with a name."""
-    for what, runs in (("every write", every_write()), ("every access", every_access())):
+    for what, runs in (("every write", every_write()), ("every send", every_send()), ("every access", every_access())):
         for place, run in enumerate(runs):
             yield f"{what}, run {place}", run
 

@@ -61,11 +61,11 @@ fn a_run_records_each_call_and_goes_on_over_restores(rt: HostRuntime) -> Result<
     Ok(())
 }
 
-/// Sends 70,000 bytes by one run over the objects of this log, and returns how many records there are.
+/// Sends a million bytes by one run over the objects of this log, and returns how many records there are.
 fn records_of_many<'a>(alloc: Global, log: &'a Log) -> Result<usize, Fail> {
     let mut serial = port(alloc, log)?;
     let mut calls: Vec<PortCall<'a>> = Vec::new(alloc);
-    for number in 0..70_000u32 {
+    for number in 0..1_000_000u32 {
         let call: PortCall<'a> = Call::Write(0, (number % 251) as u8);
         calls.push(call)?;
     }
@@ -75,13 +75,13 @@ fn records_of_many<'a>(alloc: Global, log: &'a Log) -> Result<usize, Fail> {
 #[test]
 fn a_run_of_many_calls_asks_the_writer_once_for_each_byte(rt: HostRuntime) -> Result<(), Fail> {
     // The faults of `write` and `flush`, and how often `flush` is called.
-    for (write_fault, flush_fault, flushes) in [(0, 0, 70_000), (5, 0, 0), (0, 5, 70_000)] {
+    for (write_fault, flush_fault, flushes) in [(0, 0, 1_000_000), (5, 0, 0), (0, 5, 1_000_000)] {
         let log = Log::new();
         log.write_fault.set(write_fault);
         log.flush_fault.set(flush_fault);
-        assert!(rt; records_of_many(rt.alloc(), &log)? == 70_000);
+        assert!(rt; records_of_many(rt.alloc(), &log)? == 1_000_000);
         assert!(rt;
-            log.writes.get() == 70_000 && log.flushes.get() == flushes,
+            log.writes.get() == 1_000_000 && log.flushes.get() == flushes,
             "{write_fault}"
         );
     }
