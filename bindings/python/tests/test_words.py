@@ -269,9 +269,10 @@ class Words(unittest.TestCase):
         self.said("sw 01 01", "sq 61")
         saved = self.session.board.serial.to_bytes()
         self.setUp()
-        self.session.run(Command("sl", (saved,)), is_short=True)
+        for _ in range(2):  # the second asks again for what is pending already
+            self.session.run(Command("sl", (saved,)), is_short=True)
         loaded = f"sl {saved.hex()}"[:22] + ".."
-        self.assertEqual(f"RDA is pending: call 1, {loaded}, raised it, and the line took the interrupt. A read of IIR or of "
+        self.assertEqual(f"RDA is pending: call 2, {loaded}, raised it, and the line took the interrupt. A read of IIR or of "
                          "RBR acknowledges it.", self.said("why")[-2])
 
     def test_regs(self):
