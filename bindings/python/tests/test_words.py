@@ -275,6 +275,14 @@ class Words(unittest.TestCase):
         self.assertEqual(f"RDA is pending: call 2, {loaded}, raised it, and the line took the interrupt. A read of IIR or of "
                          "RBR acknowledges it.", self.said("why")[-2])
 
+    def test_a_load_whose_interrupt_is_refused_leaves_the_port(self):
+        self.said("sw 01 01", "sq 61")
+        saved = self.session.board.serial.to_bytes()
+        self.setUp()
+        self.said("refuse 1", "sw 07 5a")
+        self.session.run(Command("sl", (saved,)), is_short=True)
+        self.assertEqual(["trigger", "5a", "0000000000000000"], self.said("sr 07", "st"))
+
     def test_regs(self):
         self.said("write IER RDA|THRE", 'type "hi"')
         said = self.said("regs")
