@@ -91,6 +91,15 @@ class Files(unittest.TestCase):
         self.path.write_bytes(f"source '{self.path}'\n".encode())
         self.assertIn("at most 10 deep", run(self.path)[2])
 
+    def test_sources_follow_each_other_and_go_ten_deep(self):
+        folder = Path(self.folder.name)
+        (folder / "0").write_text("kr 04\n")
+        for number in range(1, 11):
+            (folder / str(number)).write_text(f"source '{folder / str(number - 1)}'\n")
+        self.assertEqual((0, "00\n" * 12, ""), run(script=f"source '{folder / '0'}'\n".encode() * 12))
+        self.assertEqual((0, "00\n", ""), run(script=f"source '{folder / '9'}'\n".encode()))
+        self.assertEqual(1, run(script=f"source '{folder / '10'}'\n".encode())[0])
+
     def test_trace_file_is_a_script(self):
         session = f"trace on '{self.path}'\nwrite IER RDA\ntype hi\nread RBR\nclock read DR 5\ntrace off\nread LSR\n"
         self.assertEqual(0, run(script=session.encode())[0])

@@ -78,6 +78,7 @@ class Layout(unittest.TestCase):
     def test_functions_of_the_library_have_their_prototypes(self):
         """Otherwise ctypes passes and returns an `int`, whose 32 bits many numbers fit by chance."""
         found = library.open_library()
+        self.assertIsInstance(found._file, ctypes.PyDLL, "calls on one device may overlap: they give up Python's lock")
         for name, prototype in library.PROTOTYPES.items():
             with self.subTest(name):
                 function = getattr(found, name)

@@ -155,6 +155,14 @@ class Pictures(unittest.TestCase):
         self.assertIn("v-34h", bars[0])
         self.assertIn("v-17h", bars[-1])
 
+    def test_a_refused_call_is_no_interrupt(self):
+        lanes = self.lanes(picture(steps_of(b"refuse 0000000000000001\nsw 01 01\nsq 61\nsr 05\n"), "refused"))
+        self.assertEqual({"RDA pending", "FIFO", "refused"}, set(lanes))
+
+    def test_a_column_of_many_calls_has_the_most_bytes_held(self):
+        lanes = self.lanes(picture(steps_of(b"sq 61\nsr 00\n" * 800), "many"))
+        self.assertEqual("M140 176v-5h800v5z", lanes["FIFO"])
+
     def test_empty_lanes(self):
         self.assertEqual({}, self.lanes(picture(steps_of(b"sr 05\n"), "nothing")))
 

@@ -37,6 +37,9 @@ MEANINGS = [
     ("clock read rtcmis", "cr 000000006553f100 0018"),
     ("clock read 0xfe4 +5", "cr 000000006553f105 0fe4"),
     ("clock read MR now-1", "cr 000000006553f0ff 0004"),
+    ("clock read MR now-9999999999", "cr 0000000000000000 0004"),
+    ("clock write LR 0xffffffff 1", "cw 0000000000000001 0008 ffffffff"),
+    (r'type "\t\r\0\n"', "sq 090d000a"),
     ("clock write LR 100 1000", "cw 00000000000003e8 0008 00000064"),
     ("clock write IMSC ALARM", "cw 000000006553f100 0010 00000001"),
     ("alarm +5", "cw 000000006553f100 0004 6553f105"),
@@ -269,10 +272,19 @@ class Words(unittest.TestCase):
         self.said("sw 01 01", "sq 61")
         saved = self.session.board.serial.to_bytes()
         self.setUp()
-        self.session.run(Command("sl", (saved,)), is_short=True)
+        for _ in range(2):  # the second asks again for what is pending already
+            self.session.run(Command("sl", (saved,)), is_short=True)
         loaded = f"sl {saved.hex()}"[:22] + ".."
-        self.assertEqual(f"RDA is pending: call 1, {loaded}, raised it, and the line took the interrupt. A read of IIR or of "
+        self.assertEqual(f"RDA is pending: call 2, {loaded}, raised it, and the line took the interrupt. A read of IIR or of "
                          "RBR acknowledges it.", self.said("why")[-2])
+
+    def test_a_load_whose_interrupt_is_refused_leaves_the_port(self):
+        self.said("sw 01 01", "sq 61")
+        saved = self.session.board.serial.to_bytes()
+        self.setUp()
+        self.said("refuse 1", "sw 07 5a")
+        self.session.run(Command("sl", (saved,)), is_short=True)
+        self.assertEqual(["trigger", "5a", "0000000000000000"], self.said("sr 07", "st"))
 
     def test_regs(self):
         self.said("write IER RDA|THRE", 'type "hi"')
