@@ -140,13 +140,17 @@ fn input_stops_and_starts_and_a_refused_interrupt_is_tried_again(
 fn devices_are_saved_however_many_bytes_are_held(rt: HostRuntime) -> Result<(), Fail> {
     let log = Log::new();
     let mut serial = port(rt.alloc(), &log)?;
-    let (clock, input) = (
+    let (mut clock, input) = (
         Rtc::with_events(Object::new(&log)),
         Input::new(rt.alloc(), 0)?,
     );
+    // A time that the guest sets, and an alarm.
+    for (register, value) in [(8, 5u32), (4, 1_000)] {
+        clock.write(register, &value.to_le_bytes(), 1_700_000_000);
+    }
     for count in 0..=64usize {
         let saved = save(rt.alloc(), &serial, &clock, &input)?;
-        assert!(rt; saved.serial.in_buffer.len() == count);
+        assert!(rt; saved.serial.in_buffer.len() == count && saved.clock.armed);
         assert!(rt; serial.enqueue_raw_bytes(b"a").is_ok() == (count < 64));
     }
     Ok(())
