@@ -9,6 +9,8 @@ import termios
 import time
 
 TIMEOUT = 60
+# Of what a program shows at most so much is kept, and searched, until the text comes that is waited for.
+_KEPT = 1_000_000
 _CONTROL = re.compile(r"\x1b\[\??[0-9;]*[a-zA-Z]|\x07")
 
 
@@ -29,23 +31,35 @@ class Terminal:
     def type(self, text):
         os.write(self._end, text.encode())
 
-    def read_until(self, text):
+    def read_until(self, text, seconds=TIMEOUT):
         """What the terminal shows up to this text, and the text, without colours and cursor movements.
 
-        Raises `AssertionError` if the text does not come."""
-        deadline = time.monotonic() + TIMEOUT
+        Raises `AssertionError` if the text does not come in time."""
+        deadline = time.monotonic() + seconds
         while text not in self.shown():
-            ready, _, _ = select.select([self._end], [], [], max(0, deadline - time.monotonic()))
-            try:
-                piece = os.read(self._end, 4096) if ready else b""
-            except OSError:  # the program closed the terminal
-                piece = b""
-            if not piece:
-                raise AssertionError(f"{text!r} does not come after {self.shown()!r}")
-            self._take(piece)
+            if not self._read(deadline):
+                raise AssertionError(f"{text!r} does not come after {self.shown()[-1000:]!r}")
         head, found, rest = self.shown().partition(text)
         self.raw = rest
         return head + found
+
+    def _read(self, deadline):
+        """Takes what the terminal shows next, and returns whether it showed anything before the deadline."""
+        took = False
+        wait = deadline - time.monotonic()
+        while wait > 0 and select.select([self._end], [], [], wait)[0]:
+            try:
+                piece = os.read(self._end, 4096)
+            except OSError:  # the program closed the terminal
+                break
+            if not piece:
+                break
+            self._take(piece)
+            took = True
+            # What is there already is taken at once, up to a part of what is kept.
+            wait = 0.01 if len(self.raw) < _KEPT // 4 else 0
+        self.raw = self.raw[-_KEPT:]
+        return took
 
     def _take(self, piece):
         text = piece.decode(errors="replace")

@@ -88,7 +88,7 @@ class Typing(ShellTest):
             self.terminal.type(f"source {path}\r")
             self.terminal.read_until("0000000000000000\n")
             self.terminal.type(CTRL_C)
-            self.terminal.read_until("^C\n")
+            self.terminal.read_until("^C\n", seconds=30)
             self.terminal.read_until(PROMPT)
         self.assertEqual("SCR = 0x07\n", self.answer("read SCR"))
         self.end()
