@@ -64,7 +64,7 @@ pub fn retries_of_history()
     ensures { RetryLaw }
 {}
 
-/// From a coherent start, entries that follow by steps form a well-formed trace with these responses. They end in the
+/// From a coherent start, entries connected by steps form a well-formed trace with these responses. They end in the
 /// state that it leads to, which is coherent.
 pub fn whole_runs()
     ensures { WholeRunLaw }
@@ -128,8 +128,8 @@ pub fn output()
 {}
 
 /// One call in any state: the bytes that it takes, then those held after it, are those held before it, then those it
-/// accepts. It gives a guest the byte that it takes. Received bytes and an RBR read change only the FIFO, LSR and IIR.
-/// After an RBR read, LSR shows data ready exactly if it did before and a byte is left.
+/// accepts. It gives a guest the byte that it takes. Received bytes, and an RBR read of a held byte, change only the
+/// FIFO, LSR and IIR. After an RBR read, LSR shows data ready exactly if it did before and a byte is left.
 pub fn one_call()
     ensures taken { OneCallLaw }
     ensures read { OneReadLaw }
@@ -138,8 +138,8 @@ pub fn one_call()
     ensures data_ready { RbrDataReadyLaw }
 {}
 
-/// One call in any state: a THR write outside loopback reports one of `out_byte` and `tx_lost_byte`, once; other calls
-/// neither.
+/// In any state, a THR write outside loopback reports either `out_byte` or `tx_lost_byte`, exactly once. No other call
+/// does.
 pub fn outcome_events()
     ensures { OutcomeEventsLaw }
 {}

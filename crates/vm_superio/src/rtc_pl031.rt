@@ -234,8 +234,8 @@ impl<EV: RtcEvents> Rtc<EV> {
         self.fields.alarm_due(now)
     }
 
-    /// Writes `bytes`, lowest byte first, at `offset` from the clock's base address, at the moment `now` in seconds
-    /// since 1970. Only its low 32 bits count.
+    /// Writes `bytes`, lowest byte first, at `offset` from the clock's base address, at `now`, in seconds since 1970.
+    /// Only the low 32 bits of `now` count.
     ///
     /// First, if an alarm is set and guest time has reached it, it raises bit 0 of the raw interrupt status and is
     /// cleared.
@@ -263,8 +263,8 @@ impl<EV: RtcEvents> Rtc<EV> {
         }
     }
 
-    /// Reads into `bytes`, lowest byte first, at `offset` from the clock's base address, at the moment `now` in seconds
-    /// since 1970. Only its low 32 bits count. A read changes a register only if it finds the alarm due, as a write
+    /// Reads into `bytes`, lowest byte first, at `offset` from the clock's base address, at `now`, in seconds since
+    /// 1970. Only the low 32 bits of `now` count. A read changes a register only if it finds the alarm due, as a write
     /// does first.
     ///
     /// RTCDR (0x000) shows guest time, RTCCR (0x00C) shows 1, RTCMIS (0x018) shows the raw interrupt status under the
