@@ -127,9 +127,9 @@ pub fn output()
     ensures { OutputLaw }
 {}
 
-/// One call in any state: the bytes that it takes, then those held after it, are those held before it, then those it
-/// accepts. It gives a guest the byte that it takes. Received bytes, and an RBR read of a held byte, change only the
-/// FIFO, LSR and IIR. After an RBR read, LSR shows data ready exactly if it did before and a byte is left.
+/// One call in any state: the bytes that it takes, then those held after, are those held before, then those it accepts.
+/// It gives a guest the byte that it takes. Received bytes, and an RBR read of a held byte, change only the FIFO, LSR
+/// and IIR. After an RBR read, LSR shows data ready if it did before and a byte is left.
 pub fn one_call()
     ensures taken { OneCallLaw }
     ensures read { OneReadLaw }

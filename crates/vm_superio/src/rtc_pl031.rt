@@ -226,7 +226,7 @@ impl<EV: RtcEvents> Rtc<EV> {
     /// the host's time before its first second, and may stop short of the match at the largest host's time. The mask
     /// plays no part: a masked alarm is due like any other, and leaves the line down.
     ///
-    /// The answer holds until the next access, which may change the match or guest time.
+    /// The result holds until the next access, which may change the match or guest time.
     pub fn alarm_due(&self, now: u64) -> Option<u64>
         ensures due { IsAlarmDue self.now.state now result }
         ensures bound { IfSome result (λ seconds. seconds < 2 ^ 32) }
@@ -237,8 +237,8 @@ impl<EV: RtcEvents> Rtc<EV> {
     /// Writes `bytes`, lowest byte first, at `offset` from the clock's base address, at `now`, in seconds since 1970.
     /// Only the low 32 bits of `now` count.
     ///
-    /// First, if an alarm is set and guest time has reached it, it raises bit 0 of the raw interrupt status and is
-    /// cleared.
+    /// First, if an alarm is set and guest time has reached it, the alarm raises bit 0 of the raw interrupt status and
+    /// is cleared.
     ///
     /// RTCMR (0x004) stores the value and drops any alarm set before. It sets the alarm if guest time is less than the
     /// value, raises at once if guest time equals the value, and does neither if the value is past. RTCLR (0x008)

@@ -39,7 +39,7 @@ pub enum Error {
     OtherDevice,
     /// The form has this version, which is not 1.
     UnknownVersion(u8),
-    /// The header's length is not that of the rest, or no state of the device has it.
+    /// The length in the header is not that of the rest, or no state of the device has it.
     WrongLength,
     /// The port would hold more than 64 received bytes.
     TooManyBytes,

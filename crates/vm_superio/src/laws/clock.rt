@@ -14,8 +14,8 @@ pub fn raw_bits_by_history()
     ensures { RawBitsByHistory }
 {}
 
-/// By the history, an alarm due in some seconds raises the interrupt at any access then. No earlier access does, unless
-/// it writes a match itself. An earlier read changes nothing.
+/// By the history, an alarm due in some seconds raises the interrupt at any access at that moment. No earlier access
+/// does, unless it writes a match itself. An earlier read changes nothing.
 #[tactic(auto, using(crate::proofs::AlarmLemmas::alarm_due_law))]
 pub fn alarm_due_by_history()
     ensures { AlarmDueByHistory }

@@ -16,7 +16,7 @@ pub(super) fn guest_time(offset: i64, time: u32) -> u32
     }
 }
 
-/// The first host's time from `from` up to the largest at which guest time is `value` or more. Guest time reaches the
+/// The first host's time, from `from` up to the largest, at which guest time is `value` or more. Guest time reaches the
 /// value when the counter does or, while the counter does not fit in 32 bits, when the host's time does.
 fn first_time(offset: i64, value: u32, from: u32) -> Option<u32>
     ensures { FirstCome offset value from result }

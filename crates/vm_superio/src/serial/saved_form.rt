@@ -66,8 +66,8 @@ impl SerialState {
 }
 
 impl SerialFields {
-    /// The state as bytes, as [`SerialState::to_bytes`] gives it. Any struct has a form: a port never holds more than
-    /// 64 bytes. It has no byte that the guest has read.
+    /// The state as bytes, as from [`SerialState::to_bytes`]. Any struct has a form: a port never holds more than 64
+    /// bytes. The form has no byte that the guest has read.
     pub fn to_bytes(&self) -> ArrayVec<u8, SAVED_MAX>
         ensures { result.items ≡ serial_form (state_of_fields self.now) }
     {
