@@ -67,7 +67,7 @@ impl SerialState {
 
 impl SerialFields {
     /// The state as bytes, as from [`SerialState::to_bytes`]. Any struct has a form: a port never holds more than 64
-    /// bytes. The form has no byte that the guest has read.
+    /// bytes. The form has no byte the guest has read.
     pub fn to_bytes(&self) -> ArrayVec<u8, SAVED_MAX>
         ensures { result.items ≡ serial_form (state_of_fields self.now) }
     {
