@@ -2,18 +2,18 @@
  * superio.h: emulated legacy devices for a virtual machine monitor.
  *
  * A 16550 serial port, a PL031 real-time clock, and an i8042 controller that
- * resets the machine. Each function of the library is proved to do what its
- * specification says, for every argument and every content of its struct.
+ * resets the machine. Each function is proved to meet its specification, for
+ * every argument and every content of its struct.
  *
  * How it works
  * ------------
  *
- * A device is a struct of plain fields, which the caller keeps. A call takes it
- * by pointer, changes it, and returns its effects: what is left for the caller
- * to do. There are no callbacks and no handles. The library allocates no
- * memory, keeps no state, makes no system call, and needs no initialisation. Of
- * other libraries it needs memcpy alone. No call fails, except that a load
- * refuses bytes that are no saved state.
+ * A device is a struct of plain fields that you keep. A call takes it by
+ * pointer, changes it, and returns its effects: what is left for you to do.
+ * There are no callbacks and no handles. The library allocates no memory,
+ * keeps no state, makes no system calls, and needs no initialisation. Of other
+ * libraries it needs only memcpy. No call fails, except that a load refuses
+ * bytes that are not a saved state.
  *
  *     superio_serial port = superio_serial_new();
  *
@@ -37,18 +37,18 @@
  * Rules
  * -----
  *
- * - A pointer to a device points to a struct whose bytes are all set, by the
- *   device's `new`, by a load or by a copy. It is not NULL.
- * - Any bytes are a device. No call reads or writes outside the struct and the
- *   bytes that it is passed, whatever the struct holds.
- * - The library takes no lock. Calls on one device must not overlap in time, so
- *   a caller whose threads share a device takes a lock of its own. Calls on
+ * - A device pointer is not NULL. All bytes of its struct are set, by the
+ *   device's `new`, by a load or by a copy.
+ * - Any bytes are a valid device. Whatever the struct holds, no call reads or
+ *   writes outside it and the bytes that are passed.
+ * - The library takes no locks. Calls on one device must not overlap in time:
+ *   if your threads share a device, take a lock of your own. Calls on
  *   different devices may overlap, and so may calls that take the same device
  *   by a pointer to const.
  * - A copy of the struct is a copy of the device, for use in the same program.
- *   To write a device to a file or to send it to another machine, save it: a
- *   saved device has a version, is the same on every machine, and holds no byte
- *   that the guest has read, while a copy may hold such bytes.
+ *   To write a device to a file or send it to another machine, save it. A
+ *   saved device has a version, is the same on every machine, and holds no
+ *   byte that the guest has read. A copy may hold such bytes.
  *
  * What the object code lacks
  * --------------------------
@@ -69,8 +69,8 @@
 #include <stdint.h>
 
 /*
- * What lets a compiler warn of misuse. Each of these is empty where the
- * compiler does not know it.
+ * These let a compiler warn of misuse. Each is empty if the compiler does not
+ * know it.
  */
 #if defined(__has_attribute)
 #define SUPERIO_HAS_ATTRIBUTE(name) __has_attribute(name)
@@ -78,7 +78,7 @@
 #define SUPERIO_HAS_ATTRIBUTE(name) 0
 #endif
 
-/* A caller that ignores the result loses work that it has to do. */
+/* Ignoring the result loses work that is left to do. */
 #if SUPERIO_HAS_ATTRIBUTE(warn_unused_result)
 #define SUPERIO_MUST_USE __attribute__((warn_unused_result))
 #else
@@ -92,7 +92,7 @@
 #define SUPERIO_NONNULL
 #endif
 
-/* How an argument's memory is used: it is set where it is read, and it is as
+/* How an argument's memory is used: it is set if it is read, and it is as
  * large as a further argument says. */
 #if SUPERIO_HAS_ATTRIBUTE(access)
 #define SUPERIO_ACCESS(...) __attribute__((access(__VA_ARGS__)))
@@ -100,7 +100,7 @@
 #define SUPERIO_ACCESS(...)
 #endif
 
-/* `bytes` is NULL only where `count` is 0. */
+/* `bytes` is NULL only if `count` is 0. */
 #if SUPERIO_HAS_ATTRIBUTE(diagnose_if)
 #define SUPERIO_COUNTED                                                       \
     __attribute__((diagnose_if(!bytes && count > 0,                           \
@@ -110,7 +110,7 @@
 #define SUPERIO_COUNTED
 #endif
 
-/* The size that an array argument has at least. */
+/* The minimum size of an array argument. */
 #ifdef __cplusplus
 #define SUPERIO_AT_LEAST(size)
 #else
@@ -133,17 +133,16 @@ extern "C" {
 #define SUPERIO_VERSION "0.1.0"
 
 /*
- * The binary interface that this header describes. It gets another number
- * whenever a struct changes, or what a call means. A program that runs with a
- * library of another number must not call it, so compare them once, first of
- * all:
+ * The binary interface that this header describes. Its number changes whenever
+ * a struct or the meaning of a call changes. A program must not call a library
+ * with another number, so compare them once, first of all:
  *
  *     if (!SUPERIO_ABI_MATCHES())
  *         abort();
  *
- * A struct does not hold the number: a caller that keeps copies of structs
- * outside the program stores it beside them. A saved device has a version of
- * its own, which a load checks.
+ * A struct does not hold the number: if you keep copies of structs outside the
+ * program, store it with them. A saved device has its own version, which a
+ * load checks.
  */
 #define SUPERIO_ABI 2
 #define SUPERIO_ABI_MATCHES() (superio_abi() == SUPERIO_ABI)
@@ -158,18 +157,18 @@ uint32_t superio_abi(void);
 /* How many received bytes a port holds at most. */
 #define SUPERIO_SERIAL_FIFO_SIZE 64
 
-/* How many ports of the guest a port takes, from its base on. */
+/* How many I/O ports a serial port takes, from its base on. */
 #define SUPERIO_SERIAL_PORTS 8
 
 /*
  * A 16550 serial port, reduced to what a guest's driver uses: its registers,
- * and a receive FIFO of 64 bytes that is always on. The registers are at the
- * offsets 0 to 7 from the port's base. Any other offset reads as 0, and a write
- * there changes nothing.
+ * and a receive FIFO of 64 bytes that is always on. The registers are at
+ * offsets 0 to 7 from the port's base. Any other offset reads as 0, and a
+ * write there has no effect.
  *
- * The received bytes stand in a ring: the oldest at places[first % 64], the
- * others after it, and places[0] follows places[63]. At most 64 are held: a
- * larger value of `held` stands for 64.
+ * The received bytes form a ring: the oldest is at places[first % 64], the
+ * others follow it, and places[0] follows places[63]. At most 64 are held: a
+ * larger `held` counts as 64.
  */
 typedef struct superio_serial {
     uint8_t baud_divisor_low;  /* DLL, the low byte of the divisor latch */
@@ -187,12 +186,11 @@ typedef struct superio_serial {
     uint8_t first;             /* the place of the oldest received byte */
     uint8_t held;              /* how many received bytes are held */
     uint8_t places[SUPERIO_SERIAL_FIFO_SIZE]; /* the received bytes. Those that
-                                                 are not held are left over, and
-                                                 mean nothing */
+                                                 are not held mean nothing */
 } superio_serial;
 
 /*
- * What a read did. The two events serve to count, to log, or to offer more
+ * What a read did. Use the two events to count, to log, or to offer more
  * input. If both are true, `in_buffer_empty` comes first.
  */
 typedef struct superio_serial_read_effects {
@@ -201,16 +199,16 @@ typedef struct superio_serial_read_effects {
     bool in_buffer_empty; /* event: it did, and no byte is held now */
 } superio_serial_read_effects;
 
-/* What a write leaves to the caller. */
+/* What a write leaves to you. */
 typedef struct superio_serial_write_effects {
     bool sends;         /* the written value goes out */
     uint8_t interrupts; /* how often to ask for the interrupt: 0 to 2 times */
 } superio_serial_write_effects;
 
-/* What an enqueue did, and leaves to the caller. */
+/* What an enqueue did, and leaves to you. */
 typedef struct superio_serial_enqueue_effects {
     size_t taken;       /* how many of the bytes were taken, first ones first */
-    bool full;          /* there were bytes, but room for none */
+    bool full;          /* there were bytes, but no room */
     uint8_t interrupts; /* how often to ask for the interrupt: 0 or 1 times */
 } superio_serial_enqueue_effects;
 
@@ -226,24 +224,24 @@ superio_serial_read_effects superio_serial_read(superio_serial *port,
     SUPERIO_NONNULL SUPERIO_ACCESS(read_write, 1);
 
 /*
- * The guest writes `value` at `offset`. Afterwards the caller does two things,
- * in this order:
+ * The guest writes `value` at `offset`. Afterwards do two things, in this
+ * order:
  *
- * 1. If `sends` is true, it sends the value and flushes. The event of the byte
- *    is up to the caller to report: out_byte if both succeeded, and
- *    tx_lost_byte if either failed. The port is the same either way, and the
- *    second step follows either way.
- * 2. It asks for the interrupt as often as `interrupts` says, and stops at the
- *    first refusal, such as a write to an eventfd that fails. If `interrupts`
- *    is 2 and the first of the two is refused, it calls
- *    superio_serial_first_refused. No other refusal changes the port.
+ * 1. If `sends` is true, send the value and flush. Report the event of the
+ *    byte yourself: out_byte if both succeed, and tx_lost_byte if either
+ *    fails. The port is the same either way, and the second step follows
+ *    either way.
+ * 2. Ask for the interrupt as often as `interrupts` says. Stop at the first
+ *    refusal, such as a write to an eventfd that fails. If `interrupts` is 2
+ *    and the first of the two is refused, call superio_serial_first_refused.
+ *    No other refusal changes the port.
  *
  * The condition of a refused interrupt stays pending, so no later access asks
- * for it until the guest has acknowledged it, which a guest that waits for the
- * interrupt may never do. A caller whose interrupt can be refused asks again
- * later: superio_serial_interrupts_due says how often.
+ * for it until the guest has acknowledged it. A guest that waits for the
+ * interrupt may never do so. If your interrupt can be refused, ask again
+ * later, as often as superio_serial_interrupts_due says.
  *
- * A write to MCR, at offset 4, may end loopback: offer the input again that an
+ * A write to MCR, at offset 4, may end loopback: offer input again that an
  * enqueue did not take.
  */
 superio_serial_write_effects superio_serial_write(superio_serial *port,
@@ -253,25 +251,25 @@ superio_serial_write_effects superio_serial_write(superio_serial *port,
 
 /*
  * Tells the port that the first of two interrupts was refused, right after the
- * write whose `interrupts` was 2. That refusal ends the write before it raises
+ * write whose `interrupts` was 2. The refusal ends that write before it raises
  * its second condition, THRE, so THRE is not pending afterwards.
  *
- * At any other time the call does the same, and the guest may lose an interrupt
- * that it waits for: bit 0x02 of IIR is clear afterwards, IIR is 1 if no bit is
- * left, and nothing else changes. A coherent port stays coherent. A caller that
- * leaves the call out has the port whose first interrupt was taken and whose
- * second was refused: both conditions are pending.
+ * At any other time the call does the same, and the guest may lose an
+ * interrupt that it waits for: bit 0x02 of IIR is clear afterwards, IIR is 1
+ * if no bit is left, and nothing else changes. A coherent port stays coherent.
+ * If you skip the call, the port behaves as if only the second interrupt had
+ * been refused: both conditions are pending.
  */
 void superio_serial_first_refused(superio_serial *port)
     SUPERIO_NONNULL SUPERIO_ACCESS(read_write, 1);
 
 /*
- * Bytes arrive for the guest. The first of the `count` bytes are taken, as many
- * as there is room for. In loopback none are, and `full` is false. Afterwards
- * the caller asks for the interrupt as often as `interrupts` says. The bytes
+ * Bytes arrive for the guest. The port takes as many of the `count` bytes as
+ * fit, first ones first. In loopback it takes no bytes, and `full` is false.
+ * Afterwards ask for the interrupt as often as `interrupts` says. The bytes
  * are taken even if that is refused: do not offer them again.
  *
- * Keep the bytes that were not taken, and offer them when a read tells
+ * Keep the bytes that were not taken. Offer them when a read reports
  * `in_buffer_empty`, or when the guest leaves loopback.
  *
  * `bytes` points to `count` bytes outside the port. If `count` is 0 it may be
@@ -283,7 +281,7 @@ superio_serial_enqueue_effects superio_serial_enqueue(superio_serial *port,
     SUPERIO_MUST_USE SUPERIO_NONNULL SUPERIO_COUNTED
     SUPERIO_ACCESS(read_write, 1) SUPERIO_ACCESS(read_only, 2, 3);
 
-/* How many bytes there is room for: 64 less those that are held. */
+/* How many bytes fit: 64 minus those that are held. */
 size_t superio_serial_fifo_capacity(const superio_serial *port)
     SUPERIO_MUST_USE SUPERIO_NONNULL SUPERIO_ACCESS(read_only, 1);
 
@@ -291,24 +289,24 @@ size_t superio_serial_fifo_capacity(const superio_serial *port)
  * How often to ask for the interrupt now: once for each condition that is both
  * pending and enabled, 0 to 2 times. The port does not change.
  *
- * After a restore ask that often, so that the interrupts that the guest has not
- * taken reach it from their new source. After a refused interrupt ask that
- * often as soon as it can be asked for, as from an event loop. The guest may
- * then be interrupted again for a condition that it knows of.
+ * After a restore, ask that often, so that interrupts that the guest has not
+ * taken reach it from their new source. After a refused interrupt, ask that
+ * often as soon as you can, such as from an event loop. The guest may then be
+ * interrupted again for a condition that it knows of.
  */
 uint8_t superio_serial_interrupts_due(const superio_serial *port)
     SUPERIO_MUST_USE SUPERIO_NONNULL SUPERIO_ACCESS(read_only, 1);
 
 /*
- * Whether the port is coherent, as superio_serial_new makes it and as every
- * call leaves a coherent one: `held` is at most 64, data ready says whether a
- * byte is held, IIR is 1, 2, 4 or 6, and RDA is pending only while a byte is
- * held. The other fields are free.
+ * Whether the port is coherent: `held` is at most 64, data ready says whether
+ * a byte is held, IIR is 1, 2, 4 or 6, and RDA is pending only while a byte is
+ * held. The other fields are free. A new port is coherent. Every call but a
+ * load keeps a port coherent.
  *
- * A caller that restores a port from a source that it does not trust may refuse
- * one that is not coherent. It need not: every call is safe and does its step
- * from any bytes. A caller that wants to refuse too many bytes alone, as the
- * Rust crate vm-superio does, compares `held` with 64.
+ * If you restore a port from an untrusted source, you may refuse one that is
+ * not coherent. You need not: every call is safe and does its step from any
+ * bytes. To refuse only too many bytes, as the Rust crate vm-superio does,
+ * compare `held` with 64.
  */
 bool superio_serial_is_coherent(const superio_serial *port)
     SUPERIO_MUST_USE SUPERIO_NONNULL SUPERIO_ACCESS(read_only, 1);
@@ -317,35 +315,35 @@ bool superio_serial_is_coherent(const superio_serial *port)
 /* The real-time clock                                                       */
 /* ------------------------------------------------------------------------- */
 
-/* How many bytes of the guest's memory a clock takes, from its base on. */
+/* How many bytes of guest memory a clock occupies, from its base on. */
 #define SUPERIO_RTC_WINDOW 0x1000
 
 /* What superio_rtc_due returns if the alarm never comes by itself. */
 #define SUPERIO_RTC_NEVER UINT64_MAX
 
 /*
- * A PL031 real-time clock. It counts seconds. The library reads no clock: each
- * access is given its moment `now`, in seconds since 1970.
+ * A PL031 real-time clock. It counts seconds. The library reads no clock: pass
+ * each access its moment `now`, in seconds since 1970.
  *
  * The host's time is the low 32 bits of `now`. Guest time is the host's time
  * plus `offset` if that sum is from 0 to 4294967295, and otherwise the host's
  * time. So guest time does not wrap at 32 bits: it falls back to the host's
- * time, and is the sum again as soon as that is in range. A write of v to RTCLR
- * sets `offset` to v less the host's time.
+ * time, and is the sum again when that is in range. A write of v to RTCLR sets
+ * `offset` to v minus the host's time.
  *
  * The match register is an alarm. A write to it sets the alarm if the value is
  * after guest time, and otherwise clears it. The first access, of any kind, at
- * which guest time has come to the match sets bit 0 of `ris` and clears the
+ * which guest time has reached the match sets bit 0 of `ris` and clears the
  * alarm. A write of guest time itself sets bit 0 at once.
  *
- * No call asks for an interrupt. A caller that has an interrupt line for the
- * clock sets it to superio_rtc_line after each access and after a restore. It
- * also sets a timer for superio_rtc_due, and when the timer goes off it makes
- * an access of its own, such as a read at 0x018 (RTCMIS), since a guest that
- * sleeps until the interrupt makes none.
+ * No call asks for an interrupt. If the clock has an interrupt line, set it to
+ * superio_rtc_line after each access and after a restore. Also set a timer for
+ * superio_rtc_due. When the timer goes off, make an access of your own, such
+ * as a read at 0x018 (RTCMIS): a guest that sleeps until the interrupt makes
+ * no access.
  */
 typedef struct superio_rtc {
-    uint32_t lr;    /* RTCLR, the value that was loaded last, or 0 */
+    uint32_t lr;    /* RTCLR, the last loaded value, or 0 */
     uint32_t mr;    /* RTCMR, the guest time that an alarm waits for */
     uint32_t imsc;  /* RTCIMSC, the interrupt mask */
     uint32_t ris;   /* RTCRIS, the raw interrupt status */
@@ -376,8 +374,8 @@ superio_rtc_read_effects superio_rtc_read(superio_rtc *clock, uint16_t offset,
     SUPERIO_NONNULL SUPERIO_ACCESS(read_write, 1);
 
 /*
- * The guest writes four bytes at `offset`, at the moment `now`. They stand for
- * `value`, lowest first.
+ * The guest writes `value`, as four bytes, lowest first, at `offset`, at the
+ * moment `now`.
  */
 superio_rtc_write_effects superio_rtc_write(superio_rtc *clock, uint16_t offset,
                                             uint32_t value, uint64_t now)
@@ -388,14 +386,14 @@ bool superio_rtc_line(const superio_rtc *clock)
     SUPERIO_MUST_USE SUPERIO_NONNULL SUPERIO_ACCESS(read_only, 1);
 
 /*
- * In how many seconds after the moment `now` the alarm is due, if the guest
- * makes no access until then: an access at that moment finds it reached, and no
- * access before does. It is less than 2^32, and 0 if the alarm is due at once;
- * or SUPERIO_RTC_NEVER, if no alarm is set or guest time never comes to the
- * match. The mask plays no part.
+ * The seconds from the moment `now` until the alarm is due, if the guest makes
+ * no access until then: an access at that moment finds it reached, and no
+ * earlier access does. It is less than 2^32, and 0 if the alarm is due at
+ * once. It is SUPERIO_RTC_NEVER if no alarm is set or guest time never reaches
+ * the match. The mask plays no part.
  *
- * Ask again after each access, since a write may change the match, guest time
- * or the alarm.
+ * Ask again after each access, since it may change the match, guest time or
+ * the alarm.
  */
 uint64_t superio_rtc_due(const superio_rtc *clock, uint64_t now)
     SUPERIO_MUST_USE SUPERIO_NONNULL SUPERIO_ACCESS(read_only, 1);
@@ -405,14 +403,14 @@ uint64_t superio_rtc_due(const superio_rtc *clock, uint64_t now)
 /* ------------------------------------------------------------------------- */
 
 /*
- * The controller's ports on a PC, which are the offsets 0 and 4 of the
- * functions below. Do not give it the ports between them: 0x61 is system
- * control port B, whose bit 0x20 Linux waits for.
+ * The controller's ports on a PC: offsets 0 and 4 of the functions below. Do
+ * not give it the ports between them: 0x61 is system control port B, whose bit
+ * 0x20 Linux waits for.
  */
 #define SUPERIO_I8042_DATA_PORT 0x60
 #define SUPERIO_I8042_COMMAND_PORT 0x64
 
-/* What a write to the controller leaves to the caller. */
+/* What a write to the controller leaves to you. */
 typedef struct superio_i8042_write_effects {
     bool resets; /* the guest asks to reset the machine */
 } superio_i8042_write_effects;
@@ -432,12 +430,12 @@ uint8_t superio_i8042_read(uint8_t offset) SUPERIO_MUST_USE;
 /* ------------------------------------------------------------------------- */
 
 /*
- * A saved device is a string of bytes, whose form docs/SAVED-STATES.md has. Two
+ * A saved device is a string of bytes; docs/SAVED-STATES.md has its form. Two
  * devices have the same string only if their registers, offset, alarm and held
  * bytes are the same, on any machine. It has no checksum.
  */
 
-/* How many bytes a saved port has at most, and a saved clock always. */
+/* The maximum size of a saved port, and the size of a saved clock. */
 #define SUPERIO_SERIAL_SAVED_MAX 81
 #define SUPERIO_RTC_SAVED_SIZE 33
 
@@ -459,8 +457,8 @@ enum superio_load {
 };
 
 /*
- * Saves a port, and returns how many bytes it wrote: 17, and one for each byte
- * that is held. The others of `bytes` stay as they were.
+ * Saves a port and returns how many bytes it wrote: 17, plus one for each held
+ * byte. The other bytes do not change.
  */
 size_t superio_serial_save(
     const superio_serial *port,
@@ -469,7 +467,7 @@ size_t superio_serial_save(
     SUPERIO_ACCESS(write_only, 2);
 
 /*
- * Makes a port of `count` saved bytes. Any bytes may be passed. The port
+ * Makes a port from `count` saved bytes. Any bytes are allowed. The port
  * changes only if the result is SUPERIO_LOAD_OK. Then ask for the interrupt as
  * often as superio_serial_interrupts_due says.
  *
@@ -481,12 +479,12 @@ uint32_t superio_serial_load(superio_serial *port, const uint8_t *bytes,
     SUPERIO_MUST_USE SUPERIO_NONNULL SUPERIO_COUNTED
     SUPERIO_ACCESS(write_only, 1) SUPERIO_ACCESS(read_only, 2, 3);
 
-/* Saves a clock, to all of the bytes. */
+/* Saves a clock to all of the bytes. */
 void superio_rtc_save(const superio_rtc *clock,
                       uint8_t bytes[SUPERIO_AT_LEAST(SUPERIO_RTC_SAVED_SIZE)])
     SUPERIO_NONNULL SUPERIO_ACCESS(read_only, 1) SUPERIO_ACCESS(write_only, 2);
 
-/* Makes a clock of `count` saved bytes, as superio_serial_load does a port. */
+/* Makes a clock from `count` saved bytes; see superio_serial_load. */
 uint32_t superio_rtc_load(superio_rtc *clock, const uint8_t *bytes,
                           size_t count)
     SUPERIO_MUST_USE SUPERIO_NONNULL SUPERIO_COUNTED

@@ -1,4 +1,4 @@
-//! The clock. Its struct is `superio_rtc` of the header.
+//! The clock. Its struct is `superio_rtc` in the header.
 ghost use Rattle.std.specs.Prelude.{◌≡◌, not};
 ghost use Rattle.superio_c.specs.Clock.{effects_of_response, due_of};
 ghost use Rattle.vm_superio.specs.Clock.Alarm.{is_line_up, IsAlarmDue};
@@ -11,21 +11,21 @@ use vm_superio::rtc_pl031::fields::RtcFields;
 /// The answer if the alarm is never due.
 const NEVER: u64 = u64::MAX;
 
-/// What a read of the clock gives, and whether it reports an invalid read.
+/// The value of a clock read, and whether the read is invalid.
 #[repr(C)]
 #[derive(Clone, Copy, Debug, Eq, PartialEq)]
 pub struct RtcReadEffects {
-    /// The number whose bytes the guest reads, lowest first.
+    /// The number that the guest reads, lowest byte first.
     pub value: u32,
-    /// The guest read at an offset that shows nothing.
+    /// The guest read an unreadable offset.
     pub invalid_read: bool,
 }
 
-/// Whether a write to the clock reports an invalid write.
+/// Whether a write to the clock is invalid.
 #[repr(C)]
 #[derive(Clone, Copy, Debug, Eq, PartialEq)]
 pub struct RtcWriteEffects {
-    /// The guest wrote at an offset that takes no write.
+    /// The guest wrote to an unwritable offset.
     pub invalid_write: bool,
 }
 
@@ -55,7 +55,7 @@ pub extern "C" fn superio_rtc_read(clock: &mut RtcFields, offset: u16, now: u64)
     }
 }
 
-/// The guest writes four bytes at `offset`, which stand for `value`, at the moment `now`.
+/// The guest writes `value`, as four bytes at `offset`, at the moment `now`.
 #[unsafe(no_mangle)]
 pub extern "C" fn superio_rtc_write(
     clock: &mut RtcFields,
@@ -80,7 +80,7 @@ pub extern "C" fn superio_rtc_line(clock: &RtcFields) -> bool
     clock.interrupt_line()
 }
 
-/// In how many seconds after the moment `now` the alarm is due, if the guest makes no access.
+/// The seconds from the moment `now` until the alarm is due, if the guest makes no access.
 #[unsafe(no_mangle)]
 pub extern "C" fn superio_rtc_due(clock: &RtcFields, now: u64) -> u64
     ensures { IsAlarmDue (state_of_clock clock.now) now (due_of result) }

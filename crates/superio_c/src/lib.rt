@@ -1,7 +1,7 @@
-//! The devices of vm_superio behind C functions. Their header is `include/superio.h`.
+//! The devices of vm_superio as C functions. Their header is `include/superio.h`.
 //!
-//! Each function takes a device in a plain struct by pointer, changes it, and returns what is left to do. No function has
-//! a `requires`: any bytes of a struct are a device.
+//! A function takes a device in a plain struct by pointer, changes it, and returns what is left to do. No function has
+//! a `requires`: any bytes of a struct are valid.
 #![tactic(auto)]
 
 ghost use Rattle.std.specs.Prelude.{◌≡◌};
@@ -11,10 +11,10 @@ mod controller;
 mod saved;
 mod serial;
 
-/// It changes with every change of a struct, or of what a call means.
+/// Changes with every change to a struct or to the meaning of a call.
 const ABI: u32 = 2;
 
-/// The binary interface of this library, which a program compares with that of its header, `SUPERIO_ABI`.
+/// The binary interface of this library; compare it with the header's, `SUPERIO_ABI`.
 #[unsafe(no_mangle)]
 pub extern "C" fn superio_abi() -> u32
     ensures { result ≡ 2 }

@@ -13,10 +13,10 @@ use vm_superio::saved::Error;
 use vm_superio::serial::fields::SerialFields;
 use vm_superio::serial::saved_form::SAVED_MAX;
 
-/// What a load returns where it read a state.
+/// What a load returns on success.
 const LOADED: u32 = 0;
 
-/// The number of an error, of `enum superio_load` in the header.
+/// The number of an error in the header's `enum superio_load`.
 fn load_status(error: Error) -> u32
     ensures { result ≡ load_status (Some error) }
 {
@@ -32,7 +32,7 @@ fn load_status(error: Error) -> u32
     }
 }
 
-/// Writes the port's saved form to the first of `bytes`, and returns how many it has. The others stay as they were.
+/// Writes the port's saved form to the start of `bytes`, and returns its length. The other bytes do not change.
 #[unsafe(no_mangle)]
 pub extern "C" fn superio_serial_save(port: &SerialFields, bytes: &mut [u8; SAVED_MAX]) -> usize
     ensures count { result ≡ length (serial_form (state_of_fields port.now)) }
@@ -44,8 +44,7 @@ pub extern "C" fn superio_serial_save(port: &SerialFields, bytes: &mut [u8; SAVE
     count
 }
 
-/// Loads a saved port and returns 0. If the bytes are no saved port, nothing changes, and the result says which
-/// check failed.
+/// Loads a saved port and returns 0. If the bytes are invalid, nothing changes, and the result says which check failed.
 #[unsafe(no_mangle)]
 pub extern "C" fn superio_serial_load(port: &mut SerialFields, bytes: &[u8]) -> u32
     ensures status { result ≡ load_status (serial_fault bytes.now) }
@@ -69,8 +68,8 @@ pub extern "C" fn superio_rtc_save(clock: &RtcFields, bytes: &mut [u8; SAVED_SIZ
     *bytes = clock.state().to_bytes();
 }
 
-/// Loads a saved clock and returns 0. If the bytes are no saved clock, nothing changes, and the result says which
-/// check failed.
+/// Loads a saved clock and returns 0. If the bytes are invalid, nothing changes, and the result says which check
+/// failed.
 #[unsafe(no_mangle)]
 pub extern "C" fn superio_rtc_load(clock: &mut RtcFields, bytes: &[u8]) -> u32
     ensures status { result ≡ load_status (clock_fault bytes.now) }

@@ -1,4 +1,4 @@
-//! The serial port. Its struct is `superio_serial` of the header: nine registers, then the received bytes.
+//! The serial port. Its struct is `superio_serial` in the header: nine registers, then the received bytes.
 ghost use Rattle.std.specs.Prelude.{◌≡◌, ◌↔◌, ◌≤◌, ◌-◌, length, IsTrue};
 ghost use Rattle.vm_superio.specs.Port.Fields.{state_of_fields, CoherentFields};
 ghost use Rattle.vm_superio.specs.Port.SavedState.{fresh_state};
@@ -57,7 +57,7 @@ pub extern "C" fn superio_serial_enqueue(port: &mut SerialFields, bytes: &[u8]) 
     port.enqueue_raw_bytes(bytes)
 }
 
-/// How many bytes have room.
+/// How many bytes fit.
 #[unsafe(no_mangle)]
 pub extern "C" fn superio_serial_fifo_capacity(port: &SerialFields) -> usize
     ensures value { result ≡ 64 - length (state_of_fields port.now).in_buffer }
@@ -66,7 +66,7 @@ pub extern "C" fn superio_serial_fifo_capacity(port: &SerialFields) -> usize
     port.fifo_capacity()
 }
 
-/// How often the interrupt is to be asked for after a restore, and again after a refusal.
+/// How often to ask for the interrupt after a restore or a refusal.
 #[unsafe(no_mangle)]
 pub extern "C" fn superio_serial_interrupts_due(port: &SerialFields) -> u8
     ensures { result ≡ length (restore_calls (state_of_fields port.now)) }
@@ -74,7 +74,7 @@ pub extern "C" fn superio_serial_interrupts_due(port: &SerialFields) -> u8
     port.interrupts_due()
 }
 
-/// Whether the port is one that calls could have led to from a coherent one.
+/// Whether the port is coherent.
 #[unsafe(no_mangle)]
 pub extern "C" fn superio_serial_is_coherent(port: &SerialFields) -> bool
     ensures { IsTrue result ↔ CoherentFields port.now }

@@ -6,15 +6,15 @@ use circular_buffer::HeapCircularBuffer;
 use std::alloc::{AllocError, Global};
 use std::marker::Model;
 
-/// How many bytes the FIFO holds at the most, as that of a 16750 does.
+/// The capacity of the FIFO, as in a 16750.
 pub(crate) const FIFO_SIZE: usize = 64;
 
-/// What a port needs of its receive FIFO, which is seen as a list of at most 64 bytes, oldest first.
+/// What a port needs from its receive FIFO: a list of at most 64 bytes, oldest first.
 pub(crate) trait ReceiveFifo {
-    /// The bytes that are held.
+    /// The held bytes.
     ghost held: { Self → List ℕ };
 
-    /// No number in it is above what it stands for.
+    /// The stored count, if any, is at most 64.
     ghost canonical: { Self → Type 0 };
 
     /// How many bytes are held.
@@ -22,7 +22,7 @@ pub(crate) trait ReceiveFifo {
         ensures value { result ≡ length (held self.now) }
         ensures bound { length (held self.now) ≤ 64 };
 
-    /// Whether no byte is held.
+    /// Whether it is empty.
     fn is_empty(&self) -> bool
         ensures { result ≡ not (not_empty (held self.now)) };
 
@@ -32,20 +32,20 @@ pub(crate) trait ReceiveFifo {
         ensures rest { held self.new ≡ drop 1 (held self.old) }
         ensures canonical { canonical self.old → canonical self.new };
 
-    /// Adds a byte, if there is room for it, and returns whether there was.
+    /// Adds a byte if there is room, and returns whether there was.
     fn push(&mut self, byte: u8) -> bool
         ensures room { result ≡ not_empty (take (64 - length (held self.old)) (byte ∷ [])) }
         ensures added { held self.new ≡ held self.old ++ take (64 - length (held self.old)) (byte ∷ []) }
         ensures canonical { canonical self.old → canonical self.new };
 
-    /// Adds the first of these bytes, as many as there is room for, and returns how many.
+    /// Adds as many of these bytes as fit, first ones first, and returns how many.
     fn fill(&mut self, bytes: &[u8]) -> usize
         ensures count { result ≡ length (take (64 - length (held self.old)) bytes.now) }
         ensures added { held self.new ≡ held self.old ++ take (64 - length (held self.old)) bytes.now }
         ensures canonical { canonical self.old → canonical self.new };
 }
 
-/// The received bytes that no guest has read, seen as a list. Their room is taken once, when the FIFO is made.
+/// The received bytes that no guest has read, as a list. Their memory is allocated once, at creation.
 #[derive(Drop)]
 pub(crate) struct Fifo {
     bytes: HeapCircularBuffer<u8>,
@@ -64,7 +64,7 @@ impl Fifo {
     ///
     /// # Errors
     ///
-    /// `AllocError` where memory for the room was refused.
+    /// Returns `AllocError` if allocation fails.
     pub(crate) fn new(alloc: Global) -> Result<Self, AllocError>
         ensures { IfOk result (λ fifo. fifo ≡ []) }
     {
@@ -72,7 +72,7 @@ impl Fifo {
         Ok(Fifo { bytes })
     }
 
-    /// A FIFO that holds these bytes, at most 64.
+    /// A FIFO holding these bytes, at most 64.
     ///
     /// # Errors
     ///
@@ -116,7 +116,7 @@ impl ReceiveFifo for Fifo {
         self.bytes.try_push_back(byte).is_ok()
     }
 
-    // One byte goes by `push`, which is cheaper.
+    // `push` is cheaper for one byte.
     fn fill(&mut self, bytes: &[u8]) -> usize {
         match bytes {
             [byte] => usize::from(self.push(*byte)),

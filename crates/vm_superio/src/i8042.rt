@@ -21,7 +21,7 @@ pub fn is_reset_command(offset: u8, value: u8) -> bool
 
 /// An i8042 keyboard controller that knows one command: reset the CPU.
 ///
-/// In a contract the device is its trigger, which is all that it holds.
+/// Contracts see the device as its trigger, which is all it holds.
 #[derive(Drop)]
 pub struct I8042Device<T: Trigger> {
     reset_evt: T,
@@ -34,7 +34,7 @@ impl<T: Trigger> Model for I8042Device<T> {
 }
 
 impl<T: Trigger> I8042Device<T> {
-    /// Makes a device that owns the trigger `reset_evt`, which is not called.
+    /// Makes a device that owns `reset_evt`, without calling it.
     pub fn new(reset_evt: T) -> I8042Device<T>
         ensures { result ≡ reset_evt }
     {
@@ -48,7 +48,7 @@ impl<T: Trigger> I8042Device<T> {
         &self.reset_evt
     }
 
-    /// Reads 0 at every offset. The trigger is not called.
+    /// Returns 0 at every offset; never calls the trigger.
     pub fn read(&mut self, _offset: u8) -> u8
         ensures value { result ≡ 0 }
         ensures unchanged { self.new ≡ self.old }
@@ -58,8 +58,8 @@ impl<T: Trigger> I8042Device<T> {
 
     /// Writes `value` at `offset`.
     ///
-    /// The reset command, 0xFE at offset 4, calls the trigger once, and the answer is the trigger's, its refusal
-    /// included. Every other write is `Ok` and changes nothing.
+    /// The reset command, 0xFE at offset 4, calls the trigger once and returns its answer. Any other write returns `Ok`
+    /// and has no effect.
     pub fn write(&mut self, offset: u8, value: u8) -> Result<(), T::E>
         ensures reset { OnTrue (is_reset_command offset value) (T.link self.old (result ∷ []) self.new) }
         ensures other { OnFalse (is_reset_command offset value) (result ≡ Ok tt) }

@@ -17,28 +17,27 @@ pub mod saved;
 pub mod serial;
 mod trace;
 
-/// A push button towards the monitor: an interrupt line, or the event that requests a reset.
+/// A push button towards the monitor: an interrupt line or a reset event.
 ///
-/// A device takes a trigger when it is made, and owns it. It calls `trigger` for nothing but what its
-/// documentation says.
+/// A device owns its trigger from creation on. It calls `trigger` only where documented.
 ///
-/// An implementation states its `link`: how a value before some calls, the answers to these calls in order, and the
-/// value after them belong together. The contracts of the devices say by which answers a trigger is linked.
+/// An implementation states its `link`: the relation of the value before some calls, the answers to them in order, and
+/// the value after them. The devices' contracts state which answers link a trigger.
 pub trait Trigger {
     /// Why a call was refused.
     type E: Debug + Drop;
 
-    /// The first value becomes the second by calls with these answers.
+    /// Calls with these answers turn the first value into the second.
     ghost link: { Self → List (Result (Unit {0}) Self.E) → Self → Type 0 };
 
-    /// Pushes the button once. An `Err` says that the other side was not notified.
+    /// Pushes the button once. `Err` means that the other side was not notified.
     fn trigger(&mut self) -> Result<(), Self::E>
         ensures { link self.old (result ∷ []) self.new };
 
-    /// The empty list links equal values, and no others.
+    /// The empty list links equal values only.
     ghost no_call: { (x y : Self) → link x [] y ↔ (x ≡ y) };
 
-    /// Calls that follow each other are one list of calls.
+    /// Consecutive calls join into one list.
     ghost joined: { (x y z : Self) (first second : List (Result (Unit {0}) Self.E)) →
         link x first y → link y second z → link x (first ++ second) z };
 }

@@ -1,11 +1,11 @@
 //! A real-time clock with the registers of an ARM PL031. It counts seconds.
 //!
-//! The clock does not read the host's clock: the monitor passes each access its moment, in seconds since 1970. The low
-//! 32 bits of a moment are the host's time. Guest time is the host's time and the clock's offset together where 32
-//! bits hold the sum, and the host's time elsewhere; it does not wrap.
+//! The clock does not read the host's clock. The monitor passes the moment of each access, in seconds since 1970. The
+//! low 32 bits of a moment are the host's time. Guest time is the host's time plus the clock's offset if the sum fits
+//! in 32 bits, and otherwise the host's time. It does not wrap.
 //!
 //! The match register is an alarm. It raises bit 0 of the raw interrupt status at the first access at which guest time
-//! has come to a match that was not past when it was written. No trigger is called: a monitor asks [`Rtc::state`].
+//! has reached a match that was not past when written. The clock calls no trigger: ask [`Rtc::state`].
 ghost use Rattle.std.specs.Prelude.{◌≡◌, ◌↔◌, ◌<◌, ◌^◌, List, [], ◌∷◌, ◌++◌, false, IfSome};
 ghost use Rattle.std.specs.Bool.{OnTrue, OnFalse};
 ghost use Rattle.std.proofs.Common.{◌∙◌};
@@ -26,34 +26,33 @@ pub mod saved_form;
 use fields::RtcFields;
 use std::marker::Model;
 
-/// Hears of the accesses that a clock cannot serve.
+/// Receives a clock's invalid accesses.
 ///
-/// A clock takes an events object when it is made, and owns it. It calls the object for nothing but what its
-/// documentation says.
+/// A clock owns its events object from creation on. It calls the object only where documented.
 ///
-/// An implementation states its `link`: how a value before some events, the names of these events in order, and the
-/// value after them belong together. The clock's contracts say by which events an object is linked.
+/// An implementation states its `link`: the relation of the value before some events, the names of the events in order,
+/// and the value after them. The clock's contracts state which events link an object.
 pub trait RtcEvents {
-    /// The first value becomes the second by these events.
+    /// These events turn the first value into the second.
     ghost link: { Self → List RtcEvent → Self → Type 0 };
 
-    /// The guest read at an offset that shows nothing.
+    /// The guest read an unreadable offset.
     fn invalid_read(&mut self)
         ensures { link self.old (invalid_read ∷ []) self.new };
 
-    /// The guest wrote at an offset that takes no write.
+    /// The guest wrote to an unwritable offset.
     fn invalid_write(&mut self)
         ensures { link self.old (invalid_write ∷ []) self.new };
 
-    /// The empty list links equal values, and no others.
+    /// The empty list links equal values only.
     ghost no_event: { (x y : Self) → link x [] y ↔ (x ≡ y) };
 
-    /// Events that follow each other are one list of events.
+    /// Consecutive events join into one list.
     ghost joined: { (x y z : Self) (first second : List RtcEvent) →
         link x first y → link y second z → link x (first ++ second) z };
 }
 
-/// An events object that ignores every event, and stays the same.
+/// An events object that ignores every event and never changes.
 #[derive(Debug, Clone, Copy)]
 pub struct NoEvents;
 
@@ -69,12 +68,12 @@ impl RtcEvents for NoEvents {
     fn invalid_write(&mut self) {}
 }
 
-/// What a clock's registers hold: enough to make the same clock again.
+/// The contents of a clock's registers: enough to recreate the clock.
 ///
-/// Any numbers may be restored, and reads show them as they are. The default state has zeros, and no alarm.
+/// Any values may be restored, and reads show them unchanged. The default is all zeros, and no alarm.
 #[derive(Clone, Copy, Debug, Default, Eq, PartialEq)]
 pub struct RtcState {
-    /// The load register, RTCLR: the value that was loaded last, or 0 after a reset.
+    /// The load register, RTCLR: the last loaded value, or 0 after a reset.
     pub lr: u32,
     /// How far guest time is ahead of the host's time, in seconds.
     pub offset: i64,
@@ -82,14 +81,14 @@ pub struct RtcState {
     pub mr: u32,
     /// The interrupt mask, RTCIMSC. A write stores bit 0 of its value, and clears the others.
     pub imsc: u32,
-    /// The raw interrupt status, RTCRIS. The alarm sets bit 0, and nothing sets another.
+    /// The raw interrupt status, RTCRIS. The alarm sets bit 0; nothing sets other bits.
     pub ris: u32,
-    /// Whether an alarm is set that no access has found reached.
+    /// Whether an alarm is set and has not fired.
     pub armed: bool,
 }
 
 impl RtcState {
-    /// The state of these five fields, as a clock without an alarm saved it: no alarm is set.
+    /// A state with these five fields, as saved by a clock without an alarm. No alarm is set.
     pub fn from_five(lr: u32, offset: i64, mr: u32, imsc: u32, ris: u32) -> RtcState
         ensures { result ≡ record { lr = lr; offset = offset; mr = mr; imsc = imsc; ris = ris; armed = false } }
     {
@@ -103,14 +102,14 @@ impl RtcState {
         }
     }
 
-    /// Whether the interrupt line is up, as [`Rtc::interrupt_line`] says.
+    /// Whether the interrupt line is up; see [`Rtc::interrupt_line`].
     pub fn interrupt_line(&self) -> bool
         ensures { result ≡ is_line_up self.now }
     {
         RtcFields::from_state(self).interrupt_line()
     }
 
-    /// In how many seconds after the moment `now` the alarm is due, as [`Rtc::alarm_due`] says.
+    /// The seconds from the moment `now` until the alarm is due; see [`Rtc::alarm_due`].
     pub fn alarm_due(&self, now: u64) -> Option<u64>
         ensures due { IsAlarmDue self.now now result }
         ensures bound { IfSome result (λ seconds. seconds < 2 ^ 32) }
@@ -118,8 +117,8 @@ impl RtcState {
         RtcFields::from_state(self).alarm_due(now)
     }
 
-    /// Reads at `offset` as [`Rtc::read`] does, for a monitor that keeps the state itself: the number that is shown, or
-    /// `None` where the read is invalid.
+    /// Reads at `offset` as [`Rtc::read`] does, for a monitor that keeps the state itself. Returns the value read, or
+    /// `None` if the read is invalid.
     pub fn read(&mut self, offset: u16, now: u64) -> Option<u32>
         ensures response { result ≡ clock_response self.old (read offset now) }
         ensures state { self.new ≡ clock_step self.old (read offset now) }
@@ -131,7 +130,7 @@ impl RtcState {
     }
 
     /// Writes `value` at `offset` as [`Rtc::write`] does, for a monitor that keeps the state itself. Returns whether
-    /// this offset takes a write: `false` where the write is invalid.
+    /// this offset takes a write.
     pub fn write(&mut self, offset: u16, value: u32, now: u64) -> bool
         ensures taken { result ≡ is_writable (clock_register_at offset) }
         ensures state { self.new ≡ clock_step self.old (write offset value now) }
@@ -145,7 +144,7 @@ impl RtcState {
 
 /// A PL031 real-time clock, which reports to an events object.
 ///
-/// An access is four bytes, lowest byte first. In a contract the clock is its state and its events object.
+/// An access is four bytes, lowest byte first. Contracts see the clock as its state and its events object.
 #[derive(Drop)]
 pub struct Rtc<EV: RtcEvents> {
     fields: RtcFields,
@@ -168,7 +167,7 @@ impl Default for Rtc<NoEvents> {
 }
 
 impl Rtc<NoEvents> {
-    /// Makes a clock of the default state, which reports to nobody.
+    /// Makes a clock in the default state that ignores events.
     pub fn new() -> Rtc<NoEvents>
         ensures { result.state ≡ fresh_clock }
     {
@@ -177,8 +176,8 @@ impl Rtc<NoEvents> {
 }
 
 impl<EV: RtcEvents> Rtc<EV> {
-    /// Makes a clock of the state `state`, whatever numbers it has, which owns the events object `rtc_events`. The
-    /// object is not called.
+    /// Makes a clock from `state`, whatever its values, that owns the events object `rtc_events`. Does not call the
+    /// object.
     pub fn from_state(state: &RtcState, rtc_events: EV) -> Self
         ensures state { result.state ≡ state.now }
         ensures events { result.events ≡ rtc_events }
@@ -189,7 +188,7 @@ impl<EV: RtcEvents> Rtc<EV> {
         }
     }
 
-    /// Makes a clock of the default state, which owns the events object `rtc_events`. The object is not called.
+    /// Makes a clock in the default state that owns the events object `rtc_events`. Does not call the object.
     pub fn with_events(rtc_events: EV) -> Self
         ensures state { result.state ≡ fresh_clock }
         ensures events { result.events ≡ rtc_events }
@@ -197,7 +196,7 @@ impl<EV: RtcEvents> Rtc<EV> {
         Self::from_state(&RtcState::default(), rtc_events)
     }
 
-    /// The state, from which `from_state` makes the same clock again.
+    /// A snapshot; `from_state` recreates the clock.
     pub fn state(&self) -> RtcState
         ensures { result ≡ self.now.state }
     {
@@ -211,23 +210,23 @@ impl<EV: RtcEvents> Rtc<EV> {
         &self.events
     }
 
-    /// Whether the interrupt line is up: whether bit 0 is set in both the raw interrupt status and the mask, which RTCMIS
-    /// shows. Only an access changes it.
+    /// Whether the interrupt line is up: bit 0 of RTCMIS, set if both the raw interrupt status and the mask have it.
+    /// Only an access changes it.
     pub fn interrupt_line(&self) -> bool
         ensures { result ≡ is_line_up self.now.state }
     {
         self.fields.interrupt_line()
     }
 
-    /// In how many seconds after the moment `now`, in seconds since 1970, the alarm is due if the guest makes no access:
-    /// an access then raises the interrupt, and none does sooner. It is 0 where an access at `now` raises it, and always
+    /// The seconds from the moment `now`, in seconds since 1970, until the alarm is due if the guest makes no access.
+    /// An access then finds it reached; no earlier access does. The result is 0 if an access at `now` does, and always
     /// less than 2^32.
     ///
-    /// `None` says that no alarm is set, or that guest time never comes to the match: where the clock is behind the
-    /// host's, guest time is the host's time before its first second, and may stop short of the match at the largest
-    /// host's time. The mask plays no part: a masked alarm is due like any other, and leaves the line down.
+    /// `None` means that no alarm is set, or that guest time never reaches the match: a clock behind the host's shows
+    /// the host's time before its first second, and may stop short of the match at the largest host's time. The mask
+    /// plays no part: a masked alarm is due like any other, and leaves the line down.
     ///
-    /// The answer holds until the next access, which may change the match or guest time.
+    /// The result holds until the next access, which may change the match or guest time.
     pub fn alarm_due(&self, now: u64) -> Option<u64>
         ensures due { IsAlarmDue self.now.state now result }
         ensures bound { IfSome result (λ seconds. seconds < 2 ^ 32) }
@@ -235,26 +234,26 @@ impl<EV: RtcEvents> Rtc<EV> {
         self.fields.alarm_due(now)
     }
 
-    /// Writes `bytes`, lowest byte first, at `offset` from the clock's base address, at the moment `now` in seconds
-    /// since 1970, of which the low 32 bits count.
+    /// Writes `bytes`, lowest byte first, at `offset` from the clock's base address, at `now`, in seconds since 1970.
+    /// Only the low 32 bits of `now` count.
     ///
-    /// Before anything else, an alarm that is set and that guest time has come to raises bit 0 of the raw interrupt
-    /// status, and is over.
+    /// First, if an alarm is set and guest time has reached it, the alarm raises bit 0 of the raw interrupt status and
+    /// is cleared.
     ///
-    /// RTCMR (0x004) stores the value, and an alarm that was set before is given up. It sets the alarm where guest time
-    /// is less than the value, raises at once where guest time is the value, and does neither where the value is past.
-    /// RTCLR (0x008) stores it and makes it guest time. RTCCR (0x00C) resets the load
-    /// register and guest time where the value is 1, and else changes nothing. RTCIMSC (0x010) stores bit 0 alone.
-    /// RTCICR (0x01C) clears in the raw interrupt status the bits that the value has.
+    /// RTCMR (0x004) stores the value and drops any alarm set before. It sets the alarm if guest time is less than the
+    /// value, raises at once if guest time equals the value, and does neither if the value is past. RTCLR (0x008)
+    /// stores the value and makes it guest time. RTCCR (0x00C) resets the load register and guest time on 1; other
+    /// values have no effect. RTCIMSC (0x010) stores bit 0 only. RTCICR (0x01C) clears the raw interrupt status bits
+    /// that the value has set.
     ///
-    /// A write at any other offset stores nothing and calls `invalid_write` of the events object once.
+    /// A write at any other offset stores nothing and calls the events object's `invalid_write` once.
     pub fn write(&mut self, offset: u16, bytes: &[u8; 4], now: u64)
         ensures state { self.new.state ≡ clock_step self.old.state (write_of offset bytes.now now) }
         ensures invalid { OnFalse (is_writable (clock_register_at offset))
             (self.new.state ≡ after_alarm self.old.state (host_time now)) }
         ensures history { GoesOnByHistory self.old.state (write_of offset bytes.now now) self.new.state }
 
-        // The events object hears of an invalid write, and of nothing else.
+        // The events object hears only of an invalid write.
         ensures events { EV.link self.old.events (clock_events (write_of offset bytes.now now)) self.new.events }
         ensures quiet { OnTrue (is_writable (clock_register_at offset)) (self.new.events ≡ self.old.events) }
     {
@@ -264,16 +263,16 @@ impl<EV: RtcEvents> Rtc<EV> {
         }
     }
 
-    /// Reads into `bytes`, lowest byte first, at `offset` from the clock's base address, at the moment `now` in
-    /// seconds since 1970, of which the low 32 bits count. A read changes a register only where it finds the alarm, as a
-    /// write does first of all.
+    /// Reads into `bytes`, lowest byte first, at `offset` from the clock's base address, at `now`, in seconds since
+    /// 1970. Only the low 32 bits of `now` count. A read changes a register only if it finds the alarm due, as a write
+    /// does first.
     ///
     /// RTCDR (0x000) shows guest time, RTCCR (0x00C) shows 1, RTCMIS (0x018) shows the raw interrupt status under the
-    /// mask, and RTCMR (0x004), RTCLR (0x008), RTCIMSC (0x010) and RTCRIS (0x014) show what the state has. The offsets
-    /// 0xFE0 to 0xFFF show the identification, each byte at four offsets.
+    /// mask, and RTCMR (0x004), RTCLR (0x008), RTCIMSC (0x010) and RTCRIS (0x014) show their fields. Offsets 0xFE0 to
+    /// 0xFFF show the identification, each byte at four offsets.
     ///
-    /// A read at any other offset, RTCICR (0x01C) among them, leaves `bytes` as they were and calls `invalid_read` of
-    /// the events object once.
+    /// A read at any other offset, including RTCICR (0x01C), leaves `bytes` unchanged and calls the events object's
+    /// `invalid_read` once.
     pub fn read(&mut self, offset: u16, bytes: &mut [u8; 4], now: u64)
         ensures response { bytes.new ≡ bytes_left (clock_response self.old.state (read offset now)) bytes.old }
         ensures invalid { OnFalse (is_readable (clock_register_at offset)) (bytes.new ≡ bytes.old) }
@@ -282,7 +281,7 @@ impl<EV: RtcEvents> Rtc<EV> {
         ensures state { self.new.state ≡ after_alarm self.old.state (host_time now) }
         ensures history { GoesOnByHistory self.old.state (read offset now) self.new.state }
 
-        // The events object hears of an invalid read, and of nothing else.
+        // The events object hears only of an invalid read.
         ensures events { EV.link self.old.events (clock_events (read offset now)) self.new.events }
         ensures quiet { OnTrue (is_readable (clock_register_at offset)) (self.new.events ≡ self.old.events) }
     {

@@ -1,4 +1,4 @@
-//! Runs: a list of calls of a serial port as one call, with a record of each.
+//! Runs: a list of calls to a serial port as one call, with a record of each.
 ghost use Rattle.std.specs.Prelude.{◌≡◌, IfOk, OnErr};
 ghost use Rattle.vm_superio.specs.Port.WriterLink.{port_links};
 ghost use Rattle.vm_superio.specs.Run.Segments.{first_segment};
@@ -16,7 +16,7 @@ use std::collections::VecDeque;
 use std::io::Write;
 use std::mem;
 
-/// A call of a serial port, with the objects that a restore brings.
+/// A call to a serial port, with the objects of a restore.
 #[derive(Drop)]
 pub enum Call<T, EV, W> {
     /// `read` at this offset.
@@ -25,7 +25,7 @@ pub enum Call<T, EV, W> {
     Write(u8, u8),
     /// `enqueue_raw_bytes` of these bytes.
     Enqueue(Vec<u8>),
-    /// The port is made again from its own state, with this trigger, events object and writer.
+    /// Recreates the port from its own state, with this trigger, events object and writer.
     Restore(T, EV, W),
 }
 
@@ -38,7 +38,7 @@ pub enum Act {
     Write(u8, u8),
     /// `enqueue_raw_bytes` of these bytes.
     Enqueue(Vec<u8>),
-    /// The port was to be made again.
+    /// A restore of the port.
     Restore,
 }
 
@@ -51,9 +51,9 @@ pub enum Reply<T: Trigger, EV: SerialEvents, W: Write> {
     Wrote(Result<(), Error<T::E>>),
     /// What `enqueue_raw_bytes` returned.
     Enqueued(Result<usize, Error<T::E>>),
-    /// The port was made again: the old one, with its own objects.
+    /// The port was recreated: the old port, with its own objects.
     Restored(Serial<T, EV, W>),
-    /// The port stayed: why, and the objects that the restore brought.
+    /// The port stayed: why, and the objects of the restore.
     NotRestored(Refused<T, EV, W>),
 }
 
@@ -62,7 +62,7 @@ pub enum Reply<T: Trigger, EV: SerialEvents, W: Write> {
 pub struct Done<T: Trigger, EV: SerialEvents, W: Write> {
     /// The call.
     pub act: Act,
-    /// The answers to the port's own trigger calls in it; `Nothing` for a restore.
+    /// The trigger's answers to the port's own calls; `Nothing` for a restore.
     pub asked: Asked,
     /// The outcome of the byte that it sent.
     pub sent: Sent,
@@ -72,17 +72,17 @@ pub struct Done<T: Trigger, EV: SerialEvents, W: Write> {
 
 /// Makes the calls in order, and returns a record of each.
 ///
-/// Nothing stops a run early: a refusal of the trigger, a failure of the writer or a refused restore is in the record
-/// of its call, and the next call is made. A restore takes the port's state and makes a port of it with the objects
-/// that it brings, which then takes the old port's place. Where it is refused the old port stays.
+/// Nothing stops a run early: a refusal of the trigger, a failure of the writer or a refused restore is recorded with
+/// its call, and the run goes on. A restore makes a port from the port's state and the new objects, and replaces the
+/// old port with it. If it is refused, the old port stays.
 ///
-/// From a coherent start the records are a trace: each byte that was read follows from the start, the earlier calls and
-/// the trigger's answers. So do the state at the end, and every other response, given the outcome of the byte that a
-/// call sent.
+/// From a coherent start the records are a trace: the start, the earlier calls and the trigger's answers determine each
+/// byte read. They also determine the final state and, given the outcome of the byte that a call sent, every other
+/// response.
 ///
 /// # Errors
 ///
-/// `AllocError` where room for all records was refused. No call was made then, and the calls are dropped.
+/// Returns `AllocError` if allocating all records fails. It then makes no call and drops the calls.
 pub fn run<T: Trigger + Drop, EV: SerialEvents + Drop, W: Write + Drop>(
     alloc: Global,
     serial: &mut Serial<T, EV, W>,
@@ -151,7 +151,7 @@ fn make<T: Trigger, EV: SerialEvents, W: Write>(
     }
 }
 
-/// Makes the port again from its own state, with these objects.
+/// Recreates the port from its own state, with these objects.
 fn restore<T: Trigger, EV: SerialEvents, W: Write>(
     alloc: Global,
     serial: &mut Serial<T, EV, W>,

@@ -1,8 +1,8 @@
 //! A saved state as bytes: its header, and why bytes are refused.
 //!
 //! A monitor writes what [`SerialState::to_bytes`](crate::SerialState::to_bytes) and
-//! [`RtcState::to_bytes`](crate::RtcState::to_bytes) give, and reads it again with `from_bytes`. The form is the same on
-//! every machine. A state has exactly one form, and no two states share one.
+//! [`RtcState::to_bytes`](crate::RtcState::to_bytes) return, and `from_bytes` reads it back. The form is the same on
+//! every machine. A state has at most one form, and no two states share one.
 ghost use Rattle.std.specs.Prelude.{◌≡◌, IfOk};
 ghost use Rattle.std.specs.Result.{result_err};
 ghost use Rattle.vm_superio.specs.Saved.Form.{form, header};
@@ -27,23 +27,23 @@ pub(crate) const SERIAL_KIND: u8 = 1;
 /// The kind of the clock.
 pub(crate) const CLOCK_KIND: u8 = 2;
 
-/// Why a state was not written, or bytes were not read. Bytes are checked in the order of the cases: the first check that
-/// fails is the error.
+/// Why a state was not written or bytes were not read. Bytes are checked in the order of the cases; the first check
+/// that fails is the error.
 #[derive(Clone, Copy, Debug, Eq, PartialEq)]
 pub enum Error {
-    /// The bytes are fewer than a header.
+    /// Fewer bytes than a header.
     TooShort,
-    /// The bytes do not begin as a saved state does.
+    /// The bytes do not begin with the magic.
     NotASavedState,
-    /// The state is that of another device.
+    /// The state belongs to another device.
     OtherDevice,
     /// The form has this version, which is not 1.
     UnknownVersion(u8),
-    /// The length in the header is not that of what follows, or no state of the device has it.
+    /// The length in the header is not that of the rest, or no state of the device has it.
     WrongLength,
     /// The port would hold more than 64 received bytes.
     TooManyBytes,
-    /// The byte of the clock's alarm is neither 0 nor 1.
+    /// The clock's alarm byte is neither 0 nor 1.
     InvalidArmed,
     /// Memory was refused.
     Memory,
@@ -70,7 +70,7 @@ impl fmt::Display for Error {
 
 impl StdError for Error {}
 
-/// So that `?` turns a refused allocation into [`Error::Memory`].
+/// Lets `?` turn a refused allocation into [`Error::Memory`].
 impl From<AllocError> for Error {
     ghost use Rattle.vm_superio.specs.declared.saved.Error.TheVariants.{Memory};
 
@@ -81,7 +81,7 @@ impl From<AllocError> for Error {
     }
 }
 
-/// The header of a state of this kind, of which `length` bytes follow.
+/// The header of a state of this kind, before `length` bytes.
 pub(crate) fn header(kind: u8, length: u16) -> [u8; 8]
     ensures { result ≡ header kind length }
 {
@@ -90,11 +90,11 @@ pub(crate) fn header(kind: u8, length: u16) -> [u8; 8]
     [m0, m1, m2, m3, kind, VERSION, low, high]
 }
 
-/// What follows the header, which is that of a state of this kind.
+/// The bytes after the header of a state of this kind.
 ///
 /// # Errors
 ///
-/// The first check of the header that fails: [`Error::TooShort`], [`Error::NotASavedState`], [`Error::OtherDevice`],
+/// The first header check that fails: [`Error::TooShort`], [`Error::NotASavedState`], [`Error::OtherDevice`],
 /// [`Error::UnknownVersion`] or [`Error::WrongLength`].
 pub(crate) fn contents_of(kind: u8, bytes: &[u8]) -> Result<&[u8], Error>
     ensures form { IfOk result (λ contents. bytes.now ≡ form kind contents.now) }

@@ -32,7 +32,7 @@ use std::marker::Model;
 /// A 16550 serial port, reduced to what a guest's driver uses: its registers, a receive FIFO of 64 bytes that is always
 /// on, and two interrupt conditions.
 ///
-/// In a contract the port is its state, of ten fields, and the three objects that it owns.
+/// Contracts see the port as its state of ten fields and the three objects that it owns.
 #[derive(Drop)]
 pub struct Serial<T: Trigger, EV: SerialEvents, W: Write> {
     registers: Registers,
@@ -57,14 +57,14 @@ impl<T: Trigger, EV: SerialEvents, W: Write> Model for Serial<T, EV, W> {
 }
 
 impl<T: Trigger, W: Write> Serial<T, NoEvents, W> {
-    /// Makes a fresh serial port, which owns the trigger and the writer and reports events to nobody: divisor 12,
-    /// 8 bits a character, OUT2 set, and nothing enabled, pending or held. The trigger is not called.
+    /// Makes a fresh serial port that owns the trigger and the writer and reports no events: divisor 12, 8 bits per
+    /// character, OUT2 set, and nothing enabled, pending or held. Does not call the trigger.
     ///
-    /// The room of the receive FIFO, 64 bytes, is taken from `alloc`. No later call of the port takes memory for a byte.
+    /// Allocates the receive FIFO, 64 bytes, from `alloc`. Receiving bytes later allocates no memory.
     ///
     /// # Errors
     ///
-    /// [`Error::Memory`] where that room was refused. The objects are returned as they were given.
+    /// Returns [`Error::Memory`] if that allocation fails, and the objects as they were passed.
     pub fn new(
         alloc: Global,
         trigger: T,
@@ -75,7 +75,7 @@ impl<T: Trigger, W: Write> Serial<T, NoEvents, W> {
         ensures out { IfOk result (λ serial. serial.out ≡ out) }
         ensures coherent { IfOk result (λ serial. Coherent serial.state) }
 
-        // Where memory was refused: the objects.
+        // If memory was refused: the objects.
         ensures only_memory { IfErr result (λ refused. refused.error ≡ Error.Memory) }
         ensures trigger_back { IfErr result (λ refused. refused.trigger ≡ trigger) }
         ensures out_back { IfErr result (λ refused. refused.out ≡ out) }
@@ -93,8 +93,8 @@ impl<T: Trigger, EV: SerialEvents, W: Write> Serial<T, EV, W> {
     ghost use Rattle.vm_superio.specs.Port.Operations.{Read};
     ghost use Rattle.vm_superio.specs.Port.OpKinds.{Other};
 
-    /// Makes a serial port as `new` does, which reports its events to `serial_evts`. Neither the trigger nor the events
-    /// object is called.
+    /// Makes a serial port as `new` does, but reports events to `serial_evts`. Calls neither the trigger nor the events
+    /// object.
     ///
     /// # Errors
     ///
@@ -111,7 +111,7 @@ impl<T: Trigger, EV: SerialEvents, W: Write> Serial<T, EV, W> {
         ensures out { IfOk result (λ serial. serial.out ≡ out) }
         ensures coherent { IfOk result (λ serial. Coherent serial.state) }
 
-        // Where memory was refused: the objects.
+        // If memory was refused: the objects.
         ensures only_memory { IfErr result (λ refused. refused.error ≡ Error.Memory) }
         ensures trigger_back { IfErr result (λ refused. refused.trigger ≡ trigger) }
         ensures events_back { IfErr result (λ refused. refused.events ≡ serial_evts) }
@@ -134,15 +134,15 @@ impl<T: Trigger, EV: SerialEvents, W: Write> Serial<T, EV, W> {
         })
     }
 
-    /// Makes a serial port of a saved state, which it takes as it stands, and of new objects. The trigger is called
-    /// once for each condition that is both pending and enabled, so that the interrupts that the guest has not taken
-    /// reach the new trigger. The events object is not called, and the writer not used. Memory is taken as by `new`.
+    /// Makes a serial port from a saved state, taken unchanged, and new objects. Calls the trigger once for each
+    /// condition that is both pending and enabled, so that the interrupts that the guest has not taken reach the new
+    /// trigger. Neither calls the events object nor uses the writer. Allocates as `new` does.
     ///
     /// # Errors
     ///
-    /// In each case the objects are returned. [`Error::FullFifo`] where the state holds more than 64 bytes, or else
-    /// [`Error::Memory`] where the room of the FIFO was refused: the trigger was not called then. [`Error::Trigger`] at
-    /// the first call that the trigger refused.
+    /// Each error returns the objects. Returns [`Error::FullFifo`] if the state holds more than 64 bytes, else
+    /// [`Error::Memory`] if allocating the FIFO fails, both without a trigger call. Returns [`Error::Trigger`] at the
+    /// first call that the trigger refuses.
     pub fn from_state(
         alloc: Global,
         state: &SerialState,
@@ -157,7 +157,7 @@ impl<T: Trigger, EV: SerialEvents, W: Write> Serial<T, EV, W> {
         ensures out { IfOk result (λ serial. serial.out ≡ out) }
         ensures coherent { IfOk result (λ serial. Coherent (state_of state.now) → Coherent serial.state) }
 
-        // Where it is refused: why, and the objects.
+        // If it is refused: why, and the objects.
         ensures too_many { 64 < vec_len state.now.in_buffer → IsErr result }
         ensures refused { IfErr result (λ refused.
             RefusesRestore T.link (state_of state.now) refused.error trigger refused.trigger) }
@@ -181,11 +181,11 @@ impl<T: Trigger, EV: SerialEvents, W: Write> Serial<T, EV, W> {
         }
     }
 
-    /// The state of the port, of which `from_state` makes the same port again.
+    /// A snapshot; `from_state` recreates the port.
     ///
     /// # Errors
     ///
-    /// `AllocError` where memory for the received bytes was refused.
+    /// Returns `AllocError` if allocating the received bytes fails.
     pub fn state(&self, alloc: Global) -> Result<SerialState, AllocError>
         ensures saved { IfOk result (λ saved. state_of saved ≡ self.now.state) }
         ensures few { length self.now.state.in_buffer ≤ 64 }
@@ -202,7 +202,7 @@ impl<T: Trigger, EV: SerialEvents, W: Write> Serial<T, EV, W> {
         &self.out
     }
 
-    /// The writer, for writing. Nothing else of the port changes.
+    /// The writer, mutably. Nothing else in the port changes.
     pub fn writer_mut(&mut self) -> &mut W
         ensures* lends { sem 𝓛 (Lends
             (the_row T.row EV.row W.row T.E.row T.Trigger T.E.Debug EV.SerialEvents W.Write) W.row
@@ -212,7 +212,7 @@ impl<T: Trigger, EV: SerialEvents, W: Write> Serial<T, EV, W> {
         &mut self.out
     }
 
-    /// The writer as it stands. The trigger and the events object are dropped.
+    /// Returns the writer unchanged. Drops the trigger and the events object.
     pub fn into_writer(self) -> W
     where
         T: Drop,
@@ -240,10 +240,9 @@ impl<T: Trigger, EV: SerialEvents, W: Write> Serial<T, EV, W> {
     ///
     /// # Errors
     ///
-    /// [`Error::Trigger`] where the trigger refused a call, also where the writer failed too; else [`Error::IOError`]
-    /// where the writer failed to take the byte or to flush. The registers are the same after a failure of the writer
-    /// as after its success, and a refused condition stays pending: the trigger is not called for it again until the
-    /// guest has acknowledged it.
+    /// Returns [`Error::Trigger`] if the trigger refuses a call, even if the writer fails too, else [`Error::IOError`]
+    /// if the writer fails to take the byte or to flush. The writer's failure has no effect on the registers. A refused
+    /// condition stays pending: no access calls the trigger for it again until the guest has acknowledged it.
     pub fn write(&mut self, offset: u8, value: u8) -> Result<(), Error<T::E>>
         ensures step { IsWriteStep T.link EV.link W.contents offset value result self.old self.new }
         ensures coherent { Coherent self.old.state → Coherent self.new.state }
@@ -251,10 +250,10 @@ impl<T: Trigger, EV: SerialEvents, W: Write> Serial<T, EV, W> {
         self.traced_write(offset, value).reply
     }
 
-    /// Reads the byte at `offset`, as a guest does. The trigger is not called and the writer not used.
+    /// Reads the byte at `offset`, as a guest does. Neither calls the trigger nor uses the writer.
     pub fn read(&mut self, offset: u8) -> u8
         ensures step { IsReadStep T.link EV.link W.contents offset result self.old self.new }
-        // A read of another register than RBR and IIR.
+        // A read of any register but RBR and IIR.
         ensures other { kind_in_state self.old.state (Read offset) ≡ Other → self.new ≡ self.old }
         ensures few { length self.new.state.in_buffer ≤ 64 }
         ensures trigger { self.new.trigger ≡ self.old.trigger }
@@ -266,16 +265,16 @@ impl<T: Trigger, EV: SerialEvents, W: Write> Serial<T, EV, W> {
         byte
     }
 
-    /// Calls the trigger once for each condition that is both pending and enabled, up to the first refusal. Nothing else
-    /// changes: the history counts the call as a restore of the port over its own objects.
+    /// Calls the trigger once for each condition that is both pending and enabled, up to the first refusal. Nothing
+    /// else changes. The history counts the call as a restore of the port with its own objects.
     ///
-    /// A condition whose call was refused stays pending, and later accesses do not call for it again until the guest has
-    /// acknowledged it. A monitor whose trigger can refuse makes this call after a refusal, until it returns `Ok`. The
-    /// guest may then be interrupted again for a condition that it knows of.
+    /// A refused condition stays pending, and no access calls the trigger for it again until the guest has acknowledged
+    /// it. If your trigger can refuse, repeat this call after a refusal until it returns `Ok`. The guest may then be
+    /// interrupted again for a condition that it knows of.
     ///
     /// # Errors
     ///
-    /// The trigger's refusal: a condition that is pending and enabled was not notified.
+    /// Returns the trigger's refusal: a pending, enabled condition was not notified.
     pub fn retry_interrupts(&mut self) -> Result<(), T::E>
         ensures called { OnOk result
             (T.link self.old.trigger (all_ok (restore_calls self.old.state)) self.new.trigger) }
@@ -288,7 +287,7 @@ impl<T: Trigger, EV: SerialEvents, W: Write> Serial<T, EV, W> {
         self.registers.assert_again(&mut self.interrupt_evt)
     }
 
-    /// How many bytes may still be enqueued: 64 less the number of bytes that are held.
+    /// How many bytes may still be enqueued: 64 minus the number of held bytes.
     pub fn fifo_capacity(&self) -> usize
         ensures value { result ≡ 64 - length self.now.state.in_buffer }
         ensures bound { length self.now.state.in_buffer ≤ 64 }
@@ -297,14 +296,14 @@ impl<T: Trigger, EV: SerialEvents, W: Write> Serial<T, EV, W> {
         FIFO_SIZE - self.in_buffer.len()
     }
 
-    /// Receives bytes for the guest: the first of them, as many as there is room for. Returns how many.
+    /// Receives as many bytes for the guest as fit, first ones first. Returns how many.
     ///
-    /// In loopback nothing is accepted, and the answer is 0.
+    /// In loopback it accepts no bytes and returns 0.
     ///
     /// # Errors
     ///
-    /// [`Error::FullFifo`] where there are bytes and 64 are held already, outside loopback: nothing changes then.
-    /// [`Error::Trigger`] where the trigger refused: the bytes are kept, and the guest finds them when it looks.
+    /// Returns [`Error::FullFifo`] if there are bytes, outside loopback, and 64 are held: nothing changes. Returns
+    /// [`Error::Trigger`] if the trigger refuses: the bytes are kept, and the guest finds them when it looks.
     pub fn enqueue_raw_bytes(&mut self, input: &[u8]) -> Result<usize, Error<T::E>>
         ensures step { IsEnqueueStep T.link EV.link W.contents input.now result self.old self.new }
         ensures full { result ≡ Err Error.FullFifo → self.new ≡ self.old }

@@ -1,17 +1,17 @@
-//! What is recorded of a call of a serial port beside its result.
+//! What is recorded of a serial port's call besides its result.
 
 /// The trigger's answers to the port's own calls in one call, in order.
 #[derive(Clone, Copy, Debug, PartialEq, Eq)]
 pub enum Asked {
     /// The trigger was not called.
     Nothing,
-    /// One call, which was taken.
+    /// One call, taken.
     Took,
-    /// One call, which was refused.
+    /// One call, refused.
     Refused,
     /// Two calls, both taken.
     TookTook,
-    /// Two calls: the first was taken, the second refused.
+    /// Two calls: the first taken, the second refused.
     TookRefused,
 }
 

@@ -1,4 +1,4 @@
-//! The laws of the byte form of a saved state. Those of round trips are calls: their contracts are the laws.
+//! The laws of the byte form of a saved state. The round trips are calls whose contracts are the laws.
 ghost use Rattle.std.specs.Prelude.{◌≡◌, ◌≤◌, length, IfOk, MatchResult};
 ghost use Rattle.vm_superio.specs.Port.SavedState.{state_of};
 ghost use Rattle.vm_superio.specs.Saved.Laws.{SerialFormLaw, OneSerialStateLaw, ClockFormLaw, OneClockStateLaw};
@@ -10,7 +10,7 @@ use crate::{RtcState, SerialState};
 use arrayvec::ArrayVec;
 use std::alloc::Global;
 
-/// The form of a state fails no check when it is read.
+/// A written form passes every check when read.
 pub fn forms_are_read()
     ensures serial { SerialFormLaw }
     ensures clock { ClockFormLaw }
@@ -22,7 +22,7 @@ pub fn one_state_of_a_form()
     ensures clock { OneClockStateLaw }
 {}
 
-/// Reading what was written of a port gives its state again, unless memory is refused. A state of more than 64 received
+/// Reading a port that was written gives its state back, unless memory is refused. A state with more than 64 received
 /// bytes is not written.
 pub fn serial_written_then_read(alloc: Global, state: &SerialState) -> Result<SerialState, Error>
     ensures read { length state.now.in_buffer.items ≤ 64 →
@@ -32,7 +32,7 @@ pub fn serial_written_then_read(alloc: Global, state: &SerialState) -> Result<Se
     SerialState::from_bytes(alloc, &state.to_bytes()?)
 }
 
-/// Writing what was read of a port gives the bytes again.
+/// Writing a port that was read gives the same bytes.
 pub fn serial_read_then_written(
     alloc: Global,
     bytes: &[u8],
@@ -42,14 +42,14 @@ pub fn serial_read_then_written(
     SerialState::from_bytes(alloc, bytes)?.to_bytes()
 }
 
-/// Reading what was written of a clock gives its state again.
+/// Reading a clock that was written gives its state back.
 pub fn clock_written_then_read(state: RtcState) -> Result<RtcState, Error>
     ensures { result ≡ Ok state }
 {
     RtcState::from_bytes(&state.to_bytes())
 }
 
-/// Writing what was read of a clock gives the bytes again.
+/// Writing a clock that was read gives the same bytes.
 pub fn clock_read_then_written(bytes: &[u8]) -> Result<[u8; SAVED_SIZE], Error>
     ensures { IfOk result (λ written. written ≡ bytes.now) }
 {

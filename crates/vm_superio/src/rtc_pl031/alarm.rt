@@ -1,13 +1,13 @@
-//! When guest time comes to a value.
+//! When guest time reaches a value.
 ghost use Rattle.std.specs.Prelude.{◌≡◌, pos, ◌+ℤ◌};
 ghost use Rattle.vm_superio.specs.Clock.Registers.{guest_time};
 ghost use Rattle.vm_superio.specs.Clock.Alarm.{FirstCome, SecondsUntil};
 
-/// Guest time where the host's time is `time`.
+/// Guest time at the host's time `time`.
 pub(super) fn guest_time(offset: i64, time: u32) -> u32
     ensures { result ≡ guest_time (pos time +ℤ offset) time }
 {
-    // A counter below 0 wraps to a number that 32 bits do not hold either.
+    // A negative counter wraps to a number that exceeds 32 bits too.
     let counter = u64::from(time).wrapping_add_signed(offset);
     if counter < 1 << 32 {
         counter as u32
@@ -16,8 +16,8 @@ pub(super) fn guest_time(offset: i64, time: u32) -> u32
     }
 }
 
-/// The first host's time from `from` on, up to the largest, at which guest time is `value` or more. Guest time comes to
-/// the value when the counter does, or, while 32 bits do not hold the counter, when the host's time does.
+/// The first host's time, from `from` up to the largest, at which guest time is `value` or more. Guest time reaches the
+/// value when the counter does or, while the counter does not fit in 32 bits, when the host's time does.
 fn first_time(offset: i64, value: u32, from: u32) -> Option<u32>
     ensures { FirstCome offset value from result }
 {
@@ -40,8 +40,8 @@ fn first_time(offset: i64, value: u32, from: u32) -> Option<u32>
     }
 }
 
-/// In how many seconds after the moment `now` guest time is `value` or more, or `None` where it never is. After the
-/// largest host's time comes 0.
+/// The seconds from the moment `now` until guest time is `value` or more, or `None` if it never is. The host's time
+/// wraps to 0.
 pub(super) fn seconds_until(offset: i64, value: u32, now: u64) -> Option<u64>
     ensures { SecondsUntil offset value now result }
 {

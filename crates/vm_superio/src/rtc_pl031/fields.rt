@@ -1,7 +1,7 @@
-//! A clock in a plain struct, which leaves its events to the caller.
+//! A clock in a plain struct that leaves its events to the caller.
 //!
-//! A call changes the struct where it is. So it serves a monitor in another language, which keeps the struct where it
-//! likes, and saves the clock as it copies bytes. [`Rtc`](super::Rtc) is this struct and an events object.
+//! A call changes the struct in place. A monitor in another language can keep the struct where it likes and save the
+//! clock by copying bytes. [`Rtc`](super::Rtc) is this struct and an events object.
 ghost use Rattle.std.specs.Prelude.{◌≡◌, ◌<◌, ◌^◌, IfSome};
 ghost use Rattle.vm_superio.specs.Port.Bits.{with_bits};
 ghost use Rattle.vm_superio.specs.Clock.Alarm.{is_line_up, IsAlarmDue};
@@ -15,27 +15,26 @@ use super::RtcState;
 use super::alarm::{guest_time, seconds_until};
 use super::registers::ClockRegister;
 
-/// A clock without an events object. Any numbers are a clock.
+/// A clock without an events object. Any values are valid.
 #[repr(C)]
 #[derive(Clone, Copy, Debug, Eq, PartialEq)]
 pub struct RtcFields {
-    /// RTCLR, the load register: the value that was loaded last, or 0 after a reset.
+    /// RTCLR, the load register: the last loaded value, or 0 after a reset.
     pub lr: u32,
     /// RTCMR, the match register: the guest time that an alarm waits for.
     pub mr: u32,
     /// RTCIMSC, the interrupt mask. A write stores bit 0 of its value, and clears the others.
     pub imsc: u32,
-    /// RTCRIS, the raw interrupt status. The alarm sets bit 0, and nothing sets another.
+    /// RTCRIS, the raw interrupt status. The alarm sets bit 0; nothing sets other bits.
     pub ris: u32,
     /// How far guest time is ahead of the host's time, in seconds.
     pub offset: i64,
-    /// Whether an alarm is set that no access has found reached: 0 where none is. It is eight bytes wide, so that the
-    /// struct has no padding.
+    /// Nonzero if an alarm is set and has not fired. It is eight bytes wide so that the struct has no padding.
     pub armed: u64,
 }
 
 impl RtcFields {
-    /// A fresh clock: it shows the host's time, and has no alarm.
+    /// A fresh clock: it shows the host's time and has no alarm.
     pub fn new() -> RtcFields
         ensures { state_of_clock result ≡ fresh_clock }
     {
@@ -63,7 +62,7 @@ impl RtcFields {
         }
     }
 
-    /// The state, from which `from_state` makes the same clock again.
+    /// A snapshot; `from_state` recreates the clock.
     pub fn state(&self) -> RtcState
         ensures { result ≡ state_of_clock self.now }
     {
@@ -77,8 +76,8 @@ impl RtcFields {
         }
     }
 
-    /// Begins an access at the moment `now`, and gives the host's time. Every access may find that the alarm is
-    /// reached, before it has its own effect, an invalid one too.
+    /// Begins an access at the moment `now` and returns the host's time. Any access, even an invalid one, may fire the
+    /// alarm before its own effect.
     #[tactic(auto, unfolding(crate::specs::Port::Bits::with_bits))]
     fn begin_access(&mut self, now: u64) -> u32
         ensures time { result ≡ host_time now }
@@ -92,7 +91,7 @@ impl RtcFields {
         time
     }
 
-    /// The number that a read of `register` shows where the host's time is `time`, or `None` where it shows nothing.
+    /// The value read from `register` at the host's time `time`, or `None` if it is not readable.
     fn read_register(&self, register: ClockRegister, time: u32) -> Option<u32>
         ensures { let state = state_of_clock self.now in
             result ≡ clock_register_read (clock_register_of register) (guest_time_in state time) state }
@@ -110,8 +109,8 @@ impl RtcFields {
         }
     }
 
-    /// Stores a match. The alarm is set where guest time has yet to come to it, and the interrupt is raised at once
-    /// where guest time is the match.
+    /// Stores a match. Sets the alarm if guest time has yet to reach it, and raises the interrupt at once if guest time
+    /// equals it.
     #[tactic(auto, unfolding(crate::specs::Port::Bits::with_bits))]
     fn write_match(&mut self, value: u32, time: u32)
         ensures { state_of_clock self.new ≡ match_write (state_of_clock self.old) value time }
@@ -124,8 +123,8 @@ impl RtcFields {
         }
     }
 
-    /// Writes `value` to `register` where the host's time is `time`, and returns whether the register takes a write.
-    /// Where it takes none nothing changes.
+    /// Writes `value` to `register` at the host's time `time`, and returns whether the register takes a write. If not,
+    /// nothing changes.
     #[tactic(auto, using(crate::proofs::BitLemmas::and_not_is_without))]
     fn store(&mut self, register: ClockRegister, value: u32, time: u32) -> bool
         ensures state { state_of_clock self.new
@@ -151,8 +150,8 @@ impl RtcFields {
         true
     }
 
-    /// Reads at `offset` at the moment `now`, in seconds since 1970, of which the low 32 bits count, as
-    /// [`Rtc::read`](super::Rtc::read) does: the number that is shown, or `None` where the read is invalid.
+    /// Reads at `offset` at the moment `now`, in seconds since 1970, as [`Rtc::read`](super::Rtc::read) does. Only the
+    /// low 32 bits of `now` count. Returns the value read, or `None` if the read is invalid.
     pub fn read(&mut self, offset: u16, now: u64) -> Option<u32>
         ensures response { result ≡ clock_response (state_of_clock self.old) (read offset now) }
         ensures state { state_of_clock self.new ≡ clock_step (state_of_clock self.old) (read offset now) }
@@ -162,7 +161,7 @@ impl RtcFields {
     }
 
     /// Writes `value` at `offset` at the moment `now`, as [`Rtc::write`](super::Rtc::write) does. Returns whether this
-    /// offset takes a write: `false` where the write is invalid.
+    /// offset takes a write.
     pub fn write(&mut self, offset: u16, value: u32, now: u64) -> bool
         ensures taken { result ≡ is_writable (clock_register_at offset) }
         ensures state { state_of_clock self.new ≡ clock_step (state_of_clock self.old) (write offset value now) }
@@ -171,15 +170,15 @@ impl RtcFields {
         self.store(ClockRegister::at(offset), value, time)
     }
 
-    /// Whether the interrupt line is up: bit 0 of what a read of RTCMIS shows, the raw interrupt under the mask.
+    /// Whether the interrupt line is up: bit 0 of RTCMIS, the raw interrupt status under the mask.
     pub fn interrupt_line(&self) -> bool
         ensures { result ≡ is_line_up (state_of_clock self.now) }
     {
         self.ris & self.imsc & 1 == 1
     }
 
-    /// In how many seconds after the moment `now` the alarm is due, if the guest makes no access: as
-    /// [`Rtc::alarm_due`](super::Rtc::alarm_due) says.
+    /// The seconds from the moment `now` until the alarm is due if the guest makes no access; see
+    /// [`Rtc::alarm_due`](super::Rtc::alarm_due).
     pub fn alarm_due(&self, now: u64) -> Option<u64>
         ensures due { IsAlarmDue (state_of_clock self.now) now result }
         ensures bound { IfSome result (λ seconds. seconds < 2 ^ 32) }

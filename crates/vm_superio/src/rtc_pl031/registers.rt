@@ -15,7 +15,7 @@ pub(super) const RTCLR: u16 = 0x008;
 /// The control register. The clock always runs, and a write of 1 resets it.
 pub(super) const RTCCR: u16 = 0x00C;
 
-/// The interrupt mask set or clear register, of one bit.
+/// The one-bit interrupt mask set or clear register.
 pub(super) const RTCIMSC: u16 = 0x010;
 
 /// The raw interrupt status. Read only.
@@ -33,10 +33,10 @@ pub(super) const AMBA_ID_LOW: u16 = 0xFE0;
 /// The last offset of the identification.
 pub(super) const AMBA_ID_HIGH: u16 = 0xFFF;
 
-/// The bytes of the identification, each of which stands at four offsets.
+/// The identification bytes, each at four offsets.
 const AMBA_IDS: [u8; 8] = [0x31, 0x10, 0x04, 0x00, 0x0D, 0xF0, 0x05, 0xB1];
 
-/// What the clock has at an offset from its base address.
+/// What an offset from the base address selects.
 #[derive(Clone, Copy)]
 pub(super) enum ClockRegister {
     /// RTCDR.
@@ -55,7 +55,7 @@ pub(super) enum ClockRegister {
     Mis,
     /// RTCICR.
     Icr,
-    /// An identification register, which shows this byte.
+    /// An identification register that shows this byte.
     Id(u8),
     /// No register.
     Reserved,

@@ -9,19 +9,19 @@ use super::RtcState;
 use crate::saved::{CLOCK_KIND, Error, contents_of, header};
 use arrayvec::ArrayVec;
 
-/// How many bytes the form of a clock's state has: the header and 25 bytes.
+/// The size of a clock's byte form: the header and 25 bytes.
 pub const SAVED_SIZE: usize = 33;
 
-/// How many bytes of it follow the header.
+/// The number of bytes after the header.
 const CONTENTS_SIZE: usize = 25;
 
 impl RtcState {
     ghost use Rattle.vm_superio.specs.Saved.Form.{clock_form};
 
-    /// The state as bytes, which `from_bytes` reads again.
+    /// The state as bytes; `from_bytes` reads them back.
     ///
-    /// They are a header of eight bytes, `lr`, `mr`, `imsc` and `ris` of four bytes each, `offset` of eight, and 1 where
-    /// an alarm is set and else 0. Numbers stand lowest byte first.
+    /// They are a header of eight bytes, `lr`, `mr`, `imsc` and `ris` of four bytes each, `offset` of eight, and 1 if
+    /// an alarm is set, else 0. Numbers are little-endian.
     pub fn to_bytes(&self) -> [u8; SAVED_SIZE]
         ensures { result ≡ clock_form self.now }
     {
@@ -39,12 +39,12 @@ impl RtcState {
         form.into_inner().unwrap()
     }
 
-    /// The state of which these bytes are the form.
+    /// Reads the state back from these bytes.
     ///
     /// # Errors
     ///
-    /// The first check that fails, in the order of the cases of [`Error`]; each but [`Error::TooManyBytes`] and
-    /// [`Error::Memory`] can come.
+    /// Returns the first check that fails, in the order of [`Error`]: any case but [`Error::TooManyBytes`] and
+    /// [`Error::Memory`].
     #[tactic(auto, using(crate::proofs::SavedForms::clock_form_read))]
     pub fn from_bytes(bytes: &[u8]) -> Result<RtcState, Error>
         ensures form { IfOk result (λ state. bytes.now ≡ clock_form state) }

@@ -2,7 +2,7 @@
 ghost use Rattle.std.specs.Prelude.{◌≡◌};
 ghost use Rattle.vm_superio.specs.Port.Bits.{has_bits, only_bits, with_bits, without_bits};
 
-// Offsets. DLL and DLM stand in place of RBR, THR and IER while DLAB is set.
+// Offsets. DLL and DLM replace RBR, THR and IER while DLAB is set.
 pub(super) const DATA_OFFSET: u8 = 0;
 
 pub(super) const IER_OFFSET: u8 = 1;
@@ -75,7 +75,7 @@ pub(super) const DEFAULT_MODEM_CONTROL: u8 = 0x08;
 
 pub(super) const DEFAULT_MODEM_STATUS: u8 = 0xB0;
 
-/// The byte has all of these bits.
+/// Whether all these bits are set.
 #[tactic(auto, unfolding(crate::specs::Port::Bits::has_bits))]
 pub(super) fn has_bits(byte: u8, bits: u8) -> bool
     ensures { result ≡ has_bits byte bits }
@@ -91,7 +91,7 @@ pub(super) fn with_bits(byte: u8, bits: u8) -> u8
     byte | bits
 }
 
-/// The byte with no bit but these.
+/// The byte with only these bits.
 #[tactic(auto, unfolding(crate::specs::Port::Bits::only_bits))]
 pub(super) fn only_bits(byte: u8, bits: u8) -> u8
     ensures { result ≡ only_bits byte bits }

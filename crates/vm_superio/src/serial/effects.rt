@@ -1,6 +1,6 @@
 //! What is left to do after a step of a serial port.
 
-/// What a read of a port gives, and which events it reports.
+/// The byte of a read, and the events to report.
 ///
 /// `in_buffer_empty` is reported before `buffer_read`.
 #[repr(C)]
@@ -20,7 +20,7 @@ pub struct ReadEffects {
 pub struct WriteEffects {
     /// The byte goes out.
     pub sends: bool,
-    /// How often the interrupt is asked for: 0, 1 or 2 times.
+    /// How often to ask for the interrupt: 0, 1 or 2 times.
     pub interrupts: u8,
 }
 
@@ -32,6 +32,6 @@ pub struct EnqueueEffects {
     pub taken: usize,
     /// There were bytes, outside loopback, and 64 were held already: nothing changed.
     pub full: bool,
-    /// How often the interrupt is asked for: 0 or 1 times.
+    /// How often to ask for the interrupt: 0 or 1 times.
     pub interrupts: u8,
 }

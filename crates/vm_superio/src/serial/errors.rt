@@ -13,7 +13,7 @@ pub enum Error<E> {
     Trigger(E),
     /// The writer failed to take a byte, or to flush.
     IOError(io::Error),
-    /// The FIFO holds 64 bytes, or a state would hold more.
+    /// The FIFO holds 64 bytes, or a state holds more.
     FullFifo,
     /// Memory was refused.
     Memory,
@@ -39,7 +39,7 @@ impl<E: fmt::Display> fmt::Display for Error<E> {
 
 impl<E: StdError> StdError for Error<E> {}
 
-/// So that `?` turns a refused allocation into [`Error::Memory`].
+/// Lets `?` turn a refused allocation into [`Error::Memory`].
 impl<E> From<AllocError> for Error<E> {
     ghost use Rattle.vm_superio.specs.declared.serial.errors.Error.TheVariants.{Memory};
 
@@ -50,7 +50,7 @@ impl<E> From<AllocError> for Error<E> {
     }
 }
 
-/// So that `?` does the same where the refusal gives back what found no room, as that of [`Vec::push`] does.
+/// Lets `?` do the same if the refusal returns the value that did not fit, as that of [`Vec::push`] does.
 impl<V: Drop, E> From<AllocFailed<V>> for Error<E> {
     ghost use Rattle.vm_superio.specs.declared.serial.errors.Error.TheVariants.{Memory};
 
@@ -61,12 +61,12 @@ impl<V: Drop, E> From<AllocFailed<V>> for Error<E> {
     }
 }
 
-/// A serial port that was not made: why, and the objects that were passed in for it.
+/// Why a serial port was not made, and the objects passed in for it.
 #[derive(Drop)]
 pub struct Refused<T: Trigger, EV, W> {
     /// Why the port was not made.
     pub error: Error<T::E>,
-    /// The trigger, as the calls that were made left it.
+    /// The trigger, as left by the calls made.
     pub trigger: T,
     /// The events object, as it was passed in.
     pub events: EV,
@@ -75,7 +75,7 @@ pub struct Refused<T: Trigger, EV, W> {
 }
 
 impl<T: Trigger + Drop, EV: Drop, W: Drop> Refused<T, EV, W> {
-    /// Why the port was not made. The objects are dropped.
+    /// Why the port was not made. Drops the objects.
     pub fn into_error(self) -> Error<T::E>
         ensures { result ≡ self.error }
     {

@@ -3,15 +3,14 @@ ghost use Rattle.std.specs.Prelude.{◌≡◌, ◌↔◌, List, [], ◌∷◌, �
 ghost use Rattle.std.proofs.Common.{◌∙◌};
 ghost use Rattle.vm_superio.specs.Port.Operations.{Event, buffer_read, out_byte, tx_lost_byte, in_buffer_empty};
 
-/// Hears of what a serial port does: to count it, to log it, or to feed more input once the port ran empty.
+/// Hears what a serial port does, to count it, log it, or feed more input after the port runs empty.
 ///
-/// A serial port takes an events object when it is made, and owns it. It calls the object for nothing but what its
-/// documentation says.
+/// A serial port owns its events object from creation on. It calls the object only where documented.
 ///
-/// An implementation states its `link`: how a value before some events, the names of these events in order, and the
-/// value after them belong together. The port's contracts say by which events an object is linked.
+/// An implementation states its `link`: the relation of the value before some events, the names of the events in order,
+/// and the value after them. The port's contracts state which events link an object.
 pub trait SerialEvents {
-    /// The first value becomes the second by these events.
+    /// These events turn the first value into the second.
     ghost link: { Self → List Event → Self → Type 0 };
 
     /// The guest read the data register.
@@ -30,15 +29,15 @@ pub trait SerialEvents {
     fn in_buffer_empty(&mut self)
         ensures { link self.old (in_buffer_empty ∷ []) self.new };
 
-    /// The empty list links equal values, and no others.
+    /// The empty list links equal values only.
     ghost no_event: { (x y : Self) → link x [] y ↔ (x ≡ y) };
 
-    /// Events that follow each other are one list of events.
+    /// Consecutive events join into one list.
     ghost joined: { (x y z : Self) (first second : List Event) →
         link x first y → link y second z → link x (first ++ second) z };
 }
 
-/// An events object that ignores every event, and stays the same.
+/// An events object that ignores every event and never changes.
 #[derive(Debug, Clone, Copy)]
 pub struct NoEvents;
 

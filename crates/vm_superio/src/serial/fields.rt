@@ -1,8 +1,8 @@
-//! A serial port in a plain struct, which leaves its effects to the caller.
+//! A serial port in a plain struct that leaves its effects to the caller.
 //!
-//! The port owns no object and takes no memory. A call changes the struct and answers what is left to do: a byte to
-//! send, an interrupt to ask for, an event to report. So it serves a monitor in another language, which keeps the struct
-//! where it likes, and saves the port as it copies bytes.
+//! The port owns no objects and allocates no memory. A call changes the struct and returns what is left to do: a byte
+//! to send, an interrupt to ask for, an event to report. A monitor in another language can keep the struct where it
+//! likes and save the port by copying bytes.
 ghost use Rattle.std.specs.Prelude.{◌≡◌, ◌↔◌, ◌≤◌, ◌-◌, length, IsTrue};
 ghost use Rattle.vm_superio.specs.Port.SavedState.{fresh_state};
 ghost use Rattle.vm_superio.specs.Port.Fields.{state_of_fields, CoherentFields};
@@ -17,7 +17,7 @@ pub use super::registers::Registers;
 use super::state::shows_conditions;
 use crate::fifo::{FIFO_SIZE, ReceiveFifo};
 
-/// A serial port without objects: its registers and its received bytes. Any bytes are a port.
+/// A serial port without objects: its registers and received bytes. Any bytes are valid.
 #[repr(C)]
 #[derive(Clone, Copy)]
 pub struct SerialFields {
@@ -39,7 +39,7 @@ impl SerialFields {
         }
     }
 
-    /// Reads at `offset`, as a guest does. No interrupt is asked for.
+    /// Reads at `offset`, as a guest does. Asks for no interrupt.
     pub fn read(&mut self, offset: u8) -> ReadEffects
         ensures step { IsFieldsRead offset result (state_of_fields self.old) (state_of_fields self.new) }
         ensures coherent { CoherentFields self.old → CoherentFields self.new }
@@ -48,9 +48,9 @@ impl SerialFields {
         self.registers.read(&mut self.in_buffer, register)
     }
 
-    /// Writes `value` at `offset`, as a guest does. The caller then sends the byte, where it goes out, and asks for the
-    /// interrupt, up to the first refusal. Whether the byte is lost makes no difference to the port. A refusal makes one
-    /// if the first of two interrupts is refused: the caller then calls `first_refused`.
+    /// Writes `value` at `offset`, as a guest does. Then send the byte if it goes out, and ask for the interrupts, up
+    /// to the first refusal. A lost byte does not change the port. If the first of two interrupts is refused, call
+    /// `first_refused`. No other refusal changes the port.
     pub fn write(&mut self, offset: u8, value: u8) -> WriteEffects
         ensures step { IsFieldsWrite offset value result (state_of_fields self.old) (state_of_fields self.new) }
         ensures coherent { CoherentFields self.old → CoherentFields self.new }
@@ -59,10 +59,10 @@ impl SerialFields {
         self.registers.write(&mut self.in_buffer, register, value)
     }
 
-    /// Tells that the write before this call asked for two interrupts, and that the first was refused: a refusal ends the
-    /// write, so the second condition, THRE, is not pending.
+    /// Tells the port that the first of the previous write's two interrupts was refused. A refusal ends the write, so
+    /// the second condition, THRE, is not pending.
     ///
-    /// At any other moment the call does the same: THRE is not pending afterwards, and nothing else changes.
+    /// At any other time the call does the same: THRE is not pending afterwards, and only IIR changes.
     pub fn first_refused(&mut self)
         ensures step { IsFirstRefused (state_of_fields self.old) (state_of_fields self.new) }
         ensures state { state_of_fields self.new ≡ without_thre (state_of_fields self.old) }
@@ -71,7 +71,7 @@ impl SerialFields {
         self.registers.lower(Condition::Thre);
     }
 
-    /// How many bytes may still be enqueued: 64 less the number of bytes that are held.
+    /// How many bytes may still be enqueued: 64 minus the number of held bytes.
     pub fn fifo_capacity(&self) -> usize
         ensures value { result ≡ 64 - length (state_of_fields self.now).in_buffer }
         ensures bound { length (state_of_fields self.now).in_buffer ≤ 64 }
@@ -79,8 +79,8 @@ impl SerialFields {
         FIFO_SIZE - self.in_buffer.len()
     }
 
-    /// Receives bytes for the guest: the first of them, as many as there is room for. In loopback nothing is accepted.
-    /// The bytes are kept even where the interrupt is then refused.
+    /// Receives as many bytes for the guest as fit, first ones first. In loopback it accepts no bytes. The port keeps
+    /// the bytes even if the interrupt is then refused.
     pub fn enqueue_raw_bytes(&mut self, input: &[u8]) -> EnqueueEffects
         ensures step { IsFieldsEnqueue input.now result (state_of_fields self.old) (state_of_fields self.new) }
         ensures coherent { CoherentFields self.old → CoherentFields self.new }
@@ -107,16 +107,16 @@ impl SerialFields {
         }
     }
 
-    /// How often the interrupt is asked for after a restore, and again after a refusal: once for each condition that is
-    /// pending and enabled.
+    /// How often to ask for the interrupt after a restore or a refusal: once for each condition that is pending and
+    /// enabled.
     pub fn interrupts_due(&self) -> u8
         ensures { result ≡ length (restore_calls (state_of_fields self.now)) }
     {
         self.registers.interrupts_due()
     }
 
-    /// Whether the port is coherent, as each port is that `new` made: as `SerialState::is_coherent` says of a saved state,
-    /// where `held` is at most 64 as well.
+    /// Whether the port is coherent, as `new` makes it: `held` is at most 64, and `SerialState::is_coherent` holds for
+    /// its state.
     pub fn is_coherent(&self) -> bool
         ensures { IsTrue result ↔ CoherentFields self.now }
     {

@@ -4,8 +4,8 @@ ghost use Rattle.vm_superio.specs.Port.Places.{held_bytes};
 
 use crate::fifo::{FIFO_SIZE, ReceiveFifo};
 
-/// Received bytes in a ring of 64 places. Any numbers are a FIFO: `first` counts modulo 64, and more than 64 held bytes
-/// stand for 64.
+/// Received bytes in a ring of 64 places. Any values are valid: `first` counts modulo 64, and `held` above 64 counts as
+/// 64.
 #[repr(C)]
 #[derive(Clone, Copy)]
 pub struct Places {
@@ -13,7 +13,7 @@ pub struct Places {
     pub first: u8,
     /// How many bytes are held.
     pub held: u8,
-    /// The bytes. After the last place comes the first.
+    /// The bytes. The first place follows the last.
     pub places: [u8; 64],
 }
 
@@ -37,7 +37,7 @@ impl Places {
         usize::from(self.held).min(FIFO_SIZE)
     }
 
-    /// The place at this distance from that of the oldest byte.
+    /// The place at this distance from the oldest byte.
     fn place(&self, distance: usize) -> usize
         requires { distance ≤ 64 }
         ensures value { result ≡ (self.now.first + distance) % 64 }

@@ -37,7 +37,7 @@ pub(super) enum Register {
     Msr,
     /// Scratch.
     Scr,
-    /// Nothing stands at this offset.
+    /// No register is at this offset.
     Unassigned,
 }
 
@@ -64,7 +64,7 @@ impl Condition {
         }
     }
 
-    /// The bit of IIR that shows that it is pending.
+    /// The bit of IIR that shows it pending.
     pub(super) fn iir_bit(self) -> u8
         ensures { result ≡ iir_bit (condition_of self) }
     {
@@ -75,7 +75,7 @@ impl Condition {
     }
 }
 
-/// The nine register bytes of a port, in the order of a saved state. The received bytes stand beside them.
+/// The nine register bytes of a port, in the order of a saved state, without the received bytes.
 #[repr(C)]
 #[derive(Clone, Copy)]
 pub struct Registers {
@@ -175,15 +175,15 @@ impl Registers {
         }
     }
 
-    /// What is written is received.
+    /// Whether loopback is on.
     pub(super) fn is_loopback(&self) -> bool
         ensures { result ≡ is_loopback self.now.modem_control }
     {
         has_bits(self.modem_control, MCR_LOOP_BIT)
     }
 
-    /// MSR as it is read: in loopback its high four bits show the outputs of MCR, DTR as DSR, RTS as CTS, OUT1 as RI
-    /// and OUT2 as DCD.
+    /// MSR as read. In loopback its high four bits show MCR's outputs: DTR as DSR, RTS as CTS, OUT1 as RI and OUT2 as
+    /// DCD.
     pub(super) fn read_msr(&self) -> u8
         ensures { result ≡ msr_read self.now.modem_control self.now.modem_status }
     {

@@ -1,4 +1,4 @@
-//! A restore: what a port takes of a saved state, and the trigger calls for it.
+//! A restore: what a port takes from a saved state, and its trigger calls.
 ghost use Rattle.std.specs.Prelude.{◌≡◌, ◌≤◌, List, [], length, Result, OnOk, IfOk, IfErr};
 ghost use Rattle.vm_superio.specs.Port.CodeNames.{condition_of};
 ghost use Rattle.vm_superio.specs.Port.ObjectLinks.{all_ok, StopsAtRefusal};
@@ -22,7 +22,7 @@ impl Registers {
             && has_bits(self.interrupt_enable, condition.ier_bit())
     }
 
-    /// How often the trigger is called in a restore: once for each condition that is pending and enabled.
+    /// How often a restore calls the trigger: once for each condition that is pending and enabled.
     pub(super) fn interrupts_due(&self) -> u8
         ensures calls { result ≡ length (restore_calls (state_with self.now [])) }
         ensures few { result ≤ 2 }
@@ -44,7 +44,7 @@ impl Registers {
     }
 }
 
-/// The registers and the bytes of a saved state, for which the trigger was called.
+/// The registers and bytes of a saved state, after calling the trigger for it.
 pub(super) fn restored<T: Trigger>(
     alloc: Global,
     state: &SerialState,

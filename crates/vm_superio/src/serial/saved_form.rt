@@ -17,21 +17,21 @@ use crate::saved::{Error, SERIAL_KIND, contents_of, header};
 use arrayvec::ArrayVec;
 use std::alloc::Global;
 
-/// How many bytes the form of a port's state has at the most: the header, nine registers and 64 received bytes.
+/// The maximum size of a port's byte form: the header, nine registers and 64 received bytes.
 pub const SAVED_MAX: usize = 81;
 
-/// How many bytes the registers take.
+/// The size of the registers.
 const REGISTERS_SIZE: usize = 9;
 
 impl SerialState {
-    /// The state as bytes, which `from_bytes` reads again. It takes no memory.
+    /// The state as bytes; `from_bytes` reads them back. Allocates no memory.
     ///
     /// They are a header of eight bytes, the nine registers in the order of the fields, and the received bytes, oldest
     /// first.
     ///
     /// # Errors
     ///
-    /// [`Error::TooManyBytes`] where the state has more than 64 received bytes. It has no form then.
+    /// Returns [`Error::TooManyBytes`] if the state has more than 64 received bytes, and so no form.
     pub fn to_bytes(&self) -> Result<ArrayVec<u8, SAVED_MAX>, Error>
         ensures form { IfOk result (λ bytes. bytes.items ≡ serial_form (state_of self.now)) }
         ensures few { IsOk result ↔ (length self.now.in_buffer.items ≤ 64) }
@@ -45,13 +45,13 @@ impl SerialState {
         Ok(form)
     }
 
-    /// The state of which these bytes are the form, whatever its registers hold. It may be incoherent:
+    /// Reads the state back from these bytes, whatever its registers hold. It may be incoherent:
     /// [`is_coherent`](Self::is_coherent) tells.
     ///
     /// # Errors
     ///
-    /// The first check that fails, in the order of the cases of [`Error`]; each but [`Error::InvalidArmed`] can come. Else
-    /// [`Error::Memory`] where memory for the received bytes was refused.
+    /// Returns the first check that fails, in the order of [`Error`]: any case but [`Error::InvalidArmed`]. Then
+    /// returns [`Error::Memory`] if allocating the received bytes fails.
     pub fn from_bytes(alloc: Global, bytes: &[u8]) -> Result<SerialState, Error>
         ensures form { IfOk result (λ state. bytes.now ≡ serial_form (state_of state)) }
         ensures read { (state : State) → length state.in_buffer ≤ 64 → bytes.now ≡ serial_form state →
@@ -66,8 +66,8 @@ impl SerialState {
 }
 
 impl SerialFields {
-    /// The state as bytes, as [`SerialState::to_bytes`] gives it. Any struct has a form: a port never holds more than 64
-    /// bytes. It has no byte that the guest has read.
+    /// The state as bytes, as from [`SerialState::to_bytes`]. Any struct has a form: a port never holds more than 64
+    /// bytes. The form has no byte the guest has read.
     pub fn to_bytes(&self) -> ArrayVec<u8, SAVED_MAX>
         ensures { result.items ≡ serial_form (state_of_fields self.now) }
     {
@@ -76,12 +76,12 @@ impl SerialFields {
         form
     }
 
-    /// The port of which these bytes are the form, as [`SerialState::from_bytes`] reads them.
+    /// Reads a port back from these bytes, as [`SerialState::from_bytes`] does.
     ///
     /// # Errors
     ///
-    /// The first check that fails, in the order of the cases of [`Error`]; each but [`Error::InvalidArmed`] and
-    /// [`Error::Memory`] can come.
+    /// Returns the first check that fails, in the order of [`Error`]: any case but [`Error::InvalidArmed`] and
+    /// [`Error::Memory`].
     pub fn from_bytes(bytes: &[u8]) -> Result<SerialFields, Error>
         ensures form { IfOk result (λ port. bytes.now ≡ serial_form (state_of_fields port)) }
         ensures few { IfOk result (λ port. port.in_buffer.held ≤ 64) }
@@ -99,7 +99,7 @@ impl SerialFields {
     }
 }
 
-/// Adds the bytes that are held, oldest first.
+/// Adds the held bytes, oldest first.
 fn push_held(form: &mut ArrayVec<u8, SAVED_MAX>, mut held: Places)
     requires { length form.old.items + length (held_bytes held) ≤ 81 }
     ensures { form.new.items ≡ form.old.items ++ held_bytes held }
@@ -110,7 +110,7 @@ fn push_held(form: &mut ArrayVec<u8, SAVED_MAX>, mut held: Places)
 }
 
 impl Registers {
-    /// The form of a port with these registers and `held` received bytes, up to these.
+    /// The start of the form of a port with these registers and `held` received bytes.
     pub(super) fn begin_form(&self, held: usize) -> ArrayVec<u8, SAVED_MAX>
         requires { held ≤ 64 }
         ensures form { (in_buffer : List ℕ) → length in_buffer ≡ held →
@@ -140,7 +140,7 @@ impl Registers {
 ///
 /// # Errors
 ///
-/// As for [`SerialState::from_bytes`], but for memory.
+/// As for [`SerialState::from_bytes`], except memory.
 pub(super) fn registers_of(bytes: &[u8]) -> Result<(Registers, &[u8]), Error>
     ensures form { IfOk result (λ found. bytes.now ≡ serial_form (state_with found.0 found.1.now)) }
     ensures few { IfOk result (λ found. length found.1.now ≤ 64) }

@@ -9,9 +9,9 @@ use super::registers::Registers;
 use crate::fifo::FIFO_SIZE;
 use std::alloc::{AllocError, Global};
 
-/// What a serial port holds but for its objects: enough to make the same port again, on another machine too.
+/// A serial port's contents except its objects: enough to recreate the port, also on another machine.
 ///
-/// Any bytes may be restored, and reads show them as they are.
+/// Any registers may be restored, with at most 64 bytes held.
 #[derive(Debug, Drop, Eq, PartialEq)]
 pub struct SerialState {
     /// DLL, the low byte of the divisor latch.
@@ -39,7 +39,7 @@ pub struct SerialState {
 impl SerialState {
     ghost use Rattle.vm_superio.specs.Port.SavedState.{state_of};
 
-    /// The state of a new serial port. It takes no memory.
+    /// The state of a new port. Allocates no memory.
     pub fn default(alloc: Global) -> SerialState
         ensures { state_of result ≡ fresh_state }
     {
@@ -50,7 +50,7 @@ impl SerialState {
     ///
     /// # Errors
     ///
-    /// `AllocError` where memory for the received bytes was refused.
+    /// Returns `AllocError` if allocating the received bytes fails.
     pub fn clone(&self, alloc: Global) -> Result<SerialState, AllocError>
         ensures { IfOk result (λ copy. state_of copy ≡ state_of self.now) }
     {
@@ -60,12 +60,11 @@ impl SerialState {
         })
     }
 
-    /// Whether the state is coherent, as that of each port that `new` made is: at most 64 bytes are held, data ready
-    /// shows whether any is, IIR is 1, 2, 4 or 6, and RDA is pending only while a byte is held. The other fields are
-    /// free.
+    /// Whether the state is coherent, as that of any port that `new` made: at most 64 bytes are held, data ready shows
+    /// whether any is, IIR is 1, 2, 4 or 6, and RDA is pending only while a byte is held. Other fields are free.
     ///
-    /// A port that was made from a coherent state stays coherent. With another state each call still meets its contract,
-    /// but the laws that derive a guest's reads from the history do not apply.
+    /// A port made from a coherent state stays coherent. From another state each call still meets its contract, but the
+    /// laws that derive a guest's reads from the history do not apply.
     pub fn is_coherent(&self) -> bool
         ensures { IsTrue result ↔ Coherent (state_of self.now) }
     {
@@ -76,7 +75,7 @@ impl SerialState {
     }
 }
 
-/// Whether IIR shows the two conditions, of which RDA is pending only while bytes are held.
+/// Whether IIR is 1, 2, 4 or 6, with RDA pending only while bytes are held.
 pub(super) fn shows_conditions(identification: u8, holds_bytes: bool) -> bool
     ensures { IsTrue result
         ↔ ((thre rda : Bool) × (identification ≡ identification_of thre rda)

@@ -1,6 +1,6 @@
-//! The steps that the calls of a serial port are made of: methods of the registers, which take the received bytes where
-//! they use them. They serve every receive FIFO and call nobody: a step answers what is left to do, which is a byte to
-//! send, an interrupt to ask for, or an event to report.
+//! The steps of a serial port's calls, as methods of the registers. They take the received bytes if they use them, work
+//! with every receive FIFO, and call no object: a step returns what is left to do, which is a byte to send, an
+//! interrupt to ask for, or an event to report.
 ghost use Rattle.std.specs.Prelude.{◌≡◌, ◌≤◌, if◌then◌else◌, length, slice_index};
 ghost use Rattle.vm_superio.specs.Port.State.{not_empty};
 ghost use Rattle.vm_superio.specs.Port.Bits.{only_bits, with_bits, lsr_dr_bit};
@@ -24,8 +24,8 @@ use crate::fifo::ReceiveFifo;
 use crate::trace::Asked;
 
 impl Registers {
-    /// Raises a condition: if it is enabled and not pending, it becomes pending, and the trigger is to be called once.
-    /// Returns whether it is.
+    /// Raises a condition: if it is enabled and not pending, it becomes pending. Returns whether to call the trigger,
+    /// once.
     fn raise(&mut self, condition: Condition) -> bool
         ensures due { result
             ≡ becomes_pending (condition_of condition) self.old.interrupt_enable self.old.interrupt_identification }
@@ -44,7 +44,7 @@ impl Registers {
         true
     }
 
-    /// Lowers a condition, which is then not pending.
+    /// Lowers a condition: it is no longer pending.
     pub(super) fn lower(&mut self, condition: Condition)
         ensures registers { self.new ≡ record self.old {
           interrupt_identification = lower (condition_of condition) self.old.interrupt_identification;
@@ -54,8 +54,8 @@ impl Registers {
         self.interrupt_identification = if others == 0 { IIR_NONE_BIT } else { others };
     }
 
-    /// An IER write: stores the low four bits, and raises RDA while bytes are held, and then THRE. Returns how often the
-    /// trigger is to be called.
+    /// An IER write: stores the low four bits, raises RDA if bytes are held, then raises THRE. Returns how often to
+    /// call the trigger.
     fn write_ier<F: ReceiveFifo>(&mut self, fifo: &F, value: u8) -> u8
         ensures due { result ≡ ier_write_calls (only_bits value 0x0F) (state_with self.old (F.held fifo.now)) }
         ensures few { result ≤ 2 }
@@ -72,8 +72,7 @@ impl Registers {
         }
     }
 
-    /// Takes THRE back if the first of two trigger calls was refused: an IER write ends at a refusal, before it raises
-    /// THRE.
+    /// Lowers THRE if the first of two trigger calls was refused: a refusal ends an IER write before it raises THRE.
     pub(super) fn take_back(&mut self, due: u8, asked: Asked)
         ensures registers { self.new ≡ record self.old {
           interrupt_identification =
@@ -87,7 +86,7 @@ impl Registers {
         }
     }
 
-    /// What received bytes do to the registers: data ready is set, and RDA is raised.
+    /// Notes received bytes: sets data ready and raises RDA.
     fn note_received(&mut self) -> bool
         ensures due { result ≡ becomes_pending Rda self.old.interrupt_enable self.old.interrupt_identification }
         ensures registers { self.new ≡ record self.old {
@@ -99,8 +98,8 @@ impl Registers {
         self.raise(Condition::Rda)
     }
 
-    /// Receives the first of these bytes, as many as there is room for, behind those that are held. Returns how many were
-    /// added, and whether the trigger is to be called.
+    /// Adds as many of these bytes as fit after the held ones, first ones first. Returns how many it added, and whether
+    /// to call the trigger.
     pub(super) fn receive<F: ReceiveFifo>(&mut self, fifo: &mut F, bytes: &[u8]) -> (usize, bool)
         ensures count { result.0 ≡ length (bytes_that_fit (F.held fifo.old) bytes.now) }
         ensures due { one_if result.1
@@ -116,7 +115,7 @@ impl Registers {
         (count, self.note_received())
     }
 
-    /// An RBR read: lowers RDA, and takes the oldest byte, or gives 0.
+    /// An RBR read: lowers RDA, then takes the oldest byte or gives 0.
     fn read_rbr<F: ReceiveFifo>(&mut self, fifo: &mut F) -> ReadEffects
         ensures value { result.byte ≡ slice_index (F.held fifo.old) 0 }
         ensures state { state_with self.new (F.held fifo.new) ≡ rbr_read (state_with self.old (F.held fifo.old)) }
@@ -169,8 +168,8 @@ impl Registers {
         }
     }
 
-    /// Writes a register. A THR write is received in loopback; else its byte goes out, and THRE is raised, whatever
-    /// becomes of the byte. The trigger calls that are due count as taken: `take_back` says what a refusal changes.
+    /// Writes a register. In loopback a THR write is received. Otherwise its byte goes out, and THRE is raised whatever
+    /// happens to the byte. The due trigger calls count as taken: `take_back` applies a refusal.
     pub(super) fn write<F: ReceiveFifo>(
         &mut self,
         fifo: &mut F,

@@ -1,5 +1,4 @@
-//! The calls of a serial port with what is recorded of them: each takes a step of the registers, and carries its effects
-//! out.
+//! The calls of a serial port with their records: each takes a step of the registers and carries out its effects.
 ghost use Rattle.std.specs.Prelude.{◌≡◌, ◌≤◌, ℕ, if◌then◌else◌, [], ◌∷◌, is_some, IsTrue, OnOk};
 ghost use Rattle.std.specs.Io.KnownBytes.{Appends};
 ghost use Rattle.vm_superio.specs.Port.Operations.{Read, Write, Enqueue};
@@ -85,7 +84,7 @@ impl<T: Trigger, EV: SerialEvents, W: Write> Serial<T, EV, W> {
     }
 }
 
-/// Calls the trigger as often as is due, up to the first refusal. Returns its answers, and the refusal.
+/// Calls the trigger `due` times, up to the first refusal. Returns its answers and the refusal.
 pub(super) fn call_trigger<T: Trigger>(trigger: &mut T, due: u8) -> (Asked, Option<T::E>)
     requires { due ≤ 2 }
     ensures asked { IsTrue (answers_all due result.0) }
@@ -120,7 +119,7 @@ fn report_read<EV: SerialEvents>(events: &mut EV, effects: ReadEffects)
     }
 }
 
-/// Sends a byte that goes out, and reports its outcome. Returns that, and the writer's fault.
+/// Sends the byte if due, and reports its outcome. Returns that and the writer's fault.
 fn send_where_due<EV: SerialEvents, W: Write>(
     events: &mut EV,
     out: &mut W,
@@ -148,7 +147,7 @@ fn send_where_due<EV: SerialEvents, W: Write>(
     }
 }
 
-/// Writes the byte, and flushes where that succeeded.
+/// Writes the byte and, if that succeeds, flushes.
 fn write_and_flush<W: Write>(out: &mut W, byte: u8) -> io::Result<()>
     ensures { OnOk result (Appends (W.contents out.old) (W.contents out.new) (byte ∷ [])) }
 {
@@ -156,7 +155,7 @@ fn write_and_flush<W: Write>(out: &mut W, byte: u8) -> io::Result<()>
     out.flush()
 }
 
-/// What a write answers: a refusal of the trigger rather than a failure of the writer.
+/// The reply to a write: the trigger's refusal before the writer's failure.
 fn reply<E>(refusal: Option<E>, fault: Option<io::Error>) -> Result<(), Error<E>>
     ensures refusal { refusal_in_result result ≡ refusal }
     ensures answer { write_response result
