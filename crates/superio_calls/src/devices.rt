@@ -7,7 +7,7 @@ use std::fmt::Display;
 use vm_superio::serial::{Error, Refused};
 use vm_superio::{I8042Device, Rtc, RtcState, Serial, SerialState};
 
-/// The bytes of a clock read before the call.
+/// The bytes that a clock read gets.
 const UNREAD: [u8; 4] = [0xA5; 4];
 
 /// The devices, over objects that log their calls.

@@ -13,7 +13,7 @@ use vm_superio::run::{Call, Done, run};
 use vm_superio::serial::{Error, Refused, SerialEvents};
 use vm_superio::{Serial, Trigger, laws};
 
-/// Makes the calls of a host and a guest, in order, and returns a record of each. If the port is coherent and the guest
+/// Makes the calls of a host and a guest in order and returns a record of each. If the port is coherent and the guest
 /// polls, its driver gets, in order, all bytes that the port held at first and then accepted, except those still held.
 ///
 /// # Errors

@@ -1,4 +1,4 @@
-//! A clock on an MMIO bus: a window of the guest's memory, which the guest reaches by 64-bit addresses.
+//! A clock on an MMIO bus: a window of guest memory, which the guest reaches by 64-bit addresses.
 ghost use Rattle.std.specs.Prelude.{◌≡◌, ◌-◌, if◌then◌else◌, length, replicate, Some, None};
 ghost use Rattle.std.specs.Bool.{OnTrue, OnFalse};
 ghost use Rattle.superio_examples.specs.Mmio.{is_register, ReadsClock, WritesClock};
