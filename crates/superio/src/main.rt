@@ -13,12 +13,12 @@ use std::io::{BufWriter, Read, Write};
 use std::process::ExitCode;
 use superio_script::{ScriptFault, run_script};
 
-/// Runs a script as [`run_script`] does, and then flushes the buffer, however the run ended. So the replies to the
-/// lines before a bad line go out too.
+/// Runs a script as [`run_script`] does, then flushes the buffer, even if the run failed. So the replies to the lines
+/// before a bad line go out too.
 ///
 /// # Errors
 ///
-/// Those of [`run_script`], but [`ScriptFault::Io`] instead of any of them where the buffer could not be flushed.
+/// Returns [`ScriptFault::Io`] if the buffer cannot be flushed, and otherwise the errors of [`run_script`].
 fn run_buffered<R: Read, W: Write + Drop>(
     alloc: Global,
     reader: &mut R,
@@ -52,14 +52,14 @@ fn run_buffered<R: Read, W: Write + Drop>(
 ///
 /// # Errors
 ///
-/// [`ScriptFault::Memory`] where memory for the buffer was refused.
+/// Returns [`ScriptFault::Memory`] if memory is refused.
 fn buffer<W: Write + Drop>(alloc: Global, writer: W) -> Result<BufWriter<W>, ScriptFault>
     ensures only_memory { IfErr result (λ fault. fault ≡ ScriptFault.Memory) }
 {
     BufWriter::new(alloc, writer).map_err(|_| ScriptFault::Memory)
 }
 
-/// The status that the program ends with: 0, or that of the fault.
+/// The exit status of the program: 0, or that of the fault.
 fn exit_status(end: &Result<(), ScriptFault>) -> u8
     ensures success { OnOk end.now (result ≡ 0) }
     ensures fault { IfErr end.now (λ fault. result ≡ status_of fault) }
@@ -79,7 +79,7 @@ fn run(rt: &HostRuntime) -> Result<(), ScriptFault> {
 fn main(rt: HostRuntime) -> ExitCode {
     let end = run(&rt);
     if let Err(fault) = &end {
-        // The status names the fault even where standard error takes no message.
+        // The status names the fault even if standard error takes no message.
         let _ = eprintln!(rt; "{fault}");
     }
     ExitCode::from(exit_status(&end))

@@ -4,17 +4,17 @@ use std::alloc::{AllocError, Global};
 /// An access of one of the devices.
 #[derive(Clone, Copy)]
 pub enum Access {
-    /// None: what the loop itself costs.
+    /// No access, to measure the loop.
     Nothing,
     SerialRead(u8),
     SerialWrite(u8, u8),
-    /// As many bytes for the guest.
+    /// This many bytes of input.
     SerialEnqueue(u8),
-    /// The port is saved, and made again from what was saved.
+    /// A save and a restore of the port.
     SerialRestore,
     ClockRead(u8),
     ClockWrite(u8, u8),
-    /// The clock is saved, and made again from what was saved.
+    /// A save and a restore of the clock.
     ClockRestore,
     ControllerRead(u8),
     ControllerWrite(u8, u8),
@@ -37,7 +37,7 @@ impl Access {
     }
 }
 
-/// The accesses that the bytes stand for: three bytes each, the kind, the offset and the value.
+/// The accesses that the bytes encode. Each has three: the kind, the offset and the value.
 pub fn list_of(alloc: Global, bytes: &[u8]) -> Result<Vec<Access>, AllocError> {
     let mut list = Vec::new(alloc);
     for access in bytes.chunks_exact(3) {

@@ -9,13 +9,13 @@ use vm_superio::{I8042Device, Rtc, Serial, Trigger, rtc_pl031};
 /// The bytes that are enqueued.
 const INPUT: [u8; 64] = [0x61; 64];
 
-/// What stands for a refused access in the sum.
+/// The value of a refused access in the sum.
 const REFUSED: u64 = 1 << 32;
 
 /// The moment of each access of the clock.
 const NOW: u64 = 1_000;
 
-/// Counts its calls, and refuses none.
+/// Counts its calls, and accepts all.
 #[derive(Drop)]
 struct Counter {
     calls: u64,
@@ -38,7 +38,7 @@ impl Trigger for Counter {
     }
 }
 
-/// Devices whose output is dropped, and whose events nobody hears.
+/// Devices that drop their output and ignore their events.
 #[derive(Drop)]
 pub struct Board {
     serial: Serial<Counter, NoEvents, Sink>,
@@ -56,7 +56,7 @@ impl Board {
         })
     }
 
-    /// Makes an access, and returns what it read, or how many bytes it enqueued, or otherwise 0. A refused one is
+    /// Makes an access. Returns the value read, the number of bytes enqueued, or otherwise 0. A refused one is
     /// [`REFUSED`].
     #[inline(always)]
     pub fn make(&mut self, alloc: Global, access: Access) -> u64 {

@@ -1,8 +1,8 @@
-//! Makes a list of device accesses again and again, so that `tools/bench` can measure what one costs.
+//! Repeats a list of device accesses, so that `tools/bench` can measure what one costs.
 //!
-//! Standard input is the list. The first argument says how often it is made, and the second how many accesses at its
-//! start are made once, before the rounds. Prints the sum of what was read in the rounds, by which `tools/bench` sees
-//! that other devices did the same.
+//! Standard input is the list. The second argument says how many accesses at its start run once. The first says how
+//! many rounds of the others follow. Prints the sum of what the rounds returned. `tools/bench` compares it with the sum
+//! of other devices.
 #![tactic(auto)]
 
 mod access;
@@ -15,7 +15,7 @@ use std::alloc::Global;
 use std::env;
 use std::io::Read;
 
-/// Makes the accesses in order, and returns the sum of what they read.
+/// Makes the accesses in order, and returns the sum of the results.
 fn sum_of(alloc: Global, board: &mut Board, list: &[Access]) -> u64 {
     let mut sum: u64 = 0;
     for access in list {

@@ -7,10 +7,10 @@ use std::fmt::Display;
 use vm_superio::serial::{Error, Refused};
 use vm_superio::{I8042Device, Rtc, RtcState, Serial, SerialState};
 
-/// What is in the bytes of a read of the clock before it.
+/// The bytes that a clock read gets.
 const UNREAD: [u8; 4] = [0xA5; 4];
 
-/// The devices, over objects that note their calls.
+/// The devices, over objects that log their calls.
 #[derive(Drop)]
 pub struct Devices<'a> {
     object: Object<'a>,
@@ -23,7 +23,7 @@ fn text(alloc: Global, text: impl Display + Drop) -> Result<String> {
     Ok(text.to_string(alloc)?)
 }
 
-/// The reply to a call of the port that fails.
+/// The reply to a failed call of the port.
 fn failure(alloc: Global, error: Error<Refusal>) -> Result<String> {
     match error {
         Error::Trigger(Refusal) => text(alloc, "trigger"),
@@ -33,7 +33,7 @@ fn failure(alloc: Global, error: Error<Refusal>) -> Result<String> {
     }
 }
 
-/// The bytes of a field of digits, where `-` stands for none.
+/// The bytes of a field of digits. `-` means no bytes.
 fn bytes_of(alloc: Global, digits: &str) -> Result<Vec<u8>> {
     Ok(hex::decode(alloc, if digits == "-" { "" } else { digits })?)
 }
@@ -182,7 +182,7 @@ impl<'a> Devices<'a> {
         self.restore(alloc, &state)
     }
 
-    /// Makes a port of a state, which takes the place of this one.
+    /// Replaces the port with one restored from a state.
     fn restore(&mut self, alloc: Global, state: &SerialState) -> Result<String> {
         let object = self.object;
         match Serial::from_state(alloc, state, object, object, object) {
@@ -207,7 +207,7 @@ impl<'a> Devices<'a> {
         text(alloc, "ok")
     }
 
-    /// Makes a clock of a state. A last word `armed` says that an alarm is set.
+    /// Restores a clock. A last word `armed` says that an alarm is set.
     fn load_clock(&mut self, alloc: Global, fields: [&str; 5], armed: &[&str]) -> Result<String> {
         let [lr, offset, mr, imsc, ris] = fields;
         let state = RtcState {

@@ -1,4 +1,4 @@
-//! Makes the calls that lines of standard input ask for, and prints for each the reply and the calls of objects.
+//! Makes the calls that lines of standard input ask for. Prints the reply and the calls of objects for each.
 //!
 //! `tests/calls/README.md` describes the lines. The program ends at a line of another form.
 #![tactic(auto)]
@@ -13,7 +13,7 @@ use std::alloc::Global;
 use std::io;
 use std::io::{BufRead, BufReader, BufWriter, Read, Write};
 
-/// The words of a call, without those after it that say what the objects answer, which the log takes.
+/// The words of a call. The log takes the words after them, which say what the objects answer.
 fn call_of<'a>(log: &Log, words: &'a [&'a str]) -> &'a [&'a str] {
     log.forget();
     match words.iter().rposition(|word| !log.expects(word)) {

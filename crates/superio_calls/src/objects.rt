@@ -38,13 +38,13 @@ impl Log {
         }
     }
 
-    /// Has the objects refuse nothing and take everything.
+    /// Makes the objects accept everything.
     pub fn forget(&self) {
         self.refusals.set((false, false));
         self.writing.set(Writing::Takes);
     }
 
-    /// Has the objects answer as a word says. Returns whether it is a word that does.
+    /// Makes the objects answer as a word says. Returns whether the word is known.
     pub fn expects(&self, word: &str) -> bool {
         let (first, second) = self.refusals.get();
         match word {
@@ -59,14 +59,14 @@ impl Log {
         true
     }
 
-    /// The calls of objects since they were taken last.
+    /// The calls of objects since the last `take`.
     pub fn take(&self) -> ArrayString<64> {
         self.calls.take()
     }
 
     fn note(&self, call: &str) {
         let mut calls = self.calls.take();
-        // More calls than there is room for are more than any device makes.
+        // No device makes more calls than there is room for.
         let _ = calls.try_push_str(call);
         self.calls.set(calls);
     }

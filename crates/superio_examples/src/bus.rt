@@ -16,7 +16,7 @@ const COM1: u16 = 0x3F8;
 /// The controller's data port.
 const I8042_DATA: u16 = 0x60;
 
-/// The controller's command port. Those between the two are not the controller's on a PC: 0x61 is system control port B.
+/// The controller's command port. On a PC, those in between are not its own: 0x61 is system control port B.
 const I8042_COMMAND: u16 = 0x64;
 
 /// Why a write failed.
@@ -37,8 +37,8 @@ pub struct Bus<T: Trigger, EV: SerialEvents, W: Write, R: Trigger> {
 }
 
 impl<T: Trigger, EV: SerialEvents, W: Write, R: Trigger> Bus<T, EV, W, R> {
-    /// Reads the byte at `port`, as a guest's `in` does. A port of neither device gives 0xFF, as on a PC.
-    /// So does 0x61, whose bit 0x20 Linux waits for when it measures the processor's clock.
+    /// Reads the byte at `port`, as a guest's `in` does. A port of neither device gives 0xFF, as on a PC. So does 0x61:
+    /// Linux waits for its bit 0x20 when it measures the processor's clock.
     pub fn read(&mut self, port: u16) -> u8
         ensures serial { OnTrue (is_com1 port)
             (IsReadStep T.link EV.link W.contents (port - 0x3F8) result self.old.serial self.new.serial) }
@@ -55,12 +55,12 @@ impl<T: Trigger, EV: SerialEvents, W: Write, R: Trigger> Bus<T, EV, W, R> {
         }
     }
 
-    /// Writes `value` at `port`, as a guest's `out` does. At a port of neither device it is ignored.
+    /// Writes `value` at `port`, as a guest's `out` does. A port of neither device ignores it.
     ///
     /// # Errors
     ///
-    /// [`BusError::Serial`] where the serial port's trigger refused a call or its writer failed. The write has had its
-    /// effect on the registers, and must not be repeated. [`BusError::Reset`] where the reset trigger refused the reset
+    /// Returns [`BusError::Serial`] if the serial port's trigger refused a call or its writer failed. Do not repeat the
+    /// write: it has taken effect on the registers. Returns [`BusError::Reset`] if the reset trigger refused the reset
     /// command: nobody was notified of the reset.
     pub fn write(&mut self, port: u16, value: u8) -> Result<(), BusError<T::E, R::E>>
         ensures serial { OnTrue (is_com1 port)

@@ -1,5 +1,5 @@
-//! A serial port in a monitor's event loop. The loop stops reading its source while the input is full, and an interrupt
-//! that was refused is tried again.
+//! A serial port in a monitor's event loop. The loop stops reading its source while the input is full, and retries a
+//! refused interrupt.
 ghost use Rattle.std.specs.Prelude.{◌≡◌, ◌-◌, ◌==◌, ◌++◌, length, take, min, is_some, false, true};
 ghost use Rattle.circular_buffer.specs.Buffer.{buffer};
 ghost use Rattle.vm_superio.specs.Port.Coherent.{Coherent};
@@ -14,25 +14,25 @@ use std::io::Write;
 use vm_superio::serial::{Error, SerialEvents};
 use vm_superio::{Serial, Trigger};
 
-/// The offset of MCR, which has the bit for loopback.
+/// The offset of MCR, which has the loopback bit.
 const MCR: u8 = 4;
 
 /// A serial port, with the input for its guest. An event loop
 ///
-/// - polls its source while `input.room()` is above 0, reads at most so many bytes, and passes them to `receive`;
-/// - passes each access of the guest to `read` or `write`, after which there may be room again;
+/// - polls its source while `input.room()` is above 0, reads at most that many bytes, passes them to `receive`;
+/// - passes each access of the guest to `read` or `write`, which may make room;
 /// - calls `retry` on a timer while `is_refused`.
 #[derive(Drop)]
 pub struct Console<T: Trigger, EV: SerialEvents, W: Write> {
     pub serial: Serial<T, EV, W>,
     pub input: Input,
-    /// The trigger refused a call since the last `retry` that it took: the guest may wait for an interrupt.
+    /// The trigger refused a call since the last successful `retry`: the guest may wait for an interrupt.
     pub is_refused: bool,
 }
 
 impl<T: Trigger, EV: SerialEvents, W: Write> Console<T, EV, W> {
     /// Takes the first of these bytes, as many as there is room for, and returns how many. The source keeps the others.
-    /// Input goes in, as far as the port has room.
+    /// Then feeds the port as far as it has room.
     pub fn receive(&mut self, bytes: &[u8]) -> usize
         ensures count { result ≡ min (length bytes.now) (self.old.input.capacity - length self.old.input.items) }
         ensures kept { self.new.serial.state.in_buffer ++ self.new.input.items
@@ -46,8 +46,8 @@ impl<T: Trigger, EV: SerialEvents, W: Write> Console<T, EV, W> {
         count
     }
 
-    /// Reads a byte at `offset`, as the guest does. Input goes in after each read that leaves no byte held: the one that
-    /// takes the last byte, which the port reports as `in_buffer_empty`, and any later one, at whatever offset.
+    /// Reads a byte at `offset`, as the guest does. Feeds the port after each read that leaves no byte held: the one
+    /// that takes the last byte, which the port reports as `in_buffer_empty`, and any later one, at any offset.
     pub fn read(&mut self, offset: u8) -> u8
         ensures step { ReadsThenFeeds T.link EV.link W.contents offset result self.old self.new }
         ensures coherent { Coherent self.old.serial.state → Coherent self.new.serial.state }
@@ -59,11 +59,11 @@ impl<T: Trigger, EV: SerialEvents, W: Write> Console<T, EV, W> {
         byte
     }
 
-    /// Writes `value` at `offset`, as the guest does. Input goes in after a write to MCR, which may have ended loopback.
+    /// Writes `value` at `offset`, as the guest does. Feeds the port after a write to MCR, which may end loopback.
     ///
     /// # Errors
     ///
-    /// Those of the port's own `write`. They are for the monitor to log, and the guest goes on.
+    /// Returns the error of the port's `write`. The monitor can log it. The guest goes on.
     pub fn write(&mut self, offset: u8, value: u8) -> Result<(), Error<T::E>>
         ensures step { WritesThenFeeds T.link EV.link W.contents offset value result self.old self.new }
         ensures coherent { Coherent self.old.serial.state → Coherent self.new.serial.state }
@@ -76,7 +76,7 @@ impl<T: Trigger, EV: SerialEvents, W: Write> Console<T, EV, W> {
         written
     }
 
-    /// Tries the interrupts again of which one was refused. Where none was refused, the trigger is not called.
+    /// Retries interrupts after a refusal. Without a refusal, the trigger is not called.
     pub fn retry(&mut self)
         ensures idle { self.old.is_refused ≡ false → self.new ≡ self.old }
         ensures taken { self.old.is_refused ≡ true → self.new.is_refused ≡ false →
@@ -94,7 +94,7 @@ impl<T: Trigger, EV: SerialEvents, W: Write> Console<T, EV, W> {
         }
     }
 
-    /// Gives the port input, as far as there is room.
+    /// Gives the port input as far as it has room.
     fn feed(&mut self)
         ensures fed { Feeds T.link EV.link W.contents self.old self.new }
         ensures coherent { Coherent self.old.serial.state → Coherent self.new.serial.state }
@@ -105,7 +105,7 @@ impl<T: Trigger, EV: SerialEvents, W: Write> Console<T, EV, W> {
     }
 }
 
-/// Whether a write failed by a refusal of the trigger.
+/// Whether a write failed with a trigger refusal.
 fn is_refusal<E>(written: &Result<(), Error<E>>) -> bool
     ensures { result ≡ is_some (refusal_in_result written.now) }
 {

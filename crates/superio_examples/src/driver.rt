@@ -1,4 +1,4 @@
-//! A guest's claims: a driver that polls loses no byte, and gets them in order.
+//! A guest's claims: a polling driver loses no byte and gets them in order.
 ghost use Rattle.std.specs.Prelude.{◌≡◌, [], ◌++◌, false, IfOk, OnErr, IsTrue};
 ghost use Rattle.vm_superio.specs.History.Registers.{accepted_bytes};
 ghost use Rattle.vm_superio.specs.Laws.PollingDriver.{driver_bytes, polls_by_sight};
@@ -13,12 +13,12 @@ use vm_superio::run::{Call, Done, run};
 use vm_superio::serial::{Error, Refused, SerialEvents};
 use vm_superio::{Serial, Trigger, laws};
 
-/// Makes the calls of a host and of a guest, in order, and returns a record of each. Where the guest polls, its driver
-/// gets all bytes that the port holds at first and then all that it accepts, in order, but those that are still held.
+/// Makes the calls of a host and a guest in order and returns a record of each. If the port is coherent and the guest
+/// polls, its driver gets, in order, all bytes that the port held at first and then accepted, except those still held.
 ///
 /// # Errors
 ///
-/// `AllocError` where memory for the records was refused. No call was made then.
+/// Returns `AllocError` if memory is refused. No call was made then.
 pub fn run_polled<T: Trigger + Drop, EV: SerialEvents + Drop, W: Write + Drop>(
     alloc: Global,
     serial: &mut Serial<T, EV, W>,
@@ -41,7 +41,7 @@ pub fn run_polled<T: Trigger + Drop, EV: SerialEvents + Drop, W: Write + Drop>(
 ///
 /// # Errors
 ///
-/// [`Error::Memory`] where memory was refused, and the errors of the port.
+/// Returns [`Error::Memory`] if memory is refused, or the port's error.
 pub fn receive_all<T: Trigger + Drop, W: Write + Drop>(
     alloc: Global,
     trigger: T,

@@ -1,5 +1,5 @@
-//! A trigger of the usual kind: a file descriptor that the host's kernel watches, such as an eventfd that is the irqfd of
-//! an interrupt line.
+//! The usual trigger: a file descriptor that the host's kernel watches, such as an eventfd that is the irqfd of an
+//! interrupt line.
 ghost use Rattle.std.specs.Prelude.{◌≡◌, [], ◌∷◌, OnOk};
 ghost use Rattle.std.specs.Io.KnownBytes.{Appends};
 ghost use Rattle.vm_superio.specs.Silent.{Silent, Silent-nil, Silent-append};
@@ -11,8 +11,8 @@ use vm_superio::Trigger;
 /// An interrupt line, or the event that requests a reset, behind a file descriptor. `W` is the descriptor as a writer,
 /// such as a `File`.
 ///
-/// What the kernel does with it shows in no value of the program, so its link states nothing of a trigger that was
-/// called. It states that one which was not called is the same.
+/// No value of the program shows what the kernel does with it. So its link states nothing about a trigger that was
+/// called, and that a trigger that was not called is unchanged.
 #[derive(Drop)]
 pub struct EventFd<W: Write> {
     pub file: W,
@@ -27,11 +27,11 @@ impl<W: Write> Trigger for EventFd<W> {
 
     ghost joined = { Silent-append };
 
-    /// Adds 1 to the descriptor's counter, by one write of eight bytes.
+    /// Adds 1 to the descriptor's counter: writes eight bytes.
     ///
     /// # Errors
     ///
-    /// That of the write. `WouldBlock`, of a descriptor that does not block, says that the counter is at its limit.
+    /// Returns the write's error. From a nonblocking descriptor, `WouldBlock` says that its counter is full.
     fn trigger(&mut self) -> io::Result<()>
         ensures link { Silent self.old (result ∷ []) self.new }
         ensures written { OnOk result (Appends (W.contents self.old.file) (W.contents self.new.file)

@@ -6,12 +6,12 @@ use std::io::Write;
 use vm_superio::serial::{Error, Refused};
 use vm_superio::{Serial, Trigger, laws};
 
-/// Enqueues input at a new serial port, and then reads RBR once for each byte that is held, as a guest does. Returns what
-/// was read: the input, as far as there was room for it.
+/// Enqueues input at a new serial port, then reads RBR once for each held byte, as a guest does. Returns what was read:
+/// the input, as far as there was room for it.
 ///
 /// # Errors
 ///
-/// [`Error::Memory`] where memory was refused.
+/// Returns [`Error::Memory`] if memory is refused.
 pub fn read_back<T: Trigger + Drop, W: Write + Drop>(
     alloc: Global,
     trigger: T,

@@ -1,4 +1,4 @@
-//! Input on its way to a guest. It waits until the serial port's FIFO has room, and no byte of it is lost.
+//! Input for a guest. It waits until the serial port's FIFO has room, and no byte of it is lost.
 ghost use Rattle.std.specs.Prelude.{◌≡◌, ◌+◌, ◌-◌, ℕ, List, [], ◌∷◌, ◌++◌, length, take, drop, min, OnOk, IfOk, IfErr};
 ghost use Rattle.circular_buffer.specs.Buffer.{Buffer, buffer};
 ghost use Rattle.vm_superio.specs.Port.Coherent.{Coherent};
@@ -11,8 +11,8 @@ use std::marker::Model;
 use vm_superio::serial::{Error, SerialEvents};
 use vm_superio::{Serial, Trigger, laws};
 
-/// The bytes that the guest has yet to be given, oldest first, in a ring. There is a limit on their number, for which
-/// the memory is taken when the ring is made. In a contract they are `items`, and the limit is `capacity`.
+/// The bytes that wait for the guest, oldest first, in a ring. Their number is limited, and `new` allocates the memory
+/// for this limit. In contracts the bytes are `items`, and the limit is `capacity`.
 #[derive(Drop)]
 pub struct Input {
     waiting: HeapCircularBuffer<u8>,
@@ -25,11 +25,11 @@ impl Model for Input {
 }
 
 impl Input {
-    /// No input, of which at most `limit` bytes may wait.
+    /// An empty queue of at most `limit` bytes.
     ///
     /// # Errors
     ///
-    /// `AllocError` where the allocator refused memory for them.
+    /// Returns `AllocError` if the allocator refuses memory.
     pub fn new(alloc: Global, limit: usize) -> Result<Input, AllocError>
         ensures { IfOk result (λ input. input ≡ buffer [] limit) }
     {
@@ -37,7 +37,7 @@ impl Input {
         Ok(Input { waiting })
     }
 
-    /// How many bytes may still be pushed. While it is 0, the monitor stops reading its source.
+    /// How many more bytes `push` takes. While it is 0, the monitor stops reading its source.
     pub fn room(&self) -> usize
         ensures { result ≡ self.now.capacity - length self.now.items }
     {
@@ -48,15 +48,15 @@ impl Input {
     ///
     /// # Errors
     ///
-    /// `AllocError` where the allocator refused memory for the copy.
+    /// Returns `AllocError` if memory is refused for the copy.
     pub fn waiting(&self, alloc: Global) -> Result<Vec<u8>, AllocError>
         ensures { IfOk result (λ waiting. waiting.items ≡ self.now.items) }
     {
         self.waiting.to_vec(alloc)
     }
 
-    /// Appends the first of these bytes, as many as there is room for, and returns how many. The others are still the
-    /// caller's.
+    /// Appends the first of these bytes, as many as there is room for, and returns how many. The caller keeps the
+    /// others.
     pub fn push(&mut self, bytes: &[u8]) -> usize
         ensures count { result ≡ min (length bytes.now) (self.old.capacity - length self.old.items) }
         ensures added { self.new ≡ buffer (self.old.items ++ take result bytes.now) self.old.capacity }
@@ -64,12 +64,12 @@ impl Input {
         self.waiting.fill_from_slice(bytes)
     }
 
-    /// Gives the port the first bytes that wait, as many as its FIFO has room for, and returns how many: 0 to 64. The
-    /// others stay. In loopback the port takes none.
+    /// Gives the port the first waiting bytes, as many as its FIFO has room for, and returns how many: 0 to 64. The
+    /// others stay. In loopback it takes no byte.
     ///
     /// # Errors
     ///
-    /// The trigger's refusal. The bytes went in all the same, and no longer wait, but the guest was not interrupted.
+    /// Returns the trigger's refusal. The port took the bytes, which no longer wait. The guest was not interrupted.
     pub fn feed<T: Trigger, EV: SerialEvents, W: Write>(
         &mut self,
         serial: &mut Serial<T, EV, W>,
@@ -84,7 +84,7 @@ impl Input {
         laws::one_call();
         let room = serial.fifo_capacity();
         let enqueued = serial.enqueue_raw_bytes(self.waiting.make_contiguous());
-        // The room that is left shows what went in, after a refusal too.
+        // The remaining room shows what went in, even after a refusal.
         let count = room - serial.fifo_capacity();
         self.waiting.truncate_front(self.waiting.len() - count);
         match enqueued {

@@ -1,5 +1,5 @@
-//! Short modules for the author of a monitor to copy: a bus, a clock's window in memory, a trigger, input in an event
-//! loop, a migration, and a first claim about what a guest reads.
+//! Short modules to copy into a monitor: a bus, a clock's window in memory, a trigger, input in an event loop, a
+//! migration, and a first claim about what a guest reads.
 #![tactic(auto)]
 
 pub mod bus;

@@ -1,6 +1,6 @@
-//! Moves a serial port, its input and a clock to another machine: they are saved there, and restored here.
+//! Moves a serial port, its input and a clock to another machine by a save here and a restore there.
 //!
-//! Both hosts must tell the same time, since the clock has only the difference between the guest's time and the host's.
+//! Both hosts must tell the same time, since the clock keeps only the difference between guest time and host time.
 ghost use Rattle.std.specs.Prelude.{◌≡◌, length, max, IfOk, IfErr};
 ghost use Rattle.circular_buffer.specs.Buffer.{buffer};
 ghost use Rattle.vm_superio.specs.Port.SavedState.{state_of};
@@ -18,7 +18,7 @@ use vm_superio::{Rtc, RtcState, Serial, SerialState, Trigger};
 pub struct Saved {
     pub serial: SerialState,
     pub clock: RtcState,
-    /// The input that has not gone into the serial port.
+    /// The input that the serial port has not taken.
     pub input: Vec<u8>,
 }
 
@@ -36,11 +36,11 @@ pub struct NotRestored<T: Trigger, EV, W, CE> {
     pub clock_events: CE,
 }
 
-/// Saves both devices and the input that waits. They stay as they are.
+/// Saves both devices and the waiting input. They do not change.
 ///
 /// # Errors
 ///
-/// `AllocError` where the allocator refused memory for the received bytes or the input.
+/// Returns `AllocError` if memory is refused for the received bytes or the input.
 pub fn save<T: Trigger, EV: SerialEvents, W: Write, CE: RtcEvents>(
     alloc: Global,
     serial: &Serial<T, EV, W>,
@@ -58,12 +58,12 @@ pub fn save<T: Trigger, EV: SerialEvents, W: Write, CE: RtcEvents>(
     })
 }
 
-/// The input that was saved, as input of the new machine, of which at most `limit` bytes may wait, or as many as were
-/// saved if these are more. It touches no object of the new machine, so it comes before `restore`.
+/// The saved input, as a queue of at most `limit` bytes, or of as many as were saved if these are more. This touches no
+/// object of the new machine, so call it before `restore`.
 ///
 /// # Errors
 ///
-/// `AllocError` where the allocator refused memory.
+/// Returns `AllocError` if memory is refused.
 pub fn restore_input(alloc: Global, saved: &Saved, limit: usize) -> Result<Input, AllocError>
     ensures { IfOk result (λ input.
         input ≡ buffer saved.now.input.items (max limit (length saved.now.input.items))) }
@@ -78,8 +78,8 @@ pub fn restore_input(alloc: Global, saved: &Saved, limit: usize) -> Result<Input
 ///
 /// # Errors
 ///
-/// [`NotRestored`], with all objects, where the saved state has more than 64 received bytes, where the memory of the
-/// serial port was refused, or where the trigger refuses a call.
+/// Returns [`NotRestored`], with all objects, if the saved state has more than 64 received bytes, if memory is refused
+/// for the serial port, or if the trigger refuses a call.
 pub fn restore<T: Trigger, EV: SerialEvents, W: Write, CE: RtcEvents>(
     alloc: Global,
     saved: &Saved,

@@ -1,4 +1,4 @@
-//! A clock on an MMIO bus: a window of the guest's memory, which a guest reaches by 64-bit addresses.
+//! A clock on an MMIO bus: a window of guest memory, which the guest reaches by 64-bit addresses.
 ghost use Rattle.std.specs.Prelude.{◌≡◌, ◌-◌, if◌then◌else◌, length, replicate, Some, None};
 ghost use Rattle.std.specs.Bool.{OnTrue, OnFalse};
 ghost use Rattle.superio_examples.specs.Mmio.{is_register, ReadsClock, WritesClock};
@@ -6,13 +6,13 @@ ghost use Rattle.superio_examples.specs.Mmio.{is_register, ReadsClock, WritesClo
 use vm_superio::Rtc;
 use vm_superio::rtc_pl031::RtcEvents;
 
-/// The length of the window, as that of a PL031.
+/// The length of the window, as of a PL031.
 const LENGTH: u64 = 0x1000;
 
 /// A clock whose window begins at `base`. A guest reaches its registers by accesses of four bytes.
 ///
-/// Each access is given its moment, in seconds since 1970, by the host's clock. Two hosts between which a guest moves
-/// must tell the same time.
+/// Each access takes its moment, in seconds since 1970, from the host's clock. If a guest moves, both hosts must tell
+/// the same time.
 #[derive(Drop)]
 pub struct ClockWindow<EV: RtcEvents> {
     pub base: u64,
@@ -20,8 +20,8 @@ pub struct ClockWindow<EV: RtcEvents> {
 }
 
 impl<EV: RtcEvents> ClockWindow<EV> {
-    /// Reads at `address`, as the guest does at the moment `now`. The bytes are cleared first, so a register that cannot
-    /// be read gives zeros, and none of the monitor's memory. An access of another length, or outside the window, gives
+    /// Reads at `address`, as the guest does at the moment `now`. Clears the bytes first, so a register that cannot be
+    /// read gives zeros, and nothing of the monitor's memory. An access of another length, or outside the window, gives
     /// zeros too, and changes nothing.
     pub fn read(&mut self, address: u64, bytes: &mut [u8], now: u64)
         ensures clock { OnTrue (is_register self.old.base address (length bytes.old))
@@ -54,7 +54,7 @@ impl<EV: RtcEvents> ClockWindow<EV> {
         }
     }
 
-    /// The clock's offset of an access, if it is one of four bytes in the window.
+    /// The clock's offset of a four-byte access that begins in the window.
     fn offset(&self, address: u64, length: usize) -> Option<u16>
         ensures { result
             ≡ (if is_register self.now.base address length then Some (address - self.now.base) else None) }

@@ -1,4 +1,4 @@
-//! A guest's port accesses of any width, served byte by byte, as the bus of a PC does for devices of 8 bits.
+//! Serves a guest's port accesses of any width byte by byte, as the bus of a PC does for 8-bit devices.
 ghost use Rattle.std.specs.Prelude.{◌≡◌, [], ◌∷◌, length, replicate};
 ghost use Rattle.std.specs.Bool.{OnTrue, OnFalse};
 ghost use Rattle.vm_superio.specs.Port.Coherent.{Coherent};
@@ -10,8 +10,8 @@ use vm_superio::Trigger;
 use vm_superio::serial::SerialEvents;
 
 impl<T: Trigger, EV: SerialEvents, W: Write, R: Trigger> Bus<T, EV, W, R> {
-    /// Serves an `in` of 1, 2 or 4 bytes: each byte is read at its own port, the lowest first. Any other length, which no
-    /// access of a guest has, gives 0xFF in each byte, and changes nothing.
+    /// Serves an `in` of 1, 2 or 4 bytes: reads each byte at its own port, the lowest first. Any other length, which no
+    /// guest access has, gives 0xFF in each byte and changes nothing.
     pub fn port_in(&mut self, port: u16, bytes: &mut [u8])
         ensures bytes { OnTrue (is_width (length bytes.old))
             (ReadsBytes T.link EV.link W.contents R.link port bytes.new self.old self.new) }
@@ -27,12 +27,12 @@ impl<T: Trigger, EV: SerialEvents, W: Write, R: Trigger> Bus<T, EV, W, R> {
         }
     }
 
-    /// Serves an `out` of 1, 2 or 4 bytes: each byte is written at its own port, the lowest first, whatever became of
-    /// those before it. Any other length, which no access of a guest has, is ignored.
+    /// Serves an `out` of 1, 2 or 4 bytes: writes each byte at its own port, the lowest first, even if an earlier one
+    /// failed. Any other length, which no guest access has, is ignored.
     ///
     /// # Errors
     ///
-    /// The first error of a byte's `write`. It is for the monitor to log, and the guest goes on.
+    /// Returns the first error of a byte's `write`. The monitor can log it. The guest goes on.
     pub fn port_out(&mut self, port: u16, bytes: &[u8]) -> Result<(), BusError<T::E, R::E>>
         ensures bytes { OnTrue (is_width (length bytes.now))
             (WritesBytes T.link EV.link W.contents R.link port bytes.now result self.old self.new) }
@@ -53,7 +53,7 @@ impl<T: Trigger, EV: SerialEvents, W: Write, R: Trigger> Bus<T, EV, W, R> {
         }
     }
 
-    /// Reads at four ports that follow each other.
+    /// Reads at four consecutive ports.
     fn read_four(&mut self, port: u16) -> [u8; 4]
         ensures bytes { ReadsBytes T.link EV.link W.contents R.link port result self.old self.new }
         ensures coherent { Coherent self.old.serial.state → Coherent self.new.serial.state }
@@ -68,7 +68,7 @@ impl<T: Trigger, EV: SerialEvents, W: Write, R: Trigger> Bus<T, EV, W, R> {
         ]
     }
 
-    /// Writes at four ports that follow each other.
+    /// Writes at four consecutive ports.
     fn write_four(
         &mut self,
         port: u16,

@@ -1,4 +1,4 @@
-//! The calls of the board and of scripts that take memory.
+//! The calls of boards and scripts that allocate memory.
 use std::alloc::{AllocError, Global};
 use superio_script::{Board, LineFault, ScriptFault, run_script};
 
@@ -57,12 +57,12 @@ pub fn restore_line(alloc: Global) -> Result<&'static str, AllocError> {
     Ok(if is_as_told { outcome } else { "another board" })
 }
 
-/// A script of each form. Its mask refuses the second call of the interrupt line.
+/// A script of all forms. Its mask refuses the second call of the interrupt line.
 const EVERY_FORM: &[u8] = b"\
 refuse 0000000000000002\nsw 01 01\nsq 48656c6c6f\nsr 02\nsr 00\nsc\nsq\nsw 00 21\nso\nsw 01 01\nss\nst\nse\nsd\n\
 cw 00000000000003e8 0008 00000064\ncr 00000000000003ef 0000\ncr 00000000000003ef 0020\nkw 04 fe\nkr 04\n";
 
-/// The replies to its lines. `refuse` has none.
+/// The replies to its lines, except `refuse`.
 const EVERY_REPLY: [&[u8]; 18] = [
     b"ok\n",
     b"05\n",
@@ -84,7 +84,7 @@ const EVERY_REPLY: [&[u8]; 18] = [
     b"00\n",
 ];
 
-/// How many of the first replies of the script of each form make up a text, or `None` if it is another text.
+/// How many of the script's first replies make up a text, or `None` if it is another text.
 fn reply_count(mut text: &[u8]) -> Option<usize> {
     for (number, reply) in EVERY_REPLY.iter().enumerate() {
         if text.is_empty() {

@@ -1,8 +1,8 @@
-//! Makes calls that take memory, and prints what came back and what state is left.
+//! Makes calls that allocate memory, and prints what they returned and left.
 //!
-//! Each line of standard input has the name of a call and a number. The program first takes that many blocks of memory,
-//! and gives each back at once. So `tools/refused_memory`, which refuses it one allocation of a given number, chooses
-//! which one of the call's that is.
+//! Each line of standard input has the name of a call and a number. The program first allocates that many blocks of
+//! memory and frees each at once. `tools/refused_memory` refuses one allocation by its number. So the blocks choose
+//! which allocation of the call it is.
 #![tactic(auto)]
 
 mod boards;
@@ -12,7 +12,7 @@ use std::alloc::{AllocError, Global};
 use std::io::Read;
 use std::{io, str};
 
-/// Takes memory, and gives it back.
+/// Allocates memory and frees it.
 fn take_and_return(alloc: Global, blocks: u32) -> Result<(), AllocError> {
     for number in 0..blocks {
         let mut block = Vec::new(alloc);
@@ -21,11 +21,11 @@ fn take_and_return(alloc: Global, blocks: u32) -> Result<(), AllocError> {
     Ok(())
 }
 
-/// What came back from a call, and what state is left.
+/// What a call returned and left.
 ///
 /// # Errors
 ///
-/// `AllocError` where memory was refused before the call.
+/// Returns `AllocError` if memory is refused outside the call.
 fn outcome_of(alloc: Global, call: &str) -> Result<&'static str, AllocError> {
     match call {
         "Serial::new" => Ok(ports::new(alloc)),

@@ -1,4 +1,4 @@
-//! The calls of the serial port that take memory.
+//! The serial port calls that allocate memory.
 use std::alloc::{AllocError, Global};
 use std::io::Write;
 use superio_script::{Counts, Line, Output};
@@ -8,7 +8,7 @@ use vm_superio::{Serial, SerialState, saved};
 
 type Port = Serial<Line, Counts, Output>;
 
-/// The mask of a line that refuses no call that is made here.
+/// The mask of a line that refuses no call made here.
 const MASK: u64 = 1 << 63;
 
 /// Counts that differ from new ones.
@@ -25,12 +25,12 @@ fn used_output() -> Output {
     output
 }
 
-/// Whether these are the objects that were passed in, and were not called.
+/// Whether these are the objects passed in, and were not called.
 fn are_unused(trigger: &Line, out: &Output) -> bool {
     trigger.mask() == MASK && trigger.calls() == 0 && out.bytes() == b"x".as_slice()
 }
 
-/// Whether these are the counts that were passed in, and were not called.
+/// Whether these are the counts passed in, and were not called.
 fn are_unused_counts(counts: &Counts) -> bool {
     counts.buffer_read_count() == 1
         && counts.out_byte_count() == 0
@@ -72,7 +72,7 @@ pub fn with_events(alloc: Global) -> &'static str {
     made(Serial::with_events(alloc, Line::new(MASK), used_counts(), used_output()))
 }
 
-/// A state with two bytes, of which both conditions are pending and enabled.
+/// A state with two bytes, and with both conditions pending and enabled.
 fn pending_state(alloc: Global) -> Result<SerialState, AllocError> {
     let mut state = SerialState::default(alloc);
     state.interrupt_enable = 0x03;
@@ -134,7 +134,7 @@ fn calls(alloc: Global) -> Result<Vec<Call<Line, Counts, Output>>, AllocError> {
     ]?)
 }
 
-/// What a run returned, and whether it left the port that its records tell of.
+/// What a run returned, and whether the port agrees with its records.
 fn ran(serial: &Port, done: &[Done<Line, Counts, Output>]) -> &'static str {
     let [_, _, _, restore, data, status] = done else {
         return "another number of records";

@@ -6,11 +6,11 @@ use crate::counts::Counts;
 use crate::replies::{Reply, digits, word};
 use vm_superio::Rtc;
 
-/// Carries out a line on the clock, and returns the reply.
+/// Executes a line on the clock and returns the reply.
 pub(crate) fn clock_line(clock: &mut Rtc<Counts>, line: ClockLine) -> Reply
     ensures step { IsClockLineStep line result.items clock.old.state clock.new.state }
 {
-    // With fresh counts, the counts after the access are those of its own event.
+    // With fresh counts, the counts after the access show its own event only.
     *clock = Rtc::from_state(&clock.state(), Counts::new());
     match line {
         ClockLine::Read { moment, offset } => {

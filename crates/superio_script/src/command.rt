@@ -8,7 +8,7 @@ use crate::splitting::Fields;
 use arrayvec::ArrayVec;
 use std::marker::Model;
 
-/// The most bytes that an `sq` line may have.
+/// The most bytes that an `sq` line can have.
 const ARRIVAL_LIMIT: usize = 128;
 
 /// What a line asks for.
@@ -70,7 +70,7 @@ pub(crate) enum ControllerLine {
     Write { offset: u8, value: u8 },
 }
 
-/// The bytes of an `sq` line. In a contract it is the list of them.
+/// The bytes of an `sq` line. In contracts it is a list.
 #[derive(Drop)]
 pub(crate) struct Arrival {
     bytes: ArrayVec<u8, ARRIVAL_LIMIT>,
@@ -114,7 +114,7 @@ impl Arrival {
     }
 }
 
-/// The bytes of a field of exactly two hexadecimal digits for each.
+/// The bytes of a field of exactly two hexadecimal digits per byte.
 fn bytes<const N: usize>(field: &[u8]) -> Option<[u8; N]>
     ensures { result ≡ bytes_of N field.now }
 {
@@ -151,7 +151,7 @@ fn number32(field: &[u8]) -> Option<u32>
     Some(u32::from_be_bytes(bytes(field)?))
 }
 
-/// The bytes of a field of two digits for each: 1 to 128 of them.
+/// The 1 to 128 bytes of a field of two digits per byte.
 fn parse_arrival(field: &[u8]) -> Option<Arrival>
     ensures { result ≡ arrival_of field.now }
 {
@@ -165,7 +165,7 @@ fn parse_arrival(field: &[u8]) -> Option<Arrival>
     Some(Arrival::of(bytes))
 }
 
-/// `Some` where no field is left.
+/// `Some` if no field is left.
 fn no_field(mut fields: Fields) -> Option<()>
     ensures { result ≡ no_field (remaining_fields fields.entry.rest) }
 {
@@ -175,7 +175,7 @@ fn no_field(mut fields: Fields) -> Option<()>
     }
 }
 
-/// The byte of the one field that is left.
+/// The byte of the one remaining field.
 fn one_byte(mut fields: Fields) -> Option<u8>
     ensures { result ≡ one_byte (remaining_fields fields.entry.rest) }
 {
@@ -184,7 +184,7 @@ fn one_byte(mut fields: Fields) -> Option<u8>
     Some(first)
 }
 
-/// The bytes of the two fields that are left.
+/// The bytes of the two remaining fields.
 fn two_bytes(mut fields: Fields) -> Option<(u8, u8)>
     ensures { result ≡ two_bytes (remaining_fields fields.entry.rest) }
 {
@@ -193,7 +193,7 @@ fn two_bytes(mut fields: Fields) -> Option<(u8, u8)>
     Some((first, second))
 }
 
-/// The bytes of the one field that is left, or none where no field is.
+/// The bytes of the one remaining field, or no bytes without a field.
 fn bytes_or_none(mut fields: Fields) -> Option<Arrival>
     ensures { result ≡ bytes_or_none (remaining_fields fields.entry.rest) }
 {
@@ -205,7 +205,7 @@ fn bytes_or_none(mut fields: Fields) -> Option<Arrival>
     Some(bytes)
 }
 
-/// The moment and the offset of the two fields that are left.
+/// The moment and the offset of the two remaining fields.
 fn moment_and_offset(mut fields: Fields) -> Option<(u64, u16)>
     ensures { result ≡ moment_and_offset (remaining_fields fields.entry.rest) }
 {
@@ -215,7 +215,7 @@ fn moment_and_offset(mut fields: Fields) -> Option<(u64, u16)>
     Some((moment, offset))
 }
 
-/// The moment, the offset and the value of the three fields that are left.
+/// The moment, the offset and the value of the three remaining fields.
 fn moment_offset_and_value(mut fields: Fields) -> Option<(u64, u16, u32)>
     ensures { result ≡ moment_offset_and_value (remaining_fields fields.entry.rest) }
 {
@@ -267,7 +267,7 @@ fn command_of_name(name: &[u8], fields: Fields) -> Option<Command>
     })
 }
 
-/// What a line of this name alone asks for.
+/// What a line of only this name asks for.
 fn line_of_name(name: &[u8]) -> Option<SerialLine>
     ensures { result ≡ line_of_name name.now }
 {
@@ -282,7 +282,7 @@ fn line_of_name(name: &[u8]) -> Option<SerialLine>
     }
 }
 
-/// What a line asks for, or `None` where it has no form.
+/// What a line asks for, or `None` if it has no form.
 pub(crate) fn parse(line: &[u8]) -> Option<Command>
     ensures { result ≡ command_of line.now }
 {
@@ -291,7 +291,7 @@ pub(crate) fn parse(line: &[u8]) -> Option<Command>
     command_of_name(name, fields)
 }
 
-/// The number of the one field that is left.
+/// The number of the one remaining field.
 fn one_number64(mut fields: Fields) -> Option<u64>
     ensures { result ≡ one_number64 (remaining_fields fields.entry.rest) }
 {
@@ -300,8 +300,7 @@ fn one_number64(mut fields: Fields) -> Option<u64>
     Some(number)
 }
 
-/// The mask of a line `refuse MMMMMMMMMMMMMMMM`, given without its LF, or `None` where the line has another form or
-/// none.
+/// The mask of a line `refuse MMMMMMMMMMMMMMMM`, given without its LF, or `None` if the line is not of this form.
 pub(crate) fn refused_mask(line: &[u8]) -> Option<u64>
     ensures { result ≡ mask_of line.now }
 {

@@ -6,8 +6,7 @@ use std::marker::Model;
 use vm_superio::rtc_pl031::RtcEvents;
 use vm_superio::serial::SerialEvents;
 
-/// An events object, of a serial port or of a clock, that counts how often each event was reported. Each count
-/// saturates at 2^64 - 1.
+/// An events object that counts how often a serial port or a clock reported each event. Counts saturate at 2^64 - 1.
 #[derive(Clone, Copy)]
 pub struct Counts {
     buffer_reads: u64,
@@ -45,7 +44,7 @@ impl Model for Counts {
 impl Counts {
     ghost use Rattle.superio_script.specs.Counts.{no_counts};
 
-    /// Counts that are all 0.
+    /// Counts of 0.
     pub fn new() -> Counts
         ensures { result ≡ no_counts }
     {
@@ -148,7 +147,7 @@ impl RtcEvents for Counts {
     }
 }
 
-/// Counts one more, up to 2^64 - 1.
+/// Adds 1, up to 2^64 - 1.
 fn count(count: &mut u64)
     ensures { count.new ≡ saturating_increment count.old }
 {

@@ -17,10 +17,10 @@ use std::alloc::Global;
 use std::marker::Model;
 use vm_superio::{I8042Device, Rtc, Serial};
 
-/// Why a line was not carried out.
+/// Why a line was not executed.
 #[derive(Clone, Copy, Debug, PartialEq, Eq)]
 pub enum LineFault {
-    /// The line has no form. A `refuse` has none here: it is a form of a script's first line alone.
+    /// The line has no form. `refuse` is a form only of a script's first line.
     Bad,
     /// The allocator refused memory for an `ss`.
     Memory,
@@ -28,8 +28,8 @@ pub enum LineFault {
 
 /// The devices that a script drives: a serial port, a clock and an i8042 controller.
 ///
-/// Between two lines the serial port and the clock are in states that traces of calls describe: [`Board::line`] says by
-/// which calls a line extends these traces.
+/// Between two lines, traces of calls describe the states of the serial port and the clock. [`Board::line`] states
+/// which calls a line adds to these traces.
 #[derive(Drop)]
 pub struct Board {
     serial: Port,
@@ -50,12 +50,12 @@ impl Model for Board {
 impl Board {
     ghost use Rattle.superio_script.specs.Board.{IsFresh, IsLineStep};
 
-    /// A board of fresh devices. Where bit k of `mask` is set, for k from 0 to 63, the serial port's interrupt line
-    /// refuses call number k, counted from 0. The controller's reset line refuses no call.
+    /// A board of fresh devices. If bit k (0 to 63) of `mask` is set, the serial port's interrupt line refuses call
+    /// number k, counted from 0. The controller's reset line refuses no call.
     ///
     /// # Errors
     ///
-    /// [`ScriptFault::Memory`] where the memory of the serial port was refused.
+    /// Returns [`ScriptFault::Memory`] if memory is refused for the port.
     pub fn new(alloc: Global, mask: u64) -> Result<Board, ScriptFault>
         ensures only_memory { IfErr result (λ fault. fault ≡ ScriptFault.Memory) }
         ensures fresh { IfOk result (λ board. IsFresh mask board) }
@@ -68,12 +68,12 @@ impl Board {
         })
     }
 
-    /// Carries out one line, given without its LF, and returns the reply with its LF.
+    /// Executes one line, given without its LF, and returns the reply with its LF.
     ///
     /// # Errors
     ///
-    /// The board is then unchanged. [`LineFault::Bad`] where the line has no form or is `refuse`. [`LineFault::Memory`]
-    /// where the allocator refused the memory of an `ss`.
+    /// Returns [`LineFault::Bad`] if the line has no form or is `refuse`. Returns [`LineFault::Memory`] if memory is
+    /// refused for an `ss`. The board is then unchanged.
     pub fn line(&mut self, alloc: Global, line: &[u8]) -> Result<Reply, LineFault>
         ensures bad { IsErrOf result LineFault.Bad ↔ (command_of line.now ≡ None) }
         ensures memory { result ≡ Err LineFault.Memory → IsRestoreLine line.now }
@@ -88,7 +88,7 @@ impl Board {
         })
     }
 
-    /// Carries out a line on the controller, which is fresh afterwards, and returns the reply.
+    /// Executes a line on the controller, leaves it fresh, and returns the reply.
     fn controller_line(&mut self, line: ControllerLine) -> Reply
         ensures reply { result.items ≡ controller_reply line }
         ensures same { self.new ≡ self.old }
@@ -97,7 +97,7 @@ impl Board {
             ControllerLine::Read { offset } => return byte(self.controller.read(offset)),
             ControllerLine::Write { offset, value } => (offset, value),
         };
-        // The reset line refuses no call, so its count says all that the result does.
+        // The reset line refuses no call, so its count shows what the result shows.
         let _ = self.controller.write(offset, value);
         if self.controller.reset_evt().calls() == 0 {
             return word(b"ok");

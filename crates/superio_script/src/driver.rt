@@ -22,12 +22,12 @@ const LCR_DLAB_BIT: u8 = 0x80;
 /// LSR: data ready.
 const LSR_DATA_READY_BIT: u8 = 0x01;
 
-/// Reads the bytes that a serial port holds, as a guest's driver does that polls: while LSR shows data ready, it reads
-/// RBR. Returns the bytes, oldest first. Where LCR has DLAB set, RBR cannot be reached: it returns no byte then, and makes
-/// no further access.
+/// Reads the bytes that a serial port holds, as a polling driver of a guest does: it reads RBR while LSR shows data
+/// ready. Returns the bytes, oldest first. If DLAB is set, RBR cannot be reached: it returns no byte and makes no
+/// further access.
 ///
-/// Of a port in a coherent state, with DLAB clear, these are all bytes that it holds. In any other state the driver stops
-/// after at most 64 reads of RBR too. It takes no memory.
+/// If the port is in a coherent state and DLAB is clear, these are all bytes that it holds. In any state the driver
+/// stops after at most 64 reads of RBR. It allocates no memory.
 pub fn drain<T: Trigger, EV: SerialEvents, W: Write>(
     serial: &mut Serial<T, EV, W>,
 ) -> ArrayVec<u8, 64>

@@ -7,7 +7,7 @@ use std::fmt;
 /// Why a run of a script ended early.
 #[derive(Clone, Copy, Debug, PartialEq, Eq)]
 pub enum ScriptFault {
-    /// The line with this number, counted from 1, has no form, and no earlier line lacks one.
+    /// The line with this number, counted from 1, is the first that has no form.
     Bad(usize),
     /// The reader or the writer failed.
     Io,

@@ -7,10 +7,10 @@ use arrayvec::ArrayVec;
 use std::io;
 use std::io::Write;
 
-/// A writer that keeps the first 256 bytes that are written to it.
+/// A writer that keeps the first 256 bytes written to it.
 ///
-/// A write takes as many of its bytes as there is room for, and returns that number: 0 once 256 bytes are kept.
-/// Neither a write nor a flush fails.
+/// A write takes as many of its bytes as there is room for and returns their number: 0 after 256 bytes. Writes and
+/// flushes never fail.
 #[derive(Drop)]
 pub struct Output {
     bytes: ArrayVec<u8, 256>,
@@ -20,7 +20,7 @@ pub struct Output {
 impl Output {
     ghost use Rattle.superio_script.specs.Output.{written_bytes};
 
-    /// An output that has taken no byte.
+    /// An empty output.
     pub fn new() -> Output
         ensures { written_bytes result ≡ [] }
     {
@@ -29,7 +29,7 @@ impl Output {
         }
     }
 
-    /// The bytes that the output has taken, oldest first: at most 256.
+    /// The bytes taken, oldest first: at most 256.
     pub fn bytes(&self) -> &[u8]
         ensures { result.now ≡ written_bytes self.now }
     {

@@ -24,7 +24,7 @@ fn room(alloc: Global, len: usize) -> Result<Vec<u8>, ScriptFault>
     vec![in alloc; 0; len].map_err(|_| ScriptFault::Memory)
 }
 
-/// Reads until the room is full or the input ends, and returns how many bytes were read.
+/// Reads until the room is full or the input ends. Returns the number of bytes read.
 fn fill<R: Read>(reader: &mut R, room: &mut [u8]) -> io::Result<usize>
     ensures within { IfOk result (λ filled. filled ≤ length room.old) }
     ensures read { IfOk result (λ filled.
@@ -71,8 +71,8 @@ fn print<W: Write>(writer: &mut W, reply: &Reply) -> Result<(), ScriptFault>
         .map_err(|_| ScriptFault::Io)
 }
 
-/// The head of a script: the mask of a first line `refuse`, or 0 without one; how many lines that is, 1 or 0; and the
-/// lines after it.
+/// The head of a script: the mask of a first line `refuse`, or 0; the number of such lines, 1 or 0; and the lines after
+/// it.
 fn head(script: &[u8]) -> (u64, usize, Lines<'_>)
     ensures mask { result.0 ≡ (body_of script.now).mask }
     ensures skipped { result.1 + 1 ≡ (body_of script.now).first }
@@ -86,7 +86,7 @@ fn head(script: &[u8]) -> (u64, usize, Lines<'_>)
     (0, 0, Lines::of(script))
 }
 
-/// Carries out lines on a fresh board with this mask, and writes their replies. `skipped` lines stand before them.
+/// Executes lines on a fresh board with this mask, and writes their replies. `skipped` lines precede them.
 fn write_replies<W: Write>(
     alloc: Global,
     mask: u64,
@@ -118,19 +118,19 @@ fn write_replies<W: Write>(
     Ok(())
 }
 
-/// Runs a script: reads it from `reader` to the end, carries out its lines on a fresh board, writes the replies to
-/// `writer` and flushes it. A script has at most 65,536 bytes. A first line `refuse MMMMMMMMMMMMMMMM` has no reply: it
-/// gives the mask of the serial port's interrupt line, which is 0 without one.
+/// Runs a script: reads it from `reader` to the end, executes its lines on a fresh board, writes the replies to
+/// `writer` and flushes it. A script has at most 65,536 bytes. A first line `refuse MMMMMMMMMMMMMMMM` has no reply. It
+/// gives the mask of the serial port's interrupt line, which is otherwise 0.
 ///
 /// # Errors
 ///
-/// - [`ScriptFault::Bad`], with the number of the first line that has no form, counted from 1: the replies to the lines
-///   before it were written, but the writer was not flushed.
-/// - [`ScriptFault::TooLong`], where the reader gave more than 65,536 bytes: nothing was written, and no byte after the
+/// - [`ScriptFault::Bad`] if a line has no form, with the number of the first one, counted from 1. The replies to the
+///   lines before it were written, but the writer was not flushed.
+/// - [`ScriptFault::TooLong`] if the reader gave more than 65,536 bytes. Nothing was written, and no byte after the
 ///   65,537th was read.
-/// - [`ScriptFault::Memory`], where the allocator refused memory for the script or the board, and nothing was written;
-///   or for an `ss`, and the replies to the lines before it were written.
-/// - [`ScriptFault::Io`], where a read, a write or the flush failed. After a failed read nothing was written. After a
+/// - [`ScriptFault::Memory`] if memory is refused. For the script or the board: nothing was written. For an `ss`: the
+///   replies to the lines before it were written.
+/// - [`ScriptFault::Io`] if a read, a write or the flush failed. After a failed read, nothing was written. After a
 ///   failed write or flush, some of the replies may have been written.
 pub fn run_script<R: Read, W: Write>(
     alloc: Global,

@@ -20,8 +20,8 @@ use vm_superio::{Serial, laws};
 /// The serial port of a board.
 pub(crate) type Port = Serial<Line, Counts, Output>;
 
-/// Carries out a line on the serial port, and returns the reply. Only a restore can fail, for want of memory. The port
-/// is then unchanged.
+/// Executes a line on the serial port and returns the reply. Only a restore can fail, for lack of memory. The port is
+/// then unchanged.
 pub(crate) fn serial_line(
     alloc: Global,
     serial: &mut Port,
@@ -32,7 +32,7 @@ pub(crate) fn serial_line(
     ensures only_memory { IfErr result (λ fault. fault ≡ LineFault.Memory) }
     ensures only_restore { OnErr result (line ≡ Restore) }
 {
-    // The port's contracts speak of its state, and a session of the trace of its calls.
+    // The port's contracts describe its state, a session the trace of its calls.
     laws::steps_of_history();
     laws::states_of_history();
     laws::coherence();
@@ -51,7 +51,7 @@ pub(crate) fn serial_line(
     }
 }
 
-/// Restores the port from its own state, with copies of its interrupt line and its counts, and with its output.
+/// Restores the port from its own state, with copies of its interrupt line and counts, and with its output.
 fn restore(alloc: Global, serial: &mut Port) -> Result<Reply, LineFault>
     ensures step { IfOk result (λ reply. IsSerialLineStep Restore reply.items serial.old serial.new) }
     ensures unchanged { OnErr result (serial.new ≡ serial.old) }
@@ -105,7 +105,7 @@ fn error_reply(error: Error<LineRefused>) -> Reply
         Error::Trigger(LineRefused) => word(b"trigger"),
         Error::IOError(_) => word(b"io"),
         Error::FullFifo => word(b"full"),
-        // Of the lines only a restore takes memory, and one that is refused it has no reply.
+        // Only a restore allocates memory. If that fails, it has no reply.
         Error::Memory => Reply::new(),
     }
 }

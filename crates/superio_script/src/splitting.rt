@@ -13,7 +13,7 @@ fn find(bytes: &[u8], separator: u8) -> Option<usize>
     bytes.iter().position(|byte| *byte == separator)
 }
 
-/// The bytes before the first separator, and those after it, or `None` where there is no separator.
+/// The bytes before the first separator, and those after it, or `None` if there is no separator.
 fn first_piece(bytes: &[u8], separator: u8) -> (&[u8], Option<&[u8]>)
     ensures found { IfSome result.1 (λ rest. (end : List (List ℕ)) →
         pieces_of separator end bytes.now ≡ result.0.now ∷ pieces_of separator end rest.now) }
@@ -26,7 +26,7 @@ fn first_piece(bytes: &[u8], separator: u8) -> (&[u8], Option<&[u8]>)
     }
 }
 
-/// The fields of a line that are still to come. One space separates two fields.
+/// The remaining fields of a line. One space separates two fields.
 #[derive(Drop)]
 pub(crate) struct Fields<'a> {
     rest: Option<&'a [u8]>,
@@ -51,7 +51,7 @@ impl<'a> Fields<'a> {
     }
 }
 
-/// The lines of a script that are still to come, without their LF.
+/// The remaining lines of a script, without their LF.
 #[derive(Drop)]
 pub(crate) struct Lines<'a> {
     rest: &'a [u8],

@@ -6,7 +6,7 @@ use std::fmt;
 use std::marker::Model;
 use vm_superio::Trigger;
 
-/// The refusal of a call of a [`Line`]. It is displayed as `line refused`.
+/// The refusal of a call of a [`Line`], displayed as `line refused`.
 #[derive(Clone, Copy, Debug, PartialEq, Eq)]
 pub struct LineRefused;
 
@@ -20,10 +20,10 @@ impl fmt::Display for LineRefused {
 
 impl Error for LineRefused {}
 
-/// An interrupt line that counts its calls, and refuses those that a mask names.
+/// An interrupt line that counts its calls and refuses those in a mask.
 ///
-/// Calls are numbered from 0. Call number k is refused where k is below 64 and bit k of the mask is set, bit 0 being
-/// the lowest. A refused call counts like any other.
+/// Calls are numbered from 0. Call number k is refused if k is below 64 and bit k of the mask is set. Bit 0 is the
+/// lowest. A refused call counts like any other.
 #[derive(Clone, Copy)]
 pub struct Line {
     calls: u64,

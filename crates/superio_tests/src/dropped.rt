@@ -1,4 +1,4 @@
-//! Objects that a call takes and drops, and that it must not call before that. No contract says this.
+//! A call that takes and drops objects must not call them before. No contract says this.
 use crate::objects::{Log, Object};
 use std::io;
 use std::io::ErrorKind;
@@ -50,7 +50,7 @@ fn a_clock_and_a_controller_are_dropped_in_silence(rt: HostRuntime) {
     assert!(rt; log.calls() == 2);
 }
 
-/// How many calls of objects a refusal makes that is taken apart.
+/// How many calls of objects `into_error` makes.
 fn calls_of_refusal(error: Error<LineRefused>) -> u64 {
     let log = Log::new();
     let object = Object::new(&log);

@@ -1,4 +1,4 @@
-//! What errors print, what becomes one, and events objects that do nothing.
+//! What errors print, what converts to one, and idle events objects.
 use std::alloc::{AllocError, AllocFailed, Global};
 use std::error::Error as StdError;
 use std::io;
@@ -8,7 +8,7 @@ use vm_superio::rtc_pl031::RtcEvents;
 use vm_superio::serial::{Error, SerialEvents};
 use vm_superio::{rtc_pl031, saved, serial};
 
-/// Whether an error prints this, to a caller that knows it as an error of std alone.
+/// Whether an error prints this, to a caller that knows only std's `Error`.
 fn prints<E: StdError>(alloc: Global, error: &E, text: &str) -> bool {
     match error.to_string(alloc) {
         Ok(printed) => printed.as_str() == text,
@@ -58,7 +58,7 @@ fn errors_of_saved_forms_print_the_check_that_failed(rt: HostRuntime) {
     }
 }
 
-/// Takes this much memory, as a monitor does that returns the port's own error.
+/// Allocates this much, as a monitor that returns the port's own error does.
 fn take(alloc: Global, size: usize) -> Result<Vec<u8>, Error<LineRefused>> {
     Ok(Vec::with_capacity(alloc, size)?)
 }
@@ -73,7 +73,7 @@ fn a_refused_allocation_is_an_error_of_the_port(rt: HostRuntime) {
     assert!(rt; take(rt.alloc(), 64).is_ok());
     assert!(rt; matches!(take(rt.alloc(), usize::MAX), Err(Error::Memory)));
 
-    // A push gives the byte back, which `?` drops.
+    // A push returns the byte, which `?` drops.
     let mut bytes = Vec::new(rt.alloc());
     assert!(rt; keep(&mut bytes, b'a').is_ok());
     let refused = Error::<LineRefused>::from(AllocFailed { value: b'b' });

@@ -1,5 +1,5 @@
-//! Tests of what no contract says, and neither a script of tests/ nor a recorded call shows: printed text, objects that
-//! are dropped, a writer's own faults, and runs of many calls.
+//! Tests of what no contract, script of tests/ or recorded call shows: printed text, objects that are dropped, a
+//! writer's own faults, and runs of many calls.
 #![tactic(auto)]
 
 #[cfg(test)]

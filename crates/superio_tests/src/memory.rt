@@ -1,7 +1,7 @@
 //! Memory that runs out.
 use std::alloc::{AllocError, Global};
 
-/// Takes blocks of memory, ever smaller ones, until no block of `least` bytes is left.
+/// Allocates smaller and smaller blocks until no block of `least` bytes is left.
 pub fn all_memory(alloc: Global, least: usize) -> Result<Vec<Vec<u8>>, AllocError> {
     let mut blocks = Vec::with_capacity(alloc, 1 << 17)?;
     for power in (0..47u32).rev() {

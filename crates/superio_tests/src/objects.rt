@@ -1,4 +1,4 @@
-//! The objects that the tests give to a device: a trigger, an events object and a writer, which share what they do.
+//! The objects that the tests give to a device: a trigger, an events object and a writer, which share a log.
 //!
 //! All tests use this one type of object, since the prover takes ten seconds for each type of port.
 ghost use Rattle.vm_superio.specs.Silent.{Silent, Silent-nil, Silent-append};
@@ -20,11 +20,11 @@ pub struct Log {
     pub events: Cell<u64>,
     pub writes: Cell<u64>,
     pub flushes: Cell<u64>,
-    /// The trigger call of this number, from 1, is refused. 0: none is.
+    /// The number of the trigger call to refuse, from 1. 0: no call.
     pub refused: Cell<u64>,
-    /// So many calls of `write` are interrupted.
+    /// Interrupts this many calls of `write`.
     pub interruptions: Cell<u64>,
-    /// Each later call of `write`, or of `flush`, fails by this error of the operating system. 0: it succeeds.
+    /// Each later `write`, or `flush`, fails with this error number of the operating system. 0: it succeeds.
     pub write_fault: Cell<i32>,
     pub flush_fault: Cell<i32>,
 }
@@ -61,7 +61,7 @@ fn counted(calls: &Cell<u64>) -> u64 {
     number
 }
 
-/// What a call of the writer returns that has this fault.
+/// What a call of a writer with this fault returns.
 fn outcome(fault: i32) -> io::Result<()> {
     match fault {
         0 => Ok(()),

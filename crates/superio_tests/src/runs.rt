@@ -1,4 +1,4 @@
-//! Runs: lists of calls of a serial port, each as one call.
+//! Runs: lists of serial port calls, each made by one call.
 use crate::memory::all_memory;
 use crate::objects::{Log, Object, Port, port};
 use std::alloc::{AllocError, Global};
@@ -15,7 +15,7 @@ fn restore(log: &Log) -> PortCall<'_> {
     Call::Restore(object, object, object)
 }
 
-/// Makes two calls by a run.
+/// Makes two calls in a run.
 fn run_two<'a>(
     alloc: Global,
     serial: &mut Port<'a>,
@@ -46,7 +46,7 @@ fn a_run_records_each_call_and_goes_on_over_restores(rt: HostRuntime) -> Result<
     let done = run_two(alloc, &mut serial, Call::Read(2), Call::Write(1, 0x03))?;
     assert!(rt; done.len() == 2);
     assert!(rt; matches!(done[0].reply, Reply::Byte(0xC4)) && done[1].asked == Asked::TookTook);
-    // The calls of a restore are those of another trigger. The port stays, and sends one more byte.
+    // A restore calls its own trigger. After a refusal the port stays, and sends one more byte.
     let done = run_two(alloc, &mut serial, restore(&refusing), Call::Write(0, b'x'))?;
     assert!(rt; done.len() == 2);
     assert!(rt; matches!(done[0].reply, Reply::NotRestored(_)) && done[0].asked == Asked::Nothing);
@@ -61,7 +61,7 @@ fn a_run_records_each_call_and_goes_on_over_restores(rt: HostRuntime) -> Result<
     Ok(())
 }
 
-/// Sends a million bytes by one run over the objects of this log, and returns how many records there are.
+/// Sends a million bytes in one run over this log's objects, and returns the number of records.
 fn records_of_many<'a>(alloc: Global, log: &'a Log) -> Result<usize, Fail> {
     let mut serial = port(alloc, log)?;
     let mut calls: Vec<PortCall<'a>> = Vec::new(alloc);
@@ -88,7 +88,7 @@ fn a_run_of_many_calls_asks_the_writer_once_for_each_byte(rt: HostRuntime) -> Re
     Ok(())
 }
 
-/// Enqueues this byte and restores the port by a run, and returns whether the port is another one.
+/// Enqueues this byte and restores the port in a run. Returns whether the restore succeeded.
 fn is_restored<'a>(
     alloc: Global,
     serial: &mut Port<'a>,

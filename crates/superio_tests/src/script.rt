@@ -7,7 +7,7 @@ use std::process::Abort;
 use std::test::Fail;
 use superio_script::{ScriptFault, run_script};
 
-/// Gives its bytes, and then fails, or ends if it has no fault.
+/// Gives its bytes, then fails, or ends if it has no fault.
 #[derive(Drop)]
 struct Input<'a> {
     bytes: &'a [u8],
@@ -73,7 +73,7 @@ impl Write for Log {
     }
 }
 
-/// Runs a script, and asserts how it ends, how often its reader was called, and what its writer was called for.
+/// Runs a script. Asserts how it ends, how often its reader was called, and what its writer was called for.
 fn expect_run(
     rt: &impl Abort,
     alloc: Global,
@@ -117,7 +117,7 @@ fn a_script_calls_its_streams_no_more_than_it_has_to(rt: HostRuntime) -> Result<
 /// Lets the last read of a script fail, then its write, then its flush.
 fn expect_faults(rt: &impl Abort, alloc: Global, kind: ErrorKind) {
     let fault = Err(ScriptFault::Io);
-    // `write_all` makes a write again.
+    // `write_all` retries the write.
     let (end, calls): (Result<(), ScriptFault>, &[u8]) = match kind {
         ErrorKind::Interrupted => (Ok(()), b"00\n."),
         _ => (fault, b""),
@@ -143,7 +143,7 @@ fn expect_faults(rt: &impl Abort, alloc: Global, kind: ErrorKind) {
 
 #[test]
 fn a_fault_of_any_kind_is_io(rt: HostRuntime) {
-    // Every error of the operating system, and the kinds of the others.
+    // Every error of the operating system, and other kinds.
     for number in 1..=133 {
         expect_faults(&rt, rt.alloc(), io::Error::from_raw_os_error(number).kind());
     }

@@ -1,18 +1,18 @@
-//! What a data write asks of the writer: one `write`, and one `flush` where that succeeded. No contract says how often.
-//! Here are faults of every kind; tests/calls/sending.txt has one, over each number of held bytes and what is pending.
+//! What a data write asks of the writer: one `write`, and one `flush` if that succeeded. No contract says how often.
+//! Here are faults of every kind. tests/calls/sending.txt has one, over each number of held bytes and what is pending.
 use crate::objects::{Log, port};
 use std::alloc::Global;
 use std::test::Fail;
 use superio_script::LineRefused;
 use vm_superio::serial::Error;
 
-/// The number by which an interrupted call fails.
+/// The error number of an interrupted call.
 const INTERRUPTED: i32 = 4;
 
-/// The largest number of an error of the operating system.
+/// The largest error number of the operating system.
 const LARGEST: i32 = 133;
 
-/// The number of the writer's fault, if the error is that.
+/// The number of the writer's fault, if that is the error.
 fn number_of(error: &Error<LineRefused>) -> Option<i32> {
     match error {
         Error::IOError(fault) => fault.raw_os_error(),
@@ -20,7 +20,7 @@ fn number_of(error: &Error<LineRefused>) -> Option<i32> {
     }
 }
 
-/// Sends a byte over the objects of this log: the calls of `write` and of `flush`, and the number of the fault.
+/// Sends a byte over this log's objects. Returns the calls of `write` and `flush`, and the number of the fault.
 fn sent(alloc: Global, log: &Log) -> Result<(u64, u64, Option<i32>), Fail> {
     let mut serial = port(alloc, log)?;
     let number = match serial.write(0, b'A') {
@@ -33,7 +33,7 @@ fn sent(alloc: Global, log: &Log) -> Result<(u64, u64, Option<i32>), Fail> {
 #[test]
 fn a_write_that_fails_returns_its_fault_and_is_not_made_again(rt: HostRuntime) -> Result<(), Fail> {
     for number in 1..=LARGEST {
-        // After an interrupted `write` the byte is written again.
+        // After an interruption the byte is written again.
         if number != INTERRUPTED {
             let log = Log::new();
             log.write_fault.set(number);

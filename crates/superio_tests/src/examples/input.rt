@@ -1,4 +1,4 @@
-//! Input on its way to a guest, drivers that read it, and devices that move to another machine.
+//! Input for a guest, drivers that read it, and devices that move to another machine.
 use crate::objects::{Log, Object, port};
 use std::alloc::Global;
 use std::test::Fail;
@@ -35,8 +35,8 @@ fn every_byte_of_the_input_is_read_once(rt: HostRuntime) -> Result<(), Fail> {
     let mut input = Input::new(rt.alloc(), 100)?;
     let bytes = INPUT;
     input.push(&bytes);
-    // In loopback nothing goes in. When it ends, 64 bytes do, though the interrupt is refused. The guest reads 10 bytes,
-    // and then all, as there is room for more.
+    // In loopback nothing goes in. After it, 64 bytes do, though the interrupt is refused. The guest reads 10 bytes,
+    // and then all others, as room allows.
     for (register, value, fed, from, to) in [
         (4, 0x10, Some(0), 0, 0),
         (1, 0x01, Some(0), 0, 0),
@@ -67,7 +67,7 @@ fn input_stops_and_starts_and_a_refused_interrupt_is_tried_again(
     };
     log.refused.set(1);
     for ((register, value), input, taken, read, (room, is_refused, calls)) in [
-        // The guest enables interrupts, and the one for the first byte is refused. It is tried again.
+        // The guest enables interrupts. The one for the first byte is refused, then retried.
         ((1, 0x01), &source[0..1], 1, &source[0..0], (16, true, 1)),
         // The FIFO takes 63 more bytes, and then the input is full.
         (
@@ -113,7 +113,7 @@ fn input_stops_and_starts_and_a_refused_interrupt_is_tried_again(
             &source[0..64],
             (16, true, 3),
         ),
-        // In loopback no input goes in, and it does when loopback ends.
+        // Input goes in only after loopback ends.
         ((4, 0x10), &source[80..89], 9, &source[0..0], (7, false, 4)),
         (
             (4, 0x00),
@@ -163,7 +163,7 @@ fn devices_go_on_on_another_machine(rt: HostRuntime) -> Result<(), Fail> {
     assert!(rt; input.waiting(rt.alloc())?.as_slice() == b"def".as_slice());
     let log = Log::new();
     let object = Object::new(&log);
-    // The trigger is called for the interrupt, and first refuses.
+    // The trigger first refuses the interrupt.
     log.refused.set(1);
     let refused = restore(rt.alloc(), &saved, object, object, object, object);
     assert!(rt; refused.is_err() && log.calls() == 1);
@@ -195,7 +195,7 @@ fn a_guest_gets_the_input(rt: HostRuntime) -> Result<(), Fail> {
     Ok(())
 }
 
-/// The records of a driver that polls a port to which two bytes came.
+/// The records of a driver that polls a port with two bytes.
 fn polled<'a>(
     alloc: Global,
     log: &'a Log,

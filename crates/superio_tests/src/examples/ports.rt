@@ -13,7 +13,7 @@ fn a_bus_reaches_its_devices_by_port(rt: HostRuntime) -> Result<(), Fail> {
         serial: port(rt.alloc(), &log)?,
         controller: I8042Device::new(Object::new(&resets)),
     };
-    // The first interrupt is refused, and the first reset. Most ports are those of neither device.
+    // The first interrupt and the first reset are refused. Most ports belong to neither device.
     log.refused.set(1);
     resets.refused.set(1);
     for (at, value, refused) in [
@@ -69,7 +69,7 @@ fn a_wide_access_is_one_of_each_byte(rt: HostRuntime) -> Result<(), Fail> {
         controller: I8042Device::new(Object::new(&log)),
     };
     log.refused.set(2);
-    // LCR to LSR, IER and IIR, a length that no guest has, and a fault of the first byte, after which the second is written.
+    // LCR to LSR, IER and IIR, a length that no guest has, and a fault of the first byte. The second is still written.
     for (at, bytes, is_ok) in [
         (0x3FB, b"\x1B\x02\xFF\xFF".as_slice(), true),
         (0x3F9, b"\x02", true),
@@ -111,7 +111,7 @@ fn a_clock_is_reached_in_its_window_by_four_bytes(rt: HostRuntime) {
         assert!(rt; bytes == want, "at {address:#x}");
     }
     window.write(base + 4, &[0xFF; 8], 1_700_000_007);
-    // One of the reads was of no register.
+    // One read was at no register.
     assert!(rt; window.clock.state().mr == 0 && log.events.get() == 1);
 }
 
@@ -121,7 +121,7 @@ fn an_event_is_one_write_of_eight_bytes(rt: HostRuntime) {
     let mut event = EventFd {
         file: Object::new(&log),
     };
-    // EAGAIN, and then none.
+    // EAGAIN, then success.
     for fault in [11, 0] {
         log.write_fault.set(fault);
         assert!(rt; event.trigger().is_ok() == (fault == 0));
