@@ -38,7 +38,8 @@
  * -----
  *
  * - A device pointer is not NULL. All bytes of its struct are set, by the
- *   device's `new`, by a load or by a copy.
+ *   device's `new`, by a load or by a copy. A load alone takes one that is not
+ *   set; if the load fails, it is still not set.
  * - Any bytes are a valid device. Whatever the struct holds, no call reads or
  *   writes outside it and the bytes that are passed.
  * - The library takes no locks. Calls on one device must not overlap in time:

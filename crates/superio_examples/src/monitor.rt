@@ -1,3 +1,4 @@
+//! Devices that a guest has used, with input that waits: what a migration saves.
 use crate::input::Input;
 use crate::migration::{Saved, save};
 use std::alloc::Global;
