@@ -1,7 +1,7 @@
 /*
  * The devices once more, written from docs/DEVICES.md for comparison with the
- * library. A port is kept in another form than superio.h has: its received
- * bytes stand in a queue, oldest first.
+ * library. The model stores a port differently from superio.h: its received
+ * bytes form a queue, oldest first.
  */
 #ifndef MODEL_H
 #define MODEL_H
