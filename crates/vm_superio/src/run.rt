@@ -30,7 +30,7 @@ pub enum Call<T, EV, W> {
 }
 
 /// A call without its objects.
-#[derive(Debug, Drop, Eq, PartialEq)]
+#[derive(Drop)]
 pub enum Act {
     /// `read` at this offset.
     Read(u8),
