@@ -65,7 +65,10 @@ def build(crate, *commands):
 def built_program(arguments=(), crate="superio"):
     """The program that the arguments name, or else the built one of a crate, which is built anew where it has to be."""
     if arguments:
-        return Path(arguments[0]).resolve()
+        program = Path(arguments[0]).resolve()
+        if not program.is_file():
+            raise NotBuilt(f"{program} is not there")
+        return program
     program = CRATES / crate / "out" / crate
     if not is_current(program, SOURCES[crate]):
         build(crate, "run")
@@ -112,15 +115,31 @@ def side_by_side(block):
         yield row, reply.lstrip(" ") or None
 
 
+def lost_or_new(folder, pattern, names):
+    """A message for each of these files that a folder lacks, and for each other one that it has."""
+    found = {path.name for path in folder.glob(pattern)}
+    for name in sorted(found ^ set(names)):
+        yield f"{folder.name}/{name} is not there" if name in names else f"{folder.name}/{name} is not in the tool's list"
+
+
+def reason(error):
+    """What an `OSError` says, with the file that it is about."""
+    return f"{error.filename}: {error.strerror}" if error.filename else str(error)
+
+
 def report(results):
-    """Prints each message, where `None` stands for a pass, and then `N passed, M failed`. Returns the exit status: 1 where
-    something failed or nothing was checked."""
+    """Prints each message, where `None` stands for a pass, and then `N passed, M failed`. Returns the exit status: 1 if
+    something failed, if a file cannot be used, or if nothing was checked."""
     passed = failed = 0
-    for message in results:
-        if message is not None:
-            print(message)
-        passed += message is None
-        failed += message is not None
+    try:
+        for message in results:
+            if message is not None:
+                print(message)
+            passed += message is None
+            failed += message is not None
+    except OSError as error:
+        print(reason(error))
+        failed += 1
     if passed + failed == 0:
         print("nothing was checked")
         failed = 1
