@@ -1,15 +1,10 @@
 """Tests that tools name a file that is missing or damaged, count it as failed, and end with their sum."""
 import re
 import shutil
-import subprocess
-import sys
-import tempfile
 import unittest
-from pathlib import Path
 
-from test_check import TOOLS
+from repository import ROOT, CopyTest
 
-ROOT = TOOLS.parent
 # Prints a script as its own replies.
 CAT = shutil.which("cat")
 # Beside each tool what it says if the repository has nothing but tools/.
@@ -25,26 +20,14 @@ WITHOUT_ALL = {
 
 
 @unittest.skipUnless(CAT, "cat is not there")
-class MissingFiles(unittest.TestCase):
-    def setUp(self):
-        folder = tempfile.TemporaryDirectory()
-        self.addCleanup(folder.cleanup)
-        self.root = Path(folder.name)
-        self.take("tools")
-
-    def take(self, part):
-        """Copies a folder of the repository."""
-        shutil.copytree(ROOT / part, self.root / part, ignore=shutil.ignore_patterns("__pycache__", "test", "target"))
-
+class MissingFiles(CopyTest):
     def sum_of(self, tool, *arguments, says, **options):
-        """What a tool of the copy passed and failed. It has to end by itself, and to have a line that ends so."""
-        ran = subprocess.run([sys.executable, self.root / "tools" / tool, *arguments], capture_output=True, text=True,
-                             timeout=60, **options)
-        *lines, last = ran.stdout.splitlines()
-        self.assertNotIn("Traceback", ran.stderr)
-        self.assertTrue(any(line.endswith(says) for line in lines), ran.stdout)
+        """What a tool of the copy passed and failed. One of its lines has to end as `says`."""
+        status, printed, _ = self.run_tool(f"tools/{tool}", *arguments, **options)
+        *lines, last = printed.splitlines()
+        self.assertTrue(any(line.endswith(says) for line in lines), printed)
         passed, failed = map(int, re.match(r"(\d+) passed, (\d+) failed", last).groups())
-        self.assertEqual(ran.returncode, 1 if failed else 0)
+        self.assertEqual(status, 1 if failed else 0)
         return passed, failed
 
     def test_without_any_file(self):
@@ -53,6 +36,12 @@ class MissingFiles(unittest.TestCase):
                 passed, failed = self.sum_of(tool, *([] if tool == "excerpts" else [CAT]), says=says)
                 self.assertEqual(passed, 0)
                 self.assertGreater(failed, 0)
+
+    def test_a_file_that_is_lost_later(self):
+        self.take("README.md", "docs", "examples/c")
+        passed, failed = self.sum_of("excerpts", says="No such file or directory")
+        self.assertGreater(passed, 0)
+        self.assertEqual(failed, 1)
 
     def test_a_program_that_is_not_there(self):
         for tool in ("scripts", "calls", "hostile"):
@@ -78,8 +67,7 @@ class MissingFiles(unittest.TestCase):
         self.assertGreater(failed, 0)
 
     def test_saved_forms_without_its_document(self):
-        for part in ("include", "prebuilt"):
-            self.take(part)
+        self.take("include", "prebuilt")
         says = "docs/SAVED-STATES.md: No such file or directory"
         self.assertEqual(self.sum_of("saved_forms", says=says), (0, 1))
         (self.root / "docs").mkdir()

@@ -151,13 +151,13 @@ class Typing(ShellTest):
             path = Path(folder, "lines")
             path.write_text("read LSR\n")
             self.terminal = Terminal([sys.executable, "-m", "superio", str(path)], ENVIRONMENT)
+            self.assertEqual("LSR = 0x60  THRE TEMT\n", self.terminal.read_until("TEMT\n", 10))
             self.assertEqual(0, self.terminal.status())
-            self.assertEqual("LSR = 0x60  THRE TEMT\n", self.terminal.shown())
 
     def test_no_strict_shell(self):
         self.terminal = Terminal([sys.executable, "-m", "superio", "--strict"], ENVIRONMENT)
+        self.terminal.read_until("--strict is for a file or a pipe\n", 10)
         self.assertEqual(5, self.terminal.status())
-        self.assertIn("--strict is for a file or a pipe", self.terminal.shown())
 
     def test_the_shell_lists_its_calls(self):
         self.start()
