@@ -9,6 +9,8 @@ from pathlib import Path
 
 from support import ENVIRONMENT, ROOT, TIMEOUT, run
 
+import superio
+
 EXAMPLE = ROOT / "examples" / "three_devices.script"
 BOOT = ROOT / "examples" / "linux-boot" / "boot.recording"
 
@@ -191,7 +193,7 @@ class Streams(unittest.TestCase):
 
 class Arguments(unittest.TestCase):
     def test_version_and_help(self):
-        self.assertEqual((0, "superio 0.1.0\n", ""), run("--version"))
+        self.assertEqual((0, f"superio {superio.__version__}\n", ""), run("--version"))
         status, output, _ = run("--help")
         self.assertEqual(0, status)
         for word in ("FILE", "--strict", "--no-color", "exit status", "view"):
