@@ -48,7 +48,7 @@ def run_rt(crate, command, log):
 
 
 def build(crate, *commands):
-    """Builds a crate by commands of rt. What they print is kept, in a file that the error names, where one fails."""
+    """Builds a crate by commands of rt. If one fails, the error names a file with what they printed."""
     handle, name = tempfile.mkstemp(prefix=f"{crate}-", suffix=".log")
     with os.fdopen(handle, "w", encoding="utf-8") as log:
         for command in commands:
@@ -63,7 +63,7 @@ def build(crate, *commands):
 
 
 def built_program(arguments=(), crate="superio"):
-    """The program that the arguments name, or else the built one of a crate, which is built anew where it has to be."""
+    """The program that the arguments name, or else that of a crate, which is built if it is missing or out of date."""
     if arguments:
         program = Path(arguments[0]).resolve()
         if not program.is_file():
@@ -76,7 +76,7 @@ def built_program(arguments=(), crate="superio"):
 
 
 def built_library():
-    """The static library, which is built anew where it has to be, of a crate that `rt check` has proved."""
+    """The static library, which `rt` proves and builds if it is missing or out of date."""
     library = CRATES / "superio_c" / "out" / "libsuperio_c.a"
     if not is_current(library, SOURCES["superio_c"]):
         build("superio_c", "check", "lib")
@@ -93,7 +93,7 @@ def original_crate():
 
 
 def run(program, script):
-    """Runs a script: its status, standard output and standard error. `None` where it did not end."""
+    """Runs a script: its status, standard output and standard error. `None` if it did not end."""
     try:
         got = subprocess.run([program], input=script, capture_output=True, timeout=TIMEOUT)
     except subprocess.TimeoutExpired:
@@ -128,8 +128,8 @@ def reason(error):
 
 
 def report(results):
-    """Prints each message, where `None` stands for a pass, and then `N passed, M failed`. Returns the exit status: 1 if
-    something failed, if a file cannot be used, or if nothing was checked."""
+    """Prints each message, and then `N passed, M failed`. `None` stands for a pass. Returns the exit status: 1 if something
+    failed, if a file cannot be used, or if nothing was checked."""
     passed = failed = 0
     try:
         for message in results:

@@ -192,8 +192,6 @@ class Typing(ShellTest):
             path = Path(folder, "history")
             path.write_text("".join(f"read {number}\n" for number in range(1000)))
             self.start(SUPERIO_HISTORY=str(path))
-            self.terminal.type(CTRL_C)
-            self.terminal.read_until(PROMPT)
             self.answer("kr 04")
             self.end()
             self.assertEqual([*(f"read {number}" for number in range(1, 1000)), "kr 04"], path.read_text().splitlines())
@@ -212,8 +210,11 @@ class Typing(ShellTest):
             self.end()
             self.assertEqual("write SCR 7\n", Path(path).read_text())
             self.start(SUPERIO_HISTORY=path)
+            self.terminal.type(CTRL_C)
+            self.terminal.read_until(PROMPT)
             self.assertEqual("ok\n", self.answer(UP))
             self.end()
+            self.assertEqual("write SCR 7\n", Path(path).read_text())
 
 
 class ViewerTest(ShellTest):

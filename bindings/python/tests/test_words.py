@@ -252,6 +252,7 @@ class Words(SessionTest):
         self.session = Session(self.out, keeps_lines=True, host_time=lambda: -5.5)
         self.assertEqual(["DR = 0x00000000  1970-01-01 00:00:00 UTC", "cr 0000000000000000 0000"],
                          self.said("clock read DR", "trace"))
+        self.assertEqual("  DR   0x00000000  1970-01-01 00:00:00", self.said("regs clock")[1])
 
     def test_comments_and_blank_lines(self):
         self.assertEqual([], self.said("", "   ", "\t\r", "# sr 05", "   # sr 05"))
