@@ -59,6 +59,18 @@ class MissingFiles(CopyTest):
         for says in ("tests/clock.txt is not there", "tests/other.txt is not in the tool's list"):
             self.assertEqual(self.sum_of("scripts", CAT, says=says), (len(names), 2))
 
+    def test_the_checks_of_c_and_rust(self):
+        self.take("CHANGELOG.md", "LICENSE", "README.md", "bindings/rust", "crates/superio_c/src", "crates/vm_superio/src",
+                  "examples/c", "include", "prebuilt")
+        # Cargo is there, and fails.
+        (self.root / "cargo").write_text('#!/bin/sh\n[ "$*" = --version ]\n', encoding="ascii")
+        (self.root / "cargo").chmod(0o755)
+        library = "prebuilt/aarch64-linux/libsuperio_c.a"
+        (self.root / library).unlink()
+        for tool in ("c/check", "rust/check"):
+            _, failed = self.sum_of(tool, says=f"{library}'", env={"PATH": str(self.root)})
+            self.assertGreater(failed, 0)
+
     def test_a_damaged_recording(self):
         self.take("tests")
         packed = self.root / "tests" / "calls" / "calls.txt.xz"
