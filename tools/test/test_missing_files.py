@@ -3,6 +3,7 @@ import re
 import shutil
 import unittest
 
+import tiny
 from repository import ROOT, CopyTest
 
 # Prints a script as its own replies.
@@ -70,6 +71,11 @@ class MissingFiles(CopyTest):
         for tool in ("c/check", "rust/check"):
             _, failed = self.sum_of(tool, says=f"{library}'", env={"PATH": str(self.root)})
             self.assertGreater(failed, 0)
+
+    def test_wrong_bodies_without_the_prover(self):
+        tiny.make(self.root, [("one", "same", "ensures", "    number", "    0")])
+        says = "tiny/one: BAD: the crate tiny is not proved"
+        self.assertEqual(self.sum_of("wrong_bodies", "--root", self.root, says=says, env={"PATH": ""}), (0, 1))
 
     def test_a_damaged_recording(self):
         self.take("tests")
