@@ -48,7 +48,7 @@ def run_rt(crate, command, log, task):
 
 def build(*steps):
     """Builds a crate by commands of rt, each in a crate's folder, the lowest first: rt passes over the sources of a crate
-    once more if it has to build the libraries too. What they print is kept, in a file that the error names, if one fails."""
+    once more if it has to build the libraries too. If one fails, the error names a file with what they printed."""
     crate = steps[-1][0]
     handle, name = tempfile.mkstemp(prefix=f"{crate}-", suffix=".log")
     log = os.fdopen(handle, "w", encoding="utf-8")
@@ -70,9 +70,12 @@ def libraries_of(crate):
 
 
 def built_program(arguments=(), crate="superio"):
-    """The program that the arguments name, or else the built one of a crate, which is built anew where it has to be."""
+    """The program that the arguments name, or else that of a crate, which is built if it is missing or out of date."""
     if arguments:
-        return Path(arguments[0]).resolve()
+        program = Path(arguments[0]).resolve()
+        if not program.is_file():
+            raise NotBuilt(f"{program} is not there")
+        return program
     program = CRATES / crate / "out" / crate
     if not is_current(program, SOURCES[crate]):
         build(*libraries_of(crate), (crate, "run"))
@@ -80,7 +83,7 @@ def built_program(arguments=(), crate="superio"):
 
 
 def built_library():
-    """The static library, which is built anew where it has to be, of a crate that `rt check` has proved."""
+    """The static library, which `rt` proves and builds if it is missing or out of date."""
     library = CRATES / "superio_c" / "out" / "libsuperio_c.a"
     if not is_current(library, SOURCES["superio_c"]):
         build(*libraries_of("superio_c"), ("superio_c", "check"), ("superio_c", "lib"))
@@ -97,7 +100,7 @@ def original_crate():
 
 
 def run(program, script):
-    """Runs a script: its status, standard output and standard error. `None` where it did not end."""
+    """Runs a script: its status, standard output and standard error. `None` if it did not end."""
     try:
         got = subprocess.run([program], input=script, capture_output=True, timeout=TIMEOUT)
     except subprocess.TimeoutExpired:
@@ -119,15 +122,31 @@ def side_by_side(block):
         yield row, reply.lstrip(" ") or None
 
 
+def lost_or_new(folder, pattern, names):
+    """A message for each of these files that a folder lacks, and for each other one that it has."""
+    found = {path.name for path in folder.glob(pattern)}
+    for name in sorted(found ^ set(names)):
+        yield f"{folder.name}/{name} is not there" if name in names else f"{folder.name}/{name} is not in the tool's list"
+
+
+def reason(error):
+    """What an `OSError` says, with the file that it is about."""
+    return f"{error.filename}: {error.strerror}" if error.filename else str(error)
+
+
 def report(results):
-    """Prints each message, where `None` stands for a pass, and then `N passed, M failed`. Returns the exit status: 1 where
-    something failed or nothing was checked."""
+    """Prints each message, and then `N passed, M failed`. `None` stands for a pass. Returns the exit status: 1 if something
+    failed, if a file cannot be used, or if nothing was checked."""
     passed = failed = 0
-    for message in results:
-        if message is not None:
-            print(message)
-        passed += message is None
-        failed += message is not None
+    try:
+        for message in results:
+            if message is not None:
+                print(message)
+            passed += message is None
+            failed += message is not None
+    except OSError as error:
+        print(reason(error))
+        failed += 1
     if passed + failed == 0:
         print("nothing was checked")
         failed = 1

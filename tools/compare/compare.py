@@ -1,15 +1,16 @@
 #!/usr/bin/env python3
 """Compares the program `superio` with the original Rust crate, script by script.
 
-    compare.py PROGRAM ORIGINAL [--seed N] [--scripts N] [--sample FILE N]
+    compare.py PROGRAM ORIGINAL [--seed S] [--scripts N] [--sample FILE COUNT] [--jobs J]
 
 PROGRAM is the built `superio`. ORIGINAL is a command, with its arguments, that runs scripts over the original crate: it
 reads any number of scripts, each after its length in four bytes, low byte first, and answers each with its exit status
-and with its standard output and standard error, each after its length.
+and with its standard output and standard error, each after its length. There are N scripts of the seed S, and J run at a
+time.
 
 A script with an effective match is left out: the match register of the original has no effect, and that of the program
-is an alarm. Prints each script on which the two differ, up to ten, and how often each case was reached. With `--sample`
-it also writes the first N short scripts with the original's answers into FILE, a file of tests/.
+is an alarm. Prints each script on which the two differ, up to ten, and how often each case was reached. Exits 1 if two
+differ. With `--sample` it also writes the first COUNT short scripts with the original's answers into FILE, a file of tests/.
 
 The program of tools/compare/original is such an ORIGINAL, for 64-bit Linux. To build it with Cargo, and to run both:
 

@@ -106,10 +106,10 @@ def _load(session: "Session", rest: str) -> None:
     with open_file(path, "rb") as file:
         try:
             words = [line.split() for line in file.read(4096).splitlines()]
-            serial, clock = (bytes.fromhex(word[1].decode("ascii")) for word in words)
+            serial, clock = (bytes.fromhex(data.decode("ascii")) for _, data in words)
         except OSError as error:
             raise FileFault(path, error) from None
-        except (IndexError, ValueError):
+        except ValueError:
             words = []
     if [word[:1] for word in words] != [[b"sl"], [b"cl"]]:
         raise ScriptError(f"{path} is no file that save wrote")
@@ -134,7 +134,7 @@ def _source(session: "Session", rest: str) -> None:
         with open_file(path, "rb") as file:
             session.run_lines(path, file)
     except BadLine as error:
-        raise ScriptError(str(error)) from None
+        raise ScriptError(str(error)) from error
     except OSError as error:
         raise FileFault(path, error) from None
     finally:
