@@ -3,4 +3,5 @@ pub mod Console
 pub mod Input
 pub mod Migration
 pub mod Mmio
+pub mod Output
 pub mod PortIo

@@ -1,9 +1,11 @@
-//! A first claim: a guest reads the bytes that were enqueued, in order.
-ghost use Rattle.std.specs.Prelude.{◌≡◌, take, IfOk};
+//! First claims: a guest reads the bytes that were enqueued, in order, and its byte reaches the writer.
+ghost use Rattle.std.specs.Prelude.{◌≡◌, [], ◌∷◌, take, false, IfOk, OnOk};
+ghost use Rattle.std.specs.Io.KnownBytes.{Appends};
+ghost use Rattle.vm_superio.specs.Port.Registers.{is_dlab, is_loopback};
 
 use std::alloc::Global;
 use std::io::Write;
-use vm_superio::serial::{Error, Refused};
+use vm_superio::serial::{Error, Refused, SerialEvents};
 use vm_superio::{Serial, Trigger, laws};
 
 /// Enqueues input at a new serial port, then reads RBR once for each held byte, as a guest does. Returns what was read:
@@ -29,4 +31,21 @@ pub fn read_back<T: Trigger + Drop, W: Write + Drop>(
         read.push(serial.read(0))?;
     }
     Ok(read)
+}
+
+/// Sends a byte by a write to THR, as a guest does. `Ok` says that a writer of known contents took it, as an `Output`
+/// does.
+///
+/// # Errors
+///
+/// Returns the error of the port's `write`.
+pub fn send_byte<T: Trigger, EV: SerialEvents, W: Write>(
+    serial: &mut Serial<T, EV, W>,
+    byte: u8,
+) -> Result<(), Error<T::E>>
+    ensures taken { is_dlab serial.old.state.line_control ≡ false → is_loopback serial.old.state.modem_control ≡ false →
+        OnOk result (Appends (W.contents serial.old.out) (W.contents serial.new.out) (byte ∷ [])) }
+{
+    laws::one_call();
+    serial.write(0, byte)
 }

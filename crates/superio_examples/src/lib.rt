@@ -1,5 +1,5 @@
-//! Short modules to copy into a monitor: a bus, a clock's window in memory, a trigger, input in an event loop, a
-//! migration, and a first claim about what a guest reads.
+//! Short modules to copy into a monitor: a bus, a clock's window in memory, a trigger, input and output in an event loop,
+//! a migration, and first claims about what a guest reads and sends.
 #![tactic(auto)]
 
 pub mod bus;
@@ -11,4 +11,5 @@ pub mod input;
 pub mod migration;
 pub mod mmio;
 pub mod monitor;
+pub mod output;
 pub mod port_io;

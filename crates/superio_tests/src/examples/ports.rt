@@ -4,7 +4,14 @@ use std::test::Fail;
 use superio_examples::bus::{Bus, BusError};
 use superio_examples::event_fd::EventFd;
 use superio_examples::mmio::ClockWindow;
+use vm_superio::serial::Error;
 use vm_superio::{I8042Device, Rtc, Trigger};
+
+/// The largest error number of the operating system.
+const LARGEST: i32 = 133;
+
+/// The error number of an interrupted call, which is made again.
+const INTERRUPTED: i32 = 4;
 
 #[test]
 fn a_bus_reaches_its_devices_by_port(rt: HostRuntime) -> Result<(), Fail> {
@@ -57,6 +64,27 @@ fn a_bus_reaches_its_devices_by_port(rt: HostRuntime) -> Result<(), Fail> {
         (0xFFFF, 0xFF),
     ] {
         assert!(rt; bus.read(at) == byte, "at {at:#x}");
+    }
+    Ok(())
+}
+
+#[test]
+fn a_bus_returns_the_fault_of_the_writer(rt: HostRuntime) -> Result<(), Fail> {
+    let log = Log::new();
+    let mut bus = Bus {
+        serial: port(rt.alloc(), &log)?,
+        controller: I8042Device::new(Object::new(&log)),
+    };
+    for number in 1..=LARGEST {
+        if number == INTERRUPTED {
+            continue;
+        }
+        log.write_fault.set(number);
+        let fault = match bus.write(0x3F8, b'A') {
+            Err(BusError::Serial(Error::IOError(fault))) => fault.raw_os_error(),
+            _ => None,
+        };
+        assert!(rt; fault == Some(number), "{number}");
     }
     Ok(())
 }
@@ -121,10 +149,16 @@ fn an_event_is_one_write_of_eight_bytes(rt: HostRuntime) {
     let mut event = EventFd {
         file: Object::new(&log),
     };
-    // EAGAIN, then success.
-    for fault in [11, 0] {
+    for fault in 0..=LARGEST {
+        if fault == INTERRUPTED {
+            continue;
+        }
         log.write_fault.set(fault);
-        assert!(rt; event.trigger().is_ok() == (fault == 0));
+        log.writes.set(0);
+        assert!(rt;
+            event.trigger().is_ok() == (fault == 0) && log.writes.get() == 1,
+            "{fault}"
+        );
     }
-    assert!(rt; log.writes.get() == 2 && log.flushes.get() == 0);
+    assert!(rt; log.flushes.get() == 0);
 }
