@@ -1,3 +1,4 @@
+pub mod Alarm
 pub mod Bus
 pub mod Console
 pub mod Input

@@ -2,6 +2,7 @@
 //! a migration, and first claims about what a guest reads and sends.
 #![tactic(auto)]
 
+pub mod alarm;
 pub mod bus;
 pub mod console;
 pub mod driver;

@@ -102,7 +102,8 @@ impl Write for Output {
         ensures limit { self.new.capacity ≡ self.old.capacity }
     {
         if self.waiting.is_full() {
-            self.dropped = self.dropped.saturating_add(buf.len() as u64);
+            let dropped = &mut self.dropped;
+            *dropped = dropped.saturating_add(buf.len() as u64);
             return Ok(0);
         }
         Ok(self.waiting.fill_from_slice(buf))
