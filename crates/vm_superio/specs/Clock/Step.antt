@@ -11,6 +11,10 @@ pub record ClockDevice (EV : Type 0) : Type 0 where
   pub state : RtcState
   pub events : EV
 
+-- the clock with another events object, and nothing else changed
+abbrev pub with_clock_events : {EV : Type 0} → (clock : ClockDevice EV) (object : EV) → ClockDevice EV
+with_clock_events clock object = record clock { events = object }
+
 -- guest time at a host's time
 abbrev pub guest_time_in : (state : RtcState) (time : ℕ) → ℕ
 guest_time_in state time = guest_time (pos time +ℤ state.offset) time

@@ -34,6 +34,10 @@ with_writer port writer = record port { out = writer }
 abbrev pub with_trigger : {T EV W : Type 0} → (port : Port T EV W) (trigger : T) → Port T EV W
 with_trigger port trigger = record port { trigger = trigger }
 
+-- the port with another events object, likewise
+abbrev pub with_events : {T EV W : Type 0} → (port : Port T EV W) (object : EV) → Port T EV W
+with_events port object = record port { events = object }
+
 -- ---- trigger calls, by the bits of IIR
 
 -- the bit goes from clear to set
