@@ -17,12 +17,8 @@ returns-in-Ok-clause-step c =
     (λ reply restores. load-step old new reply.items c.states_of_history.ensures.state c.args.bytes.now state loads restores)
     c.restore_from.ensures.restore
 
-pub returns-in_default : goal.returns-in_default
-returns-in_default c =
+pub returns-in_default-clause-step : goal.returns-in_default-clause-step
+returns-in_default-clause-step c =
     let fails = port-refused (serial_fault c.args.bytes.now) (port_in c.args.bytes.now) (Err c.in-Err.error) c.in-Err.error refl c.in-Err.ensures.fault c.in-Err.ensures.memory
     (λ is. c.in_default.not-Memory is) in
-    record {
-      step = rw c.fault.ensures (refused-load-step c.args.bytes.now c.args.serial.now c.in-Err.error fails);
-      unchanged = tt;
-      only_memory = tt;
-    }
+    rw c.fault.ensures (refused-load-step c.args.bytes.now c.args.serial.now c.in-Err.error fails)
