@@ -1,5 +1,5 @@
 -- The form of a line: what its fields ask for.
-use Rattle.std.specs.Prelude.{◌≡◌, ℕ, ◌/◌, ◌&&◌, nat_le, List, [], ◌∷◌, length, if◌then◌else◌, codes, Option, Some, None}
+use Rattle.std.specs.Prelude.{◌≡◌, ℕ, ◌/◌, ◌==◌, ◌&&◌, nat_le, List, [], ◌∷◌, length, if◌then◌else◌, codes, Option, Some, None}
 use Rattle.std.specs.Option.{option_map, option_and_then}
 use Rattle.std.specs.Result.{result_ok}
 use Rattle.std.specs.Str.{bytes_eq}
@@ -10,7 +10,9 @@ use Rattle.superio_script.specs.declared.command.Command.{Command}
 use Rattle.superio_script.specs.declared.command.Command.TheVariants.{Serial, Clock, Controller}
 use Rattle.superio_script.specs.declared.command.SerialLine.{SerialLine}
 use Rattle.superio_script.specs.declared.command.SerialLine.TheVariants as serial
+use Rattle.superio_script.specs.declared.command.ClockLine.{ClockLine}
 use Rattle.superio_script.specs.declared.command.ClockLine.TheVariants as clock
+use Rattle.superio_script.specs.declared.command.ControllerLine.{ControllerLine}
 use Rattle.superio_script.specs.declared.command.ControllerLine.TheVariants as controller
 
 -- ---- one field
@@ -83,26 +85,40 @@ line_of_name name =
     else (if bytes_eq name (codes "se") then Some serial.Events
     else None)))))
 
--- `sr OO`, `sw OO VV`, `sq`, `sq HH..`, `cr NNNNNNNNNNNNNNNN OOOO`, `cw NNNNNNNNNNNNNNNN OOOO VVVVVVVV`, `kr OO`,
--- `kw OO VV`, and the names that take no field
-abbrev pub command_of_name : (name : List ℕ) (fields : List (List ℕ)) → Option Command
-command_of_name name fields =
-    if bytes_eq name (codes "sr") then
-    option_map (λ offset. Serial (serial.Read offset)) (one_byte fields)
-    else (if bytes_eq name (codes "sw") then
-    option_map (λ bytes. Serial (serial.Write bytes.0 bytes.1)) (two_bytes fields)
-    else (if bytes_eq name (codes "sq") then
-    option_map (λ bytes. Serial (serial.Enqueue bytes)) (bytes_or_none fields)
-    else (if bytes_eq name (codes "cr") then
-    option_map (λ numbers. Clock (clock.Read numbers.0 numbers.1)) (moment_and_offset fields)
+-- `sr OO`, `sw OO VV`, `sq`, `sq HH..`, and the names that take no field
+abbrev pub serial_line_of : (name : List ℕ) (fields : List (List ℕ)) → Option SerialLine
+serial_line_of name fields =
+    if bytes_eq name (codes "sr") then option_map (λ offset. serial.Read offset) (one_byte fields)
+    else (if bytes_eq name (codes "sw") then option_map (λ bytes. serial.Write bytes.0 bytes.1) (two_bytes fields)
+    else (if bytes_eq name (codes "sq") then option_map (λ bytes. serial.Enqueue bytes) (bytes_or_none fields)
+    else option_and_then (λ _. line_of_name name) (no_field fields)))
+
+-- `cr NNNNNNNNNNNNNNNN OOOO` and `cw NNNNNNNNNNNNNNNN OOOO VVVVVVVV`
+abbrev pub clock_line_of : (name : List ℕ) (fields : List (List ℕ)) → Option ClockLine
+clock_line_of name fields =
+    if bytes_eq name (codes "cr") then
+    option_map (λ numbers. clock.Read numbers.0 numbers.1) (moment_and_offset fields)
     else (if bytes_eq name (codes "cw") then
-    option_map (λ numbers. Clock (clock.Write numbers.0 numbers.1 numbers.2)) (moment_offset_and_value fields)
-    else (if bytes_eq name (codes "kr") then
-    option_map (λ offset. Controller (controller.Read offset)) (one_byte fields)
-    else (if bytes_eq name (codes "kw") then
-    option_map (λ bytes. Controller (controller.Write bytes.0 bytes.1)) (two_bytes fields)
-    else
-    option_and_then (λ _. option_map (λ line. Serial line) (line_of_name name)) (no_field fields)))))))
+    option_map (λ numbers. clock.Write numbers.0 numbers.1 numbers.2) (moment_offset_and_value fields)
+    else None)
+
+-- `kr OO` and `kw OO VV`
+abbrev pub controller_line_of : (name : List ℕ) (fields : List (List ℕ)) → Option ControllerLine
+controller_line_of name fields =
+    if bytes_eq name (codes "kr") then option_map (λ offset. controller.Read offset) (one_byte fields)
+    else (if bytes_eq name (codes "kw") then option_map (λ bytes. controller.Write bytes.0 bytes.1) (two_bytes fields)
+    else None)
+
+-- a name begins with the letter of its device: the serial port's with `s`, the clock's with `c`, the controller's
+-- with `k`
+abbrev pub command_of_name : (name : List ℕ) (fields : List (List ℕ)) → Option Command
+command_of_name [] fields = None
+command_of_name (letter ∷ letters) fields =
+    let name = letter ∷ letters in
+    if letter == 0x73 then option_map (λ line. Serial line) (serial_line_of name fields)
+    else (if letter == 0x63 then option_map (λ line. Clock line) (clock_line_of name fields)
+    else (if letter == 0x6B then option_map (λ line. Controller line) (controller_line_of name fields)
+    else None))
 
 abbrev pub command_of_fields : (fields : List (List ℕ)) → Option Command
 command_of_fields [] = None

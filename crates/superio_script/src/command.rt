@@ -2,7 +2,7 @@
 ghost use Rattle.std.specs.Prelude.{◌≡◌};
 ghost use Rattle.std.specs.Int.{w8, w16, w32, w64};
 ghost use Rattle.superio_script.specs.Splitting.{remaining_fields};
-ghost use Rattle.superio_script.specs.Command.{bytes_of, number_of, arrival_of, no_field, one_byte, two_bytes, bytes_or_none, moment_and_offset, moment_offset_and_value, one_number64, line_of_name, command_of_name, command_of, mask_of};
+ghost use Rattle.superio_script.specs.Command.{bytes_of, number_of, arrival_of, no_field, one_byte, two_bytes, bytes_or_none, moment_and_offset, moment_offset_and_value, one_number64, line_of_name, serial_line_of, clock_line_of, controller_line_of, command_of_name, command_of, mask_of};
 
 use crate::splitting::Fields;
 use arrayvec::ArrayVec;
@@ -226,44 +226,74 @@ fn moment_offset_and_value(mut fields: Fields) -> Option<(u64, u16, u32)>
     Some((moment, offset, value))
 }
 
-/// What a line with this name and these fields after it asks for.
-fn command_of_name(name: &[u8], fields: Fields) -> Option<Command>
-    ensures { result ≡ command_of_name name.now (remaining_fields fields.entry.rest) }
+/// What a line of the serial port with this name and these fields after it asks for.
+fn serial_line_of(name: &[u8], fields: Fields) -> Option<SerialLine>
+    ensures { result ≡ serial_line_of name.now (remaining_fields fields.entry.rest) }
 {
-    Some(match name {
-        b"sr" => Command::Serial(SerialLine::Read {
+    match name {
+        b"sr" => Some(SerialLine::Read {
             offset: one_byte(fields)?,
         }),
         b"sw" => {
             let (offset, value) = two_bytes(fields)?;
-            Command::Serial(SerialLine::Write { offset, value })
+            Some(SerialLine::Write { offset, value })
         }
-        b"sq" => Command::Serial(SerialLine::Enqueue {
+        b"sq" => Some(SerialLine::Enqueue {
             bytes: bytes_or_none(fields)?,
         }),
+        _ => {
+            no_field(fields)?;
+            line_of_name(name)
+        }
+    }
+}
+
+/// What a line of the clock with this name and these fields after it asks for.
+fn clock_line_of(name: &[u8], fields: Fields) -> Option<ClockLine>
+    ensures { result ≡ clock_line_of name.now (remaining_fields fields.entry.rest) }
+{
+    match name {
         b"cr" => {
             let (moment, offset) = moment_and_offset(fields)?;
-            Command::Clock(ClockLine::Read { moment, offset })
+            Some(ClockLine::Read { moment, offset })
         }
         b"cw" => {
             let (moment, offset, value) = moment_offset_and_value(fields)?;
-            Command::Clock(ClockLine::Write {
+            Some(ClockLine::Write {
                 moment,
                 offset,
                 value,
             })
         }
-        b"kr" => Command::Controller(ControllerLine::Read {
+        _ => None,
+    }
+}
+
+/// What a line of the controller with this name and these fields after it asks for.
+fn controller_line_of(name: &[u8], fields: Fields) -> Option<ControllerLine>
+    ensures { result ≡ controller_line_of name.now (remaining_fields fields.entry.rest) }
+{
+    match name {
+        b"kr" => Some(ControllerLine::Read {
             offset: one_byte(fields)?,
         }),
         b"kw" => {
             let (offset, value) = two_bytes(fields)?;
-            Command::Controller(ControllerLine::Write { offset, value })
+            Some(ControllerLine::Write { offset, value })
         }
-        _ => {
-            no_field(fields)?;
-            Command::Serial(line_of_name(name)?)
-        }
+        _ => None,
+    }
+}
+
+/// What a line with this name and these fields after it asks for. A name begins with the letter of its device.
+fn command_of_name(name: &[u8], fields: Fields) -> Option<Command>
+    ensures { result ≡ command_of_name name.now (remaining_fields fields.entry.rest) }
+{
+    Some(match name.first()? {
+        b's' => Command::Serial(serial_line_of(name, fields)?),
+        b'c' => Command::Clock(clock_line_of(name, fields)?),
+        b'k' => Command::Controller(controller_line_of(name, fields)?),
+        _ => return None,
     })
 }
 

@@ -41,7 +41,7 @@ offset-bits (negsuc n) fits = omega arith
 offset-back : (offset : ℤ) (n : ℕ) → n ≡ cast_unsigned w64 offset → n < 2 ^ 64 → cast_signed w64 (from_le_bytes w64 (to_le_bytes w64 n)) ≡ cast_signed w64 (cast_unsigned w64 offset)
 offset-back offset n e h = ap (cast_signed w64) (from_le_bytes-to_le_bytes_8 n h ∙ e)
 
--- they are those of the state whose form it is
+-- they are those of the state that has this form
 numbers_in-form : (state : RtcState) → IsClock state → numbers_in (clock_form state) ≡ state
 numbers_in-form state fits =
     of-same _ _ _ _ _ _ _ _ _ _ _ _

@@ -122,7 +122,8 @@ pub fn polling_driver()
     ensures by_sight { PollsBySightLaw }
 {}
 
-/// From any start, if a segment of a well-formed trace loses no byte, the writer took exactly its output.
+/// From any start, if the newest entries of a well-formed trace lose no byte, the bytes that they record as taken are
+/// the output.
 pub fn output()
     ensures { OutputLaw }
 {}

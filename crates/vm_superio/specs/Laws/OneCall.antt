@@ -27,7 +27,7 @@ OneReadLaw = (s : State) (op : Op) (asked : Asked) (sent : Sent)
     → byte_read (kind_in_state s op) s.in_buffer (step_response s op asked sent) ++ (step s op asked).in_buffer
     ≡ s.in_buffer ++ accepted_by (kind_in_state s op) s.in_buffer
 
--- bytes that are received go behind those held, and nothing else changes but LSR and IIR
+-- received bytes follow those held, and nothing else changes but LSR and IIR
 abbrev pub ReceivedLaw : Type 0
 ReceivedLaw = (s : State) (bytes : List ℕ)
     → receive_bytes bytes s ≡ record s {
@@ -36,7 +36,7 @@ ReceivedLaw = (s : State) (bytes : List ℕ)
       interrupt_identification = (receive_bytes bytes s).interrupt_identification;
     }
 
--- an RBR read in a state that holds bytes gives the oldest, and leaves the others; and nothing else changes but LSR and
+-- an RBR read in a state that holds bytes gives the oldest and leaves the others. Nothing else changes but LSR and
 -- IIR
 pub record GivesOldest (s new : State) (byte : ℕ) : Type 0 where
   pub bytes : byte ∷ new.in_buffer ≡ s.in_buffer
@@ -51,7 +51,7 @@ RbrReadLaw = (s : State) (byte : ℕ) → is_dlab s.line_control ≡ false → 0
     → ByteRead byte ≡ step_response s (Read 0) Asked.Nothing Sent.Nothing
     → GivesOldest s (step s (Read 0) Asked.Nothing) byte
 
--- after an RBR read LSR shows data ready where it did before and a byte is left
+-- after an RBR read LSR shows data ready if it did before and a byte is left
 abbrev pub RbrDataReadyLaw : Type 0
 RbrDataReadyLaw = (s : State) → is_dlab s.line_control ≡ false
     → let new = step s (Read 0) Asked.Nothing in
@@ -87,7 +87,7 @@ abbrev pub sent_when : (sends success : Bool) → Sent
 sent_when false success = Sent.Nothing
 sent_when true success = if success then Sent.Out else Sent.Lost
 
--- admissible is what some answers to the trigger's calls and some success or failure of the writer give, and no more
+-- an entry is admissible exactly if some answers of the trigger and some success or failure of the writer give it
 abbrev pub AdmissibilityLaw : Type 0
 AdmissibilityLaw = (s : State) (op : Op) (asked : Asked) (sent : Sent)
     → IsTrue (is_admissible s op asked sent)
