@@ -9,6 +9,7 @@ from repository import ROOT, CopyTest
 
 TARGETS = ("aarch64-linux", "x86_64-linux")
 LIBRARIES = ("libsuperio.so.0", "libsuperio_c.a")
+SOURCES = ("crates/superio_c/src", "crates/vm_superio/src")
 # A change of the model, or of what is expected of the controller, and what is said to differ.
 CHANGES = [
     ("model.c", "port->registers[SCR] = value;", "port->registers[SCR] = value & 0x7F;", "the port"),
@@ -115,7 +116,7 @@ class Installing(CopyTest):
 class Building(CopyTest):
     def setUp(self):
         super().setUp()
-        self.take("bindings/rust/prebuilt", "crates/superio_c/src", "crates/vm_superio/src", "include", "prebuilt")
+        self.take("bindings/rust/prebuilt", *SOURCES, "include", "prebuilt")
         tools = self.root / "kit" / "toolchain" / "bin"
         tools.mkdir(parents=True)
         for path, script in ((self.root / "kit" / "rt", RT), (tools / "ld.lld", LINKER)):
@@ -130,7 +131,10 @@ class Building(CopyTest):
         sums = "".join(f"{hashlib.sha256(text.encode()).hexdigest()}  {name}\n"
                        for name, text in BUILT.items())
         self.assertEqual((folder / "SHA256SUMS").read_text(encoding="ascii"), sums)
-        self.assertEqual((folder / "SOURCES").read_bytes(), (ROOT / "prebuilt" / "SOURCES").read_bytes())
+        names = sorted(path.relative_to(ROOT).as_posix() for source in SOURCES for path in (ROOT / source).rglob("*.rt"))
+        listing = "".join(f"{hashlib.sha256((ROOT / name).read_bytes()).hexdigest()}  {name}\n" for name in names)
+        self.assertEqual((folder / "SOURCES").read_text(encoding="ascii"),
+                         f"{hashlib.sha256(listing.encode()).hexdigest()}  the sources in {' and '.join(SOURCES)}\n")
 
     def test_into_a_folder(self):
         folder = self.root / "folder"

@@ -20,7 +20,7 @@ WITHOUT_ALL = {
 }
 
 
-@unittest.skipUnless(CAT, "cat is not there")
+@unittest.skipUnless(CAT and shutil.which("cc"), "cat and cc are needed")
 class MissingFiles(CopyTest):
     def sum_of(self, tool, *arguments, says, **options):
         """What a tool of the copy passed and failed. One of its lines has to end as `says`."""
