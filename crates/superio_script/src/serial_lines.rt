@@ -1,8 +1,8 @@
 //! The lines of the serial port.
 ghost use Rattle.std.specs.Prelude.{◌≡◌, ◌<◌, ◌≤◌, length, IfOk, IfErr, OnErr, IsTrue};
 ghost use Rattle.vm_superio.specs.Port.Model.{write_response, enqueue_response, failure_response};
-ghost use Rattle.superio_script.specs.Reply.{response_reply};
 ghost use Rattle.vm_superio.specs.Port.SavedState.{state_of};
+ghost use Rattle.superio_script.specs.Reply.{response_reply};
 ghost use Rattle.superio_script.specs.Board.{IsSerialLineStep, IsRestore};
 ghost use Rattle.superio_script.specs.Command.{takes_memory};
 ghost use Rattle.superio_script.specs.declared.command.SerialLine.TheVariants.{Restore, Save, Load};
@@ -74,7 +74,6 @@ fn save(alloc: Global, serial: &Port) -> Result<Reply, LineFault>
     ensures step { IfOk result (λ reply. IsSerialLineStep Save reply.items serial.now serial.now) }
     ensures only_memory { IfErr result (λ fault. fault ≡ LineFault.Memory) }
 {
-    laws::states_of_history();
     let Ok(state) = serial.state(alloc) else {
         return Err(LineFault::Memory);
     };
