@@ -57,7 +57,7 @@ pub fn restore_line(alloc: Global) -> Result<&'static str, AllocError> {
     Ok(if is_as_told { outcome } else { "another board" })
 }
 
-/// A script of all forms. Its mask refuses the second call of the interrupt line.
+/// A script of most forms. Its mask refuses the second call of the interrupt line.
 const EVERY_FORM: &[u8] = b"\
 refuse 0000000000000002\nsw 01 01\nsq 48656c6c6f\nsr 02\nsr 00\nsc\nsq\nsw 00 21\nso\nsw 01 01\nss\nst\nse\nsd\n\
 cw 00000000000003e8 0008 00000064\ncr 00000000000003ef 0000\ncr 00000000000003ef 0020\nkw 04 fe\nkr 04\n";

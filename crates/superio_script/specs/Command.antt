@@ -1,5 +1,5 @@
 -- The form of a line: what its fields ask for.
-use Rattle.std.specs.Prelude.{◌≡◌, ℕ, ◌/◌, ◌&&◌, nat_le, List, [], ◌∷◌, length, if◌then◌else◌, codes, Option, Some, None}
+use Rattle.std.specs.Prelude.{◌≡◌, ℕ, ◌/◌, Bool, true, false, ◌&&◌, nat_le, List, [], ◌∷◌, length, if◌then◌else◌, codes, Option, Some, None, IsTrue}
 use Rattle.std.specs.Option.{option_map, option_and_then}
 use Rattle.std.specs.Result.{result_ok}
 use Rattle.std.specs.Str.{bytes_eq}
@@ -24,8 +24,8 @@ abbrev pub number_of : (width : Width) (field : List ℕ) → Option ℕ
 number_of width field = option_map (from_be_bytes width) (bytes_of (byte_len width) field)
 
 -- 1 to 128 bytes, of two digits each
-abbrev pub arrival_of : (field : List ℕ) → Option (List ℕ)
-arrival_of field =
+abbrev pub field_bytes_of : (field : List ℕ) → Option (List ℕ)
+field_bytes_of field =
     let count = length field / 2 in
     if nat_le 1 count && nat_le count 128 then bytes_of count field else None
 
@@ -49,7 +49,7 @@ two_bytes _ = None
 -- nothing, or HH..
 abbrev pub bytes_or_none : (fields : List (List ℕ)) → Option (List ℕ)
 bytes_or_none [] = Some []
-bytes_or_none (field ∷ []) = arrival_of field
+bytes_or_none (field ∷ []) = field_bytes_of field
 bytes_or_none _ = None
 
 -- NNNNNNNNNNNNNNNN OOOO
@@ -72,27 +72,42 @@ one_number64 _ = None
 
 -- ---- the forms
 
--- `sc`, `sd`, `ss`, `so`, `st` and `se`, which take no field
-abbrev pub line_of_name : (name : List ℕ) → Option SerialLine
-line_of_name name =
-    if bytes_eq name (codes "sc") then Some serial.Capacity
-    else (if bytes_eq name (codes "sd") then Some serial.Drain
-    else (if bytes_eq name (codes "ss") then Some serial.Restore
-    else (if bytes_eq name (codes "so") then Some serial.Output
-    else (if bytes_eq name (codes "st") then Some serial.Calls
-    else (if bytes_eq name (codes "se") then Some serial.Events
-    else None)))))
+-- `sc`, `sd`, `ss`, `sb`, `so`, `st`, `se` and `cb`, which take no field
+abbrev pub command_of_one_name : (name : List ℕ) → Option Command
+command_of_one_name name =
+    if bytes_eq name (codes "sc") then Some (Serial serial.Capacity)
+    else (if bytes_eq name (codes "sd") then Some (Serial serial.Drain)
+    else (if bytes_eq name (codes "ss") then Some (Serial serial.Restore)
+    else (if bytes_eq name (codes "sb") then Some (Serial serial.Save)
+    else (if bytes_eq name (codes "so") then Some (Serial serial.Output)
+    else (if bytes_eq name (codes "st") then Some (Serial serial.Calls)
+    else (if bytes_eq name (codes "se") then Some (Serial serial.Events)
+    else (if bytes_eq name (codes "cb") then Some (Clock clock.Save)
+    else None)))))))
 
--- `sr OO`, `sw OO VV`, `sq`, `sq HH..`, `cr NNNNNNNNNNNNNNNN OOOO`, `cw NNNNNNNNNNNNNNNN OOOO VVVVVVVV`, `kr OO`,
--- `kw OO VV`, and the names that take no field
+abbrev pub command_without_field : (name : List ℕ) (fields : List (List ℕ)) → Option Command
+command_without_field name fields = option_and_then (λ _. command_of_one_name name) (no_field fields)
+
+-- `sq`, `sq HH..`, `sl`, `sl HH..`, `cl` and `cl HH..`, and the names that take no field
+abbrev pub command_with_bytes : (name : List ℕ) (fields : List (List ℕ)) → Option Command
+command_with_bytes name fields =
+    if bytes_eq name (codes "sq") then
+    option_map (λ bytes. Serial (serial.Enqueue bytes)) (bytes_or_none fields)
+    else (if bytes_eq name (codes "sl") then
+    option_map (λ bytes. Serial (serial.Load bytes)) (bytes_or_none fields)
+    else (if bytes_eq name (codes "cl") then
+    option_map (λ bytes. Clock (clock.Load bytes)) (bytes_or_none fields)
+    else
+    command_without_field name fields))
+
+-- `sr OO`, `sw OO VV`, `cr NNNNNNNNNNNNNNNN OOOO`, `cw NNNNNNNNNNNNNNNN OOOO VVVVVVVV`, `kr OO`, `kw OO VV`, and the
+-- names that take bytes or no field
 abbrev pub command_of_name : (name : List ℕ) (fields : List (List ℕ)) → Option Command
 command_of_name name fields =
     if bytes_eq name (codes "sr") then
     option_map (λ offset. Serial (serial.Read offset)) (one_byte fields)
     else (if bytes_eq name (codes "sw") then
     option_map (λ bytes. Serial (serial.Write bytes.0 bytes.1)) (two_bytes fields)
-    else (if bytes_eq name (codes "sq") then
-    option_map (λ bytes. Serial (serial.Enqueue bytes)) (bytes_or_none fields)
     else (if bytes_eq name (codes "cr") then
     option_map (λ numbers. Clock (clock.Read numbers.0 numbers.1)) (moment_and_offset fields)
     else (if bytes_eq name (codes "cw") then
@@ -102,7 +117,7 @@ command_of_name name fields =
     else (if bytes_eq name (codes "kw") then
     option_map (λ bytes. Controller (controller.Write bytes.0 bytes.1)) (two_bytes fields)
     else
-    option_and_then (λ _. option_map (λ line. Serial line) (line_of_name name)) (no_field fields)))))))
+    command_with_bytes name fields)))))
 
 abbrev pub command_of_fields : (fields : List (List ℕ)) → Option Command
 command_of_fields [] = None
@@ -112,9 +127,19 @@ command_of_fields (name ∷ fields) = command_of_name name fields
 abbrev pub command_of : (line : List ℕ) → Option Command
 command_of line = command_of_fields (fields_of line)
 
--- a line is `ss`
-abbrev pub IsRestoreLine : (line : List ℕ) → Type 0
-IsRestoreLine line = command_of line ≡ Some (Serial serial.Restore)
+-- ---- memory
+
+-- `ss`, `sb` and `sl` take memory, and no other line does
+abbrev pub takes_memory : (line : SerialLine) → Bool
+takes_memory serial.Restore = true
+takes_memory serial.Save = true
+takes_memory (serial.Load bytes) = true
+takes_memory _ = false
+
+abbrev pub TakesMemory : (line : List ℕ) → Type 0
+TakesMemory line = (command : SerialLine) × (command_of line ≡ Some (Serial command)) × IsTrue (takes_memory command)
+
+-- ---- the first line
 
 -- the mask of a line `refuse MMMMMMMMMMMMMMMM`, which is a form of a script's first line alone
 abbrev pub mask_of_fields : (fields : List (List ℕ)) → Option ℕ
