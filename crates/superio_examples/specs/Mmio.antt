@@ -24,7 +24,7 @@ abbrev pub is_write : (base address length : ℕ) → Bool
 is_write base address length = is_inside base address && (length == 4)
 
 module _ {EV : Type 0} (link : Link EV RtcEvent) where
-  -- the clock's read, into bytes that were cleared, of the register that the offset lies in: the part from this offset on
+  -- the clock's read, into bytes that were cleared, of the register around the offset: the part from the offset on
   pub record ReadsClock (offset now : ℕ) (bytes : List ℕ) (old new : ClockDevice EV) : Type 0 where
     pub bytes_read :
         let place = place_in offset (length bytes) in

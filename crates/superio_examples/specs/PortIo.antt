@@ -21,7 +21,9 @@ module _ {T E EV W R F : Type 0} (trigger : Link T (TriggerAnswer E)) (events : 
     (reset : Link R (TriggerAnswer F)) where
   -- a byte is read at a port
   pub record ReadsByte (port byte : ℕ) (old new : Bus T EV W R E F) : Type 0 where
-    pub serial : OnTrue (is_serial old.base port) (IsReadStep trigger events contents (port - old.base) byte old.serial new.serial)
+    pub serial :
+        OnTrue (is_serial old.base port)
+        (IsReadStep trigger events contents (port - old.base) byte old.serial new.serial)
     pub serial_alone : OnFalse (is_serial old.base port) (new.serial ≡ old.serial)
     pub controller : OnTrue (is_i8042 old.base port) (byte ≡ 0)
     pub controller_alone : new.controller ≡ old.controller

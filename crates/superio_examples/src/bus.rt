@@ -76,11 +76,13 @@ impl<T: Trigger, EV: SerialEvents, W: Write, R: Trigger> Bus<T, EV, W, R> {
     /// command: nobody was notified of the reset.
     pub fn write(&mut self, port: u16, value: u8) -> Result<(), BusError<T::E, R::E>>
         ensures serial { OnTrue (is_serial self.old.base port)
-            (ForwardsWrite T.link EV.link W.contents (port - self.old.base) value result self.old.serial self.new.serial) }
+            (ForwardsWrite T.link EV.link W.contents (port - self.old.base) value result
+            self.old.serial self.new.serial) }
         ensures serial_alone { OnFalse (is_serial self.old.base port) (self.new.serial ≡ self.old.serial) }
         ensures reset { OnTrue (is_reset self.old.base port value)
             (ForwardsReset R.link result self.old.controller self.new.controller) }
-        ensures controller_alone { OnFalse (is_reset self.old.base port value) (self.new.controller ≡ self.old.controller) }
+        ensures controller_alone { OnFalse (is_reset self.old.base port value)
+            (self.new.controller ≡ self.old.controller) }
         ensures others { OnFalse (is_serial self.old.base port || is_reset self.old.base port value) (result ≡ Ok tt) }
         ensures base { self.new.base ≡ self.old.base }
         ensures coherent { Coherent self.old.serial.state → Coherent self.new.serial.state }

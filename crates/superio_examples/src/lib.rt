@@ -1,5 +1,5 @@
-//! Short modules to copy into a monitor: a bus, a clock's window in memory, a trigger, input and output in an event loop,
-//! a migration, and first claims about what a guest reads and sends.
+//! Short modules to copy into a monitor: a bus, a clock's window in memory and its alarm, a trigger, input and output in
+//! an event loop, a migration, and first claims about what a guest reads and sends.
 #![tactic(auto)]
 
 pub mod alarm;

@@ -90,17 +90,14 @@ fn a_serial_port_is_where_the_bus_has_it(rt: HostRuntime) -> Result<(), Fail> {
     assert!(rt; bases == [0x3F8, 0x2F8, 0x3E8, 0x2E8]);
     // Two ports side by side keep what the guest wrote to the scratch register of each.
     for (first, second) in [(COM1, COM2), (COM3, COM4)] {
-        let mut buses = [
-            bus_at(rt.alloc(), &log, first)?,
-            bus_at(rt.alloc(), &log, second)?,
-        ];
-        for bus in &mut buses {
-            assert!(rt; bus.write(first + 7, 0x11).is_ok());
-            assert!(rt; bus.write(second + 7, 0x22).is_ok());
+        let mut one = bus_at(rt.alloc(), &log, first)?;
+        let mut two = bus_at(rt.alloc(), &log, second)?;
+        for (base, value) in [(first, 0x11), (second, 0x22)] {
+            assert!(rt; one.write(base | 0x07, value).is_ok());
+            assert!(rt; two.write(base | 0x07, value).is_ok());
         }
-        let [one, two] = &mut buses;
         for base in bases {
-            let (of_one, of_two) = (one.read(base + 7), two.read(base + 7));
+            let (of_one, of_two) = (one.read(base | 0x07), two.read(base | 0x07));
             assert!(rt;
                 of_one == if base == first { 0x11 } else { 0xFF },
                 "{base:#x}"
@@ -109,8 +106,9 @@ fn a_serial_port_is_where_the_bus_has_it(rt: HostRuntime) -> Result<(), Fail> {
                 of_two == if base == second { 0x22 } else { 0xFF },
                 "{base:#x}"
             );
+            let (below, above) = (base.wrapping_sub(1), base.wrapping_add(8));
             assert!(rt;
-                one.read(base - 1) == 0xFF && two.read(base + 8) == 0xFF,
+                one.read(below) == 0xFF && two.read(above) == 0xFF,
                 "{base:#x}"
             );
         }
@@ -192,7 +190,7 @@ fn a_clock_is_reached_in_its_window(rt: HostRuntime) {
         (0, 4, [0; 4]),
     ] {
         let mut bytes = [0xAA; 4];
-        window.read(address, &mut bytes[..length], 1_700_000_007);
+        window.read(address, &mut bytes[..length.min(4)], 1_700_000_007);
         assert!(rt; bytes == want, "at {address:#x}");
     }
     for length in [1, 2, 3, 8] {
