@@ -86,11 +86,15 @@ class MissingFiles(CopyTest):
 
     def test_saved_forms_without_its_document(self):
         self.take("include", "prebuilt")
+        few = (CAT, "--random", "0")
         says = "docs/SAVED-STATES.md: No such file or directory"
-        self.assertEqual(self.sum_of("saved_forms", says=says), (0, 1))
+        self.assertEqual(self.sum_of("saved_forms", *few, says=says), (0, 1))
         (self.root / "docs").mkdir()
-        (self.root / "docs" / "SAVED-STATES.md").write_text("Without an example.\n", encoding="ascii")
+        document = self.root / "docs" / "SAVED-STATES.md"
+        document.write_text("Without an example.\n", encoding="ascii")
         says = "one good example of each device is wanted, and these are there: {}"
-        self.assertEqual(self.sum_of("saved_forms", says=says), (0, 1))
+        self.assertEqual(self.sum_of("saved_forms", *few, says=says), (0, 1))
+        document.unlink()
+        self.take("docs/SAVED-STATES.md")
         shutil.rmtree(self.root / "prebuilt")
-        self.assertEqual(self.sum_of("saved_forms", says="returned non-zero exit status 1."), (0, 1))
+        self.assertEqual(self.sum_of("saved_forms", *few, says="returned non-zero exit status 1."), (0, 1))
