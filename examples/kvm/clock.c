@@ -5,8 +5,6 @@
 #include "monitor.h"
 
 #include <inttypes.h>
-#include <linux/kvm.h>
-#include <sys/epoll.h>
 #include <sys/timerfd.h>
 #include <time.h>
 
@@ -60,7 +58,7 @@ void clock_write(struct monitor *monitor, uint16_t offset, uint32_t value) {
 void clock_follow(struct monitor *monitor) {
     struct clock *clock = &monitor->clock;
     struct kvm_irq_level line = {.irq = CLOCK_IRQ, .level = superio_rtc_line(&monitor->rtc)};
-    kvm_call(monitor->machine.vm, KVM_IRQ_LINE, (uintptr_t)&line, "KVM_IRQ_LINE");
+    KVM(monitor->machine.vm, KVM_IRQ_LINE, &line);
 
     struct itimerspec timer = {0}; /* which is no alarm */
     uint64_t now = clock_now(clock), due = superio_rtc_due(&monitor->rtc, now);

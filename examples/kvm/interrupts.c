@@ -4,11 +4,8 @@
  */
 #include "monitor.h"
 
-#include <linux/kvm.h>
-#include <sys/epoll.h>
 #include <sys/eventfd.h>
 #include <sys/timerfd.h>
-#include <unistd.h>
 
 enum { RETRY_NANOSECONDS = 5000000 };
 
@@ -18,17 +15,14 @@ void interrupts_open(struct monitor *monitor) {
     interrupts->timer = timerfd_create(CLOCK_MONOTONIC, TFD_NONBLOCK | TFD_CLOEXEC);
     if (interrupts->line < 0 || interrupts->timer < 0)
         fail("no file for the interrupt");
-    struct kvm_irqfd irqfd = {.fd = (uint32_t)interrupts->line, .gsi = SERIAL_IRQ};
-    kvm_call(monitor->machine.vm, KVM_IRQFD, (uintptr_t)&irqfd, "KVM_IRQFD");
+    KVM(monitor->machine.vm, KVM_IRQFD, &((struct kvm_irqfd){.fd = (uint32_t)interrupts->line, .gsi = SERIAL_IRQ}));
     monitor_watch(monitor, interrupts->timer, EPOLLIN);
 }
 
 static bool raise_line(struct interrupts *interrupts) {
-    interrupts->requests++;
-    if (interrupts->refuse_each && interrupts->requests % interrupts->refuse_each == 0)
+    if (interrupts->refuse_each && ++interrupts->requests % interrupts->refuse_each == 0)
         return false;
-    const uint64_t one = 1;
-    return write(interrupts->line, &one, sizeof one) == sizeof one;
+    return eventfd_write(interrupts->line, 1) == 0;
 }
 
 /* Asks up to a refusal, which sets the timer, and returns how often it was accepted. */

@@ -1,82 +1,56 @@
 /*
- * The machine in a file: a header, the state that KVM has, the saved devices, the input that waits, and the guest's memory.
- * Saving and restoring pass through the same calls in the same order, so the two cannot differ.
+ * The machine in a file: what KVM knows, the saved devices, the input that waits, and the guest's memory. Saving and restoring
+ * make the same calls in the same order, so they cannot differ.
  */
 #include "monitor.h"
 
-#include <errno.h>
-#include <linux/kvm.h>
-#include <stdlib.h>
-#include <string.h>
-#include <sys/ioctl.h>
-#include <unistd.h>
-
 enum { PAGE = 4096, MOST_MSRS = 1024 };
 
+/* A snapshot on its way to its file, or from it. */
+struct image {
+    FILE *file;
+    bool is_saved, is_broken;
+};
+
+/* What a snapshot begins with. */
 struct header {
-    char magic[8]; /* with the version */
-    uint64_t memory_size;
-    uint64_t moment; /* of the clock */
+    char magic[8]; /* the last byte is the version */
+    uint64_t memory_size, moment;
 };
 static const char MAGIC[8] = "SIOMON\0\1";
 
-/* A snapshot on its way to or from its file. The first fault counts. */
-struct image {
-    FILE *file;
-    bool is_saved;
-    const char *fault;
-};
-
-static void fault(struct image *image, const char *what) {
-    if (!image->fault)
-        image->fault = what;
-}
-
-static void pass(struct image *image, void *bytes, size_t count) {
-    size_t passed = image->is_saved ? fwrite(bytes, 1, count, image->file) : fread(bytes, 1, count, image->file);
-    if (passed != count)
-        fault(image, image->is_saved ? "it cannot be written" : "it is cut off");
-}
-
-static void pass_call(struct image *image, int fd, unsigned long request, void *state, const char *what) {
-    if (!image->fault && ioctl(fd, request, state) < 0)
-        fault(image, what);
+static void pass(struct image *image, void *bytes, size_t size) {
+    size_t passed = image->is_saved ? fwrite(bytes, 1, size, image->file) : fread(bytes, 1, size, image->file);
+    if (passed != size)
+        image->is_broken = true;
 }
 
 /* Passes a state that KVM gives by one request and takes by another. */
-static void pass_state(struct image *image, int fd, unsigned long get, unsigned long set, void *state, size_t size,
-                       const char *what) {
-    if (image->is_saved)
-        pass_call(image, fd, get, state, what);
+static void pass_state(struct image *image, int fd, unsigned long get, unsigned long set, void *state, size_t size) {
+    if (image->is_saved && ioctl(fd, get, state) < 0)
+        image->is_broken = true;
     pass(image, state, size);
-    if (!image->is_saved)
-        pass_call(image, fd, set, state, what);
+    if (!image->is_saved && !image->is_broken && ioctl(fd, set, state) < 0)
+        image->is_broken = true;
 }
 
-#define PASS(fd, name, type)                                                                                           \
-    pass_state(image, fd, KVM_GET_##name, KVM_SET_##name, &(struct type){0}, sizeof(struct type), #name)
+#define PASS(fd, NAME, type)                                                                                           \
+    pass_state(image, fd, KVM_GET_##NAME, KVM_SET_##NAME, &(struct type){0}, sizeof(struct type))
 
-/* Which model-specific registers there are, KVM says. Those that it does not give are not passed. */
+/* The model-specific registers that KVM lists and gives. */
 static void pass_msrs(struct image *image, const struct machine *machine) {
-    union {
-        struct kvm_msr_list list;
-        uint32_t space[1 + MOST_MSRS];
-    } known = {.list.nmsrs = MOST_MSRS};
-    pass_call(image, machine->kvm, KVM_GET_MSR_INDEX_LIST, &known, "the list of MSRs");
-    for (uint32_t i = 0; i < known.list.nmsrs && !image->fault; i++) {
-        union {
-            struct kvm_msrs head;
-            uint8_t space[sizeof(struct kvm_msrs) + sizeof(struct kvm_msr_entry)];
-        } one = {.head.nmsrs = 1};
-        struct kvm_msr_entry *entry = (struct kvm_msr_entry *)(one.space + sizeof one.head);
-        entry->index = known.list.indices[i];
-        bool is_known = image->is_saved && ioctl(machine->vcpu, KVM_GET_MSRS, &one) == 1;
-        pass(image, &is_known, sizeof is_known);
-        if (!is_known)
+    union { struct kvm_msr_list list; uint32_t space[1 + MOST_MSRS]; } known = {.list.nmsrs = MOST_MSRS};
+    if (ioctl(machine->kvm, KVM_GET_MSR_INDEX_LIST, &known) < 0)
+        image->is_broken = true;
+    for (uint32_t i = 0; i < known.list.nmsrs && !image->is_broken; i++) {
+        struct { struct kvm_msrs head; struct kvm_msr_entry entry; } one = {{.nmsrs = 1}, {.index = known.list.indices[i]}};
+        bool is_given = image->is_saved && ioctl(machine->vcpu, KVM_GET_MSRS, &one) == 1;
+        pass(image, &is_given, sizeof is_given);
+        if (!is_given)
             continue;
-        pass(image, entry, sizeof *entry);
+        pass(image, &one.entry, sizeof one.entry);
         if (!image->is_saved && ioctl(machine->vcpu, KVM_SET_MSRS, &one) != 1)
-            fault(image, "an MSR");
+            image->is_broken = true;
     }
 }
 
@@ -88,24 +62,16 @@ static void pass_kvm(struct image *image, const struct machine *machine) {
     PASS(machine->vcpu, XCRS, kvm_xcrs);
     PASS(machine->vcpu, DEBUGREGS, kvm_debugregs);
     PASS(machine->vcpu, LAPIC, kvm_lapic_state);
-    pass_msrs(image, machine);
+    pass_msrs(image, machine); /* the LAPIC's timer among them, which needs the LAPIC */
     PASS(machine->vcpu, VCPU_EVENTS, kvm_vcpu_events);
-    for (uint32_t chip = 0; chip < 3; chip++) {
-        struct kvm_irqchip state = {.chip_id = chip};
-        pass_state(image, machine->vm, KVM_GET_IRQCHIP, KVM_SET_IRQCHIP, &state, sizeof state, "IRQCHIP");
-    }
-    pass_state(image, machine->vm, KVM_GET_PIT2, KVM_SET_PIT2, &(struct kvm_pit_state2){0},
-               sizeof(struct kvm_pit_state2), "PIT2");
-    struct kvm_clock_data clock = {0};
-    if (image->is_saved)
-        pass_call(image, machine->vm, KVM_GET_CLOCK, &clock, "CLOCK");
-    clock.flags = 0; /* which tell how it was read */
-    pass(image, &clock, sizeof clock);
-    if (!image->is_saved)
-        pass_call(image, machine->vm, KVM_SET_CLOCK, &clock, "CLOCK");
+    for (uint32_t chip = 0; chip < 3; chip++)
+        pass_state(image, machine->vm, KVM_GET_IRQCHIP, KVM_SET_IRQCHIP, &(struct kvm_irqchip){.chip_id = chip},
+                   sizeof(struct kvm_irqchip));
+    PASS(machine->vm, PIT2, kvm_pit_state2);
+    PASS(machine->vm, CLOCK, kvm_clock_data);
 }
 
-/* The devices in their saved forms, each after its length, and the input that waits. */
+/* The devices in their saved forms, and the input that waits. */
 static void pass_devices(struct image *image, struct monitor *monitor) {
     uint8_t serial[SUPERIO_SERIAL_SAVED_MAX] = {0}, rtc[SUPERIO_RTC_SAVED_SIZE];
     uint32_t length = 0;
@@ -116,24 +82,21 @@ static void pass_devices(struct image *image, struct monitor *monitor) {
     pass(image, &length, sizeof length);
     pass(image, serial, sizeof serial);
     pass(image, rtc, sizeof rtc);
-    pass(image, &monitor->console.input, sizeof monitor->console.input);
-    if (image->is_saved || image->fault)
+    struct queue *input = &monitor->console.input;
+    pass(image, input, sizeof *input);
+    if (image->is_saved || image->is_broken)
         return;
-    if (length > sizeof serial || superio_serial_load(&monitor->serial, serial, length) != SUPERIO_LOAD_OK ||
-        !superio_serial_is_coherent(&monitor->serial))
-        fault(image, "the serial port is none that a guest could have led to");
-    if (superio_rtc_load(&monitor->rtc, rtc, sizeof rtc) != SUPERIO_LOAD_OK)
-        fault(image, "the clock is no saved state");
-    if (monitor->console.input.count > QUEUE_SIZE || monitor->console.input.first >= QUEUE_SIZE)
-        fault(image, "the input that waits is too long");
+    image->is_broken = length > sizeof serial || superio_serial_load(&monitor->serial, serial, length) != SUPERIO_LOAD_OK ||
+                       !superio_serial_is_coherent(&monitor->serial) ||
+                       superio_rtc_load(&monitor->rtc, rtc, sizeof rtc) != SUPERIO_LOAD_OK ||
+                       input->count > QUEUE_SIZE || input->first >= QUEUE_SIZE;
 }
 
-/* Pages of zeros become holes in the file. */
+/* Pages of zeros become holes in the file. The last page is written, and gives the file its size. */
 static void pass_memory(struct image *image, const struct machine *machine) {
     static const uint8_t zeros[PAGE];
-    for (uint64_t at = 0; at < machine->memory_size && !image->fault; at += PAGE) {
-        bool is_empty = image->is_saved && memcmp(machine->memory + at, zeros, PAGE) == 0;
-        if (is_empty && at + PAGE < machine->memory_size)
+    for (uint64_t at = 0; at < machine->memory_size && !image->is_broken; at += PAGE) {
+        if (image->is_saved && at + PAGE < machine->memory_size && memcmp(machine->memory + at, zeros, PAGE) == 0)
             fseek(image->file, PAGE, SEEK_CUR);
         else
             pass(image, machine->memory + at, PAGE);
@@ -146,55 +109,37 @@ static void pass_machine(struct image *image, struct monitor *monitor) {
     pass_memory(image, &monitor->machine);
 }
 
-/* Writes the snapshot while the vCPU rests. It takes its name only if it is whole. */
+/* Writes the snapshot while the vCPU rests. It takes its name only when it is whole. */
 void snapshot_save(struct monitor *monitor) {
     char path[4096];
-    int length = snprintf(path, sizeof path, "%s.new", monitor->snapshot);
-    struct image image = {.file = length < (int)sizeof path ? fopen(path, "wb") : NULL, .is_saved = true};
-    if (!image.file) {
-        console_say(monitor, "\r\nmonitor: %s: %s\r\n", monitor->snapshot, strerror(errno));
-        return;
-    }
-    machine_rest(monitor);
-    struct header header = {.memory_size = monitor->machine.memory_size, .moment = clock_now(&monitor->clock)};
-    memcpy(header.magic, MAGIC, sizeof MAGIC);
-    pass(&image, &header, sizeof header);
-    if (!monitor->has_ended)
+    snprintf(path, sizeof path, "%s.new", monitor->snapshot);
+    struct image image = {.file = fopen(path, "wb"), .is_saved = true};
+    bool is_written = false;
+    if (image.file) {
+        machine_rest(monitor);
+        struct header header = {.memory_size = monitor->machine.memory_size, .moment = clock_now(&monitor->clock)};
+        memcpy(header.magic, MAGIC, sizeof MAGIC);
+        pass(&image, &header, sizeof header);
         pass_machine(&image, monitor);
-    machine_go_on(monitor);
-    if (fclose(image.file) != 0 || monitor->has_ended)
-        fault(&image, "it cannot be written");
-    if (!image.fault && rename(path, monitor->snapshot) < 0)
-        fault(&image, strerror(errno));
-    if (image.fault)
-        unlink(path);
-    console_say(monitor, "\r\nmonitor: %s: %s\r\n", monitor->snapshot, image.fault ? image.fault : "written");
+        machine_go_on(monitor);
+        is_written = fclose(image.file) == 0 && !image.is_broken && rename(path, monitor->snapshot) == 0;
+    }
+    console_say(monitor, "\r\nmonitor: %s: %s\r\n", monitor->snapshot, is_written ? "written" : strerror(errno));
 }
 
-static struct header read_header(struct image *image, const char *path) {
-    struct header header = {0};
-    image->file = fopen(path, "rb");
-    if (!image->file)
-        fail("%s: %s", path, strerror(errno));
-    pass(image, &header, sizeof header);
-    if (image->fault || memcmp(header.magic, MAGIC, sizeof MAGIC) != 0)
-        fail("%s is no snapshot of this monitor", path);
-    return header;
-}
-
-uint64_t snapshot_memory_size(const char *path) {
-    struct image image = {0};
-    uint64_t size = read_header(&image, path).memory_size;
-    fclose(image.file);
-    return size;
-}
-
+/* Makes the machine of a snapshot. */
 void snapshot_restore(struct monitor *monitor, const char *path) {
-    struct image image = {0};
-    struct header header = read_header(&image, path);
+    struct image image = {.file = fopen(path, "rb")};
+    struct header header = {0};
+    if (!image.file)
+        fail("%s: %s", path, strerror(errno));
+    pass(&image, &header, sizeof header);
+    if (image.is_broken || memcmp(header.magic, MAGIC, sizeof MAGIC) != 0)
+        fail("%s is no snapshot of this monitor", path);
+    machine_create(&monitor->machine, header.memory_size);
     clock_not_before(&monitor->clock, header.moment);
     pass_machine(&image, monitor);
-    if (image.fault)
-        fail("%s: %s", path, image.fault);
+    if (image.is_broken)
+        fail("%s: it is cut off, or KVM does not take it here", path);
     fclose(image.file);
 }

@@ -6,10 +6,8 @@
  */
 #include "monitor.h"
 
-#include <errno.h>
 #include <inttypes.h>
 #include <stdarg.h>
-#include <string.h>
 
 enum { RBR = 0, DLL = 0, IER = 1, DLM = 1, IIR = 2, LCR = 3, MCR = 4, SCR = 7, RTCMR = 0x004, RTCLR = 0x008, RTCIMSC = 0x010 };
 enum { NONE = 0x01, THRE = 0x02, RDA = 0x04, DLAB = 0x80, OUTPUT_KEPT = 256 };
@@ -41,7 +39,7 @@ __attribute__((format(printf, 2, 3))) static void row(struct piece *piece, const
     va_end(arguments);
 }
 
-static const char *hexadecimal(const uint8_t *bytes, size_t count) {
+const char *trace_bytes(const uint8_t *bytes, size_t count) {
     static char text[2 * OUTPUT_KEPT + 1];
     *text = 0;
     for (size_t i = 0; i < count; i++)
@@ -49,25 +47,10 @@ static const char *hexadecimal(const uint8_t *bytes, size_t count) {
     return text;
 }
 
-static void write_row(struct piece *piece, uint8_t offset, uint8_t value, bool sends, bool is_refused) {
-    if (sends && piece->sent < OUTPUT_KEPT)
-        piece->output[piece->sent] = value;
-    piece->sent += sends;
-    const char *sent = sends && piece->sent > OUTPUT_KEPT ? "io" : "ok";
-    row(piece, "sw %02x %02x  %s", offset, value, is_refused ? "trigger" : sent);
-}
-
-static void offer_row(struct piece *piece, const uint8_t *bytes, size_t count, superio_serial_enqueue_effects done,
-                      bool is_refused) {
-    char taken[3];
-    snprintf(taken, sizeof taken, "%02zx", done.taken);
-    row(piece, "sq %s  %s", hexadecimal(bytes, count), is_refused ? "trigger" : done.full ? "full" : taken);
-}
-
 /* The last rows of a piece are its output and its calls of the interrupt line. The mask goes where `cut` left room. */
 static void end_piece(struct piece *piece) {
     if (piece->sent > 0)
-        row(piece, "so  %s", hexadecimal(piece->output, piece->sent < OUTPUT_KEPT ? piece->sent : OUTPUT_KEPT));
+        row(piece, "so  %s", trace_bytes(piece->output, piece->sent < OUTPUT_KEPT ? piece->sent : OUTPUT_KEPT));
     row(piece, "st  %016x", piece->calls);
     end_row(piece);
     fseek(piece->file, piece->start, SEEK_SET);
@@ -79,7 +62,7 @@ static void end_piece(struct piece *piece) {
 static void set(struct piece *piece, superio_serial *board, uint8_t offset, uint8_t value) {
     superio_serial_write_effects done = superio_serial_write(board, offset, value);
     piece->calls += done.interrupts;
-    write_row(piece, offset, value, done.sends, false);
+    row(piece, "sw %02x %02x  ok", offset, value);
 }
 
 static void get(struct piece *piece, superio_serial *board, uint8_t offset) {
@@ -91,7 +74,7 @@ static void offer(struct piece *piece, superio_serial *board, const uint8_t *byt
         return;
     superio_serial_enqueue_effects done = superio_serial_enqueue(board, bytes, count);
     piece->calls += done.interrupts;
-    offer_row(piece, bytes, count, done, false);
+    row(piece, "sq %s  %02zx", trace_bytes(bytes, count), done.taken);
 }
 
 static void set_clock(struct piece *piece, superio_rtc *board, uint16_t offset, uint32_t value, uint64_t now) {
@@ -169,6 +152,8 @@ static bool cut(struct monitor *monitor) {
 }
 
 void trace_open(struct monitor *monitor, const char *path) {
+    if (!path)
+        return;
     monitor->trace.file = fopen(path, "w");
     if (!monitor->trace.file)
         fail("%s: %s", path, strerror(errno));
@@ -186,13 +171,6 @@ void trace_close(struct monitor *monitor) {
         fail("the trace could not be written");
 }
 
-/* After a call's row, and after what the call left to do. */
-static void end_call(struct monitor *monitor) {
-    const struct piece *piece = &monitor->trace;
-    if (piece->calls >= ENOUGH_CALLS || piece->sent >= ENOUGH_OUTPUT || piece->length >= ENOUGH_BYTES)
-        cut(monitor);
-}
-
 void trace_asked(struct monitor *monitor, unsigned accepted, bool is_refused) {
     struct piece *piece = &monitor->trace;
     piece->calls += accepted;
@@ -200,27 +178,24 @@ void trace_asked(struct monitor *monitor, unsigned accepted, bool is_refused) {
         piece->refused |= 1ull << piece->calls++ % 64;
 }
 
-void trace_write(struct monitor *monitor, uint8_t offset, uint8_t value, bool sends, bool is_refused) {
-    if (!monitor->trace.file)
-        return;
-    write_row(&monitor->trace, offset, value, sends, is_refused);
-    end_call(monitor);
+/* What a board replies to a byte that goes out. */
+const char *trace_sent(struct monitor *monitor, uint8_t byte) {
+    struct piece *piece = &monitor->trace;
+    if (piece->sent++ >= OUTPUT_KEPT)
+        return "io";
+    piece->output[piece->sent - 1] = byte;
+    return "ok";
 }
 
-void trace_offer(struct monitor *monitor, const uint8_t *bytes, size_t count, superio_serial_enqueue_effects done,
-                 bool is_refused) {
-    if (!monitor->trace.file)
-        return;
-    offer_row(&monitor->trace, bytes, count, done, is_refused);
-    end_call(monitor);
-}
-
+/* A call's row, after what the call left to do. */
 void trace_row(struct monitor *monitor, const char *format, ...) {
-    if (!monitor->trace.file)
+    struct piece *piece = &monitor->trace;
+    if (!piece->file)
         return;
     va_list arguments;
     va_start(arguments, format);
-    add_row(&monitor->trace, format, arguments);
+    add_row(piece, format, arguments);
     va_end(arguments);
-    end_call(monitor);
+    if (piece->calls >= ENOUGH_CALLS || piece->sent >= ENOUGH_OUTPUT || piece->length >= ENOUGH_BYTES)
+        cut(monitor);
 }
