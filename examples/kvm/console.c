@@ -72,7 +72,7 @@ void console_open(struct monitor *monitor) {
         cfmakeraw(&raw);
         tcsetattr(terminal, TCSANOW, &raw);
     }
-    console_feed(monitor); /* the input of a snapshot may have waited for this alone */
+    watch(monitor);
 }
 
 /* Safe in a signal's handler. It does not wait until the terminal has taken the output, since it may never do so. */
@@ -87,7 +87,7 @@ static void command(struct monitor *monitor, uint8_t key) {
     if (key == 'h')
         console_say(monitor, HELP, (unsigned long long)monitor->console.dropped);
     if (key == 's') {
-        console_feed(monitor); /* what was typed before */
+        console_feed(monitor); /* what was typed before, so that what waits does so for the guest */
         snapshot_save(monitor);
     }
 }

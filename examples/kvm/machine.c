@@ -44,6 +44,7 @@ void machine_create(struct machine *machine, uint64_t memory_size) {
     KVM(machine->vm, KVM_SET_TSS_ADDR, (void *)(uintptr_t)TSS_ADDRESS);
     KVM(machine->vm, KVM_CREATE_IRQCHIP, NULL);
     KVM(machine->vm, KVM_CREATE_PIT2, &(struct kvm_pit_config){.flags = KVM_PIT_SPEAKER_DUMMY}); /* with port 0x61 */
+    KVM(machine->vm, KVM_REINJECT_CONTROL, &(struct kvm_reinject_control){0}); /* late ticks are lost, and do not pile up */
 
     machine->memory = mmap(NULL, memory_size, PROT_READ | PROT_WRITE, MAP_PRIVATE | MAP_ANONYMOUS | MAP_NORESERVE, -1, 0);
     if (machine->memory == MAP_FAILED)

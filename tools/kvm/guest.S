@@ -7,7 +7,7 @@
 #     Ctrl-F  fills the FIFO in loopback, and prints how many bytes it held, in hexadecimal
 #     Ctrl-O  prints 100,000 full stops
 #     Ctrl-T  prints 'waiting', and reads no more until an alarm two seconds later, at which it prints 'alarm'
-#     Ctrl-W  prints the bytes of the clock's first identification register, read one by one
+#     Ctrl-W  prints bytes of the clock that it reads in ones and twos
         .code16
         .set COM1, 0x3F8
         .set RBR, COM1; .set THR, COM1; .set IER, COM1 + 1; .set IIR, COM1 + 2; .set LCR, COM1 + 3; .set MCR, COM1 + 4
@@ -142,15 +142,20 @@ await:  movb $1, is_waiting
         mov $waits, %si
         jmp print
 
-widths: movw $0xFFFF, %fs:RTCIMSC               # two bytes, which the clock does not take
+widths: movl $0x04030201, %fs:RTCMR             # a time that is past, so no alarm is set
+        movw $0xFFFF, %fs:RTCMR                 # two bytes, which the clock does not take
         movb %fs:0xFE0, %al
         call hex
-        movb %fs:0xFE4, %al
+        movb %fs:RTCMR + 1, %al
         call hex
-        movw %fs:0xFE8, %ax
+        movw %fs:RTCMR + 2, %ax
+        push %ax
         call hex
-        movl %fs:RTCIMSC, %eax
-        # and falls into hex
+        pop %ax
+        mov %ah, %al
+        call hex
+        movb %fs:RTCMR, %al
+        # and goes on in hex
 
 # Prints AL.
 hex:    mov %al, %bl
