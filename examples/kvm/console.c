@@ -111,7 +111,7 @@ void console_read(struct monitor *monitor) {
     ssize_t count = read(console->in, bytes, room < sizeof bytes ? room : sizeof bytes);
     if (count == 0 || (count < 0 && errno != EAGAIN && errno != EINTR)) {
         console->has_input = false;
-        epoll_ctl(monitor->epoll, EPOLL_CTL_DEL, console->in, NULL);
+        monitor_watch(monitor, console->in, 0);
     }
     for (ssize_t i = 0; i < count; i++)
         typed(monitor, bytes[i]);

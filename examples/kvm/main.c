@@ -34,9 +34,12 @@ void fail(const char *format, ...) {
     _Exit(1);
 }
 
+/* Watches a file for events, or no more. A file that is watched for none would still report a hang-up, again and again. */
 void monitor_watch(struct monitor *monitor, int fd, uint32_t events) {
     struct epoll_event event = {.events = events, .data.fd = fd};
-    if (epoll_ctl(monitor->epoll, EPOLL_CTL_MOD, fd, &event) < 0)
+    if (events == 0)
+        epoll_ctl(monitor->epoll, EPOLL_CTL_DEL, fd, NULL);
+    else if (epoll_ctl(monitor->epoll, EPOLL_CTL_MOD, fd, &event) < 0)
         epoll_ctl(monitor->epoll, EPOLL_CTL_ADD, fd, &event);
 }
 

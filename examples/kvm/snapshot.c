@@ -75,21 +75,26 @@ static void pass_kvm(struct image *image, const struct machine *machine) {
 static void pass_devices(struct image *image, struct monitor *monitor) {
     uint8_t serial[SUPERIO_SERIAL_SAVED_MAX] = {0}, rtc[SUPERIO_RTC_SAVED_SIZE];
     uint32_t length = 0;
+    static struct queue input;
+    input = (struct queue){0}; /* without bytes that the guest has had */
     if (image->is_saved) {
+        const struct queue *waits = &monitor->console.input;
+        for (; input.count < waits->count; input.count++)
+            input.bytes[input.count] = waits->bytes[(waits->first + input.count) % QUEUE_SIZE];
         length = (uint32_t)superio_serial_save(&monitor->serial, serial);
         superio_rtc_save(&monitor->rtc, rtc);
     }
     pass(image, &length, sizeof length);
     pass(image, serial, sizeof serial);
     pass(image, rtc, sizeof rtc);
-    struct queue *input = &monitor->console.input;
-    pass(image, input, sizeof *input);
+    pass(image, &input, sizeof input);
     if (image->is_saved || image->is_broken)
         return;
     image->is_broken = length > sizeof serial || superio_serial_load(&monitor->serial, serial, length) != SUPERIO_LOAD_OK ||
                        !superio_serial_is_coherent(&monitor->serial) ||
                        superio_rtc_load(&monitor->rtc, rtc, sizeof rtc) != SUPERIO_LOAD_OK ||
-                       input->count > QUEUE_SIZE || input->first >= QUEUE_SIZE;
+                       input.count > QUEUE_SIZE || input.first != 0;
+    monitor->console.input = input;
 }
 
 /* Pages of zeros become holes in the file. The last page is written, and gives the file its size. */
