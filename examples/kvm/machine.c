@@ -6,6 +6,7 @@
 #include <sys/mman.h>
 
 enum { CPUID_ENTRIES = 256, TSS_ADDRESS = 0xFFFBD000, LEAST_MEMORY = 2 << 20, PAGE = 4096 };
+enum { FWAIT = 0x9B, INT3 = 0xCC, BREAKPOINT = 3 };
 static const uint64_t MOST_MEMORY = 3ull << 30; /* below the interrupt controllers */
 
 int kvm_call(int fd, unsigned long request, const void *argument, const char *what) {
@@ -62,12 +63,32 @@ void machine_create(struct machine *machine, uint64_t memory_size) {
     pthread_cond_init(&machine->changed, NULL);
 }
 
-/* KVM gives up, as at an instruction that it has to emulate and cannot. */
+/* Where the processor does not run guests, KVM emulates them, and lacks two instructions that Linux's kernel uses: FWAIT, which
+ * has nothing to wait for, and INT3, whose exception the guest gets. Returns whether it was one of them. */
+static bool carry_out(const struct machine *machine) {
+    const struct kvm_run *run = machine->run;
+    uint8_t code = run->emulation_failure.insn_bytes[0];
+    if (run->internal.suberror != KVM_INTERNAL_ERROR_EMULATION || run->internal.ndata < 3 || (code != FWAIT && code != INT3))
+        return false;
+    struct kvm_regs registers;
+    KVM(machine->vcpu, KVM_GET_REGS, &registers);
+    registers.rip++;
+    KVM(machine->vcpu, KVM_SET_REGS, &registers);
+    struct kvm_vcpu_events events;
+    KVM(machine->vcpu, KVM_GET_VCPU_EVENTS, &events);
+    events.flags = 0;
+    events.exception.injected = code == INT3;
+    events.exception.nr = BREAKPOINT;
+    events.exception.has_error_code = 0;
+    KVM(machine->vcpu, KVM_SET_VCPU_EVENTS, &events);
+    return true;
+}
+
 static void give_up(struct monitor *monitor) {
     const struct kvm_run *run = monitor->machine.run;
-    struct kvm_regs registers = {0};
-    ioctl(monitor->machine.vcpu, KVM_GET_REGS, &registers);
     const uint8_t *code = run->emulation_failure.insn_bytes;
+    struct kvm_regs registers;
+    KVM(monitor->machine.vcpu, KVM_GET_REGS, &registers);
     monitor_end(monitor, 1, "KVM gives up at %#llx, by error %u; if it is an instruction, it begins %02x %02x %02x",
                 registers.rip, run->internal.suberror, code[0], code[1], code[2]);
 }
@@ -88,7 +109,8 @@ static void serve(struct monitor *monitor) {
         monitor_end(monitor, 1, "the guest ended by a triple fault");
         break;
     case KVM_EXIT_INTERNAL_ERROR:
-        give_up(monitor);
+        if (!carry_out(&monitor->machine))
+            give_up(monitor);
         break;
     default:
         monitor_end(monitor, 1, "KVM ended the run, for reason %u", run->exit_reason);
