@@ -1,4 +1,4 @@
-/* The guest's accesses: each goes to the device that is there. Where none is, reads give ones and writes have no effect. */
+/* The guest's accesses. Each goes to the device that is there. If none is, a read gives ones, and a write has no effect. */
 #include "monitor.h"
 
 static uint8_t serial_read(struct monitor *monitor, uint8_t offset) {

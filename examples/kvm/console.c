@@ -1,4 +1,4 @@
-/* The console: the user's terminal, the input that waits for room in the FIFO, and the output that the terminal has not taken. */
+/* The console: the user's terminal, the input that waits for room in the FIFO, and the output that waits for the terminal. */
 #include "monitor.h"
 
 #include <fcntl.h>
@@ -42,7 +42,9 @@ static int own(int fd, int flags) {
     struct stat status;
     char name[32];
     snprintf(name, sizeof name, "/proc/self/fd/%d", fd);
-    int opened = fstat(fd, &status) < 0 || S_ISREG(status.st_mode) ? -1 : open(name, flags | O_NONBLOCK | O_NOCTTY | O_CLOEXEC);
+    if (fstat(fd, &status) < 0 || S_ISREG(status.st_mode))
+        return fd;
+    int opened = open(name, flags | O_NONBLOCK | O_NOCTTY | O_CLOEXEC);
     return opened < 0 ? fd : opened;
 }
 
@@ -118,8 +120,8 @@ void console_read(struct monitor *monitor) {
     console_feed(monitor);
 }
 
-/* Offers the input, and keeps what the port does not take. So it is when input comes, when the guest has read the last byte
- * of the FIFO, and when it may have left loopback. */
+/* Offers the input, and keeps what the port does not take: when input comes, when the guest has read the last byte of the
+ * FIFO, and when it may have left loopback. */
 void console_feed(struct monitor *monitor) {
     struct queue *input = &monitor->console.input;
     superio_serial_enqueue_effects done = {0};
@@ -137,9 +139,9 @@ void console_feed(struct monitor *monitor) {
     watch(monitor);
 }
 
-/* Waits for room in the queue, before a byte of output. LSR always says that the transmitter is empty, so waiting in the
- * guest's access is the one way to slow it down. If the terminal takes nothing for STALL_SECONDS, the guest waits no more
- * until it takes bytes again. */
+/* Waits for room in the queue, before a byte of output. LSR always says that the transmitter is empty, so the guest is slowed
+ * down only by waiting in its access. If the terminal takes nothing for STALL_SECONDS, the guest waits no more until it
+ * takes bytes again. */
 void console_await_room(struct monitor *monitor) {
     struct console *console = &monitor->console;
     struct timespec until;

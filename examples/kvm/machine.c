@@ -17,14 +17,19 @@ int kvm_call(int fd, unsigned long request, const void *argument, const char *wh
 }
 
 static void add_memory(const struct machine *machine, uint32_t slot, uint64_t start, uint64_t end) {
-    struct kvm_userspace_memory_region region = {
-        .slot = slot, .guest_phys_addr = start, .memory_size = end - start, .userspace_addr = (uintptr_t)machine->memory + start};
+    struct kvm_userspace_memory_region region = {.slot = slot,
+                                                 .guest_phys_addr = start,
+                                                 .memory_size = end - start,
+                                                 .userspace_addr = (uintptr_t)machine->memory + start};
     KVM(machine->vm, KVM_SET_USER_MEMORY_REGION, &region);
 }
 
 /* The processor is the host's, as far as KVM has it, with the number 0. */
 static void set_cpuid(const struct machine *machine) {
-    static union { struct kvm_cpuid2 head; uint32_t space[2 + 10 * CPUID_ENTRIES]; } cpuid = {.head.nent = CPUID_ENTRIES};
+    static union {
+        struct kvm_cpuid2 head;
+        uint32_t space[2 + 10 * CPUID_ENTRIES];
+    } cpuid = {.head.nent = CPUID_ENTRIES};
     KVM(machine->kvm, KVM_GET_SUPPORTED_CPUID, &cpuid);
     for (struct kvm_cpuid_entry2 *entry = cpuid.head.entries; entry < cpuid.head.entries + cpuid.head.nent; entry++) {
         if (entry->function == 1)
@@ -44,10 +49,12 @@ void machine_create(struct machine *machine, uint64_t memory_size) {
     machine->vm = KVM(machine->kvm, KVM_CREATE_VM, NULL);
     KVM(machine->vm, KVM_SET_TSS_ADDR, (void *)(uintptr_t)TSS_ADDRESS);
     KVM(machine->vm, KVM_CREATE_IRQCHIP, NULL);
-    KVM(machine->vm, KVM_CREATE_PIT2, &(struct kvm_pit_config){.flags = KVM_PIT_SPEAKER_DUMMY}); /* with port 0x61 */
-    KVM(machine->vm, KVM_REINJECT_CONTROL, &(struct kvm_reinject_control){0}); /* late ticks are lost, and do not pile up */
+    /* The timer has port 0x61. Its late ticks are lost, and do not pile up for a guest that is slow. */
+    KVM(machine->vm, KVM_CREATE_PIT2, &(struct kvm_pit_config){.flags = KVM_PIT_SPEAKER_DUMMY});
+    KVM(machine->vm, KVM_REINJECT_CONTROL, &(struct kvm_reinject_control){.pit_reinject = 0});
 
-    machine->memory = mmap(NULL, memory_size, PROT_READ | PROT_WRITE, MAP_PRIVATE | MAP_ANONYMOUS | MAP_NORESERVE, -1, 0);
+    int kind = MAP_PRIVATE | MAP_ANONYMOUS | MAP_NORESERVE;
+    machine->memory = mmap(NULL, memory_size, PROT_READ | PROT_WRITE, kind, -1, 0);
     if (machine->memory == MAP_FAILED)
         fail("the guest's memory: %s", strerror(errno));
     machine->memory_size = memory_size;
@@ -63,12 +70,13 @@ void machine_create(struct machine *machine, uint64_t memory_size) {
     pthread_cond_init(&machine->changed, NULL);
 }
 
-/* Where the processor does not run guests, KVM emulates them, and lacks two instructions that Linux's kernel uses: FWAIT, which
- * has nothing to wait for, and INT3, whose exception the guest gets. Returns whether it was one of them. */
+/* Where the processor does not run guests, KVM emulates them, and lacks two instructions that Linux uses: FWAIT, which has
+ * nothing to wait for, and INT3, whose exception the guest gets. Returns whether it was one of them. */
 static bool carry_out(const struct machine *machine) {
     const struct kvm_run *run = machine->run;
     uint8_t code = run->emulation_failure.insn_bytes[0];
-    if (run->internal.suberror != KVM_INTERNAL_ERROR_EMULATION || run->internal.ndata < 3 || (code != FWAIT && code != INT3))
+    bool has_code = run->internal.suberror == KVM_INTERNAL_ERROR_EMULATION && run->internal.ndata > 2;
+    if (!has_code || (code != FWAIT && code != INT3))
         return false;
     struct kvm_regs registers;
     KVM(machine->vcpu, KVM_GET_REGS, &registers);
@@ -136,8 +144,8 @@ static void rest(struct monitor *monitor) {
     machine->is_resting = monitor->has_ended;
 }
 
-/* The vCPU's thread. An access is complete only when KVM_RUN has been called again, and only then is the vCPU's state whole.
- * So the thread rests after a call that a signal ended. */
+/* The vCPU's thread. An access is complete only when KVM_RUN is called again, and so is the vCPU's state. So the thread rests
+ * after a call that a signal ended. */
 static void *run_vcpu(void *argument) {
     struct monitor *monitor = argument;
     running = monitor->machine.run;

@@ -1,8 +1,8 @@
 /*
  * A monitor that runs a PC with the devices of superio.h under KVM. docs/MONITOR.md shows how its files fit together.
  *
- * Two threads share a `struct monitor`: the vCPU's makes the guest's accesses, and the main one has the event loop. Each holds
- * `lock`, except while it waits: in KVM_RUN, in epoll_wait, or for a condition. The lock guards whatever may change.
+ * Two threads share a `struct monitor`: the vCPU's makes the guest's accesses, and the main one has the event loop. Each
+ * holds `lock`, except while it waits: in KVM_RUN, in epoll_wait, or for a condition. The lock guards whatever may change.
  */
 #ifndef MONITOR_H
 #define MONITOR_H

@@ -1,6 +1,6 @@
 /*
- * The machine in a file: what KVM knows, the saved devices, the input that waits, and the guest's memory. Saving and restoring
- * make the same calls in the same order, so they cannot differ.
+ * The machine in a file: what KVM knows, the saved devices, the input that waits, and the guest's memory. Saving and
+ * restoring make the same calls in the same order, so they cannot differ.
  */
 #include "monitor.h"
 
@@ -39,11 +39,17 @@ static void pass_state(struct image *image, int fd, unsigned long get, unsigned 
 
 /* The model-specific registers that KVM lists and gives. */
 static void pass_msrs(struct image *image, const struct machine *machine) {
-    union { struct kvm_msr_list list; uint32_t space[1 + MOST_MSRS]; } known = {.list.nmsrs = MOST_MSRS};
+    union {
+        struct kvm_msr_list list;
+        uint32_t space[1 + MOST_MSRS];
+    } known = {.list.nmsrs = MOST_MSRS};
     if (ioctl(machine->kvm, KVM_GET_MSR_INDEX_LIST, &known) < 0)
         image->is_broken = true;
     for (uint32_t i = 0; i < known.list.nmsrs && !image->is_broken; i++) {
-        struct { struct kvm_msrs head; struct kvm_msr_entry entry; } one = {{.nmsrs = 1}, {.index = known.list.indices[i]}};
+        struct {
+            struct kvm_msrs head;
+            struct kvm_msr_entry entry;
+        } one = {{.nmsrs = 1}, {.index = known.list.indices[i]}};
         bool is_given = image->is_saved && ioctl(machine->vcpu, KVM_GET_MSRS, &one) == 1;
         pass(image, &is_given, sizeof is_given);
         if (!is_given)
@@ -90,7 +96,8 @@ static void pass_devices(struct image *image, struct monitor *monitor) {
     pass(image, &input, sizeof input);
     if (image->is_saved || image->is_broken)
         return;
-    image->is_broken = length > sizeof serial || superio_serial_load(&monitor->serial, serial, length) != SUPERIO_LOAD_OK ||
+    image->is_broken = length > sizeof serial ||
+                       superio_serial_load(&monitor->serial, serial, length) != SUPERIO_LOAD_OK ||
                        !superio_serial_is_coherent(&monitor->serial) ||
                        superio_rtc_load(&monitor->rtc, rtc, sizeof rtc) != SUPERIO_LOAD_OK ||
                        input.count > QUEUE_SIZE || input.first != 0;

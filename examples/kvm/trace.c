@@ -1,15 +1,16 @@
 /*
  * The calls of the devices as lines of docs/SCRIPT.md with their replies, in the form of examples/linux-boot.
  *
- * The board of a script keeps 256 bytes of output, and its interrupt line can refuse one of its first 64 calls. So the trace
- * is cut into pieces. Each begins on a fresh board, with lines that bring it to where the devices are.
+ * The board of a script keeps 256 bytes of output, and its interrupt line can refuse one of its first 64 calls. So the
+ * trace is cut into pieces. Each begins on a fresh board, with lines that bring it to where the devices are.
  */
 #include "monitor.h"
 
 #include <inttypes.h>
 #include <stdarg.h>
 
-enum { RBR = 0, DLL = 0, IER = 1, DLM = 1, IIR = 2, LCR = 3, MCR = 4, SCR = 7, RTCMR = 0x004, RTCLR = 0x008, RTCIMSC = 0x010 };
+enum { RBR = 0, DLL = 0, IER = 1, DLM = 1, IIR = 2, LCR = 3, MCR = 4, SCR = 7 };
+enum { RTCMR = 0x004, RTCLR = 0x008, RTCIMSC = 0x010 };
 enum { NONE = 0x01, THRE = 0x02, RDA = 0x04, DLAB = 0x80, OUTPUT_KEPT = 256 };
 /* A piece that has so much ends as soon as another can begin. */
 enum { ENOUGH_CALLS = 24, ENOUGH_OUTPUT = 128, ENOUGH_BYTES = 32768 };
