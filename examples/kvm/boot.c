@@ -24,7 +24,7 @@ static uint8_t *read_file(const char *path, size_t most, size_t *size) {
 }
 
 static struct kvm_sregs system_registers(const struct machine *machine) {
-    struct kvm_sregs system;
+    struct kvm_sregs system = {0};
     KVM(machine->vcpu, KVM_GET_SREGS, &system);
     return system;
 }

@@ -78,11 +78,11 @@ static bool carry_out(const struct machine *machine) {
     bool has_code = run->internal.suberror == KVM_INTERNAL_ERROR_EMULATION && run->internal.ndata > 2;
     if (!has_code || (code != FWAIT && code != INT3))
         return false;
-    struct kvm_regs registers;
+    struct kvm_regs registers = {0};
     KVM(machine->vcpu, KVM_GET_REGS, &registers);
     registers.rip++;
     KVM(machine->vcpu, KVM_SET_REGS, &registers);
-    struct kvm_vcpu_events events;
+    struct kvm_vcpu_events events = {0};
     KVM(machine->vcpu, KVM_GET_VCPU_EVENTS, &events);
     events.flags = 0;
     events.exception.injected = code == INT3;
@@ -95,7 +95,7 @@ static bool carry_out(const struct machine *machine) {
 static void give_up(struct monitor *monitor) {
     const struct kvm_run *run = monitor->machine.run;
     const uint8_t *code = run->emulation_failure.insn_bytes;
-    struct kvm_regs registers;
+    struct kvm_regs registers = {0};
     KVM(monitor->machine.vcpu, KVM_GET_REGS, &registers);
     monitor_end(monitor, 1, "KVM gives up at %#llx, by error %u; if it is an instruction, it begins %02x %02x %02x",
                 registers.rip, run->internal.suberror, code[0], code[1], code[2]);

@@ -46,15 +46,16 @@ static void pass_msrs(struct image *image, const struct machine *machine) {
     if (ioctl(machine->kvm, KVM_GET_MSR_INDEX_LIST, &known) < 0)
         image->is_broken = true;
     for (uint32_t i = 0; i < known.list.nmsrs && !image->is_broken; i++) {
-        struct {
-            struct kvm_msrs head;
-            struct kvm_msr_entry entry;
-        } one = {{.nmsrs = 1}, {.index = known.list.indices[i]}};
+        union {
+            struct kvm_msrs list;
+            uint64_t space[3];
+        } one = {.list.nmsrs = 1};
+        one.list.entries[0].index = known.list.indices[i];
         bool is_given = image->is_saved && ioctl(machine->vcpu, KVM_GET_MSRS, &one) == 1;
         pass(image, &is_given, sizeof is_given);
         if (!is_given)
             continue;
-        pass(image, &one.entry, sizeof one.entry);
+        pass(image, one.list.entries, sizeof *one.list.entries);
         if (!image->is_saved && ioctl(machine->vcpu, KVM_SET_MSRS, &one) != 1)
             image->is_broken = true;
     }

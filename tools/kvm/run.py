@@ -7,8 +7,8 @@ import tempfile
 import termios
 import time
 
-# How long a wait may take in which nothing happens, in seconds. Some hosts emulate guests a thousand times more slowly.
-LIMIT = 60
+# How long a wait may take, in seconds. Some hosts emulate guests, a thousand times more slowly than processors run them.
+LIMIT = 120
 
 
 class Wrong(Exception):
