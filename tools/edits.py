@@ -1,4 +1,4 @@
-"""Edits: files that turn one function of a crate into a wrong one. What one says, where it stands, and which go together."""
+"""Edits, files that turn one function of a crate into a wrong one: what each says, where it stands, and which share a round."""
 import re
 from dataclasses import dataclass, field
 from pathlib import Path
@@ -37,7 +37,7 @@ class Function:
 
 
 def only_code(text):
-    """The text with all that is no code blanked, each thing at its place."""
+    """The text with blanks in place of all that is no code."""
     return NO_CODE.sub(lambda found: re.sub(r"[^\n]", " ", found[0]), text)
 
 
@@ -207,7 +207,7 @@ def add_replacement(edit, file, old, new):
 
 
 def changed(text, replacements):
-    """A text with these replacements, which overlap nowhere."""
+    """A text with these replacements, which do not overlap."""
     for it in sorted(replacements, key=lambda it: -it.start):
         text = text[:it.start] + it.text + text[it.end:]
     return text
@@ -238,7 +238,7 @@ def rounds_of(edits, may_share=may_share):
 
 
 def rank(edit, edits):
-    """Places first what has fewest rounds to choose from."""
+    """What sorts first has the fewest rounds to choose from."""
     return -edit.is_outside, -sum(bool(edit.places & other.places) for other in edits), edit.name
 
 

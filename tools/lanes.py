@@ -26,8 +26,8 @@ def free_memory():
 
 @dataclass
 class Task:
-    """A call, which gets how many processors it may use and returns further tasks. Of those that are ready, the task with
-    the largest cost begins first."""
+    """A call that is given how many processors it may use, and returns further tasks. Of the tasks that are ready, the one
+    with the largest cost begins first."""
     key: tuple
     waits: set
     cost: int

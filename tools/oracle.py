@@ -1,11 +1,11 @@
 """What devices show, by a search of all that was done before: slow, and plainly right.
 
-No register is kept. What a call shows is found in the calls before it: the last write of a register, the bytes that
-came in and were taken, what raised a condition and what acknowledged it. Each search ends at a start state at the
-latest, which is the first fact of the past. Of a call a few facts are remembered, each found once by such a search.
+There are no registers. What a call shows is found in the calls before it: the last write of a register, the bytes that
+came in and were taken, what raised a condition and what acknowledged it. A search ends at the latest at the start state,
+which is the first fact of the past. A few facts of each call are remembered, and each was found once by such a search.
 docs/DEVICES.md has the rules.
 
-expected.py says by these devices what a script prints, and what recorded calls reply.
+expected.py says with these devices what a script prints, and what recorded calls reply.
 """
 from typing import NamedTuple
 
@@ -45,8 +45,8 @@ def start_fact(registers, held):
 
 
 class Port:
-    """A serial port, as a search of its past. `refuses` says whether the interrupt line refuses its call of a number
-    in a call of the port, from 1. `writing` says what the writer does with a byte: n, f, i or u, as tests/calls has it,
+    """A serial port, as a search of its past. `refuses` says of a number whether the interrupt line refuses that call in
+    a call of the port, counted from 1. `writing` says what the writer does with a byte: n, f, i or u, as in tests/calls,
     or else None."""
 
     def __init__(self, refuses, writing):
@@ -56,7 +56,7 @@ class Port:
     # What the past says.
 
     def last(self, found):
-        """What the last fact says that says something."""
+        """The newest answer: `found` gives what a fact says, or `None`."""
         return next(answer for answer in map(found, reversed(self.past)) if answer is not None)
 
     def register(self, name):
@@ -104,14 +104,14 @@ class Port:
     # Calls, each with its reply.
 
     def line_calls(self, count):
-        """What the interrupt line does that is to be called so often: up to its first refusal."""
+        """What the interrupt line does in so many calls, up to its first refusal."""
         did = []
         while len(did) < count and "R" not in did:
             did.append("R" if self.refuses(len(did) + 1) else "T")
         return did
 
     def done(self, reply, fact):
-        """Remembers a call, and returns its reply. A refusal is the reply before any other."""
+        """Remembers a call, and returns its reply. A refusal takes the place of any other reply."""
         self.past.append(fact)
         return "trigger" if "R" in fact.did else reply
 
@@ -164,8 +164,8 @@ class Port:
         return "ok"
 
     def send(self, value):
-        """A byte for the writer is written, again if that was interrupted, and flushed if it was taken. Then it is
-        reported, and THRE is raised, whatever became of it."""
+        """Writes a byte, once more if the writer was interrupted, and flushes it if it was taken. Then it reports the byte
+        and raises THRE, whatever became of the byte."""
         writing = self.writing()
         is_taken = writing not in ("n", "f")
         is_lost = writing in ("n", "f", "u")
@@ -175,7 +175,7 @@ class Port:
         return self.done("io" if is_lost else "ok", Fact(sent=value if is_taken else None, **raises))
 
     def receive(self, data, reply):
-        """Bytes come in, as many as find room. One that does raises RDA."""
+        """Takes as many bytes as find room. They raise RDA."""
         accepted = data[:self.room()]
         raises = self.raises((RDA,) if accepted else (), self.register("IER"))
         ready = True if accepted else None
@@ -189,14 +189,14 @@ class Port:
         return self.receive(data, "")
 
     def drain(self):
-        """A driver reads RBR while LSR shows data ready. Without DLAB alone is that what it reads."""
+        """What a driver gets that reads RBR while LSR shows data ready. With DLAB set it cannot reach RBR."""
         got = ""
         while not self.has_latch() and self.line_status() & 1:
             got += self.read(0)
         return got
 
     def restore(self, past):
-        """A port with another past takes the place of this one, if the line takes the calls for the conditions that are
+        """Puts a port with another past in the place of this one, if the line takes the calls for the conditions that are
         pending and enabled. Returns these calls."""
         own, self.past = self.past, past
         enabled = [condition for condition in (RDA, THRE) if self.register("IER") & ENABLED_BY[condition]]
@@ -209,10 +209,10 @@ class Access(NamedTuple):
     """An access of the clock, and what was found of it."""
 
     offset: int
-    value: int | None                     # that is written
+    value: int | None                     # what is written
     time: int                             # of the host
     guest_time: int                       # before the access's own effect
-    raises: bool                          # the interrupt: it reached the alarm, or wrote a match that is guest time
+    raises: bool                          # whether it reached the alarm, or wrote a match that is guest time
 
     def writes(self, offset):
         return self.offset == offset and self.value is not None
@@ -249,7 +249,7 @@ class Clock:
         return self.imsc if written is None else written & 1
 
     def is_armed(self):
-        """The last match was to come when it was written, and guest time has not come to it at an access since."""
+        """Whether the last match was still to come when it was written, and no access since has come to it."""
         match = self.match()
         for access in reversed(self.past):
             if access.writes(0x004):
@@ -259,7 +259,7 @@ class Clock:
         return self.armed
 
     def raw_status(self):
-        """The start's bits, and bit 0 of an access that raised it, without what a write cleared there or later."""
+        """The start's bits, and bit 0 if an access raised it, without those that a write has cleared since."""
         bits = self.ris
         for access in self.past:
             bits |= access.raises

@@ -10,7 +10,7 @@ from pathlib import Path
 from status import Status, progress
 
 CRATES = Path(__file__).resolve().parent.parent / "crates"
-# The programs and the library, each with the crates whose sources it is built of.
+# The programs and the library, each with the crates whose sources it is built of, the lowest last.
 SOURCES = {
     "superio": ["superio", "superio_script", "vm_superio"],
     "superio_calls": ["superio_calls", "vm_superio"],
@@ -34,11 +34,10 @@ def is_current(built, sources):
     return built.exists() and built.stat().st_mtime >= max(path.stat().st_mtime for path in paths)
 
 
-def run_rt(crate, command, log):
-    """Runs a command of rt in the folder of a crate with a status line, and its exit status. `log` takes what it prints."""
-    with Status(f"building {crate}", counts=False) as status, status.task("starting") as task, subprocess.Popen(
-            ["rt", command], cwd=CRATES / crate, stdin=subprocess.DEVNULL, stdout=subprocess.PIPE,
-            stderr=subprocess.STDOUT, text=True, errors="replace") as process:
+def run_rt(crate, command, log, task):
+    """Runs a command of rt in the folder of a crate, and its exit status. `log` takes what it prints, `task` how far it is."""
+    with subprocess.Popen(["rt", command], cwd=CRATES / crate, stdin=subprocess.DEVNULL, stdout=subprocess.PIPE,
+                          stderr=subprocess.STDOUT, text=True, errors="replace") as process:
         for line in process.stdout:
             log.write(line)
             if found := CRATE.match(line):
@@ -47,36 +46,47 @@ def run_rt(crate, command, log):
     return process.returncode
 
 
-def build(crate, *commands):
-    """Builds a crate by commands of rt. What they print is kept, in a file that the error names, where one fails."""
+def build(*steps):
+    """Builds a crate by commands of rt, each in a crate's folder, the lowest first: rt passes over the sources of a crate
+    once more if it has to build the libraries too. If one fails, the error names a file with what they printed."""
+    crate = steps[-1][0]
     handle, name = tempfile.mkstemp(prefix=f"{crate}-", suffix=".log")
-    with os.fdopen(handle, "w", encoding="utf-8") as log:
-        for command in commands:
+    log = os.fdopen(handle, "w", encoding="utf-8")
+    with log, Status(f"building {crate}", counts=False) as status, status.task("starting") as task:
+        for folder, command in steps:
             try:
-                status = run_rt(crate, command, log)
+                ended = run_rt(folder, command, log, task)
             except OSError as error:
                 raise NotBuilt(f"{crate} was not built: {error}") from error
-            if status != 0:
-                raise NotBuilt(f"{crate} was not built: `rt {command}` ended with status {status}, and {name} has what "
-                               "it printed")
+            if ended != 0:
+                raise NotBuilt(f"{crate} was not built: `rt {command}` in crates/{folder} ended with status {ended}, and "
+                               f"{name} has what it printed")
     os.unlink(name)
 
 
+def libraries_of(crate):
+    """The steps that build the libraries of a crate."""
+    return [(library, "lib") for library in reversed(SOURCES[crate][1:])]
+
+
 def built_program(arguments=(), crate="superio"):
-    """The program that the arguments name, or else the built one of a crate, which is built anew where it has to be."""
+    """The program that the arguments name, or else that of a crate, which is built if it is missing or out of date."""
     if arguments:
-        return Path(arguments[0]).resolve()
+        program = Path(arguments[0]).resolve()
+        if not program.is_file():
+            raise NotBuilt(f"{program} is not there")
+        return program
     program = CRATES / crate / "out" / crate
     if not is_current(program, SOURCES[crate]):
-        build(crate, "run")
+        build(*libraries_of(crate), (crate, "run"))
     return program
 
 
 def built_library():
-    """The static library, which is built anew where it has to be, of a crate that `rt check` has proved."""
+    """The static library, which `rt` proves and builds if it is missing or out of date."""
     library = CRATES / "superio_c" / "out" / "libsuperio_c.a"
     if not is_current(library, SOURCES["superio_c"]):
-        build("superio_c", "check", "lib")
+        build(*libraries_of("superio_c"), ("superio_c", "check"), ("superio_c", "lib"))
     return library
 
 
@@ -90,7 +100,7 @@ def original_crate():
 
 
 def run(program, script):
-    """Runs a script: its status, standard output and standard error. `None` where it did not end."""
+    """Runs a script: its status, standard output and standard error. `None` if it did not end."""
     try:
         got = subprocess.run([program], input=script, capture_output=True, timeout=TIMEOUT)
     except subprocess.TimeoutExpired:
@@ -112,15 +122,31 @@ def side_by_side(block):
         yield row, reply.lstrip(" ") or None
 
 
+def lost_or_new(folder, pattern, names):
+    """A message for each of these files that a folder lacks, and for each other one that it has."""
+    found = {path.name for path in folder.glob(pattern)}
+    for name in sorted(found ^ set(names)):
+        yield f"{folder.name}/{name} is not there" if name in names else f"{folder.name}/{name} is not in the tool's list"
+
+
+def reason(error):
+    """What an `OSError` says, with the file that it is about."""
+    return f"{error.filename}: {error.strerror}" if error.filename else str(error)
+
+
 def report(results):
-    """Prints each message, where `None` stands for a pass, and then `N passed, M failed`. Returns the exit status: 1 where
-    something failed or nothing was checked."""
+    """Prints each message, and then `N passed, M failed`. `None` stands for a pass. Returns the exit status: 1 if something
+    failed, if a file cannot be used, or if nothing was checked."""
     passed = failed = 0
-    for message in results:
-        if message is not None:
-            print(message)
-        passed += message is None
-        failed += message is not None
+    try:
+        for message in results:
+            if message is not None:
+                print(message)
+            passed += message is None
+            failed += message is not None
+    except OSError as error:
+        print(reason(error))
+        failed += 1
     if passed + failed == 0:
         print("nothing was checked")
         failed = 1

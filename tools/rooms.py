@@ -7,6 +7,8 @@ from dataclasses import dataclass
 from pathlib import Path
 
 PARTS = ("src", "specs", "proofs")
+# The status of a command that cannot be started, as shells have it.
+NOT_STARTED = 127
 
 
 def link(source, target):
@@ -99,8 +101,11 @@ class Ran:
 def run(command, folder, on_line=None):
     """Runs a command in a folder, and calls `on_line` with each line that it prints."""
     lines = []
-    process = subprocess.Popen(command, cwd=folder, stdin=subprocess.DEVNULL, stdout=subprocess.PIPE,
-                               stderr=subprocess.STDOUT, text=True, errors="replace")
+    try:
+        process = subprocess.Popen(command, cwd=folder, stdin=subprocess.DEVNULL, stdout=subprocess.PIPE,
+                                   stderr=subprocess.STDOUT, text=True, errors="replace")
+    except OSError as error:
+        return Ran([str(error)], NOT_STARTED, 0, 0)
     for line in process.stdout:
         lines.append(line.rstrip("\n"))
         if on_line:

@@ -11,7 +11,7 @@ EMPTY = "(empty)"
 
 
 class Script:
-    """A script, where it stands, and what its run has to print and to end with."""
+    """A script, the place where it stands, and what its run has to print and to end with."""
 
     def __init__(self, place, script, replies, end=""):
         self.place = place

@@ -32,7 +32,7 @@ def clock(seconds):
 
 
 def progress(task, line):
-    """Has a task show how far `rt` is, if a line of its output says so, and returns whether it did."""
+    """Makes a task show how far `rt` is, if a line of its output says so. Returns whether it does."""
     found = PROGRESS.match(line)
     if found:
         task.show(f"{found[1]} of {found[2]} functions")

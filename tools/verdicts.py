@@ -44,7 +44,7 @@ class Error:
 
     @property
     def is_of_text(self):
-        """Whether it is no refusal of a contract: an error of names, types or syntax."""
+        """Whether it is an error of names, types or syntax, and so refuses no contract."""
         if NO_COMPILE.match(self.text):
             return True
         if not self.text.startswith("error: "):
@@ -66,8 +66,8 @@ class Said:
     tail: str = ""
 
     def clauses(self, path, function, error):
-        """The clauses that an error in a function says are not proved: all that its goal joins. Of what is no clause with a
-        name, `returns` or the goal."""
+        """The clauses that an error in a function says are not proved: all that its goal joins. A clause without a name goes
+        by `returns` or by the goal."""
         for goal in error.goals:
             _, has_name, name = goal.rpartition("clause-")
             if has_name:
@@ -108,7 +108,7 @@ class Outcome:
     """What became of an edit: REFUSED for its clause, or what is wrong, with the words to print."""
     kind: str
     text: str
-    # Whether no other edit beside it can be the cause.
+    # Whether no other edit in the round can be the cause.
     is_final: bool = False
 
     @property
@@ -129,8 +129,8 @@ class Place:
 
 
 def functions_of_edit(edit, texts):
-    """Where the functions stand that an edit may be refused in: those that it changes and whose path it names, or if it
-    changes something outside any, all that have this path."""
+    """The places of the functions in which an edit may be refused: those that it changes and whose path it names, or all
+    with this path if it changes something outside any function."""
     found = []
     for file, text in texts.items():
         for function in functions_of(text):
@@ -166,7 +166,7 @@ def judge(edit, said, texts):
             if has_path(place.file, place.function, path) and edit.function in ("", path):
                 own = [error for error in said.errors if place.has(error) or error.file.startswith(tuple(proofs))]
                 unread += [error for error in own if error.is_of_text]
-                # What cites another function's proof fails with that one, whatever its own body is.
+                # What cites another function's proof fails with it, whatever its own body is.
                 own = [error for error in own if not error.is_of_text and "was not admitted" not in error.text]
                 refused |= {path} if own else set()
                 clauses |= {clause for error in own for clause in said.clauses(path, place.function, error)}

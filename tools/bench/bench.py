@@ -5,13 +5,14 @@
 
 Five programs make the same lists of accesses: `crates/superio_bench` and `original`, each over the devices themselves,
 `through_c.c` over either behind C functions, and `original` over bindings/rust. In each turn each program makes each
-list, one after the other, on one processor. An access costs the processor time of a run of many rounds, less that of a
-run without a round, divided by the number of accesses. Of a turn the least of three runs counts, and the median of the
-turns. What the list `nothing` costs is subtracted from the others. The programs must print the same sums.
+list, one after the other, on processor P. An access costs the processor time of a run of many rounds, less that of a run
+without a round, divided by the number of accesses. The least of three runs counts for a turn, and the median of the N turns
+for the table. What the list `nothing` costs is subtracted from the others. The programs must print the same sums.
 
-Prints a table in Markdown, in nanoseconds, and the noise: by how much the middle half of the turns differ, as a part of
-their median, for the half of the measurements where that is less. Needs rt, gcc and Cargo. Where Cargo has no copy of
-vm-superio 0.8.2, the environment variable VM_SUPERIO can name the folder of its package.
+Prints a table in Markdown, in nanoseconds, and the noise. For one measurement that is the range of the middle half of its
+turns, divided by their median; the noise is the median over all measurements. Exits 1 if a program fails, or if the sums
+differ. Needs rt, gcc and Cargo. If Cargo has no copy of vm-superio 0.8.2, the environment variable VM_SUPERIO can name the
+folder of its package.
 """
 import argparse
 import os
@@ -159,7 +160,7 @@ def row(measurement, loop, programs):
 
 
 def ratio(cost, original):
-    """A ratio of two costs, or nothing where the loop is all that was seen of them."""
+    """A ratio of two costs, or nothing if they are no more than the loop."""
     return f"{max(cost, 0) / original:.1f}" if original >= 0.5 else ""
 
 

@@ -51,7 +51,7 @@ def source_line():
 
 
 def host_target():
-    """The folder of `prebuilt` for this machine, or `None` where there is none."""
+    """The folder of `prebuilt` for this machine, or `None` if there is none."""
     target = f"{platform.machine()}-{platform.system().lower()}"
     return target if target in TARGETS else None
 

@@ -7,8 +7,8 @@ from tally import run
 
 SOURCE = ROOT / "tools" / "c" / "tests" / "misuse.c"
 COMPILERS = [Compiler("gcc", C), Compiler("clang", C), Compiler("g++", CXX), Compiler("clang++", CXX)]
-# For each mistake, in the order of their numbers, the text of the warning under gcc, clang, g++ and clang++; `None` where
-# the compiler cannot find it.
+# For each mistake, in the order of their numbers, the text of the warning under gcc, clang, g++ and clang++; `None` if the
+# compiler cannot find it.
 RESULT = ["unused-result"] * 4
 NULL = ["nonnull"] * 4
 NULL_BYTES = ["nonnull", "bytes is NULL", "nonnull", "bytes is NULL"]
@@ -30,7 +30,7 @@ def warned(compiler, number):
 
 
 def check_misuse(tally):
-    """Counts whether each compiler warns of each mistake, and is silent where there is none."""
+    """Counts whether each compiler warns of each mistake, and of nothing else."""
     for place, compiler in enumerate(COMPILERS):
         if not tally.has(compiler.name, "warnings of misuse"):
             continue

@@ -1,7 +1,7 @@
 /*
  * Makes the recorded calls of tests/calls, which come on standard input, over
- * the C library, and compares what each did. Here are the trigger, the writer
- * and the events object that the library leaves to its caller.
+ * the C library, and compares what each did. The trigger, the writer and the
+ * events object, which the library leaves to its caller, are here.
  *
  * Prints the first ten lines that differ, and how many calls did the same.
  * Exits 1 if one differs.

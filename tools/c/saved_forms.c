@@ -5,7 +5,7 @@
  * bytes, lowest first, and the bytes. Each is loaded over a struct of bytes
  * 0xA5. For each, standard output has what the load returned, the number of
  * bytes of the form that the device then has, and that form; after a refusal
- * the number is 0, or 255 where the struct was changed.
+ * the number is 0, or 255 if the struct was changed.
  */
 #include <stdio.h>
 #include <string.h>

@@ -1,15 +1,16 @@
 #!/usr/bin/env python3
 """Compares the program `superio` with the original Rust crate, script by script.
 
-    compare.py PROGRAM ORIGINAL [--seed N] [--scripts N] [--sample FILE N]
+    compare.py PROGRAM ORIGINAL [--seed S] [--scripts N] [--sample FILE COUNT] [--jobs J]
 
 PROGRAM is the built `superio`. ORIGINAL is a command, with its arguments, that runs scripts over the original crate: it
 reads any number of scripts, each after its length in four bytes, low byte first, and answers each with its exit status
-and with its standard output and standard error, each after its length.
+and with its standard output and standard error, each after its length. There are N scripts of the seed S, and J run at a
+time.
 
 A script with an effective match is left out: the match register of the original has no effect, and that of the program
-is an alarm. Prints each script on which the two differ, up to ten, and how often each case was reached. With `--sample`
-it also writes the first N short scripts with the original's answers into FILE, a file of tests/.
+is an alarm. Prints each script on which the two differ, up to ten, and how often each case was reached. Exits 1 if two
+differ. With `--sample` it also writes the first COUNT short scripts with the original's answers into FILE, a file of tests/.
 
 The program of tools/compare/original is such an ORIGINAL, for 64-bit Linux. To build it with Cargo, and to run both:
 
@@ -65,11 +66,26 @@ def guest_time(setting, moment):
     return counter if 0 <= counter < 2**32 else time
 
 
+def loaded_clock(line):
+    """The offset of the clock that a line `cl` loads, and whether it has an alarm; `None` if it loads none."""
+    try:
+        data = bytes.fromhex(line[3:].decode("ascii"))
+    except ValueError:
+        return None
+    if len(data) != 33 or data[:8] != b"SIOS\x02\x01\x19\0" or data[32] > 1:
+        return None
+    return int.from_bytes(data[24:32], "little", signed=True), data[32] == 1
+
+
 def has_effective_match(script):
-    """Whether a line writes RTCMR, at 0004, a value that guest time has not passed."""
+    """Whether a line writes RTCMR, at 0004, a value that guest time has not passed, or loads a clock with an alarm."""
     setting = None
     for line in script.split(b"\n"):
         name, *fields = line.split(b" ")
+        if name == b"cl" and (loaded := loaded_clock(line)):
+            setting, has_alarm = (loaded[0], 0), loaded[1]
+            if has_alarm:
+                return True
         if name != b"cw" or len(fields) != 3:
             continue
         try:
@@ -103,8 +119,13 @@ def count_cases(cases, script, answer):
         name, *fields = line.split(b" ")
         name = name.decode()
         cases["line sq HH.." if name == "sq" and fields else f"line {name}"] += 1
-        if reply in (b"full", b"io", b"trigger", b"invalid", b"reset"):
-            cases[f"{name} replies {reply.decode()}"] += 1
+        if reply in (b"full", b"io", b"trigger", b"invalid", b"reset") or name in ("sl", "cl"):
+            cases[f"{name} replies {re.sub(' version ..', ' version', reply.decode())}"] += 1
+        if name == "sl" and reply == b"ok":
+            data = bytes.fromhex(fields[0].decode())
+            line_control, modem_control = data[12], data[14]
+        if name == "cl" and reply == b"ok":
+            setting = loaded_clock(line)[0], 0
         if name == "sc":
             cases["FIFO empty" if reply == b"40" else "FIFO full" if reply == b"00" else "FIFO in between"] += 1
         if name in ("sr", "sw") and int(fields[0], 16) < 2:
@@ -148,10 +169,9 @@ KINDS = {
     "tab": lambda line: b"\t" in line,
     "later refuse": lambda line: line.startswith(b"refuse ") and len(line) == 23,
     "space too many": lambda line: line.startswith(b" ") or line.endswith(b" ") or b"  " in line,
-    "129 bytes": lambda line: line.startswith(b"sq ") and len(line) > 259,
+    "129 bytes": lambda line: line.startswith((b"sq ", b"sl ", b"cl ")) and len(line) > 259,
     "upper-case name": lambda line: line.split(b" ")[0] != line.split(b" ")[0].lower(),
-    "unknown name": lambda line: line.split(b" ")[0] not in
-        (b"sr", b"sw", b"sq", b"sc", b"sd", b"ss", b"so", b"st", b"se", b"cr", b"cw", b"kr", b"kw", b"refuse"),
+    "unknown name": lambda line: line.split(b" ")[0] not in WANTED,
     "field too many": lambda line: line.count(b" ") > WANTED[line.split(b" ")[0]],
     "field too few": lambda line: line.count(b" ") < WANTED[line.split(b" ")[0]],
     "no digit": lambda line: any(byte not in b"0123456789abcdefABCDEF " for byte in line.partition(b" ")[2]),
@@ -159,8 +179,8 @@ KINDS = {
 }
 
 # How many fields stand behind a name, at the most.
-WANTED = {b"sr": 1, b"sw": 2, b"sq": 1, b"sc": 0, b"sd": 0, b"ss": 0, b"so": 0, b"st": 0, b"se": 0, b"cr": 2, b"cw": 3, b"kr": 1,
-          b"kw": 2, b"refuse": 1}
+WANTED = {b"sr": 1, b"sw": 2, b"sq": 1, b"sc": 0, b"sd": 0, b"ss": 0, b"sb": 0, b"sl": 1, b"so": 0, b"st": 0, b"se": 0,
+          b"cr": 2, b"cw": 3, b"cb": 0, b"cl": 1, b"kr": 1, b"kw": 2, b"refuse": 1}
 
 
 def is_plain(script):

@@ -20,12 +20,12 @@ MALFORMED = {
                                          b"cw 0000000000000000 0000 0000000", b"refuse 000000000000000"]),
     "digit too many": lambda r: r.choice([b"sr 000", b"sw 00 100", b"kr 004", b"kw 004 fe", b"cr 00000000000000000 0000",
                                           b"cr 0000000000000000 00000", b"cw 0000000000000000 0000 000000000",
-                                          b"refuse 00000000000000000"]),
+                                          b"sl 534", b"cl 534", b"refuse 00000000000000000"]),
     "no digit": lambda r: r.choice([b"sr 0g", b"sw 00 x0", b"sq 6g", b"kr :0", b"kw 04 /f", b"cr 000000000000000G 0000",
                                     b"cr 0000000000000000 00-0", b"cw 0000000000000000 0000 0x000000"]),
     "field too few": lambda r: r.choice([b"sr", b"sw", b"sw 00", b"kr", b"kw", b"kw 04", b"cr", b"cr 0000000000000000",
                                          b"cw", b"cw 0000000000000000", b"cw 0000000000000000 0000", b"refuse"]),
-    "field too many": lambda r: r.choice([b"sr 00 00", b"sw 00 00 00", b"sq 61 62", b"sc 00", b"ss 00", b"so 00", b"st 00",
+    "field too many": lambda r: r.choice([b"sr 00 00", b"sw 00 00 00", b"sq 61 62", b"sl 53 49", b"cl 53 49", b"sb 00", b"cb 00", b"sc 00", b"ss 00", b"so 00", b"st 00",
                                           b"se 00", b"kr 00 00", b"kw 04 fe fe", b"cr 0000000000000000 0000 00",
                                           b"cw 0000000000000000 0000 00000000 00"]),
     "space too many": lambda r: r.choice([b" sr 00", b"sr  00", b"sr 00 ", b"sq ", b"sc ", b"ss ", b"kw 04  fe",
@@ -33,8 +33,8 @@ MALFORMED = {
     "tab": lambda r: b"sr\t00",
     "upper-case name": lambda r: r.choice([b"SR 00", b"Sw 00 00", b"sQ 61", b"SC", b"SS", b"SO", b"ST", b"SE", b"KR 04",
                                            b"KW 04 fe", b"CR 0000000000000000 0000", b"cW 0000000000000000 0000 00000000"]),
-    "unknown name": lambda r: r.choice([b"s", b"sb", b"sx", b"srr 00", b"xr 00", b"k", b"cq", b"hello", b"refused"]),
-    "129 bytes": lambda r: b"sq " + b"41" * 129,
+    "unknown name": lambda r: r.choice([b"s", b"sz", b"sx", b"srr 00", b"xr 00", b"k", b"cq", b"hello", b"refused"]),
+    "129 bytes": lambda r: r.choice([b"sq ", b"sl ", b"cl "]) + b"41" * 129,
     "later refuse": lambda r: b"refuse %016x" % r.getrandbits(64),
 }
 
@@ -66,11 +66,49 @@ def serial_enqueue(r):
     return b"sq " + b"".join(hexed(r, r.randrange(256), 2) for _ in range(count))
 
 
+def spoiled(r, form):
+    """A saved state, of which three in ten are cut, changed or go on."""
+    kind = r.randrange(10)
+    if kind == 0:
+        return form[:r.randrange(len(form))]
+    if kind == 1:
+        place = r.choice([r.randrange(8), r.randrange(len(form))])
+        return form[:place] + bytes([r.randrange(256)]) + form[place + 1:]
+    return form + bytes(r.randrange(1, 3)) if kind == 2 else form
+
+
+def load(r, name, form):
+    """A line that loads these bytes, which are up to 128."""
+    data = spoiled(r, form)
+    return b" ".join([name] + [b"".join(hexed(r, byte, 2) for byte in data)] * bool(data))
+
+
+def saved_form(kind, contents):
+    return b"SIOS" + bytes([kind, 1]) + len(contents).to_bytes(2, "little") + contents
+
+
+def serial_load(r):
+    """A port in any state, or in one like those that a guest leads to. Its IIR and LSR may say what is not so."""
+    held = bytes(r.randrange(256) for _ in range(r.choice([0, 0, 1, 2, 5, 63, 64, 65])))
+    registers = bytes(r.randrange(256) for _ in range(9)) if r.random() < 0.2 else bytes(
+        [12, 0, r.choice([0, 1, 2, 3, 3]), r.choice([1, 2, 4, 6, 0, 3]), r.choice([3, 3, 0x83]),
+         r.choice([0x60 | bool(held), 0x60, 0x61]), r.choice([8, 8, 0x18]), 0xB0, r.randrange(256)])
+    return load(r, b"sl", saved_form(1, registers + held))
+
+
+def clock_load(r):
+    """A clock without an alarm, at any offset that a clock can have."""
+    numbers = [r.choice([r.choice(VALUES), r.getrandbits(32)]) for _ in range(4)]
+    offset = r.choice([0, 1, -1, r.randrange(-2**32, 2**32), r.choice(VALUES) - r.choice(VALUES)])
+    contents = b"".join(number.to_bytes(4, "little") for number in numbers)
+    return load(r, b"cl", saved_form(2, contents + offset.to_bytes(8, "little", signed=True) + b"\0"))
+
+
 def serial_line(r):
     return r.choices([
         serial_read, serial_write, serial_enqueue, lambda r: b"sc", lambda r: b"sd", lambda r: b"ss", lambda r: b"so",
-        lambda r: b"st", lambda r: b"se",
-    ], [30, 30, 10, 6, 4, 8, 4, 6, 6])[0](r)
+        lambda r: b"st", lambda r: b"se", lambda r: b"sb", serial_load,
+    ], [30, 30, 10, 6, 4, 8, 4, 6, 6, 6, 6])[0](r)
 
 
 def moment(r):
@@ -83,6 +121,8 @@ def clock_offset(r):
 
 
 def clock_line(r):
+    if r.random() < 0.15:
+        return r.choice([lambda r: b"cb", clock_load])(r)
     if r.random() < 0.5:
         return b"cr " + moment(r) + b" " + hexed(r, clock_offset(r), 4)
     value = r.choice([r.choice(VALUES), r.getrandbits(32)])

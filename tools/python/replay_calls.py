@@ -1,7 +1,7 @@
 """Makes the recorded calls of tests/calls, which come on standard input, over the Python package, and compares them.
 
-Prints the first ten lines that differ, and how many calls did the same. Exits 1 if one differs. Here are the trigger, the
-writer and the events object that the devices leave to their caller.
+The trigger, the writer and the events object, which the devices leave to their caller, are here. Prints the first ten lines
+that differ, and how many calls did the same. Exits 1 if one differs, or if there was no call.
 """
 import sys
 

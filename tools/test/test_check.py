@@ -3,6 +3,7 @@ import importlib.machinery
 import importlib.util
 import io
 import tempfile
+import time
 import unittest
 from pathlib import Path
 from unittest import mock
@@ -69,6 +70,14 @@ class Runs(unittest.TestCase):
         self.assertIn("this differs\n", printed)
         self.assertIn("and this\n", printed)
 
+    def test_a_command_that_is_not_there_fails(self):
+        printed = io.StringIO()
+        with tempfile.TemporaryDirectory() as folder, mock.patch.object(check, "KEPT", Path(folder)), \
+                mock.patch("sys.stdout", printed), status.Status("test", Log()) as line:
+            result = check.run(check.Check("it", "/nowhere/at/all", "it works"), line)
+        self.assertEqual((result.passed, result.failed), (0, 1))
+        self.assertRegex(printed.getvalue(), "/nowhere/at/all.*: No such file or directory")
+
     def test_the_table_ends_with_all_processor_seconds(self):
         one = check.Result(check.CHECKS[0], 3, 0, 0, 65, 7.2)
         other = check.Result(check.CHECKS[1], 1, 2, 4, 5, 1.1)
@@ -83,8 +92,9 @@ class StatusLines(unittest.TestCase):
             with line.task("a crate") as task:
                 status.progress(task, "so far: 30 of 165 functions checked")
                 line.count(passed=2)
-                while log.getvalue().count("\n") < 3:
-                    pass
+                deadline = time.monotonic() + 60
+                while log.getvalue().count("\n") < 3 and time.monotonic() < deadline:
+                    time.sleep(0.01)
         self.assertIn("tools/it 0:00 | 2 passed, 0 failed | a crate: 30 of 165 functions\n", log.getvalue())
         self.assertTrue(check.STATUS.match(log.getvalue().splitlines()[-1]))
 

@@ -1,5 +1,6 @@
 """Tests of what `tools/wrong_bodies` says of edits, by the prover, over a small crate."""
 import re
+import shutil
 import subprocess
 import tempfile
 import unittest
@@ -20,6 +21,7 @@ def try_edits(*edits):
     return said, lines[-1], ran.returncode
 
 
+@unittest.skipUnless(shutil.which("rt"), "rt is not there")
 class Verdicts(unittest.TestCase):
     @classmethod
     def setUpClass(cls):
@@ -45,6 +47,7 @@ class Verdicts(unittest.TestCase):
         self.assertEqual((self.sums, self.status), ("1 passed, 3 failed", 1))
 
 
+@unittest.skipUnless(shutil.which("rt"), "rt is not there")
 class Constants(unittest.TestCase):
     def test_a_constant_is_refused_in_the_function_that_reads_it(self):
         said, sums, status = try_edits(("constant", "seven", "value", "SEVEN: u32 = 7;", "SEVEN: u32 = 8;"))

@@ -5,7 +5,7 @@ It replies to each line as the program `superio` does.
 from typing import Callable, Dict, List, NamedTuple, Optional, Tuple
 
 from .devices import I8042, Rtc, Serial
-from .saved import SavedStateError
+from .saved import SavedStateError, script_words
 from .script import Command
 from .states import RtcState, SerialState
 
@@ -182,20 +182,20 @@ class Board:
     def _save(self) -> str:
         return self.serial.to_bytes().hex()
 
-    def _load(self, data: bytes) -> str:
+    def _load(self, data: bytes = b"") -> str:
         try:
             return self._replace_port(Serial.from_bytes(data))
         except SavedStateError as error:
-            return str(error)
+            return script_words(error.status, data)
 
     def _clock_save(self) -> str:
         return self.clock.to_bytes().hex()
 
-    def _clock_load(self, data: bytes) -> str:
+    def _clock_load(self, data: bytes = b"") -> str:
         try:
             self.clock = Rtc.from_bytes(data)
         except SavedStateError as error:
-            return str(error)
+            return script_words(error.status, data)
         return "ok"
 
     def _output(self) -> str:

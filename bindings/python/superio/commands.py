@@ -106,10 +106,10 @@ def _load(session: "Session", rest: str) -> None:
     with open_file(path, "rb") as file:
         try:
             words = [line.split() for line in file.read(4096).splitlines()]
-            serial, clock = (bytes.fromhex(word[1].decode("ascii")) for word in words)
+            serial, clock = (bytes.fromhex(data.decode("ascii")) for _, data in words)
         except OSError as error:
             raise FileFault(path, error) from None
-        except (IndexError, ValueError):
+        except ValueError:
             words = []
     if [word[:1] for word in words] != [[b"sl"], [b"cl"]]:
         raise ScriptError(f"{path} is no file that save wrote")
@@ -134,7 +134,7 @@ def _source(session: "Session", rest: str) -> None:
         with open_file(path, "rb") as file:
             session.run_lines(path, file)
     except BadLine as error:
-        raise ScriptError(str(error)) from None
+        raise ScriptError(str(error)) from error
     except OSError as error:
         raise FileFault(path, error) from None
     finally:
@@ -207,11 +207,15 @@ HELP: Dict[str, Help] = {
     "sc": Help("sc", "how many more bytes fit"),
     "sd": Help("sd", "the guest's driver reads what is held"),
     "ss": Help("ss", "saves the port and restores it"),
+    "sb": Help("sb", "the port's saved state"),
+    "sl": Help("sl HH..", "loads the port from a saved state"),
     "so": Help("so", "the bytes that the port wrote"),
     "st": Help("st", "how often the interrupt line was called"),
     "se": Help("se", "reads of RBR, bytes out, lost, reads that left none"),
     "cr": Help("cr MOMENT OOOO", "the guest reads the clock at offset OOOO"),
     "cw": Help("cw MOMENT OOOO VVVVVVVV", "the guest writes the clock"),
+    "cb": Help("cb", "the clock's saved state"),
+    "cl": Help("cl HH..", "loads the clock from a saved state"),
     "kr": Help("kr OO", "the guest reads the controller"),
     "kw": Help("kw OO VV", "the guest writes the controller; kw 04 fe resets"),
     "refuse": Help("refuse MASK", "the calls that the interrupt line refuses",
@@ -225,6 +229,6 @@ _GROUPS: Dict[str, Tuple[str, ...]] = {
     "Clock and reset controller": ("clock", "alarm", "i8042"),
     "What happened": ("regs", "why", "diff", "trace"),
     "Session": ("save", "load", "reset", "source", "help", "quit"),
-    "Lines of a script, with hexadecimal fields": ("sr", "sw", "sq", "sc", "sd", "ss", "so", "st", "se", "cr", "cw",
-                                                   "kr", "kw", "refuse"),
+    "Lines of a script, with hexadecimal fields": ("sr", "sw", "sq", "sc", "sd", "ss", "sb", "sl", "so", "st", "se",
+                                                   "cr", "cw", "cb", "cl", "kr", "kw", "refuse"),
 }

@@ -37,9 +37,8 @@ def open_file(path: str, mode: str) -> "IO[Any]":
 
 def write_text(path: str, text: str) -> None:
     """Writes a file. Raises `FileFault` if it cannot be written."""
-    with open_file(path, "w") as file:
-        try:
+    try:
+        with open(path, "w") as file:
             file.write(text)
-            file.flush()
-        except OSError as error:
-            raise FileFault(path, error) from None
+    except OSError as error:  # also of the close
+        raise FileFault(path, error) from None

@@ -72,9 +72,14 @@ def _batch(path: Optional[str], is_strict: bool) -> int:
     except BadLine as error:
         sys.stdout.flush()
         _complain(str(error))
-        return FAULT if isinstance(error.__cause__, FileFault) else BAD_LINE
+        return FAULT if _is_fault(error) else BAD_LINE
     finally:
         sys.stdout.flush()
+
+
+def _is_fault(error: Optional[BaseException]) -> bool:
+    """Whether a file fault is beneath an error, perhaps of a file that another one sources."""
+    return error is not None and (isinstance(error, FileFault) or _is_fault(error.__cause__))
 
 
 def _interactive(has_colours: bool) -> int:

@@ -3,7 +3,8 @@ from ctypes import byref, c_uint8
 from enum import IntEnum
 from typing import Any, Callable, Optional
 
-__all__ = ["LoadStatus", "RTC_SAVED_SIZE", "SERIAL_SAVED_MAX", "SavedStateError", "load_bytes", "saved_bytes"]
+__all__ = ["LoadStatus", "RTC_SAVED_SIZE", "SERIAL_SAVED_MAX", "SavedStateError", "load_bytes", "saved_bytes",
+           "script_words"]
 
 SERIAL_SAVED_MAX = 81
 """The length of the longest saved state of a serial port."""
@@ -42,6 +43,12 @@ class SavedStateError(ValueError):
     def __init__(self, status: LoadStatus) -> None:
         super().__init__(_REASONS[status])
         self.status = status
+
+
+def script_words(status: LoadStatus, data: bytes) -> str:
+    """The name of the status in words, as a script replies it for these bytes."""
+    words = status.name.lower().replace("_", " ")
+    return f"{words} {data[5]:02x}" if status is LoadStatus.UNKNOWN_VERSION else words
 
 
 def saved_bytes(save: Callable[..., Optional[int]], device: Any, most: int) -> bytes:

@@ -5,7 +5,7 @@
 import re
 from typing import Dict, NamedTuple, Optional, Tuple, Union
 
-__all__ = ["Command", "FORMS", "Field", "MASK", "MAXIMUM", "SAVED_FORMS", "ScriptError", "TOO_MANY", "lines_of",
+__all__ = ["Command", "FORMS", "Field", "MASK", "MAXIMUM", "ScriptError", "TOO_MANY", "lines_of",
            "missing", "parse", "shown", "text_of"]
 
 MAXIMUM = 65_536
@@ -64,18 +64,19 @@ FORMS: Dict[str, Tuple[Field, ...]] = {
     "sc": (),
     "sd": (),
     "ss": (),
+    "sb": (),
+    "sl": (SAVED,),
     "so": (),
     "st": (),
     "se": (),
     "cr": (MOMENT, CLOCK_OFFSET),
     "cw": (MOMENT, CLOCK_OFFSET, CLOCK_VALUE),
+    "cb": (),
+    "cl": (SAVED,),
     "kr": (OFFSET,),
     "kw": (OFFSET, VALUE),
 }
-"""The fields of each line, by its name. Those of `sq` may be left out."""
-
-SAVED_FORMS: Dict[str, Tuple[Field, ...]] = {"sb": (), "sl": (SAVED,), "cb": (), "cl": (SAVED,)}
-"""The lines that save and load a state as bytes."""
+"""The fields of each line, by its name. Those of `sq`, `sl` and `cl` may be left out."""
 
 
 class Command(NamedTuple):
@@ -130,7 +131,9 @@ def parse(line: bytes, is_first: bool = False) -> Command:
     try:
         if known not in FORMS:
             raise ScriptError("no line has this name" if name else "a line begins with a name")
-        fields = FORMS[known] if texts or known != "sq" else ()
+        fields = FORMS[known]
+        if not texts and fields in ((BYTES,), (SAVED,)):
+            fields = ()
         command = Command(known, _values(fields, tuple(texts)))
         if known == MASK and not is_first:
             raise ScriptError("a mask comes before every other line")
@@ -150,7 +153,6 @@ def lines_of(script: bytes) -> Tuple[bytes, ...]:
 
 def text_of(command: Command) -> str:
     """The line of a command, as a script has it."""
-    fields = FORMS.get(command.name) or SAVED_FORMS.get(command.name, ())
     texts = [value.hex() if isinstance(value, bytes) else f"{value:0{field.digits}x}"
-             for field, value in zip(fields, command.values)]
+             for field, value in zip(FORMS[command.name], command.values)]
     return " ".join([command.name, *texts])

@@ -59,8 +59,8 @@ class Session:
         self.trace.restart()
 
     def now(self) -> int:
-        """The host's time, in seconds since 1970."""
-        return int(self._host_time())
+        """The host's time, in seconds since 1970, or 0 if its clock is before that."""
+        return max(0, int(self._host_time()))
 
     def say(self, text: str) -> None:
         """Writes a line."""

@@ -5,7 +5,7 @@ from typing import Callable, Dict, List, Tuple
 
 from .board import Board
 from .registers import CLOCK, SERIAL, Register, clock_offset, serial_offset, serial_register
-from .script import (BYTES, CLOCK_OFFSET, FORMS, MASK, MOMENT, OFFSET, TOO_MANY, VALUE, Command, Field, ScriptError,
+from .script import (BYTES, CLOCK_OFFSET, FORMS, MASK, MOMENT, OFFSET, SAVED, TOO_MANY, VALUE, Command, Field, ScriptError,
                      missing, parse, shown)
 
 __all__ = ["Speaker", "WORDS", "characters"]
@@ -84,7 +84,7 @@ class Speaker:
         fields = FORMS[name]
         if fields == (BYTES,) and rest[:1] in ("'", '"') and rest:
             return Command(name, (self._bytes(rest),))
-        if fields == (BYTES,):
+        if fields in ((BYTES,), (SAVED,)):
             raise error
         if len(texts) != len(fields):
             raise ScriptError(TOO_MANY if len(texts) > len(fields) else missing(fields[len(texts)]))

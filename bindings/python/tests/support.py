@@ -10,8 +10,8 @@ HEADER = ROOT / "include" / "superio.h"
 TIMEOUT = 60
 
 sys.path[:0] = [str(PACKAGE), str(ROOT / "tools")]
-ENVIRONMENT = {**os.environ, "PYTHONPATH": str(PACKAGE), "SUPERIO_HISTORY": ""}
-for name in ("NO_COLOR", "PYTHONDONTWRITEBYTECODE"):
+ENVIRONMENT = {**os.environ, "PYTHONPATH": str(PACKAGE), "SUPERIO_HISTORY": "", "TERM": "xterm"}
+for name in ("NO_COLOR", "PYTHONDONTWRITEBYTECODE", "PYTHONUNBUFFERED"):
     ENVIRONMENT.pop(name, None)
 
 

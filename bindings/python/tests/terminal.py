@@ -20,7 +20,7 @@ class Terminal:
     def __init__(self, command, environment, columns=80):
         self._pid, self._end = pty.fork()
         if self._pid == 0:
-            os.execve(command[0], command, {**environment, "TERM": "xterm"})
+            os.execve(command[0], command, environment)
         self.resize(columns)
         self.raw = ""
         self.log = ""

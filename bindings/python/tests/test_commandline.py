@@ -9,6 +9,8 @@ from pathlib import Path
 
 from support import ENVIRONMENT, ROOT, TIMEOUT, run
 
+import superio
+
 EXAMPLE = ROOT / "examples" / "three_devices.script"
 BOOT = ROOT / "examples" / "linux-boot" / "boot.recording"
 
@@ -48,7 +50,10 @@ class Files(unittest.TestCase):
             status, output, errors = run("--strict", script=script)
             self.assertEqual((1, "00\n" * (number - 1)), (status, output))
             self.assertTrue(errors.startswith(f"<stdin>:{number}: ") and errors.endswith(f": {reason}\n"), errors)
-        self.assertEqual((4, "", "script too long\n"), run("--strict", script=b"kr 04\n" * 10923))
+        longest = b"cr 0000000000000000 0000\n" + b"sc\n" * 21837
+        self.assertEqual(65536, len(longest))
+        self.assertEqual((0, "00000000\n" + "40\n" * 21837, ""), run("--strict", script=longest))
+        self.assertEqual((4, "", "script too long\n"), run("--strict", script=longest + b"\n"))
 
     def test_a_file_has_no_limit(self):
         status, output, _ = run(script=b"kr 04\n" * 20000)
@@ -69,6 +74,18 @@ class Files(unittest.TestCase):
         self.assertEqual((2, "", "python3 -m superio: /: Is a directory\n"), run("/"))
         self.assertEqual((2, "", f"python3 -m superio: {self.path}: No such file or directory\n"), run(self.path))
 
+    def test_a_fault_of_a_file_that_a_line_names(self):
+        said = '<stdin>:2: "load /nowhere/at/all": /nowhere/at/all: No such file or directory\n'
+        self.assertEqual((2, "00\n", said), run(script=b"kr 04\nload /nowhere/at/all\nkr 04\n"))
+        self.path.write_bytes(b"load /nowhere/at/all\n")
+        self.assertEqual((2, ""), run(script=f"source '{self.path}'\n".encode())[:2])
+
+    def test_replies_come_before_the_message(self):
+        self.path.write_bytes(b"kr 04\nkr 4 4\n")
+        done = subprocess.run([sys.executable, "-m", "superio", str(self.path)], stdout=subprocess.PIPE,
+                              stderr=subprocess.STDOUT, env=ENVIRONMENT, timeout=TIMEOUT, text=True)
+        self.assertEqual(("00", 2), (done.stdout.splitlines()[0], len(done.stdout.splitlines())))
+
     def test_save_and_load(self):
         saving = f"write SCR 7\ntype hi\nclock write LR 100 1000\nsave '{self.path}'\n"
         self.assertEqual(0, run(script=saving.encode())[0])
@@ -76,7 +93,9 @@ class Files(unittest.TestCase):
         self.assertEqual(["sl 53494f53", "cl 53494f53"], [line[:11] for line in lines])
         loading = f"load '{self.path}'\nread SCR\nsd\ncr 00000000000003ef 0000\n"
         self.assertEqual((0, "ok\nok\nSCR = 0x07\n6869\n0000006b\n", ""), run(script=loading.encode()))
-        for wrong in (b"", b"kr 04\n", b"sl 00\ncl zz\n", b"sl\ncl\n", b"\xff"):
+        port, clock = lines
+        for wrong in (b"", b"kr 04\n", b"sl 00\ncl zz\n", b"sl\ncl\n", b"\xff", f"{clock}\n{port}\n".encode(),
+                      f"{port} more\n{clock}\n".encode(), f"{port}\n{clock}\n{clock}\n".encode()):
             self.path.write_bytes(wrong)
             status, _, errors = run(script=f"load '{self.path}'\n".encode())
             self.assertEqual((1, True), (status, "is no file that save wrote" in errors), wrong)
@@ -106,6 +125,12 @@ class Files(unittest.TestCase):
         self.assertEqual("sw 01 01\nsq 6869\nsr 00\ncr 0000000000000005 0000\n", self.path.read_text())
         self.assertEqual((0, "ok\n02\n68\n00000005\n", ""), run("--strict", self.path))
 
+    def test_a_trace_file_in_a_pipe_comes_before_every_call(self):
+        said = f'<stdin>:2: "trace on {self.path}": trace on FILE has to come before every call here\n'
+        status, output, errors = run(script=f"kr 04\ntrace on {self.path}\n".encode(), cwd=self.folder.name)
+        self.assertEqual((1, "00\n", said), (status, output, errors))
+        self.assertFalse(self.path.exists())
+
     def test_reset(self):
         self.assertEqual((0, "ok\na fresh board\nSCR = 0x00\n", ""), run(script=b"write SCR 7\nreset\nread SCR\n"))
 
@@ -126,7 +151,7 @@ class Streams(unittest.TestCase):
         self.assertEqual((2, b"python3 -m superio: No space left on device\n"), (done.returncode, done.stderr))
 
     def test_closed_streams(self):
-        for closed, what in (("<&-", "input"), (">&-", "output")):
+        for closed, what in (("<&-", "input"), ("- <&-", "input"), (">&-", "output")):
             done = subprocess.run(["bash", "-c", f"{sys.executable} -m superio {closed}"], input=b"kr 04\n",
                                   stderr=subprocess.PIPE, env=ENVIRONMENT, timeout=TIMEOUT)
             self.assertEqual((2, b"python3 -m superio: standard %s is closed\n" % what.encode()),
@@ -144,13 +169,31 @@ class Streams(unittest.TestCase):
                 self.assertEqual(reply, process.stdout.readline())
             process.stdin.close()
 
+    def test_ctrl_c_ends_a_pipe(self):
+        # A shell that starts this in the background lets it ignore the signal.
+        with subprocess.Popen([sys.executable, "-m", "superio"], stdin=subprocess.PIPE, stdout=subprocess.PIPE,
+                              stderr=subprocess.PIPE, env=ENVIRONMENT,
+                              preexec_fn=lambda: signal.signal(signal.SIGINT, signal.SIG_DFL)) as process:
+            process.stdin.write(b"kr 04\n")
+            process.stdin.flush()
+            self.assertEqual(b"00\n", process.stdout.readline())
+            process.send_signal(signal.SIGINT)
+            self.assertEqual((128 + signal.SIGINT, b""), (process.wait(TIMEOUT), process.stderr.read()))
+
+    def test_out_of_memory(self):
+        code = ("import sys; from unittest import mock; from superio import main\n"
+                "with mock.patch.object(main, 'load', side_effect=MemoryError): sys.exit(main.main([]))")
+        done = subprocess.run([sys.executable, "-c", code], input=b"", capture_output=True, env=ENVIRONMENT,
+                              timeout=TIMEOUT)
+        self.assertEqual((3, b"", b"out of memory\n"), (done.returncode, done.stdout, done.stderr))
+
     def test_no_colours_in_a_pipe(self):
         self.assertNotIn("\x1b", "".join(map(str, run(script=b"regs\nfoo\n"))))
 
 
 class Arguments(unittest.TestCase):
     def test_version_and_help(self):
-        self.assertEqual((0, "superio 0.1.0\n", ""), run("--version"))
+        self.assertEqual((0, f"superio {superio.__version__}\n", ""), run("--version"))
         status, output, _ = run("--help")
         self.assertEqual(0, status)
         for word in ("FILE", "--strict", "--no-color", "exit status", "view"):

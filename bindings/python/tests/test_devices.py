@@ -231,6 +231,7 @@ class SavedStates(unittest.TestCase):
         cases = [(b"", LoadStatus.TOO_SHORT), (saved[:7], LoadStatus.TOO_SHORT), (b"X" + saved[1:], LoadStatus.NOT_A_SAVED_STATE),
                  (clock, LoadStatus.OTHER_DEVICE), (saved[:5] + b"\2" + saved[6:], LoadStatus.UNKNOWN_VERSION),
                  (saved[:-1], LoadStatus.WRONG_LENGTH), (saved + b"\0", LoadStatus.WRONG_LENGTH),
+                 (saved + bytes(256), LoadStatus.WRONG_LENGTH), (saved + bytes(65536), LoadStatus.WRONG_LENGTH),
                  (full[:6] + b"\x4a" + full[7:] + b"\0", LoadStatus.TOO_MANY_BYTES)]
         for data, status in cases:
             with self.subTest(data), self.assertRaises(SavedStateError) as caught:

@@ -7,7 +7,7 @@ import tempfile
 import unittest
 from pathlib import Path
 
-from support import HEADER
+from support import HEADER, ROOT
 
 import superio
 from superio import library, saved, structs
@@ -96,6 +96,10 @@ class Layout(unittest.TestCase):
             subprocess.run(["cc", "-xc", "-", "-o", program], input=source.encode(), check=True)
             printed = subprocess.run([program], capture_output=True, check=True).stdout.split()
         self.assertEqual([expected for _, expected in asked], [int(line) for line in printed])
+
+    def test_version_is_that_of_the_changes(self):
+        changes = (ROOT / "CHANGELOG.md").read_text(encoding="utf-8")
+        self.assertEqual(superio.__version__, re.search(r"^## (\d+\.\d+\.\d+)$", changes, re.M)[1])
 
     def test_version_and_interface_are_those_of_the_header(self):
         self.assertIn(f'#define SUPERIO_VERSION "{superio.__version__}"', CODE)

@@ -76,7 +76,8 @@ class Typing(ShellTest):
         self.terminal.read_until("9")
         time.sleep(0.5)  # the prompt waits for a key again
         self.terminal.type(CTRL_C)
-        self.terminal.read_until(PROMPT)
+        self.assertEqual("^C\n" + PROMPT, self.terminal.read_until(PROMPT)[-len("^C\n" + PROMPT):])
+        self.assertEqual(1, self.terminal.log.count("Try:"))
         self.assertEqual("SCR = 0x07\n", self.answer("read SCR"))
         self.end()
 
@@ -122,14 +123,84 @@ class Typing(ShellTest):
         self.end()
 
     def test_colours(self):
-        for arguments, variables, is_coloured in (([], {}, True), (["--no-color"], {}, False), ([], {"NO_COLOR": "1"}, False)):
+        for arguments, variables, is_coloured in (([], {}, True), ([], {"NO_COLOR": ""}, True), (["--no-color"], {}, False),
+                                                  ([], {"NO_COLOR": "1"}, False), ([], {"TERM": "dumb"}, False)):
             with self.subTest((arguments, variables)):
                 self.start(*arguments, **variables)
-                self.answer("foo")
-                self.answer("regs")
-                self.assertIs(is_coloured, "\x1b[31m" in self.terminal.log)
-                self.assertIs(is_coloured, "\x1b[1m" in self.terminal.log)
+                for line in ("foo", "regs", "trace on", "kr 04"):
+                    self.answer(line)
+                for code, text in ((31, "no command is called foo: help lists them"), (1, "serial port"), (2, "kr 04")):
+                    self.assertIs(is_coloured, f"\x1b[{code}m{text}\x1b[0m" in self.terminal.log, text)
+                    self.assertIs(is_coloured, f"\x1b[{code}m" in self.terminal.log, text)
                 self.end()
+
+    def test_no_colours_in_a_file_of_errors(self):
+        with tempfile.TemporaryDirectory() as folder:
+            path = Path(folder, "errors")
+            command = f"exec {sys.executable} -m superio 2> {path}"
+            self.terminal = Terminal(["/bin/sh", "-c", command], ENVIRONMENT)
+            self.terminal.read_until(PROMPT)
+            self.answer("foo")
+            self.answer("regs")
+            self.end()
+            self.assertIn("\x1b[1m", self.terminal.log)
+            self.assertEqual("no command is called foo: help lists them\n", path.read_text())
+
+    def test_files_at_a_terminal(self):
+        with tempfile.TemporaryDirectory() as folder:
+            path = Path(folder, "lines")
+            path.write_text("read LSR\n")
+            self.terminal = Terminal([sys.executable, "-m", "superio", str(path)], ENVIRONMENT)
+            self.assertEqual("LSR = 0x60  THRE TEMT\n", self.terminal.read_until("TEMT\n", 10))
+            self.assertEqual(0, self.terminal.status())
+
+    def test_no_strict_shell(self):
+        self.terminal = Terminal([sys.executable, "-m", "superio", "--strict"], ENVIRONMENT)
+        self.terminal.read_until("--strict is for a file or a pipe\n", 10)
+        self.assertEqual(5, self.terminal.status())
+
+    def test_the_shell_lists_its_calls(self):
+        self.start()
+        self.answer("write SCR 7")
+        self.answer("read SCR")
+        self.assertEqual("sw 07 07\nsr 07\n", self.answer("trace"))
+        self.end()
+
+    def test_a_python_without_readline(self):
+        with tempfile.TemporaryDirectory() as folder:
+            Path(folder, "readline.py").write_text("raise ImportError\n")
+            self.start(PYTHONPATH=f"{folder}:{ENVIRONMENT['PYTHONPATH']}")
+            self.assertEqual("00\n", self.answer("kr 04"))
+            self.end()
+
+    def test_places_of_the_history(self):
+        with tempfile.TemporaryDirectory() as folder:
+            kept = Path(folder, ".superio_history")
+            self.start(HOME=folder)
+            self.answer("kr 04")
+            self.end()
+            self.assertEqual([], list(Path(folder).iterdir()))
+            environment = {name: value for name, value in ENVIRONMENT.items() if name != "SUPERIO_HISTORY"}
+            self.terminal = Terminal([sys.executable, "-m", "superio"], {**environment, "HOME": folder})
+            self.terminal.read_until(PROMPT)
+            self.answer("kr 04")
+            self.end()
+            self.assertEqual("kr 04\n", kept.read_text())
+
+    def test_the_history_has_the_last_thousand_lines(self):
+        with tempfile.TemporaryDirectory() as folder:
+            path = Path(folder, "history")
+            path.write_text("".join(f"read {number}\n" for number in range(1000)))
+            self.start(SUPERIO_HISTORY=str(path))
+            self.answer("kr 04")
+            self.end()
+            self.assertEqual([*(f"read {number}" for number in range(1, 1000)), "kr 04"], path.read_text().splitlines())
+
+    def test_a_history_that_cannot_be_kept(self):
+        self.start(SUPERIO_HISTORY="/nowhere/at/all")
+        self.assertEqual("00\n", self.answer("kr 04"))
+        self.end()
+        self.assertEqual("", self.terminal.shown().strip())
 
     def test_history_outlasts_the_session(self):
         with tempfile.TemporaryDirectory() as folder:
@@ -139,8 +210,11 @@ class Typing(ShellTest):
             self.end()
             self.assertEqual("write SCR 7\n", Path(path).read_text())
             self.start(SUPERIO_HISTORY=path)
+            self.terminal.type(CTRL_C)
+            self.terminal.read_until(PROMPT)
             self.assertEqual("ok\n", self.answer(UP))
             self.end()
+            self.assertEqual("write SCR 7\n", Path(path).read_text())
 
 
 class ViewerTest(ShellTest):

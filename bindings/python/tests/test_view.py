@@ -193,6 +193,7 @@ class CommandLine(unittest.TestCase):
         self.assertEqual(0, status)
         self.assertIn("11 calls in 2 pieces, 1 with another reply than recorded", output)
         self.assertIn("call 8 of 11, piece 1: sw 00 41  ok", output)
+        self.assertNotIn("\x1b", output)
         self.assertEqual(0, run("view", "-", "--table", script=TRACE)[0])
 
     def test_faults(self):

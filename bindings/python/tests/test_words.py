@@ -1,11 +1,15 @@
 """What people type: the commands that it means, what is said of it, and why it means none."""
 import io
+import os
+import tempfile
 import unittest
+from pathlib import Path
+from unittest import mock
 
 import support  # noqa: F401
 
-from superio import Command, ScriptError
-from superio.faults import BadLine
+from superio import Command, Rtc, ScriptError, Serial
+from superio.faults import BadLine, FileFault
 from superio.session import Session
 from superio.words import characters
 
@@ -95,6 +99,9 @@ FAULTS = [
     ('load "a', "the form is: load FILE"),
     ("load /nowhere/at/all", "/nowhere/at/all: No such file or directory"),
     ("source /", "/: Is a directory"),
+    ("load /proc/self/mem", "/proc/self/mem: Input/output error"),
+    ("source /proc/self/mem", "/proc/self/mem: Input/output error"),
+    ("save /dev/full", "/dev/full: No space left on device"),
     ("help foo", "no command is called foo"),
     ("trace of", "the form is: trace"),
     ("diff", "no call was made yet"),
@@ -188,7 +195,7 @@ REGS = [
 ]
 
 
-class Words(unittest.TestCase):
+class SessionTest(unittest.TestCase):
     def setUp(self):
         self.out = io.StringIO()
         self.session = Session(self.out, keeps_lines=True, host_time=lambda: NOW + 0.75)
@@ -202,6 +209,8 @@ class Words(unittest.TestCase):
         self.out.truncate()
         return said
 
+
+class Words(SessionTest):
     def test_meanings(self):
         for line, meaning in MEANINGS:
             with self.subTest(line):
@@ -238,6 +247,12 @@ class Words(unittest.TestCase):
                 self.setUp()
                 self.said(*lines)
                 self.assertEqual([lines[-1], *("  " + row for row in rows)], self.said("diff"))
+
+    def test_a_host_before_1970_has_the_moment_0(self):
+        self.session = Session(self.out, keeps_lines=True, host_time=lambda: -5.5)
+        self.assertEqual(["DR = 0x00000000  1970-01-01 00:00:00 UTC", "cr 0000000000000000 0000"],
+                         self.said("clock read DR", "trace"))
+        self.assertEqual("  DR   0x00000000  1970-01-01 00:00:00", self.said("regs clock")[1])
 
     def test_comments_and_blank_lines(self):
         self.assertEqual([], self.said("", "   ", "\t\r", "# sr 05", "   # sr 05"))
@@ -301,6 +316,73 @@ class Words(unittest.TestCase):
         with self.assertRaises(ScriptError):
             characters('"\\"')
 
+class Files(SessionTest):
+    """The files of `trace`, `save` and `load`."""
+
+    def setUp(self):
+        super().setUp()
+        folder = tempfile.TemporaryDirectory()
+        self.addCleanup(folder.cleanup)
+        self.path = Path(folder.name, "file")
+
+    def test_trace_shows_each_line(self):
+        self.assertEqual(["trace is on", "sr 05", "LSR = 0x60  THRE TEMT", "sr 07", "00"],
+                         self.said("trace on", "read LSR", "sr 07"))
+        self.assertEqual(["trace is off", "00"], self.said("trace off", "sr 07"))
+        self.assertEqual(["sr 05", "sr 07", "sr 07"], self.said("trace"))
+
+    def test_a_trace_file_has_the_calls_since_the_last_reset(self):
+        self.path.write_text("an old file\n")
+        self.said("read SCR", "reset", "read LSR")
+        self.assertEqual([f"the calls since the last reset go to {self.path}"], self.said(f"trace on {self.path}"))
+        self.assertEqual("sr 05\n", self.path.read_text())
+        self.said("read IIR")
+        self.assertEqual("sr 05\nsr 02\n", self.path.read_text())
+        self.assertEqual([f"trace is off, and {self.path} is complete", "00"], self.said("trace off", "kr 04"))
+        self.assertEqual("sr 05\nsr 02\n", self.path.read_text())
+
+    def test_a_reset_ends_a_trace(self):
+        self.said(f"trace on {self.path}", "read LSR", "reset", "read SCR")
+        self.assertEqual("sr 05\n", self.path.read_text())
+        self.assertEqual(["sr 07"], self.said("trace"))
+        self.assertEqual(["trace is off"], self.said("trace off"))
+
+    def test_a_full_disk_ends_a_trace_and_no_more(self):
+        self.said("trace on /dev/full")
+        with self.assertRaisesRegex(FileFault, "/dev/full: No space left on device"):
+            self.said("kr 04")
+        self.assertEqual(["00", "00"], self.said("kr 04"))
+
+    def test_lines_are_kept_only_for_a_shell(self):
+        session = Session(self.out, host_time=lambda: NOW)
+        session.carry_out(b"kr 04")
+        self.assertEqual([], session.trace.lines)
+        for line in (b"trace", f"trace on {self.path}".encode()):
+            with self.assertRaises(ScriptError):
+                session.carry_out(line)
+
+    def test_loads_are_calls(self):
+        self.said("write SCR 7", f"save {self.path}", "reset", f"load {self.path}")
+        self.assertEqual(self.path.read_text().splitlines(), self.said("trace"))
+
+    def test_nothing_is_loaded_of_a_file_that_is_half_good(self):
+        port, clock = Serial().to_bytes().hex(), Rtc().to_bytes().hex()
+        self.said("write SCR 7", "clock write LR 100")
+        before = self.session.board.snapshot()
+        for text, reason in ((f"sl {port}\ncl {clock[:-2]}02\n", "an alarm that is neither set nor clear"),
+                             (f"sl {port[:-2]}\ncl {clock}\n", "a saved state of the wrong length")):
+            self.path.write_text(text)
+            with self.assertRaisesRegex(ValueError, reason):
+                self.said(f"load {self.path}")
+            self.assertEqual(before, self.session.board.snapshot())
+
+    def test_a_tilde_is_the_home(self):
+        with mock.patch.dict(os.environ, {"HOME": str(self.path.parent)}):
+            self.assertEqual([f"port and clock saved to {self.path}"], self.said("save ~/file"))
+        self.assertTrue(self.path.exists())
+
+
+class Helping(SessionTest):
     def test_help_names_every_command(self):
         listed = "\n".join(self.said("help"))
         for name in ("read", "write", "type", "regs", "why", "save", "source", "sr", "cw", "refuse", "quit"):

@@ -186,9 +186,9 @@ impl<EV: RtcEvents + fmt::Debug> fmt::Debug for Rtc<EV> {
     }
 }
 
-/// The host's time, in seconds since 1970, or 0 if its clock is before that.
-fn host_time() -> u64 {
-    SystemTime::now().duration_since(UNIX_EPOCH).map_or(0, |time| time.as_secs())
+/// The moment of a host's time: the seconds since 1970, or 0 if it is before that.
+fn moment_of(time: SystemTime) -> u64 {
+    time.duration_since(UNIX_EPOCH).map_or(0, |since| since.as_secs())
 }
 
 impl Default for Rtc<NoEvents> {
@@ -288,9 +288,24 @@ impl<EV: RtcEvents> Rtc<EV> {
     /// The moment of an access. The host is asked for it only if the register or an alarm that waits depends on it.
     fn moment(&self, is_timed: bool) -> u64 {
         if is_timed || self.is_armed() {
-            host_time()
+            moment_of(SystemTime::now())
         } else {
             0
         }
+    }
+}
+
+#[cfg(test)]
+mod tests {
+    use super::{moment_of, UNIX_EPOCH};
+    use std::time::Duration;
+
+    #[test]
+    fn a_host_before_1970_has_the_moment_0() {
+        for before in [Duration::from_nanos(1), Duration::from_secs(1), Duration::from_secs(1 << 33)] {
+            assert_eq!(moment_of(UNIX_EPOCH - before), 0);
+        }
+        assert_eq!(moment_of(UNIX_EPOCH), 0);
+        assert_eq!(moment_of(UNIX_EPOCH + Duration::from_millis(70_999)), 70);
     }
 }

@@ -17,6 +17,8 @@ pub use state::SerialState;
 /// It owns the trigger of its interrupt, an events object, and the writer that the guest's output goes to. If one of
 /// them panics and the monitor catches that, the port is as far as it had come: it goes on as vm-superio 0.8.2 does.
 ///
+/// A port is `Send` and `Sync` if these objects are. Threads share it behind a lock.
+///
 /// # Example
 ///
 /// An event loop has a byte for the guest, and the guest answers it.

@@ -2,7 +2,9 @@
 use std::cell::Cell;
 use std::io::{self, Write};
 use std::rc::Rc;
+use std::sync::atomic::{AtomicU32, Ordering};
 use std::sync::{Arc, Mutex};
+use std::thread;
 use std::time::{SystemTime, UNIX_EPOCH};
 
 use vm_superio::rtc_pl031::RtcEvents;
@@ -309,4 +311,49 @@ fn one_write_resets_the_machine_and_a_refusal_is_passed_on() {
     controller.write(4, 0xFE).unwrap();
     assert_eq!(controller.write(4, 0xFE), Err("refused"));
     assert_eq!(controller.reset_evt().calls.get(), 2);
+}
+
+/// A trigger that counts its calls from any thread.
+#[derive(Debug, Default)]
+struct SharedLine(AtomicU32);
+
+impl Trigger for SharedLine {
+    type E = &'static str;
+
+    fn trigger(&self) -> Result<(), &'static str> {
+        self.0.fetch_add(1, Ordering::SeqCst);
+        Ok(())
+    }
+}
+
+#[test]
+fn threads_share_a_port_behind_a_lock() {
+    let input: Vec<u8> = (0..=255).collect();
+    let port = Mutex::new(Serial::with_events(SharedLine::default(), Log::default(), Vec::new()));
+    thread::scope(|threads| {
+        threads.spawn(|| {
+            let mut rest = &input[..];
+            while !rest.is_empty() {
+                let mut port = port.lock().unwrap();
+                let count = port.fifo_capacity().min(rest.len());
+                if count > 0 {
+                    assert_eq!(port.enqueue_raw_bytes(&rest[..count]).unwrap(), count);
+                    rest = &rest[count..];
+                }
+            }
+        });
+        // The guest sends each byte back.
+        threads.spawn(|| {
+            let mut count = 0;
+            while count < input.len() {
+                let mut port = port.lock().unwrap();
+                if port.read(5) & 0x01 != 0 {
+                    let byte = port.read(0);
+                    port.write(0, byte).unwrap();
+                    count += 1;
+                }
+            }
+        });
+    });
+    assert_eq!(port.into_inner().unwrap().into_writer(), input);
 }

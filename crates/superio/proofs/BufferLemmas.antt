@@ -2,7 +2,7 @@
 use Rattle.std.proofs.Common.{◌≡◌, ℕ, List, [], Option, Some, None, refl, ap, ◌∙◌, subst, append-nil}
 use Rattle.std.specs.Io.KnownBytes.{Keeps, Appends, append_known}
 use Rattle.std.specs.Prelude.{IfSome}
-use Rattle.superio_script.specs.Script.{body_of, PrintsLines, RunsUpTo, StopsAtRestore}
+use Rattle.superio_script.specs.Script.{body_of, PrintsLines, RunsUpTo, StopsWithoutMemory}
 
 -- a buffer that holds nothing adds nothing
 append_known-nothing : (known : Option (List ℕ)) → append_known known [] ≡ known
@@ -39,16 +39,16 @@ RunsUpTo-kept bad script left before middle after run kept = record {
   text = PrintsLines-kept (body_of script).mask (body_of script).lines before middle after run.text kept;
 }
 
-pub StopsAtRestore-kept :
+pub StopsWithoutMemory-kept :
     (mask : ℕ) (lines : List (List ℕ)) (before middle after : Option (List ℕ)) →
-    StopsAtRestore mask lines before middle → Keeps middle after → StopsAtRestore mask lines before after
-StopsAtRestore-kept mask lines before middle after stops kept = record {
+    StopsWithoutMemory mask lines before middle → Keeps middle after → StopsWithoutMemory mask lines before after
+StopsWithoutMemory-kept mask lines before middle after stops kept = record {
   earlier = stops.earlier;
   line = stops.line;
   later = stops.later;
   split = stops.split;
   all_good = stops.all_good;
-  restore = stops.restore;
+  takes_memory = stops.takes_memory;
   text = PrintsLines-kept mask stops.earlier before middle after stops.text kept;
 }
 

@@ -1,5 +1,5 @@
 -- The ports of a PC's bus: which device each belongs to, and what an access does there.
-use Rattle.std.specs.Prelude.{ℕ, Bool, ◌&&◌, ◌||◌, ◌==◌, not, nat_le, [], ◌∷◌, Result, Ok, Err}
+use Rattle.std.specs.Prelude.{ℕ, ◌+◌, Bool, ◌&&◌, ◌||◌, ◌==◌, not, nat_le, nat_lt, [], ◌∷◌, Result, Ok, Err}
 use Rattle.vm_superio.specs.Port.Operations.{Event}
 use Rattle.vm_superio.specs.Port.ObjectLinks.{Link, TriggerAnswer, Contents}
 use Rattle.vm_superio.specs.Port.Model.{Port}
@@ -7,21 +7,21 @@ use Rattle.vm_superio.specs.Step.PortStep.{IsWriteStep}
 use Rattle.superio_examples.specs.declared.bus.BusError.{BusError}
 use Rattle.superio_examples.specs.declared.bus.BusError.TheVariants.{Serial, Reset}
 
--- the eight ports of the serial port COM1
-abbrev pub is_com1 : (port : ℕ) → Bool
-is_com1 port = nat_le 0x3F8 port && nat_le port 0x3FF
+-- the eight ports of the serial port, from `base` on
+abbrev pub is_serial : (base port : ℕ) → Bool
+is_serial base port = nat_le base port && nat_lt port (base + 8)
 
--- the two ports of the controller, for data and commands
-abbrev pub is_i8042 : (port : ℕ) → Bool
-is_i8042 port = (port == 0x60) || (port == 0x64)
+-- the two ports of the controller, for data and commands, unless they are the serial port's
+abbrev pub is_i8042 : (base port : ℕ) → Bool
+is_i8042 base port = not (is_serial base port) && ((port == 0x60) || (port == 0x64))
 
 -- a port of neither device
-abbrev pub is_vacant : (port : ℕ) → Bool
-is_vacant port = not (is_com1 port || is_i8042 port)
+abbrev pub is_vacant : (base port : ℕ) → Bool
+is_vacant base port = not (is_serial base port || is_i8042 base port)
 
 -- a write resets the machine: the command 0xFE at port 0x64
-abbrev pub is_reset : (port value : ℕ) → Bool
-is_reset port value = (port == 0x64) && (value == 0xFE)
+abbrev pub is_reset : (base port value : ℕ) → Bool
+is_reset base port value = is_i8042 base port && (port == 0x64) && (value == 0xFE)
 
 -- the bus forwards a write to the serial port, and returns its result: an error is the serial port's
 abbrev pub ForwardsWrite :

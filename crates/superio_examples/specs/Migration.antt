@@ -1,30 +1,53 @@
 -- What a restore of saved devices makes, and what it returns where it is refused.
-use Rattle.std.specs.Prelude.{◌≡◌, List, Result}
+use Rattle.std.specs.Prelude.{◌≡◌, List, Option, Some, None, Result}
+use Rattle.std.specs.Option.{option_or}
 use Rattle.vm_superio.specs.Step.Restore.{restore_calls, RefusesRestore}
 use Rattle.vm_superio.specs.Port.ObjectLinks.{all_ok}
-use Rattle.vm_superio.specs.Port.SavedState.{state_of}
+use Rattle.vm_superio.specs.Port.State.{State}
+use Rattle.vm_superio.specs.Saved.Form.{serial_form, clock_form}
+use Rattle.vm_superio.specs.Saved.Faults.{serial_fault, clock_fault}
+use Rattle.vm_superio.specs.declared.saved.Error.{Error}
+use Rattle.vm_superio.specs.declared.saved.Error.TheVariants.{Memory}
 use Rattle.superio_examples.specs.declared.migration.Saved.{Saved}
 use Rattle.superio_examples.specs.declared.migration.Restored.{Restored}
 use Rattle.superio_examples.specs.declared.migration.NotRestored.{NotRestored}
+use Rattle.superio_examples.specs.declared.migration.RestoreError.{RestoreError}
+use Rattle.superio_examples.specs.declared.migration.RestoreError.TheVariants.{Bytes, Serial}
+
+-- the first check that fails, of the clock's bytes and then of the serial port's
+abbrev pub first_fault : (saved : Saved) → Option Error
+first_fault saved = option_or (clock_fault saved.clock.items) (serial_fault saved.serial.items)
 
 -- both devices have the saved states. The trigger was called once for each condition that is pending and enabled, and
 -- refused no call; the other objects are as they were passed in
 pub record IsRestoredFrom
     {T E EV W CE : Type 0} (link : T → List (Result (Unit {0}) E) → T → Type 0) (saved : Saved)
     (trigger : T) (events : EV) (out : W) (clock_events : CE) (made : Restored T EV W CE E) : Type 0 where
-  pub serial : made.serial.state ≡ state_of saved.serial
-  pub clock : made.clock.state ≡ saved.clock
-  pub called : link trigger (all_ok (restore_calls (state_of saved.serial))) made.serial.trigger
+  pub serial : serial_form made.serial.state ≡ saved.serial.items
+  pub clock : clock_form made.clock.state ≡ saved.clock.items
+  pub called : link trigger (all_ok (restore_calls made.serial.state)) made.serial.trigger
   pub events_kept : made.serial.events ≡ events
   pub out_kept : made.serial.out ≡ out
   pub clock_events_kept : made.clock.events ≡ clock_events
 
--- the restore was refused, since the saved state has more than 64 bytes, the trigger refused a call, or memory was
--- refused. The trigger is as its calls left it; the other objects are as they were passed in
+-- bytes were not read: for the first check that fails, or else since memory was refused
+abbrev pub IsFaultOf : (error : Error) (fault : Option Error) → Type 0
+IsFaultOf error (Some fault) = error ≡ fault
+IsFaultOf error None = error ≡ Memory
+
+-- why a restore was refused, and what became of the trigger
+abbrev pub RefusesSaved :
+    {T E : Type 0} → (link : T → List (Result (Unit {0}) E) → T → Type 0) (saved : Saved)
+    (error : RestoreError E) (old new : T) → Type 0
+RefusesSaved link saved (Bytes error) old new = IsFaultOf error (first_fault saved) × (new ≡ old)
+RefusesSaved link saved (Serial error) old new =
+    (state : State) × (saved.serial.items ≡ serial_form state) × RefusesRestore link state error old new
+
+-- the restore was refused. The trigger is as its calls left it; the other objects are as they were passed in
 pub record ReturnsObjects
     {T E EV W CE : Type 0} (link : T → List (Result (Unit {0}) E) → T → Type 0) (saved : Saved)
     (trigger : T) (events : EV) (out : W) (clock_events : CE) (refused : NotRestored T EV W CE E) : Type 0 where
-  pub why : RefusesRestore link (state_of saved.serial) refused.serial.error trigger refused.serial.trigger
-  pub events_kept : refused.serial.events ≡ events
-  pub out_kept : refused.serial.out ≡ out
+  pub why : RefusesSaved link saved refused.error trigger refused.trigger
+  pub events_kept : refused.events ≡ events
+  pub out_kept : refused.out ≡ out
   pub clock_events_kept : refused.clock_events ≡ clock_events

@@ -1,20 +1,37 @@
 -- A clock's window in a guest's memory.
-use Rattle.std.specs.Prelude.{◌≡◌, ℕ, ◌+◌, Bool, ◌&&◌, ◌==◌, nat_le, nat_lt, List, replicate}
+use Rattle.std.specs.Prelude.{◌≡◌, ℕ, ◌+◌, ◌-◌, ◌%◌, Bool, ◌&&◌, ◌||◌, ◌==◌, nat_le, nat_lt, if◌then◌else◌, List, length, take, drop, replicate}
 use Rattle.vm_superio.specs.Port.ObjectLinks.{Link}
 use Rattle.vm_superio.specs.Clock.Events.{RtcEvent}
 use Rattle.vm_superio.specs.Clock.Registers.{read, write_of, host_time, bytes_left}
 use Rattle.vm_superio.specs.Clock.Step.{ClockDevice, after_alarm, clock_response, clock_step, clock_events}
 
--- an access of four bytes in the 4096 bytes from `base` on
-abbrev pub is_register : (base address length : ℕ) → Bool
-is_register base address length = nat_le base address && nat_lt address (base + 0x1000) && (length == 4)
+-- in the 4096 bytes from `base` on
+abbrev pub is_inside : (base address : ℕ) → Bool
+is_inside base address = nat_le base address && nat_lt address (base + 0x1000)
+
+-- where a read of this length begins in the four bytes of a register
+abbrev pub place_in : (offset length : ℕ) → ℕ
+place_in offset length = if length == 4 then 0 else offset % 4
+
+-- a read of four bytes, or of one or two that lie in a register
+abbrev pub is_read : (base address length : ℕ) → Bool
+is_read base address length =
+    is_inside base address
+    && ((length == 4) || (length == 1) || ((length == 2) && nat_le ((address - base) % 4) 2))
+
+-- a write of four bytes
+abbrev pub is_write : (base address length : ℕ) → Bool
+is_write base address length = is_inside base address && (length == 4)
 
 module _ {EV : Type 0} (link : Link EV RtcEvent) where
-  -- the clock's read at its offset, into bytes that were cleared
+  -- the clock's read, into bytes that were cleared, of the register that the offset lies in: the part from this offset on
   pub record ReadsClock (offset now : ℕ) (bytes : List ℕ) (old new : ClockDevice EV) : Type 0 where
-    pub bytes_read : bytes ≡ bytes_left (clock_response old.state (read offset now)) (replicate 4 0)
+    pub bytes_read :
+        let place = place_in offset (length bytes) in
+        let register = bytes_left (clock_response old.state (read (offset - place) now)) (replicate 4 0) in
+        bytes ≡ take (length bytes) (drop place register)
     pub state : new.state ≡ after_alarm old.state (host_time now)
-    pub events : link old.events (clock_events (read offset now)) new.events
+    pub events : link old.events (clock_events (read (offset - place_in offset (length bytes)) now)) new.events
 
   -- the clock's write at its offset
   pub record WritesClock (offset : ℕ) (bytes : List ℕ) (now : ℕ) (old new : ClockDevice EV) : Type 0 where

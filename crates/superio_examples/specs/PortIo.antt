@@ -7,7 +7,7 @@ use Rattle.vm_superio.specs.Port.ObjectLinks.{Link, TriggerAnswer, Contents}
 use Rattle.vm_superio.specs.Step.PortStep.{IsReadStep}
 use Rattle.superio_examples.specs.declared.bus.Bus.{Bus}
 use Rattle.superio_examples.specs.declared.bus.BusError.{BusError}
-use Rattle.superio_examples.specs.Bus.{is_com1, is_i8042, is_vacant, is_reset, ForwardsWrite, ForwardsReset}
+use Rattle.superio_examples.specs.Bus.{is_serial, is_i8042, is_vacant, is_reset, ForwardsWrite, ForwardsReset}
 
 -- the lengths that an access of a guest has
 abbrev pub is_width : (length : ℕ) → Bool
@@ -21,11 +21,12 @@ module _ {T E EV W R F : Type 0} (trigger : Link T (TriggerAnswer E)) (events : 
     (reset : Link R (TriggerAnswer F)) where
   -- a byte is read at a port
   pub record ReadsByte (port byte : ℕ) (old new : Bus T EV W R E F) : Type 0 where
-    pub serial : OnTrue (is_com1 port) (IsReadStep trigger events contents (port - 0x3F8) byte old.serial new.serial)
-    pub serial_alone : OnFalse (is_com1 port) (new.serial ≡ old.serial)
-    pub controller : OnTrue (is_i8042 port) (byte ≡ 0)
+    pub serial : OnTrue (is_serial old.base port) (IsReadStep trigger events contents (port - old.base) byte old.serial new.serial)
+    pub serial_alone : OnFalse (is_serial old.base port) (new.serial ≡ old.serial)
+    pub controller : OnTrue (is_i8042 old.base port) (byte ≡ 0)
     pub controller_alone : new.controller ≡ old.controller
-    pub vacant : OnTrue (is_vacant port) (byte ≡ 0xFF)
+    pub vacant : OnTrue (is_vacant old.base port) (byte ≡ 0xFF)
+    pub base : new.base ≡ old.base
 
   -- bytes are read at ports that follow each other
   abbrev pub ReadsBytes : (port : ℕ) (bytes : List ℕ) (old new : Bus T EV W R E F) → Type 0
@@ -37,12 +38,13 @@ module _ {T E EV W R F : Type 0} (trigger : Link T (TriggerAnswer E)) (events : 
   pub record WritesByte
       (port value : ℕ) (result : Result (Unit {0}) (BusError E F)) (old new : Bus T EV W R E F) : Type 0 where
     pub serial :
-        OnTrue (is_com1 port)
-        (ForwardsWrite trigger events contents (port - 0x3F8) value result old.serial new.serial)
-    pub serial_alone : OnFalse (is_com1 port) (new.serial ≡ old.serial)
-    pub reset_called : OnTrue (is_reset port value) (ForwardsReset reset result old.controller new.controller)
-    pub controller_alone : OnFalse (is_reset port value) (new.controller ≡ old.controller)
-    pub others : OnFalse (is_com1 port || is_reset port value) (result ≡ Ok tt)
+        OnTrue (is_serial old.base port)
+        (ForwardsWrite trigger events contents (port - old.base) value result old.serial new.serial)
+    pub serial_alone : OnFalse (is_serial old.base port) (new.serial ≡ old.serial)
+    pub reset_called : OnTrue (is_reset old.base port value) (ForwardsReset reset result old.controller new.controller)
+    pub controller_alone : OnFalse (is_reset old.base port value) (new.controller ≡ old.controller)
+    pub others : OnFalse (is_serial old.base port || is_reset old.base port value) (result ≡ Ok tt)
+    pub base : new.base ≡ old.base
 
   -- bytes are written at ports that follow each other, and the result is the first error, if there is one
   abbrev pub WritesBytes :

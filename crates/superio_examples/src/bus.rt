@@ -1,17 +1,26 @@
 //! A bus that forwards a guest's port I/O to a serial port and a reset controller, by port number.
-ghost use Rattle.std.specs.Prelude.{◌≡◌, ◌-◌, ◌||◌};
+ghost use Rattle.std.specs.Prelude.{◌≡◌, ◌-◌, ◌||◌, if◌then◌else◌, Some, None};
 ghost use Rattle.std.specs.Bool.{OnTrue, OnFalse};
 ghost use Rattle.vm_superio.specs.Port.Coherent.{Coherent};
 ghost use Rattle.vm_superio.specs.Step.PortStep.{IsReadStep};
-ghost use Rattle.superio_examples.specs.Bus.{is_com1, is_i8042, is_vacant, is_reset};
+ghost use Rattle.superio_examples.specs.Bus.{is_serial, is_i8042, is_vacant, is_reset};
 ghost use Rattle.superio_examples.specs.Bus.{ForwardsWrite, ForwardsReset};
 
 use std::io::Write;
 use vm_superio::serial::{Error, SerialEvents};
 use vm_superio::{I8042Device, Serial, Trigger};
 
-/// The first port of the serial port.
-const COM1: u16 = 0x3F8;
+/// The first ports of a PC's serial ports.
+pub const COM1: u16 = 0x3F8;
+
+pub const COM2: u16 = 0x2F8;
+
+pub const COM3: u16 = 0x3E8;
+
+pub const COM4: u16 = 0x2E8;
+
+/// How many ports a serial port has.
+const SERIAL_PORTS: u16 = 8;
 
 /// The controller's data port.
 const I8042_DATA: u16 = 0x60;
@@ -28,10 +37,12 @@ pub enum BusError<E, F> {
     Reset(F),
 }
 
-/// The devices that a guest reaches by port I/O: a serial port at 0x3F8 to 0x3FF, and a controller at 0x60 and
-/// 0x64.
+/// The devices that a guest reaches by port I/O: a serial port at eight ports from `base` on, and a controller at 0x60
+/// and 0x64.
 #[derive(Drop)]
 pub struct Bus<T: Trigger, EV: SerialEvents, W: Write, R: Trigger> {
+    /// The first port of the serial port, such as [`COM1`].
+    pub base: u16,
     pub serial: Serial<T, EV, W>,
     pub controller: I8042Device<R>,
 }
@@ -40,18 +51,19 @@ impl<T: Trigger, EV: SerialEvents, W: Write, R: Trigger> Bus<T, EV, W, R> {
     /// Reads the byte at `port`, as a guest's `in` does. A port of neither device gives 0xFF, as on a PC. So does 0x61:
     /// Linux waits for its bit 0x20 when it measures the processor's clock.
     pub fn read(&mut self, port: u16) -> u8
-        ensures serial { OnTrue (is_com1 port)
-            (IsReadStep T.link EV.link W.contents (port - 0x3F8) result self.old.serial self.new.serial) }
-        ensures serial_alone { OnFalse (is_com1 port) (self.new.serial ≡ self.old.serial) }
-        ensures controller { OnTrue (is_i8042 port) (result ≡ 0) }
+        ensures serial { OnTrue (is_serial self.old.base port)
+            (IsReadStep T.link EV.link W.contents (port - self.old.base) result self.old.serial self.new.serial) }
+        ensures serial_alone { OnFalse (is_serial self.old.base port) (self.new.serial ≡ self.old.serial) }
+        ensures controller { OnTrue (is_i8042 self.old.base port) (result ≡ 0) }
         ensures controller_alone { self.new.controller ≡ self.old.controller }
-        ensures vacant { OnTrue (is_vacant port) (result ≡ 0xFF) }
+        ensures vacant { OnTrue (is_vacant self.old.base port) (result ≡ 0xFF) }
+        ensures base { self.new.base ≡ self.old.base }
         ensures coherent { Coherent self.old.serial.state → Coherent self.new.serial.state }
     {
-        match port {
-            COM1..=0x3FF => self.serial.read((port - COM1) as u8),
-            I8042_DATA | I8042_COMMAND => self.controller.read((port - I8042_DATA) as u8),
-            _ => 0xFF,
+        match (self.serial_offset(port), port) {
+            (Some(offset), _) => self.serial.read(offset),
+            (None, I8042_DATA | I8042_COMMAND) => self.controller.read((port - I8042_DATA) as u8),
+            (None, _) => 0xFF,
         }
     }
 
@@ -63,28 +75,39 @@ impl<T: Trigger, EV: SerialEvents, W: Write, R: Trigger> Bus<T, EV, W, R> {
     /// write: it has taken effect on the registers. Returns [`BusError::Reset`] if the reset trigger refused the reset
     /// command: nobody was notified of the reset.
     pub fn write(&mut self, port: u16, value: u8) -> Result<(), BusError<T::E, R::E>>
-        ensures serial { OnTrue (is_com1 port)
-            (ForwardsWrite T.link EV.link W.contents (port - 0x3F8) value result self.old.serial self.new.serial) }
-        ensures serial_alone { OnFalse (is_com1 port) (self.new.serial ≡ self.old.serial) }
-        ensures reset { OnTrue (is_reset port value)
+        ensures serial { OnTrue (is_serial self.old.base port)
+            (ForwardsWrite T.link EV.link W.contents (port - self.old.base) value result self.old.serial self.new.serial) }
+        ensures serial_alone { OnFalse (is_serial self.old.base port) (self.new.serial ≡ self.old.serial) }
+        ensures reset { OnTrue (is_reset self.old.base port value)
             (ForwardsReset R.link result self.old.controller self.new.controller) }
-        ensures controller_alone { OnFalse (is_reset port value) (self.new.controller ≡ self.old.controller) }
-        ensures others { OnFalse (is_com1 port || is_reset port value) (result ≡ Ok tt) }
+        ensures controller_alone { OnFalse (is_reset self.old.base port value) (self.new.controller ≡ self.old.controller) }
+        ensures others { OnFalse (is_serial self.old.base port || is_reset self.old.base port value) (result ≡ Ok tt) }
+        ensures base { self.new.base ≡ self.old.base }
         ensures coherent { Coherent self.old.serial.state → Coherent self.new.serial.state }
     {
-        match port {
-            COM1..=0x3FF => match self.serial.write((port - COM1) as u8, value) {
+        match (self.serial_offset(port), port) {
+            (Some(offset), _) => match self.serial.write(offset, value) {
                 Ok(()) => Ok(()),
                 Err(error) => Err(BusError::Serial(error)),
             },
-            I8042_DATA | I8042_COMMAND => match self
+            (None, I8042_DATA | I8042_COMMAND) => match self
                 .controller
                 .write((port - I8042_DATA) as u8, value)
             {
                 Ok(()) => Ok(()),
                 Err(refusal) => Err(BusError::Reset(refusal)),
             },
-            _ => Ok(()),
+            (None, _) => Ok(()),
+        }
+    }
+
+    /// The serial port's offset of a port that is its own.
+    fn serial_offset(&self, port: u16) -> Option<u8>
+        ensures { result ≡ (if is_serial self.now.base port then Some (port - self.now.base) else None) }
+    {
+        match port.checked_sub(self.base) {
+            Some(offset) if offset < SERIAL_PORTS => Some(offset as u8),
+            _ => None,
         }
     }
 }

@@ -1,15 +1,18 @@
 //! A serial port in a monitor's event loop. The loop stops reading its source while the input is full, and retries a
 //! refused interrupt.
-ghost use Rattle.std.specs.Prelude.{◌≡◌, ◌-◌, ◌==◌, ◌++◌, length, take, min, is_some, false, true};
+ghost use Rattle.std.specs.Prelude.{◌≡◌, ◌-◌, ◌==◌, ◌++◌, length, take, drop, min, is_some, false, true, IfOk, OnErr};
+ghost use Rattle.std.specs.Io.KnownBytes.{WriteAppends};
 ghost use Rattle.circular_buffer.specs.Buffer.{buffer};
 ghost use Rattle.vm_superio.specs.Port.Coherent.{Coherent};
 ghost use Rattle.vm_superio.specs.Port.ObjectLinks.{all_ok};
 ghost use Rattle.vm_superio.specs.Port.Model.{refusal_in_result};
 ghost use Rattle.vm_superio.specs.Step.Restore.{restore_calls};
-ghost use Rattle.vm_superio.specs.Step.PortStep.{with_trigger};
+ghost use Rattle.vm_superio.specs.Step.PortStep.{with_trigger, with_writer};
 ghost use Rattle.superio_examples.specs.Console.{Feeds, ReadsThenFeeds, RefusesAgain, WritesThenFeeds};
 
 use crate::input::Input;
+use crate::output::Output;
+use std::io;
 use std::io::Write;
 use vm_superio::serial::{Error, SerialEvents};
 use vm_superio::{Serial, Trigger};
@@ -102,6 +105,25 @@ impl<T: Trigger, EV: SerialEvents, W: Write> Console<T, EV, W> {
         if self.input.feed(&mut self.serial).is_err() {
             self.is_refused = true;
         }
+    }
+}
+
+impl<T: Trigger, EV: SerialEvents> Console<T, EV, Output> {
+    /// Passes the waiting output to a sink, as [`Output::drain_into`] does, and returns how many bytes it took.
+    ///
+    /// # Errors
+    ///
+    /// Returns the sink's error, and all bytes stay.
+    pub fn drain_into<S: Write>(&mut self, sink: &mut S) -> io::Result<usize>
+        ensures bytes { WriteAppends (S.contents sink.old) (S.contents sink.new) result self.old.serial.out.items }
+        ensures taken { IfOk result (λ count.
+            self.new.serial.out ≡ record self.old.serial.out { items = drop count self.old.serial.out.items }) }
+        ensures refused { OnErr result (self.new ≡ self.old) }
+        ensures others { self.new ≡ record self.old {
+          serial = with_writer self.old.serial self.new.serial.out;
+        } }
+    {
+        self.serial.writer_mut().drain_into(sink)
     }
 }
 

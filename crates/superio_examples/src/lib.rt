@@ -1,7 +1,8 @@
-//! Short modules to copy into a monitor: a bus, a clock's window in memory, a trigger, input in an event loop, a
-//! migration, and a first claim about what a guest reads.
+//! Short modules to copy into a monitor: a bus, a clock's window in memory, a trigger, input and output in an event loop,
+//! a migration, and first claims about what a guest reads and sends.
 #![tactic(auto)]
 
+pub mod alarm;
 pub mod bus;
 pub mod console;
 pub mod driver;
@@ -11,4 +12,5 @@ pub mod input;
 pub mod migration;
 pub mod mmio;
 pub mod monitor;
+pub mod output;
 pub mod port_io;

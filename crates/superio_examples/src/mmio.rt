@@ -1,7 +1,7 @@
 //! A clock on an MMIO bus: a window of guest memory, which the guest reaches by 64-bit addresses.
 ghost use Rattle.std.specs.Prelude.{◌≡◌, ◌-◌, if◌then◌else◌, length, replicate, Some, None};
 ghost use Rattle.std.specs.Bool.{OnTrue, OnFalse};
-ghost use Rattle.superio_examples.specs.Mmio.{is_register, ReadsClock, WritesClock};
+ghost use Rattle.superio_examples.specs.Mmio.{is_inside, is_read, is_write, ReadsClock, WritesClock};
 
 use vm_superio::Rtc;
 use vm_superio::rtc_pl031::RtcEvents;
@@ -9,7 +9,8 @@ use vm_superio::rtc_pl031::RtcEvents;
 /// The length of the window, as of a PL031.
 const LENGTH: u64 = 0x1000;
 
-/// A clock whose window begins at `base`. A guest reaches its registers by accesses of four bytes.
+/// A clock whose window begins at `base`. A guest reaches its registers by accesses of four bytes. A read of one or two
+/// bytes gives that part of the register around it, as EDK II reads the identification.
 ///
 /// Each access takes its moment, in seconds since 1970, from the host's clock. If a guest moves, both hosts must tell
 /// the same time.
@@ -21,46 +22,56 @@ pub struct ClockWindow<EV: RtcEvents> {
 
 impl<EV: RtcEvents> ClockWindow<EV> {
     /// Reads at `address`, as the guest does at the moment `now`. Clears the bytes first, so a register that cannot be
-    /// read gives zeros, and nothing of the monitor's memory. An access of another length, or outside the window, gives
-    /// zeros too, and changes nothing.
+    /// read gives zeros, and nothing of the monitor's memory. An access of another length, one of two bytes that lie in
+    /// two registers, or one outside the window gives zeros too, and changes nothing.
     pub fn read(&mut self, address: u64, bytes: &mut [u8], now: u64)
-        ensures clock { OnTrue (is_register self.old.base address (length bytes.old))
+        ensures clock { OnTrue (is_read self.old.base address (length bytes.old))
             (ReadsClock EV.link (address - self.old.base) now bytes.new self.old.clock self.new.clock) }
-        ensures elsewhere { OnFalse (is_register self.old.base address (length bytes.old))
+        ensures elsewhere { OnFalse (is_read self.old.base address (length bytes.old))
             (bytes.new ≡ replicate (length bytes.old) 0) }
-        ensures alone { OnFalse (is_register self.old.base address (length bytes.old)) (self.new ≡ self.old) }
+        ensures alone { OnFalse (is_read self.old.base address (length bytes.old)) (self.new ≡ self.old) }
         ensures base { self.new.base ≡ self.old.base }
     {
         bytes.fill(0);
-        if let Some(offset) = self.offset(address, bytes.len()) {
+        if let Some(offset) = self.offset(address) {
             let mut register = [0; 4];
-            self.clock.read(offset, &mut register, now);
-            bytes.copy_from_slice(&register);
+            match (bytes.len(), offset % 4) {
+                (4, _) => {
+                    self.clock.read(offset, &mut register, now);
+                    bytes.copy_from_slice(&register);
+                }
+                (1, place) | (2, place @ 0..=2) => {
+                    self.clock.read(offset - place, &mut register, now);
+                    let place = usize::from(place);
+                    let end = place + bytes.len();
+                    bytes.copy_from_slice(&register[place..end]);
+                }
+                _ => {}
+            }
         }
     }
 
     /// Writes at `address`, as the guest does at the moment `now`. An access of another length, or outside the window,
     /// changes nothing.
     pub fn write(&mut self, address: u64, bytes: &[u8], now: u64)
-        ensures clock { OnTrue (is_register self.old.base address (length bytes.now))
+        ensures clock { OnTrue (is_write self.old.base address (length bytes.now))
             (WritesClock EV.link (address - self.old.base) bytes.now now self.old.clock self.new.clock) }
-        ensures alone { OnFalse (is_register self.old.base address (length bytes.now)) (self.new ≡ self.old) }
+        ensures alone { OnFalse (is_write self.old.base address (length bytes.now)) (self.new ≡ self.old) }
         ensures base { self.new.base ≡ self.old.base }
     {
-        if let Some(offset) = self.offset(address, bytes.len()) {
+        if let (Some(offset), 4) = (self.offset(address), bytes.len()) {
             let mut register = [0; 4];
             register.copy_from_slice(bytes);
             self.clock.write(offset, &register, now);
         }
     }
 
-    /// The clock's offset of a four-byte access that begins in the window.
-    fn offset(&self, address: u64, length: usize) -> Option<u16>
-        ensures { result
-            ≡ (if is_register self.now.base address length then Some (address - self.now.base) else None) }
+    /// The clock's offset of an address in the window.
+    fn offset(&self, address: u64) -> Option<u16>
+        ensures { result ≡ (if is_inside self.now.base address then Some (address - self.now.base) else None) }
     {
         match address.checked_sub(self.base) {
-            Some(offset) if offset < LENGTH && length == 4 => Some(offset as u16),
+            Some(offset) if offset < LENGTH => Some(offset as u16),
             _ => None,
         }
     }

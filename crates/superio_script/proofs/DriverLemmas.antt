@@ -16,7 +16,7 @@ use Rattle.vm_superio.specs.Step.PortStep.{IsReadStep}
 use Rattle.vm_superio.specs.Step.Transition.{rbr_read, read_step, step, read_events}
 use Rattle.vm_superio.specs.Laws.Agreement.{CoherenceLaw}
 use Rattle.vm_superio.specs.Laws.OneCall.{RbrDataReadyLaw}
-use Rattle.superio_script.specs.Driver.{IsReady, ReadsWhileReady, without_bytes, drain_events, TakesAll}
+use Rattle.superio_script.specs.Driver.{IsReady, ReadsWhileReady, bytes_while_ready, without_bytes, drain_events, TakesAll}
 
 -- ---- how many reads are to come
 
@@ -99,6 +99,22 @@ module _ {T E EV W : Type 0} (trigger : Link T (TriggerAnswer E)) (events : Link
         hidden = ap (λ (s : State). is_dlab s.line_control) (rbr_read-from_step byte old new hidden step).state ∙ hidden;
         less = reads_left-after_read law byte old new hidden ready step;
       }
+
+  -- a driver reads what the steps say, where its reads end because LSR does not show data ready
+  pub reads-are_stepped : (most : ℕ) (bytes : List ℕ) (old new : Port T EV W) → is_dlab old.state.line_control ≡ false
+      → ReadsWhileReady trigger events contents bytes old new → has_bits new.state.line_status 0x01 ≡ false
+      → length bytes ≤ most → bytes ≡ bytes_while_ready most old.state
+  reads-are_stepped zero [] old new hidden same ended few = refl
+  reads-are_stepped (suc most) [] old new hidden same ended few =
+      ap (λ ready. if ready then register_read RbrThr old.state ∷ bytes_while_ready most (rbr_read old.state) else [])
+      (sym (ap (λ (port : Port T EV W). has_bits port.state.line_status 0x01) (sym same) ∙ ended))
+  reads-are_stepped zero (byte ∷ bytes) old new hidden (ready, (middle, made, later)) ended few = absurd (omega (arith, few))
+  reads-are_stepped (suc most) (byte ∷ bytes) old new hidden (ready, (middle, made, later)) ended few =
+      let read = rbr_read-from_step byte old middle hidden made in
+      let rest = reads-are_stepped most bytes middle new (ap (λ (s : State). is_dlab s.line_control) read.state ∙ hidden) later ended (omega (arith, few)) in
+      ap (λ first. first ∷ bytes) read.value
+      ∙ ap (λ more. register_read RbrThr old.state ∷ more) (rest ∙ ap (bytes_while_ready most) read.state)
+      ∙ ap (λ shown. if shown then register_read RbrThr old.state ∷ bytes_while_ready most (rbr_read old.state) else []) (sym ready)
 
 -- ---- all bytes
 

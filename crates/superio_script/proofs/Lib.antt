@@ -1,5 +1,7 @@
 pub mod SplittingLemmas
 pub mod ReadLemmas
+pub mod PortSessionLemmas
+pub mod LoadingLemmas
 pub mod SerialScriptLemmas
 pub mod DriverLemmas
 pub mod ScriptLemmas

@@ -1,5 +1,5 @@
 -- What one good line adds to what was written, whatever is still to come.
-use Rattle.std.proofs.Common.{◌≡◌, ℕ, zero, suc, ◌+◌, ◌≤◌, Bool, true, false, List, [], ◌∷◌, ◌++◌, length, Option, Some, None, refl, ap, sym, ◌∙◌, subst, arith, append_assoc, append-nil, length-append}
+use Rattle.std.proofs.Common.{◌≡◌, ℕ, zero, suc, ◌+◌, ◌≤◌, Bool, true, false, List, [], ◌∷◌, ◌++◌, length, Option, Some, None, Result, Ok, Err, refl, ap, sym, ◌∙◌, subst, arith, append_assoc, append-nil, length-append}
 use Rattle.std.specs.Cmp.Derive.{both_true}
 use Rattle.std.proofs.lemmas.Bool.{and_parts, false≢true}
 use Rattle.std.specs.Io.KnownBytes.{Appends}
@@ -7,24 +7,25 @@ use Rattle.std.specs.Prelude.{IsTrue, IsSomeAnd, IfSome, is_some, if◌then◌el
 use Rattle.std.specs.List.{list_all}
 use Rattle.vm_superio.specs.declared.trace.Sent.{Sent}
 use Rattle.vm_superio.specs.declared.trace.Sent.TheVariants as sent
-use Rattle.vm_superio.specs.Port.SavedState.{fresh_state}
-use Rattle.vm_superio.specs.Port.State.{not_empty}
-use Rattle.vm_superio.specs.Port.Operations.{Op, Read, Write, Enqueue, TraceEntry, is_sent}
+use Rattle.vm_superio.specs.declared.saved.Error.{Error as Fault}
+use Rattle.vm_superio.specs.Port.State.{State, not_empty}
+use Rattle.vm_superio.specs.Port.Operations.{Op, Read, Write, Enqueue, is_sent}
 use Rattle.vm_superio.specs.Port.OpKinds.{OpKind, ThrWrite, sent_by}
-use Rattle.vm_superio.specs.History.Registers.{kind_at}
-use Rattle.vm_superio.specs.Clock.Registers.{Access, fresh_clock}
-use Rattle.vm_superio.specs.Clock.History.{clock_of_history}
 use Rattle.vm_superio.specs.Clock.Step.{ClockDevice}
 use Rattle.vm_superio.specs.Port.Model.{Port}
 use Rattle.vm_superio.proofs.PublicLemmas.{Appends-nothing, Appends-append, fresh_clock-history}
 use Rattle.superio_script.specs.InterruptLine.{InterruptLine}
 use Rattle.superio_script.specs.Counts.{EventCounts}
 use Rattle.superio_script.specs.Output.{written_bytes}
-use Rattle.superio_script.specs.Command.{command_of, IsRestoreLine}
-use Rattle.superio_script.specs.Reply.{digits_reply, access_of}
-use Rattle.superio_script.specs.SerialScript.{Session, fresh_session, known_output, Choice, IsPossible, first_outcome, first_output, bytes_before_loss, is_short, session_entry, session_sends, outcome_if_sent, choice_after_write, output_or_chosen, choice_after_output, call_reply, session_after_call, session_after_reads, drained_bytes, serial_reply, session_after_line, choice_after_line}
+use Rattle.superio_script.specs.Command.{command_of, TakesMemory}
+use Rattle.superio_script.specs.Reply.{digits_reply}
+use Rattle.superio_script.specs.Loading.{loaded_port}
+use Rattle.superio_script.specs.PortSession.{Session, fresh_session, known_output, session_from, session_kind, drained_bytes}
+use Rattle.superio_script.specs.SerialScript.{Choice, IsPossible, first_outcome, first_output, bytes_before_loss, is_short, session_entry, session_sends, outcome_if_sent, choice_after_write, output_or_chosen, choice_after_output, call_reply, session_after_call, session_after_reads, is_restore_refused, restored_session, session_after_load, serial_reply, session_after_line, choice_after_line}
+use Rattle.superio_script.specs.ClockScript.{ClockSession, fresh_clock_session, clock_session_state, clock_session_after_line}
 use Rattle.superio_script.specs.Board.{Devices, IsAt, IsFresh, IsSerialLineStep, IsLineStep}
-use Rattle.superio_script.specs.Script.{has_form, prepend_if_good, good_commands, first_bad_line, text_from, PrintsLines, StopsAtRestore}
+use Rattle.superio_script.specs.Script.{has_form, prepend_if_good, good_commands, first_bad_line, text_from, PrintsLines, StopsWithoutMemory}
+use Rattle.superio_script.proofs.PortSessionLemmas.{known_output-from}
 use Rattle.superio_script.proofs.SerialScriptLemmas.{no_choice, output_after, known_output-after}
 use Rattle.superio_script.specs.declared.output.Output.{Output}
 use Rattle.superio_script.specs.declared.command.Command.{Command}
@@ -122,48 +123,58 @@ module _ (choice later : Choice) (possible : IsPossible choice) where
         refl,
       )
 
-  after-joins : (before : Session) (op : Op) (outcome : Sent) → IsPossibleFrom (known_output (session_after_call before op outcome).trace) later →
-      IsPossibleFrom (output_after (known_output before.trace) outcome (sent_by (kind_at fresh_state before.trace op))) later
-  after-joins before op outcome rest_possible = subst (λ output. IsPossibleFrom output later) (known_output-after before.trace (session_entry before op outcome)) rest_possible
+  after-joins : (before : Session) (op : Op) (outcome : Sent) → IsPossibleFrom (known_output (session_after_call before op outcome)) later →
+      IsPossibleFrom (output_after (known_output before) outcome (sent_by (session_kind before op))) later
+  after-joins before op outcome rest_possible = subst (λ output. IsPossibleFrom output later) (known_output-after before (session_entry before op outcome)) rest_possible
 
-  unsent-joins : (before : Session) (op : Op) → IsPossibleFrom (known_output (session_after_call before op sent.Nothing).trace) later → IsPossibleFrom (known_output before.trace) later
+  unsent-joins : (before : Session) (op : Op) → IsPossibleFrom (known_output (session_after_call before op sent.Nothing)) later → IsPossibleFrom (known_output before) later
   unsent-joins before op rest_possible =
       let rest = after-joins before op sent.Nothing rest_possible in record {
         sent = rest.sent;
-        room = room-unsent (known_output before.trace) sent.Nothing (sent_by (kind_at fresh_state before.trace op)) later.outcomes refl rest.room;
+        room = room-unsent (known_output before) sent.Nothing (sent_by (session_kind before op)) later.outcomes refl rest.room;
         short = rest.short;
       }
 
-  reads-join : (count : ℕ) (before : Session) → IsPossibleFrom (known_output (session_after_reads count before).trace) later → IsPossibleFrom (known_output before.trace) later
+  reads-join : (count : ℕ) (before : Session) → IsPossibleFrom (known_output (session_after_reads count before)) later → IsPossibleFrom (known_output before) later
   reads-join zero before rest_possible = rest_possible
   reads-join (suc count) before rest_possible =
       unsent-joins before (Read 0) (reads-join count (session_after_call before (Read 0) sent.Nothing) rest_possible)
 
-  module _ (before : Session) (few : IfSome (known_output before.trace) (λ all. length all ≤ 256)) where
+  module _ (before : Session) (few : IfSome (known_output before) (λ all. length all ≤ 256)) where
     -- a choice for a line, and for what follows it
     abbrev LineJoins : (line : SerialLine) → Type 0
     LineJoins line =
-        (whole : Choice) × IsPossibleFrom (known_output before.trace) whole × (serial_reply before whole line ≡ serial_reply before choice line)
+        (whole : Choice) × IsPossibleFrom (known_output before) whole × (serial_reply before whole line ≡ serial_reply before choice line)
         × (session_after_line before whole line ≡ session_after_line before choice line) × (choice_after_line before whole line ≡ later)
 
-    trace-after_restore : (refused : Bool) (line : InterruptLine) → (if refused then before else record before { interrupt_line = line }).trace ≡ before.trace
-    trace-after_restore true line = refl
-    trace-after_restore false line = refl
+    -- a restore or a load leaves the output as it is
+    output-after_restore : (refused : Bool) (session : Session) → known_output session ≡ known_output before →
+        known_output (if refused then before else restored_session session) ≡ known_output before
+    output-after_restore true session same = refl
+    output-after_restore false session same = same
 
-    line-joins : (line : SerialLine) → IsPossibleFrom (known_output (session_after_line before choice line).trace) later → LineJoins line
+    output-after_load : (loaded : Result State Fault) → known_output (session_after_load before loaded) ≡ known_output before
+    output-after_load (Err fault) = refl
+    output-after_load (Ok state) =
+        output-after_restore (is_restore_refused (session_from before state)) (session_from before state) (known_output-from before state)
+
+    line-joins : (line : SerialLine) → IsPossibleFrom (known_output (session_after_line before choice line)) later → LineJoins line
     line-joins (line.Read offset) rest_possible = (later, unsent-joins before (Read offset) rest_possible, refl, refl, refl)
     line-joins (line.Write offset value) rest_possible =
         let op = Write offset value in
-        let k = kind_at fresh_state before.trace op in
-        let found = write-joins (session_sends before op) (known_output before.trace) (sent_by k) (one-sent k) few (after-joins before op _ rest_possible) in
+        let k = session_kind before op in
+        let found = write-joins (session_sends before op) (known_output before) (sent_by k) (one-sent k) few (after-joins before op _ rest_possible) in
         (found.0, found.1, ap (call_reply before op) found.2, ap (session_after_call before op) found.2, found.3)
     line-joins (line.Enqueue bytes) rest_possible = (later, unsent-joins before (Enqueue bytes) rest_possible, refl, refl, refl)
     line-joins line.Capacity rest_possible = (later, rest_possible, refl, refl, refl)
     line-joins line.Drain rest_possible = (later, reads-join (length (drained_bytes before)) before rest_possible, refl, refl, refl)
     line-joins line.Restore rest_possible =
-        (later, subst (λ (trace : List TraceEntry). IsPossibleFrom (known_output trace) later) (trace-after_restore _ _) rest_possible, refl, refl, refl)
+        (later, subst (λ output. IsPossibleFrom output later) (output-after_restore (is_restore_refused before) before refl) rest_possible, refl, refl, refl)
+    line-joins line.Save rest_possible = (later, rest_possible, refl, refl, refl)
+    line-joins (line.Load bytes) rest_possible =
+        (later, subst (λ output. IsPossibleFrom output later) (output-after_load (loaded_port bytes)) rest_possible, refl, refl, refl)
     line-joins line.Output rest_possible =
-        let found = output-joins (known_output before.trace) rest_possible in
+        let found = output-joins (known_output before) rest_possible in
         (found.0, found.1, ap digits_reply found.2, refl, found.3)
     line-joins line.Calls rest_possible = (later, rest_possible, refl, refl, refl)
     line-joins line.Events rest_possible = (later, rest_possible, refl, refl, refl)
@@ -179,35 +190,34 @@ module _ (mask : ℕ) (start : Option (List ℕ)) where
   -- for some choice, the text of these commands was written from the start on
   abbrev pub Prints : (commands : List Command) (end : Option (List ℕ)) → Type 0
   Prints commands end =
-      (choice : Choice) × IsPossible choice × Appends start end (text_from (fresh_session mask) [] choice commands)
+      (choice : Choice) × IsPossible choice × Appends start end (text_from (fresh_session mask) fresh_clock_session choice commands)
 
   -- whatever commands follow those before, and whatever is chosen for them, their text completes that of all of them,
   -- for some choice
   abbrev Completes :
-      (before : Option (List ℕ)) (session : Session) (accesses : List Access) (earlier : List Command) → Type 0
-  Completes before session accesses earlier =
-      (commands : List Command) (choice : Choice) → IsPossibleFrom (known_output session.trace) choice → (end : Option (List ℕ)) →
-      Appends before end (text_from session accesses choice commands) → Prints (earlier ++ commands) end
+      (before : Option (List ℕ)) (session : Session) (clock_session : ClockSession) (earlier : List Command) → Type 0
+  Completes before session clock_session earlier =
+      (commands : List Command) (choice : Choice) → IsPossibleFrom (known_output session) choice → (end : Option (List ℕ)) →
+      Appends before end (text_from session clock_session choice commands) → Prints (earlier ++ commands) end
 
-  -- a board to which these commands led, whose replies were written: where the serial port is, and the accesses of the
-  -- clock
+  -- a board to which these commands led, whose replies were written: where the serial port and the clock are
   abbrev pub Continues : (before : Option (List ℕ)) (board : Devices) (earlier : List Command) → Type 0
   Continues before board earlier =
-      (session : Session) × (accesses : List Access) × IsAt session board.serial
-      × (board.clock.state ≡ clock_of_history fresh_clock accesses) × Completes before session accesses earlier
+      (session : Session) × (clock_session : ClockSession) × IsAt session board.serial
+      × (board.clock.state ≡ clock_session_state clock_session) × Completes before session clock_session earlier
 
   -- where nothing follows
   pub Prints-so_far : (before : Option (List ℕ)) (board : Devices) (earlier : List Command) → Continues before board earlier → Prints earlier before
-  Prints-so_far before board earlier (session, accesses, at, is, completes) =
-      let few = output-few (known_output session.trace) board.serial.out at.output in
+  Prints-so_far before board earlier (session, clock_session, at, is, completes) =
+      let few = output-few (known_output session) board.serial.out at.output in
       subst (λ commands. Prints commands before) (append-nil earlier)
-      (completes [] no_choice (IsPossibleFrom-no_choice (known_output session.trace) few) before (Appends-nothing before))
+      (completes [] no_choice (IsPossibleFrom-no_choice (known_output session) few) before (Appends-nothing before))
 
   -- at the start, no command was carried out
   pub Continues-at_start : (board : Devices) → IsFresh mask board → Continues start board []
   Continues-at_start board is_fresh = (
     fresh_session mask,
-    [],
+    fresh_clock_session,
     is_fresh.serial,
     ap (λ (c : ClockDevice EventCounts). c.state) is_fresh.clock ∙ fresh_clock-history,
     λ commands choice rest_possible end text. (choice, record { sent = rest_possible.sent; room = omega (arith, rest_possible.room); short = rest_possible.short }, text),
@@ -220,51 +230,52 @@ module _ (mask : ℕ) (start : Option (List ℕ)) where
     one-more command commands end = subst (λ all. Prints all end) (sym (append_assoc earlier (command ∷ []) commands))
 
     Continues-after_serial :
-        (line : SerialLine) (old new : Port InterruptLine EventCounts Output) (accesses : List Access) (session : Session) →
-        IsAt session old → IsSerialLineStep line reply old new → Completes before session accesses earlier →
-        (next : Session) × IsAt next new × Completes after next accesses (earlier ++ Serial line ∷ [])
-    Continues-after_serial line old new accesses session at step completes =
+        (line : SerialLine) (old new : Port InterruptLine EventCounts Output) (clock_session : ClockSession) (session : Session) →
+        IsAt session old → IsSerialLineStep line reply old new → Completes before session clock_session earlier →
+        (next : Session) × IsAt next new × Completes after next clock_session (earlier ++ Serial line ∷ [])
+    Continues-after_serial line old new clock_session session at step completes =
         let taken = step session at in
         let choice = taken.0 in
         let next = session_after_line session choice line in (
           next,
           taken.3,
           λ commands later rest_possible end rest.
-              let few = output-few (known_output session.trace) old.out at.output in
+              let few = output-few (known_output session) old.out at.output in
               let whole = line-joins choice later taken.1 session few line rest_possible in
-              let same : text_from session accesses whole.0 (Serial line ∷ commands) ≡ reply ++ text_from next accesses later commands =
-              ap (λ xs. xs ++ text_from (session_after_line session whole.0 line) accesses (choice_after_line session whole.0 line) commands) (whole.2 ∙ sym taken.2)
-              ∙ ap (λ (s : Session). reply ++ text_from s accesses (choice_after_line session whole.0 line) commands) whole.3
-              ∙ ap (λ (c : Choice). reply ++ text_from next accesses c commands) whole.4 in
+              let same : text_from session clock_session whole.0 (Serial line ∷ commands) ≡ reply ++ text_from next clock_session later commands =
+              ap (λ xs. xs ++ text_from (session_after_line session whole.0 line) clock_session (choice_after_line session whole.0 line) commands) (whole.2 ∙ sym taken.2)
+              ∙ ap (λ (s : Session). reply ++ text_from s clock_session (choice_after_line session whole.0 line) commands) whole.3
+              ∙ ap (λ (c : Choice). reply ++ text_from next clock_session c commands) whole.4 in
               one-more (Serial line) commands end (completes (Serial line ∷ commands) whole.0 whole.1 end
-              (subst (λ xs. Appends before end xs) (sym same) (Appends-append before after end reply (text_from next accesses later commands) wrote rest))),
+              (subst (λ xs. Appends before end xs) (sym same) (Appends-append before after end reply (text_from next clock_session later commands) wrote rest))),
         )
 
     pub Continues-after_command :
         (command : Command) (old new : Devices) → IsLineStep command reply old new →
         Continues before old earlier → Continues after new (earlier ++ command ∷ [])
-    Continues-after_command (Serial line) old new step (session, accesses, at, is, completes) =
-        let next = Continues-after_serial line old.serial new.serial accesses session at step.0 completes in
-        (next.0, accesses, next.1, ap (λ (c : ClockDevice EventCounts). c.state) step.1 ∙ is, next.2)
-    Continues-after_command (Clock line) old new step (session, accesses, at, is, completes) =
-        let taken = step.0 accesses is in (
+    Continues-after_command (Serial line) old new step (session, clock_session, at, is, completes) =
+        let next = Continues-after_serial line old.serial new.serial clock_session session at step.0 completes in
+        (next.0, clock_session, next.1, ap (λ (c : ClockDevice EventCounts). c.state) step.1 ∙ is, next.2)
+    Continues-after_command (Clock line) old new step (session, clock_session, at, is, completes) =
+        let taken = step.0 clock_session is in
+        let next = clock_session_after_line clock_session line in (
           session,
-          access_of line ∷ accesses,
+          next,
           subst (λ (port : Port InterruptLine EventCounts Output). IsAt session port) (sym step.1) at,
           taken.1,
           λ commands choice rest_possible end rest.
-              let text = text_from session (access_of line ∷ accesses) choice commands in
+              let text = text_from session next choice commands in
               one-more (Clock line) commands end (completes (Clock line ∷ commands) choice rest_possible end
               (subst (λ xs. Appends before end (xs ++ text)) taken.0 (Appends-append before after end reply text wrote rest))),
         )
-    Continues-after_command (Controller line) old new step (session, accesses, at, is, completes) =
+    Continues-after_command (Controller line) old new step (session, clock_session, at, is, completes) =
         subst (λ (board : Devices). Continues after board (earlier ++ Controller line ∷ [])) (sym step.1) (
           session,
-          accesses,
+          clock_session,
           at,
           is,
           λ commands choice rest_possible end rest.
-              let text = text_from session accesses choice commands in
+              let text = text_from session clock_session choice commands in
               one-more (Controller line) commands end (completes (Controller line ∷ commands) choice rest_possible end
               (subst (λ xs. Appends before end (xs ++ text)) step.0 (Appends-append before after end reply text wrote rest))),
         )
@@ -362,15 +373,15 @@ module _ (mask : ℕ) (start : Option (List ℕ)) (all rest : List (List ℕ)) (
         ∙ ap (λ commands. good_commands carried.earlier ++ commands) no_more ∙ append-nil (good_commands carried.earlier) in
         subst (λ commands. Prints mask start commands before) (sym same) (Prints-so_far mask start before board (good_commands carried.earlier) carried.text)
 
-    -- the next line asks for a restore, for which memory was refused
-    pub Stops-here : IsRestoreLine line → StopsAtRestore mask all start before
-    Stops-here restore = record {
+    -- the next line takes memory, which was refused
+    pub Stops-here : TakesMemory line → StopsWithoutMemory mask all start before
+    Stops-here takes = record {
       earlier = carried.earlier;
       line = line;
       later = more;
       split = carried.split ∙ ap (λ lines. carried.earlier ++ lines) next;
       all_good = carried.all_good;
-      restore = restore;
+      takes_memory = takes;
       text = Prints-so_far mask start before board (good_commands carried.earlier) carried.text;
     }
 

@@ -1,10 +1,12 @@
 -- A line of the serial port is a step of its session.
-use Rattle.std.proofs.Common.{◌≡◌, ℕ, zero, suc, ◌-◌, ◌≤◌, Bool, true, false, List, [], ◌∷◌, ◌++◌, length, Option, Some, None, Result, Ok, Err, refl, ap, sym, ◌∙◌, subst, arith, append-nil, inl, inr}
+use Rattle.std.proofs.Common.{◌≡◌, ℕ, zero, suc, ◌-◌, ◌≤◌, Bool, true, false, List, [], ◌∷◌, ◌++◌, length, Option, Some, None, Result, Ok, Err, refl, ap, sym, ◌∙◌, subst, arith, append_assoc, append-nil, inl, inr}
 use Rattle.std.specs.Cmp.Derive.{both_true}
-use Rattle.std.specs.Prelude.{◌⊎◌, ◌≢◌, IsTrue, IsSome, IfSome, if◌then◌else◌, nat_le, not, codes, fold, ◌&&◌}
+use Rattle.std.specs.Option.{option_map}
+use Rattle.std.specs.Prelude.{◌⊎◌, ◌≢◌, IsTrue, IsSome, IfSome, IfOk, if◌then◌else◌, nat_le, not, codes, fold, ◌&&◌}
 use Rattle.std.specs.Bool.{beq}
 use Rattle.std.proofs.lemmas.Bool.{and_parts, false≢true}
 use Rattle.std.proofs.lemmas.Bool.Decides.{nat_tests}
+use Rattle.vm_superio.specs.declared.saved.Error.{Error as Fault}
 use Rattle.vm_superio.specs.declared.trace.Asked.{Asked}
 use Rattle.vm_superio.specs.declared.trace.Asked.TheVariants.{Nothing, Took, Refused, TookTook, TookRefused}
 use Rattle.vm_superio.specs.declared.trace.Sent.{Sent}
@@ -13,34 +15,36 @@ use Rattle.vm_superio.specs.Port.State.{State, not_empty}
 use Rattle.vm_superio.specs.Port.SavedState.{fresh_state}
 use Rattle.vm_superio.specs.Port.Bits.{has_bits, only_bits}
 use Rattle.vm_superio.specs.Port.Coherent.{Coherent}
-use Rattle.vm_superio.specs.Port.Registers.{is_dlab, thre_then_rda}
+use Rattle.vm_superio.specs.Port.Registers.{Condition, is_dlab, thre_then_rda}
 use Rattle.vm_superio.specs.Port.Operations.{Op, Read, Write, Enqueue, TraceEntry, Response, ByteRead, is_sent, is_lost, ends_in_refusal}
-use Rattle.vm_superio.specs.Port.OpKinds.{Arrival, Other, sent_by}
-use Rattle.vm_superio.specs.Step.Admissible.{answers_all, step_calls}
+use Rattle.vm_superio.specs.Port.OpKinds.{OpKind, Arrival, Other, sent_by}
+use Rattle.vm_superio.specs.Step.Admissible.{answers_all, step_calls, sends_byte, is_admissible}
 use Rattle.vm_superio.specs.Step.Restore.{restore_calls, RefusesRestore}
 use Rattle.vm_superio.specs.History.Registers.{kind_at, loopback}
-use Rattle.vm_superio.specs.History.Interrupts.{restore_calls_due}
-use Rattle.vm_superio.specs.History.Reads.{none_lost, history_response, output, state_of_history}
-use Rattle.vm_superio.specs.History.Calls.{history_events}
-use Rattle.vm_superio.specs.Laws.Agreement.{state_after, CoherenceLaw, StateLaw, PrefixAgrees, StepLaw}
+use Rattle.vm_superio.specs.History.Reads.{none_lost, output}
+use Rattle.vm_superio.specs.Laws.Agreement.{StateLaw, StepLaw}
 use Rattle.vm_superio.specs.Port.ObjectLinks.{answers_of, all_ok, StopsAtRefusal}
 use Rattle.vm_superio.specs.Port.WriterLink.{PortLinks, port_links, bytes_written, WriterLink}
 use Rattle.vm_superio.specs.Port.Model.{Port, failure_response}
+use Rattle.vm_superio.specs.Saved.Form.{serial_form}
 use Rattle.vm_superio.specs.Step.PortStep.{IsPortStep}
 use Rattle.vm_superio.specs.declared.serial.errors.Error.{Error}
 use Rattle.vm_superio.specs.declared.serial.errors.Error.TheVariants.{Trigger, IOError, FullFifo, Memory}
-use Rattle.vm_superio.proofs.PublicLemmas.{fresh_coherent}
-use Rattle.superio_script.specs.InterruptLine.{InterruptLine, fresh_interrupt_line, InterruptLineLink, is_call_refused, interrupt_line_after_call}
 use Rattle.vm_superio.specs.Counting.{Folds}
+use Rattle.superio_script.specs.InterruptLine.{InterruptLine, fresh_interrupt_line, InterruptLineLink, is_call_refused, interrupt_line_after_call}
 use Rattle.superio_script.specs.Counts.{EventCounts, no_counts, counts_after_event}
 use Rattle.superio_script.specs.Output.{written_bytes}
 use Rattle.superio_script.specs.Reply.{with_lf, response_reply, digits_reply, count_digits, counts_reply}
-use Rattle.superio_script.specs.SerialScript.{Session, fresh_session, known_output, Choice, IsPossible, trigger_answers, interrupt_line_after_answers, session_answers, session_sends, outcome_if_sent, call_reply, session_after_call, session_after_reads, output_or_chosen, is_restore_refused}
-use Rattle.superio_script.specs.Driver.{ReadsWhileReady, TakesAll}
-use Rattle.superio_script.specs.Board.{IsAt, IsSerialLineStep}
+use Rattle.superio_script.specs.Loading.{loaded_port, fault_words}
+use Rattle.superio_script.specs.PortSession.{Session, fresh_session, output_since, known_output, is_coherent, session_from, session_dlab, session_kind, session_held_bytes, stepped_state, session_response, session_events, drained_bytes}
+use Rattle.superio_script.specs.SerialScript.{Choice, IsPossible, trigger_answers, interrupt_line_after_answers, session_answers, session_sends, outcome_if_sent, call_reply, session_after_call, session_after_reads, output_or_chosen, is_restore_refused, restored_session, load_reply, session_after_load}
+use Rattle.superio_script.specs.Driver.{ReadsWhileReady, bytes_while_ready, TakesAll}
+use Rattle.superio_script.specs.Board.{IsAt, RestoresTo, IsRestore, IsSerialLineStep}
 use Rattle.superio_script.specs.declared.output.Output.{Output}
 use Rattle.superio_script.specs.declared.trigger.LineRefused.{LineRefused}
 use Rattle.superio_script.specs.declared.command.SerialLine.TheVariants as line
+use Rattle.superio_script.proofs.DriverLemmas.{reads-are_stepped}
+use Rattle.superio_script.proofs.PortSessionLemmas.{PortLaws, state-is_stepped, calls-are_stepped, restore_calls-are_stepped, response-is_stepped, events-are_stepped, dlab-is_stepped, kind-is_stepped, held-are_stepped, session-coherent, known_output-from, written-is_sent}
 
 -- ---- the interrupt line
 
@@ -145,20 +149,30 @@ abbrev pub output_after : (known : Option (List ℕ)) (outcome : Sent) (bytes : 
 output_after None outcome bytes = None
 output_after (Some output) outcome bytes = if is_lost outcome then None else Some (output ++ bytes)
 
-known_output-cases : (kept : Bool) (outcome : Sent) (out bytes all : List ℕ) → all ≡ bytes →
-    (if not (is_lost outcome) && kept then Some (out ++ all) else None) ≡ output_after (if kept then Some out else None) outcome bytes
-known_output-cases false sent.Nothing out bytes all same = refl
-known_output-cases false sent.Out out bytes all same = refl
-known_output-cases false sent.Lost out bytes all same = refl
-known_output-cases true sent.Nothing out bytes all same = ap (λ xs. Some (out ++ xs)) same
-known_output-cases true sent.Out out bytes all same = ap (λ xs. Some (out ++ xs)) same
-known_output-cases true sent.Lost out bytes all same = refl
+output_since-cases : (earlier : Option (List ℕ)) (kept : Bool) (outcome : Sent) (out bytes all : List ℕ) → all ≡ bytes →
+    (if not (is_lost outcome) && kept then option_map (λ before. before ++ (out ++ all)) earlier else None)
+    ≡ output_after (if kept then option_map (λ before. before ++ out) earlier else None) outcome bytes
+output_since-cases earlier false sent.Nothing out bytes all same = refl
+output_since-cases earlier false sent.Out out bytes all same = refl
+output_since-cases earlier false sent.Lost out bytes all same = refl
+output_since-cases None true outcome out bytes all same = lost outcome
+  where
+    lost : (outcome : Sent) → (if not (is_lost outcome) && true then None else None) ≡ output_after None outcome bytes
+    lost sent.Nothing = refl
+    lost sent.Out = refl
+    lost sent.Lost = refl
+output_since-cases (Some before) true sent.Nothing out bytes all same =
+    ap Some (ap (λ xs. before ++ (out ++ xs)) same ∙ sym (append_assoc before out bytes))
+output_since-cases (Some before) true sent.Out out bytes all same =
+    ap Some (ap (λ xs. before ++ (out ++ xs)) same ∙ sym (append_assoc before out bytes))
+output_since-cases (Some before) true sent.Lost out bytes all same = refl
 
-pub known_output-after : (trace : List TraceEntry) (entry : TraceEntry) →
-    known_output (entry ∷ trace) ≡ output_after (known_output trace) entry.sent (sent_by (kind_at fresh_state trace entry.op))
-known_output-after trace entry =
-    known_output-cases (none_lost trace) entry.sent (output fresh_state [] trace) _ _
-    (ap (λ (before : List TraceEntry). sent_by (kind_at fresh_state before entry.op)) (append-nil trace))
+pub known_output-after : (session : Session) (entry : TraceEntry) →
+    output_since session.earlier_output session.start (entry ∷ session.trace)
+    ≡ output_after (known_output session) entry.sent (sent_by (session_kind session entry.op))
+known_output-after session entry =
+    output_since-cases session.earlier_output (none_lost session.trace) entry.sent (output session.start [] session.trace) _ _
+    (ap (λ (before : List TraceEntry). sent_by (kind_at session.start before entry.op)) (append-nil session.trace))
 
 -- it is what the writer holds, where the writer is linked by the byte's outcome, and took what was sent
 written_bytes-after_call :
@@ -172,7 +186,7 @@ written_bytes-after_call (Some all) sent.Out accepted bytes old new link same wa
     link.grown refl ∙ ap (λ xs. xs ++ accepted) was ∙ ap (λ xs. all ++ xs) (same refl)
 written_bytes-after_call (Some all) sent.Lost accepted bytes old new link same was = tt
 
--- ---- the state that a trace describes
+-- ---- a port at a session
 
 -- a fresh port is at the fresh session
 pub at-start :
@@ -181,20 +195,27 @@ pub at-start :
 unfolding has_bits only_bits
 at-start mask port state line counts output = record { state = state; interrupt_line = line; counts = counts; output = output }
 
--- each call of a port that started fresh is a step of its trace
-agrees : StepLaw → (trace : List TraceEntry) → PrefixAgrees fresh_state trace
-agrees law trace = law fresh_state trace fresh_coherent
-
--- a port at a session
-port-at : (before : Session) (port : Port InterruptLine EventCounts Output) → IsAt before port →
-    port ≡ record { state = state_of_history fresh_state before.trace; trigger = before.interrupt_line; events = before.counts; out = port.out }
-port-at before port at = λ i. record { state = at.state i; trigger = at.interrupt_line i; events = at.counts i; out = port.out }
+-- the session after a call with this entry
+abbrev session_after : (before : Session) (entry : TraceEntry) → Session
+session_after before entry = record before {
+  trace = entry ∷ before.trace;
+  interrupt_line = interrupt_line_after_answers before.interrupt_line entry.asked;
+  counts = fold counts_after_event before.counts (session_events before entry);
+}
 
 -- the links of the board's objects
 abbrev pub board_links : PortLinks InterruptLine LineRefused EventCounts Output
 board_links = port_links InterruptLineLink (Folds counts_after_event) (λ output. Some (written_bytes output))
 
-module _ (law : StepLaw) where
+-- the state of a port at a session is the one that the steps lead to
+pub stepped-at : StateLaw → (session : Session) (port : Port InterruptLine EventCounts Output) → IsAt session port → port.state ≡ stepped_state session
+stepped-at states session port at = at.state ∙ state-is_stepped states session
+
+module _ (laws : PortLaws) where
+  port-at : (before : Session) (port : Port InterruptLine EventCounts Output) → IsAt before port →
+      port ≡ record { state = stepped_state before; trigger = before.interrupt_line; events = before.counts; out = port.out }
+  port-at before port at = λ i. record { state = stepped-at laws.states before port at i; trigger = at.interrupt_line i; events = at.counts i; out = port.out }
+
   -- ---- a call
 
   module _ (op : Op) (asked : Asked) (outcome : Sent) (response : Response) (refusal : Option LineRefused) (old new : Port InterruptLine EventCounts Output) where
@@ -202,11 +223,11 @@ module _ (law : StepLaw) where
     abbrev pub IsSessionStep : (before : Session) (byte_outcome : Sent) → Type 0
     IsSessionStep before byte_outcome = (response_reply response ≡ call_reply before op byte_outcome) × IsAt (session_after_call before op byte_outcome) new
 
-    -- the same call, of the port in the state that the session's trace describes
+    -- the same call, of the port in the state that the session's steps lead to
     abbrev pub PortStepAt : (before : Session) → Type 0
     PortStepAt before =
         IsPortStep board_links op asked outcome response refusal
-        (record { state = state_of_history fresh_state before.trace; trigger = before.interrupt_line; events = before.counts; out = old.out }) new
+        (record { state = stepped_state before; trigger = before.interrupt_line; events = before.counts; out = old.out }) new
 
     pub port_step-at : (before : Session) → IsAt before old →
         IsPortStep board_links op asked outcome response refusal old new → PortStepAt before
@@ -216,27 +237,33 @@ module _ (law : StepLaw) where
 
     pub session_step-from_port_step : (before : Session) → IsAt before old → PortStepAt before → IsSessionStep before outcome
     session_step-from_port_step before at made =
-        let prefix = agrees law before.trace in
+        let here = stepped_state before in
         let entry : TraceEntry = record { op = op; asked = asked; sent = outcome } in
-        let step = prefix.steps entry made.admissible in
-        let fitted = (and_parts (answers_all (step_calls (state_of_history fresh_state before.trace) op) asked) (beq (is_sent outcome) (session_sends before op)) made.admissible).0 in
-        let so = trigger_answers-from_link before.interrupt_line new.trigger (step_calls (state_of_history fresh_state before.trace) op) asked refusal fitted (λ h. made.refused ∙ h) made.trigger in
-        let same : asked ≡ session_answers before op = so.0 ∙ ap (trigger_answers before.interrupt_line) (prefix.calls op) in
-        let P : Asked → Type 0 = λ a. (response_reply response ≡ response_reply (history_response fresh_state before.trace op a outcome)) × IsAt (record {
-          trace = record { op = op; asked = a; sent = outcome } ∷ before.trace;
-          interrupt_line = interrupt_line_after_answers before.interrupt_line a;
-          counts = fold counts_after_event before.counts (history_events fresh_state before.trace (record { op = op; asked = a; sent = outcome }));
-        }) new in
+        let fitted = and_parts (answers_all (step_calls here op) asked) (beq (is_sent outcome) (sends_byte here op)) made.admissible in
+        let so = trigger_answers-from_link before.interrupt_line new.trigger (step_calls here op) asked refusal fitted.0 (λ h. made.refused ∙ h) made.trigger in
+        let same : asked ≡ session_answers before op = so.0 ∙ ap (trigger_answers before.interrupt_line) (sym (calls-are_stepped laws before op)) in
+        let after = λ (a : Asked). session_after before (record { op = op; asked = a; sent = outcome }) in
+        let sent_bytes = sent_by (session_kind before op) in
+        let fits = subst (λ (k : OpKind). IsTrue (beq (is_sent outcome) (not_empty (sent_by k)))) (sym (kind-is_stepped laws before op)) fitted.1 in
+        let P : Asked → Type 0 = λ a. (response_reply response ≡ response_reply (session_response before op a outcome)) × IsAt (after a) new in
         subst P same (
-          ap response_reply (made.response ∙ step.response),
+          ap response_reply (made.response ∙ sym (response-is_stepped laws before op asked outcome)),
           record {
-            state = made.state ∙ step.state;
+            state = made.state ∙ sym (state-is_stepped laws.states (after asked));
             interrupt_line = so.1;
-            counts = made.events.folds ∙ ap (fold counts_after_event before.counts) step.events;
-            output = subst (λ (known : Option (List ℕ)). IfSome known (λ all. written_bytes new.out ≡ all)) (sym (known_output-after before.trace entry))
-                (written_bytes-after_call (known_output before.trace) outcome (bytes_written op outcome) (sent_by (kind_at fresh_state before.trace op)) old.out new.out made.out step.output at.output);
+            counts = made.events.folds ∙ ap (fold counts_after_event before.counts) (sym (events-are_stepped laws before entry made.admissible));
+            output = subst (λ (known : Option (List ℕ)). IfSome known (λ all. written_bytes new.out ≡ all)) (sym (known_output-after before entry))
+                (written_bytes-after_call (known_output before) outcome (bytes_written op outcome) sent_bytes old.out new.out made.out
+                (λ kept. written-is_sent (session_dlab before) (loopback before.start before.trace) op outcome kept fits) at.output);
           },
         )
+
+  -- there is an outcome exactly where the session sends a byte
+  sends-here : (before : Session) (op : Op) (asked : Asked) (outcome : Sent) → IsTrue (is_admissible (stepped_state before) op asked outcome) →
+      IsTrue (beq (is_sent outcome) (session_sends before op))
+  sends-here before op asked outcome admissible =
+      subst (λ (k : OpKind). IsTrue (beq (is_sent outcome) (not_empty (sent_by k)))) (sym (kind-is_stepped laws before op))
+      (and_parts (answers_all (step_calls (stepped_state before) op) asked) (beq (is_sent outcome) (sends_byte (stepped_state before) op)) admissible).1
 
   -- ---- the lines that make a call
 
@@ -250,7 +277,7 @@ module _ (law : StepLaw) where
         let here = port_step-at op asked outcome response refusal old new before at made in
         let step = session_step-from_port_step op asked outcome response refusal old new before at here in
         let sending = session_sends before op in
-        let same_outcome = outcome_if_sent-choice_of sending outcome (and_parts (answers_all (step_calls (state_of_history fresh_state before.trace) op) asked) (beq (is_sent outcome) sending) here.admissible).1 in
+        let same_outcome = outcome_if_sent-choice_of sending outcome (sends-here before op asked outcome here.admissible) in
         let found = subst (IsSessionStep op asked outcome response refusal old new before) same_outcome step in
         (choice_of outcome, IsPossible-choice_of outcome, found.0, found.1)
 
@@ -263,7 +290,7 @@ module _ (law : StepLaw) where
         let here = port_step-at op asked outcome response refusal old new before at made in
         let step = session_step-from_port_step op asked outcome response refusal old new before at here in
         let sending = session_sends before op in
-        let none = nothing-sent outcome sending (enqueue-sends_nothing (loopback fresh_state before.trace) bytes) (and_parts (answers_all (step_calls (state_of_history fresh_state before.trace) op) asked) (beq (is_sent outcome) sending) here.admissible).1 in
+        let none = nothing-sent outcome sending (enqueue-sends_nothing (loopback before.start before.trace) bytes) (sends-here before op asked outcome here.admissible) in
         let found = subst (IsSessionStep op asked outcome response refusal old new before) none step in
         (no_choice, IsPossible-no_choice, found.0, found.1)
 
@@ -278,46 +305,49 @@ module _ (law : StepLaw) where
 
 -- ---- a drain
 
--- a port that started fresh is in a coherent state
-state_coherent : CoherenceLaw → (trace : List TraceEntry) → Coherent (state_after fresh_state trace)
-state_coherent law [] = fresh_coherent
-state_coherent law (entry ∷ trace) = law (state_after fresh_state trace) entry.op entry.asked (state_coherent law trace)
+-- what is drained, by whether DLAB is set, and whether the start was coherent
+drained : (latch coherent : Bool) (bytes held stepped : List ℕ) → (latch ≡ true → bytes ≡ [])
+    → (latch ≡ false → coherent ≡ true → bytes ≡ held) → (latch ≡ false → bytes ≡ stepped)
+    → bytes ≡ (if latch then [] else (if coherent then held else stepped))
+drained true coherent bytes held stepped set history steps = set refl
+drained false true bytes held stepped set history steps = history refl refl
+drained false false bytes held stepped set history steps = steps refl
 
-pub session_coherent : CoherenceLaw → StateLaw → (session : Session) (port : Port InterruptLine EventCounts Output)
-    → IsAt session port → Coherent port.state
-session_coherent coherence states session port at =
-    subst Coherent (states fresh_state session.trace fresh_coherent ∙ sym at.state) (state_coherent coherence session.trace)
-
--- what is drained, by whether DLAB is set
-drained : (latch : Bool) (bytes held : List ℕ) → (latch ≡ true → bytes ≡ []) → (latch ≡ false → bytes ≡ held)
-    → bytes ≡ (if latch then [] else held)
-drained true bytes held set clear = set refl
-drained false bytes held set clear = clear refl
-
-module _ (law : StepLaw) where
+module _ (laws : PortLaws) where
   reads-step : (bytes : List ℕ) (old new : Port InterruptLine EventCounts Output) (before : Session) → IsAt before old
       → ReadsWhileReady InterruptLineLink (Folds counts_after_event) (λ output. Some (written_bytes output)) bytes old new
       → IsAt (session_after_reads (length bytes) before) new
   reads-step [] old new before at same = subst (IsAt before) (sym same) at
   reads-step (byte ∷ bytes) old new before at (ready, (middle, made, later)) =
-      let read = read-step law old middle (ByteRead byte) None 0 made before at in
+      let read = read-step laws old middle (ByteRead byte) None 0 made before at in
       reads-step bytes middle new (session_after_call before (Read 0) sent.Nothing) read.3 later
 
   pub drain-step :
-      CoherenceLaw → StateLaw → (bytes : List ℕ) (old new : Port InterruptLine EventCounts Output)
+      (bytes : List ℕ) (old new : Port InterruptLine EventCounts Output)
       → ReadsWhileReady InterruptLineLink (Folds counts_after_event) (λ output. Some (written_bytes output)) bytes old new
+      → length bytes ≤ 64
       → (IsTrue (is_dlab old.state.line_control) → bytes ≡ [])
+      → (is_dlab old.state.line_control ≡ false → has_bits new.state.line_status 0x01 ≡ false)
       → (Coherent old.state → is_dlab old.state.line_control ≡ false → TakesAll (Folds counts_after_event) bytes old new)
       → IsSerialLineStep line.Drain (digits_reply bytes) old new
-  drain-step coherence states bytes old new reads latch all before at =
-      let is = session_coherent coherence states before old at in
-      let taken : bytes ≡ (if is_dlab old.state.line_control then [] else old.state.in_buffer) =
-      drained (is_dlab old.state.line_control) bytes old.state.in_buffer latch (λ clear. (all is clear).bytes) in
-      let same = taken ∙ ap (λ (s : State). if is_dlab s.line_control then [] else s.in_buffer) at.state in (
+  drain-step bytes old new reads few latch ends all before at =
+      let here = stepped-at laws.states before old at in
+      let shows : session_dlab before ≡ is_dlab old.state.line_control =
+      dlab-is_stepped laws before ∙ ap (λ (s : State). is_dlab s.line_control) (sym here) in
+      let held : old.state.in_buffer ≡ session_held_bytes before =
+      ap (λ (s : State). s.in_buffer) here ∙ sym (held-are_stepped laws before) in
+      let taken : bytes ≡ drained_bytes before =
+      drained (session_dlab before) (is_coherent before.start) bytes (session_held_bytes before) (bytes_while_ready 64 (stepped_state before))
+      (λ set. latch (sym shows ∙ set))
+      (λ clear is. (all (subst Coherent (sym here) (session-coherent laws before is)) (sym shows ∙ clear)).bytes ∙ held)
+      (λ clear.
+      let hidden = sym shows ∙ clear in
+      reads-are_stepped InterruptLineLink (Folds counts_after_event) (λ output. Some (written_bytes output)) 64 bytes old new hidden reads (ends hidden) few
+      ∙ ap (bytes_while_ready 64) here) in (
         no_choice,
         IsPossible-no_choice,
-        ap digits_reply same,
-        subst (λ (bytes : List ℕ). IsAt (session_after_reads (length bytes) before) new) same (reads-step bytes old new before at reads),
+        ap digits_reply taken,
+        subst (λ (bytes : List ℕ). IsAt (session_after_reads (length bytes) before) new) taken (reads-step bytes old new before at reads),
       )
 
 -- ---- the lines that make none
@@ -332,9 +362,17 @@ output_or_chosen-written None bytes was = refl
 output_or_chosen-written (Some all) bytes was = was
 
 module _ (port : Port InterruptLine EventCounts Output) where
-  pub capacity-step : IsSerialLineStep line.Capacity (digits_reply ((64 - length port.state.in_buffer) ∷ [])) port port
-  capacity-step before at =
-      (no_choice, IsPossible-no_choice, ap (λ (s : State). digits_reply ((64 - length s.in_buffer) ∷ [])) at.state, at)
+  pub capacity-step : PortLaws → IsSerialLineStep line.Capacity (digits_reply ((64 - length port.state.in_buffer) ∷ [])) port port
+  capacity-step laws before at = (
+    no_choice,
+    IsPossible-no_choice,
+    ap (λ (s : State). digits_reply ((64 - length s.in_buffer) ∷ [])) (stepped-at laws.states before port at)
+        ∙ ap (λ (held : List ℕ). digits_reply ((64 - length held) ∷ [])) (sym (held-are_stepped laws before)),
+    at,
+  )
+
+  pub save-step : IsSerialLineStep line.Save (digits_reply (serial_form port.state)) port port
+  save-step before at = (no_choice, IsPossible-no_choice, ap (λ (s : State). digits_reply (serial_form s)) at.state, at)
 
   pub calls-step : IsSerialLineStep line.Calls (with_lf (count_digits port.trigger.calls)) port port
   calls-step before at =
@@ -347,7 +385,7 @@ module _ (port : Port InterruptLine EventCounts Output) where
   output-step before at =
       let choice : Choice = record { outcomes = []; outputs = written_bytes port.out ∷ [] } in
       let few : nat_le (length (written_bytes port.out)) 256 ≡ true = short-enough (length (written_bytes port.out)) port.out.few in
-      (choice, record { sent = refl; room = omega arith; short = both_true few refl }, ap digits_reply (output_or_chosen-written (known_output before.trace) (written_bytes port.out) at.output), at)
+      (choice, record { sent = refl; room = omega arith; short = both_true few refl }, ap digits_reply (output_or_chosen-written (known_output before) (written_bytes port.out) at.output), at)
 
 -- ---- a restore
 
@@ -371,11 +409,15 @@ second-refused : (refusal : LineRefused) (response : Result (Unit {0}) LineRefus
 second-refused refusal response responses (inl h) = h.0
 second-refused refusal response responses (inr h) = absurd h.1
 
+-- so many calls are accepted, and lead to this interrupt line
+abbrev AreAccepted : (line new : InterruptLine) (calls : ℕ) → Type 0
+AreAccepted line new calls =
+    (ends_in_refusal (trigger_answers line calls) ≡ false) × (new ≡ interrupt_line_after_answers line (trigger_answers line calls))
+
 -- where all calls of a restore were accepted, no response is a refusal
 restore-accepted :
     (line new : InterruptLine) (thre rda : Bool) → InterruptLineLink line (all_ok (thre_then_rda thre rda)) new →
-    (ends_in_refusal (trigger_answers line (length (thre_then_rda thre rda))) ≡ false)
-    × (new ≡ interrupt_line_after_answers line (trigger_answers line (length (thre_then_rda thre rda))))
+    AreAccepted line new (length (thre_then_rda thre rda))
 restore-accepted line new false false link = (refl, sym link)
 restore-accepted line new true false link = one-accepted line new link
 restore-accepted line new false true link = one-accepted line new link
@@ -408,46 +450,88 @@ restore-refused line new true true refusal (response ∷ next ∷ responses) (in
     ap (λ (a : Bool). ends_in_refusal (two_responses a (is_call_refused line.mask (interrupt_line_after_call line).calls))) first
     ∙ ap (λ (b : Bool). ends_in_refusal (if b then TookRefused else TookTook)) second
 
-module _ (law : StepLaw) (old new : Port InterruptLine EventCounts Output) where
+module _ (states : StateLaw) (steps : StepLaw) (old new : Port InterruptLine EventCounts Output) (state : State) where
   -- a restore whose calls were accepted
-  pub restore-step :
-      new.state ≡ old.state → InterruptLineLink old.trigger (all_ok (restore_calls old.state)) new.trigger → new.events ≡ old.events → new.out ≡ old.out →
-      IsSerialLineStep line.Restore (with_lf (codes "ok")) old new
-  restore-step state link events out before at =
-      let calls = ap restore_calls at.state ∙ (agrees law before.trace).restoring in
-      let linked = subst (λ calls. InterruptLineLink before.interrupt_line (all_ok calls) new.trigger) calls
-      (subst (λ (l : InterruptLine). InterruptLineLink l (all_ok (restore_calls old.state)) new.trigger) at.interrupt_line link) in
-      let accepted = restore-accepted before.interrupt_line new.trigger _ _ linked in
-      let after = interrupt_line_after_answers before.interrupt_line (trigger_answers before.interrupt_line (length (restore_calls_due fresh_state before.trace))) in
-      let P : Bool → Type 0 = λ refused. (with_lf (codes "ok") ≡ with_lf (if refused then codes "trigger" else codes "ok"))
-      × IsAt (if refused then before else record before { interrupt_line = after }) new in
-      let found : P (is_restore_refused before) = subst P (sym accepted.0) (
-        refl,
-        record {
-          state = state ∙ at.state;
+  pub restore-accepts :
+      new.state ≡ state → InterruptLineLink old.trigger (all_ok (restore_calls state)) new.trigger → new.events ≡ old.events → new.out ≡ old.out →
+      IsRestore state (with_lf (codes "ok")) old new
+  restore-accepts is link events out session at =
+      let calls = ap restore_calls (stepped-at states session (record old { state = state }) at) ∙ sym (restore_calls-are_stepped states steps session) in
+      let linked = subst (λ (l : InterruptLine). InterruptLineLink l (all_ok (restore_calls state)) new.trigger) at.interrupt_line link in
+      let accepted = subst (λ (calls : List Condition). AreAccepted session.interrupt_line new.trigger (length calls)) calls
+      (restore-accepted session.interrupt_line new.trigger _ _ linked) in record {
+        replied = ap (λ (refused : Bool). with_lf (if refused then codes "trigger" else codes "ok")) (sym accepted.0);
+        accepted = λ _. record {
+          state = is ∙ at.state;
           interrupt_line = accepted.1;
           counts = events ∙ at.counts;
-          output = subst (λ (o : Output). IfSome (known_output before.trace) (λ all. written_bytes o ≡ all)) (sym out) at.output;
-        },
-      ) in
-      (no_choice, IsPossible-no_choice, found.0, found.1)
+          output = subst (λ (o : Output). IfSome (known_output session) (λ all. written_bytes o ≡ all)) (sym out) at.output;
+        };
+        unchanged = λ refused. absurd (false≢true (sym accepted.0 ∙ refused));
+      }
 
--- a restore one of whose calls was refused
-pub refused-restore-step :
-    (law : StepLaw) (port : Port InterruptLine EventCounts Output) (line_after_calls : InterruptLine) (error : Error LineRefused) → length port.state.in_buffer ≤ 64 →
-    RefusesRestore InterruptLineLink port.state error port.trigger line_after_calls → error ≢ Memory →
-    IsSerialLineStep line.Restore (response_reply (failure_response error)) port port
-refused-restore-step law port after FullFifo few refuses other = absurd (omega (arith, refuses.0))
-refused-restore-step law port after (IOError fault) few refuses other = absurd refuses.1
-refused-restore-step law port after Memory few refuses other = absurd (other refl)
-refused-restore-step law port after (Trigger refusal) few refuses other = λ before at.
-    let calls = ap restore_calls at.state ∙ (agrees law before.trace).restoring in
-    let responses = refuses.1.0 in
-    let ends = subst (λ calls. StopsAtRefusal calls refusal responses) calls refuses.1.1 in
-    let linked = subst (λ (l : InterruptLine). InterruptLineLink l responses after) at.interrupt_line refuses.1.2 in
-    let refused : is_restore_refused before ≡ true = restore-refused before.interrupt_line after _ _ refusal responses ends linked in (
-      no_choice,
-      IsPossible-no_choice,
-      ap (λ (b : Bool). with_lf (if b then codes "trigger" else codes "ok")) (sym refused),
-      subst (λ (b : Bool). IsAt (if b then before else record before { interrupt_line = interrupt_line_after_answers before.interrupt_line (trigger_answers before.interrupt_line (length (restore_calls_due fresh_state before.trace))) }) port) (sym refused) at,
-    )
+  -- one of whose calls was refused
+  pub restore-refuses :
+      (after : InterruptLine) (error : Error LineRefused) →
+      length state.in_buffer ≤ 64 → RefusesRestore InterruptLineLink state error old.trigger after → error ≢ Memory →
+      new ≡ old → IsRestore state (response_reply (failure_response error)) old new
+  restore-refuses after FullFifo few refuses other same = absurd (omega (arith, refuses.0))
+  restore-refuses after (IOError fault) few refuses other same = absurd refuses.1
+  restore-refuses after Memory few refuses other same = absurd (other refl)
+  restore-refuses after (Trigger refusal) few refuses other same = λ session at.
+      let calls = ap restore_calls (stepped-at states session (record old { state = state }) at) ∙ sym (restore_calls-are_stepped states steps session) in
+      let responses = refuses.1.0 in
+      let linked = subst (λ (l : InterruptLine). InterruptLineLink l responses after) at.interrupt_line refuses.1.2 in
+      let refused : is_restore_refused session ≡ true =
+      subst (λ (calls : List Condition). ends_in_refusal (trigger_answers session.interrupt_line (length calls)) ≡ true) calls
+      (restore-refused session.interrupt_line after _ _ refusal responses refuses.1.1 linked) in record {
+        replied = ap (λ (b : Bool). with_lf (if b then codes "trigger" else codes "ok")) (sym refused);
+        accepted = λ none. absurd (false≢true (sym none ∙ refused));
+        unchanged = λ _. same;
+      }
+
+-- ---- the lines that restore
+
+module _ (old new : Port InterruptLine EventCounts Output) (reply : List ℕ) where
+  at-unless : (refused : Bool) (before after : Session) → IsAt before old → RestoresTo after refused reply old new →
+      IsAt (if refused then before else after) new
+  at-unless true before after at restored = subst (IsAt before) (sym (restored.unchanged refl)) at
+  at-unless false before after at restored = restored.accepted refl
+
+  pub restore-step : IsRestore old.state reply old new → IsSerialLineStep line.Restore reply old new
+  restore-step restores before at =
+      let restored = restores before at in
+      (no_choice, IsPossible-no_choice, restored.replied, at-unless (is_restore_refused before) before (restored_session before) at restored)
+
+  pub load-step : StateLaw → (bytes : List ℕ) (state : State) → loaded_port bytes ≡ Ok state → IsRestore state reply old new →
+      IsSerialLineStep (line.Load bytes) reply old new
+  load-step states bytes state loads restores before at =
+      let from = session_from before state in
+      let here : IsAt from (record old { state = state }) = record {
+        state = sym (state-is_stepped states from);
+        interrupt_line = at.interrupt_line;
+        counts = at.counts;
+        output = subst (λ (known : Option (List ℕ)). IfSome known (λ all. written_bytes old.out ≡ all)) (sym (known_output-from before state)) at.output;
+      } in
+      let restored = restores from here in (
+        no_choice,
+        IsPossible-no_choice,
+        restored.replied ∙ ap (load_reply before) (sym loads),
+        subst (λ (loaded : Result State Fault). IsAt (session_after_load before loaded) new) (sym loads)
+            (at-unless (is_restore_refused from) before (restored_session from) at restored),
+      )
+
+pub refused-load-step : (bytes : List ℕ) (port : Port InterruptLine EventCounts Output) (fault : Fault) → loaded_port bytes ≡ Err fault →
+    IsSerialLineStep (line.Load bytes) (with_lf (fault_words fault)) port port
+refused-load-step bytes port fault fails before at = (
+  no_choice,
+  IsPossible-no_choice,
+  ap (load_reply before) (sym fails),
+  subst (λ (loaded : Result State Fault). IsAt (session_after_load before loaded) port) (sym fails) at,
+)
+
+-- what holds of a reply, where there is one, has this consequence
+pub reply-weaker : {Reply Failure : Type 0} {P Q : Reply → Type 0} (result : Result Reply Failure) → ((reply : Reply) → P reply → Q reply) →
+    IfOk result P → IfOk result Q
+reply-weaker (Ok reply) follows holds = follows reply holds
+reply-weaker (Err failure) follows holds = tt

@@ -1,17 +1,17 @@
 -- What a contract sees of a board, and of one line on it.
-use Rattle.std.specs.Prelude.{◌≡◌, ℕ, List, ◌∷◌, IfSome}
+use Rattle.std.specs.Prelude.{◌≡◌, ℕ, Bool, false, if◌then◌else◌, List, codes, IfSome, IsTrue}
 use Rattle.vm_superio.specs.declared.rtc_pl031.RtcState.{RtcState}
-use Rattle.vm_superio.specs.Port.SavedState.{fresh_state}
-use Rattle.vm_superio.specs.History.Reads.{state_of_history}
-use Rattle.vm_superio.specs.Clock.Registers.{Access, fresh_clock}
-use Rattle.vm_superio.specs.Clock.Step.{ClockDevice}
-use Rattle.vm_superio.specs.Clock.History.{clock_of_history}
+use Rattle.vm_superio.specs.Port.State.{State}
 use Rattle.vm_superio.specs.Port.Model.{Port}
+use Rattle.vm_superio.specs.Clock.Registers.{fresh_clock}
+use Rattle.vm_superio.specs.Clock.Step.{ClockDevice}
 use Rattle.superio_script.specs.InterruptLine.{InterruptLine, fresh_interrupt_line}
 use Rattle.superio_script.specs.Counts.{EventCounts, no_counts}
 use Rattle.superio_script.specs.Output.{written_bytes}
-use Rattle.superio_script.specs.Reply.{access_of, clock_reply, controller_reply}
-use Rattle.superio_script.specs.SerialScript.{Session, fresh_session, known_output, Choice, IsPossible, serial_reply, session_after_line}
+use Rattle.superio_script.specs.Reply.{with_lf, controller_reply}
+use Rattle.superio_script.specs.PortSession.{Session, fresh_session, known_output, session_state}
+use Rattle.superio_script.specs.SerialScript.{Choice, IsPossible, serial_reply, is_restore_refused, restored_session, session_after_line}
+use Rattle.superio_script.specs.ClockScript.{ClockSession, clock_session_state, clock_reply, clock_session_after_line}
 use Rattle.superio_script.specs.declared.output.Output.{Output}
 use Rattle.superio_script.specs.declared.command.Command.{Command}
 use Rattle.superio_script.specs.declared.command.Command.TheVariants.{Serial, Clock, Controller}
@@ -24,22 +24,22 @@ pub record Devices : Type 0 where
   pub clock : ClockDevice EventCounts
   pub controller : InterruptLine
 
--- the board's serial port is at this session: in the state that the trace describes, with the session's objects
+-- the board's serial port is at this session: in its state, with its objects
 pub record IsAt (session : Session) (port : Port InterruptLine EventCounts Output) : Type 0 where
-  pub state : port.state ≡ state_of_history fresh_state session.trace
+  pub state : port.state ≡ session_state session
   pub interrupt_line : port.trigger ≡ session.interrupt_line
   pub counts : port.events ≡ session.counts
-  pub output : IfSome (known_output session.trace) (λ bytes. written_bytes port.out ≡ bytes)
+  pub output : IfSome (known_output session) (λ bytes. written_bytes port.out ≡ bytes)
 
--- a board between two lines: the serial port is at some session, the clock is in the state after some accesses, and the
--- reset line was never called, since a fresh controller replaces one that was reset
+-- a board between two lines: the serial port and the clock are each at some session, and the reset line was never
+-- called, since a fresh controller replaces one that was reset
 pub record IsBetweenLines
     (port : Port InterruptLine EventCounts Output) (rtc : ClockDevice EventCounts) (reset_line : InterruptLine) :
     Type 0 where
   pub session : Session
   pub serial : IsAt session port
-  pub accesses : List Access
-  pub clock : rtc.state ≡ clock_of_history fresh_clock accesses
+  pub clock_session : ClockSession
+  pub clock : rtc.state ≡ clock_session_state clock_session
   pub controller : reset_line ≡ fresh_interrupt_line 0
 
 -- a board of fresh devices. The mask is that of the serial port's interrupt line; the reset line refuses nothing
@@ -57,12 +57,27 @@ IsSerialLineStep line reply old new =
     (before : Session) → IsAt before old → (choice : Choice)
     × IsPossible choice × (reply ≡ serial_reply before choice line) × IsAt (session_after_line before choice line) new
 
--- a line of the clock. After each trace of accesses that takes a fresh clock to the old state, the reply is the one of
--- that trace, and the trace with the line's access added takes a fresh clock to the new state
+-- a restore of the port in a state, with the old port's objects. From each session that a port in this state with these
+-- objects is at, the reply is that of a restore, and the port is then at the restored session, or unchanged where the
+-- restore was refused
+pub record RestoresTo
+    (restored : Session) (refused : Bool) (reply : List ℕ) (old new : Port InterruptLine EventCounts Output) :
+    Type 0 where
+  pub replied : reply ≡ with_lf (if refused then codes "trigger" else codes "ok")
+  pub accepted : refused ≡ false → IsAt restored new
+  pub unchanged : IsTrue refused → new ≡ old
+
+abbrev pub IsRestore : (state : State) (reply : List ℕ) (old new : Port InterruptLine EventCounts Output) → Type 0
+IsRestore state reply old new =
+    (session : Session) → IsAt session (record old { state = state })
+    → RestoresTo (restored_session session) (is_restore_refused session) reply old new
+
+-- a line of the clock. From each session that the clock is at, the reply is the session's, and the clock is then at the
+-- session after the line
 abbrev pub IsClockLineStep : (line : ClockLine) (reply : List ℕ) (old new : RtcState) → Type 0
 IsClockLineStep line reply old new =
-    (trace : List Access) → old ≡ clock_of_history fresh_clock trace
-    → (reply ≡ clock_reply trace line) × (new ≡ clock_of_history fresh_clock (access_of line ∷ trace))
+    (session : ClockSession) → old ≡ clock_session_state session
+    → (reply ≡ clock_reply session line) × (new ≡ clock_session_state (clock_session_after_line session line))
 
 -- a line acts on its own device, and leaves the other devices as they are
 abbrev pub IsLineStep : (command : Command) (reply : List ℕ) (old new : Devices) → Type 0

@@ -1,5 +1,5 @@
 -- The form of a line: what its fields ask for.
-use Rattle.std.specs.Prelude.{◌≡◌, ℕ, ◌/◌, ◌&&◌, nat_le, List, [], ◌∷◌, length, if◌then◌else◌, codes, Option, Some, None}
+use Rattle.std.specs.Prelude.{◌≡◌, ℕ, ◌/◌, ◌==◌, Bool, true, false, ◌&&◌, nat_le, List, [], ◌∷◌, length, if◌then◌else◌, codes, Option, Some, None, IsTrue}
 use Rattle.std.specs.Option.{option_map, option_and_then}
 use Rattle.std.specs.Result.{result_ok}
 use Rattle.std.specs.Str.{bytes_eq}
@@ -10,7 +10,9 @@ use Rattle.superio_script.specs.declared.command.Command.{Command}
 use Rattle.superio_script.specs.declared.command.Command.TheVariants.{Serial, Clock, Controller}
 use Rattle.superio_script.specs.declared.command.SerialLine.{SerialLine}
 use Rattle.superio_script.specs.declared.command.SerialLine.TheVariants as serial
+use Rattle.superio_script.specs.declared.command.ClockLine.{ClockLine}
 use Rattle.superio_script.specs.declared.command.ClockLine.TheVariants as clock
+use Rattle.superio_script.specs.declared.command.ControllerLine.{ControllerLine}
 use Rattle.superio_script.specs.declared.command.ControllerLine.TheVariants as controller
 
 -- ---- one field
@@ -24,8 +26,8 @@ abbrev pub number_of : (width : Width) (field : List ℕ) → Option ℕ
 number_of width field = option_map (from_be_bytes width) (bytes_of (byte_len width) field)
 
 -- 1 to 128 bytes, of two digits each
-abbrev pub arrival_of : (field : List ℕ) → Option (List ℕ)
-arrival_of field =
+abbrev pub field_bytes_of : (field : List ℕ) → Option (List ℕ)
+field_bytes_of field =
     let count = length field / 2 in
     if nat_le 1 count && nat_le count 128 then bytes_of count field else None
 
@@ -49,7 +51,7 @@ two_bytes _ = None
 -- nothing, or HH..
 abbrev pub bytes_or_none : (fields : List (List ℕ)) → Option (List ℕ)
 bytes_or_none [] = Some []
-bytes_or_none (field ∷ []) = arrival_of field
+bytes_or_none (field ∷ []) = field_bytes_of field
 bytes_or_none _ = None
 
 -- NNNNNNNNNNNNNNNN OOOO
@@ -72,37 +74,55 @@ one_number64 _ = None
 
 -- ---- the forms
 
--- `sc`, `sd`, `ss`, `so`, `st` and `se`, which take no field
+-- `sc`, `sd`, `ss`, `sb`, `so`, `st` and `se`, which take no field
 abbrev pub line_of_name : (name : List ℕ) → Option SerialLine
 line_of_name name =
     if bytes_eq name (codes "sc") then Some serial.Capacity
     else (if bytes_eq name (codes "sd") then Some serial.Drain
     else (if bytes_eq name (codes "ss") then Some serial.Restore
+    else (if bytes_eq name (codes "sb") then Some serial.Save
     else (if bytes_eq name (codes "so") then Some serial.Output
     else (if bytes_eq name (codes "st") then Some serial.Calls
     else (if bytes_eq name (codes "se") then Some serial.Events
-    else None)))))
+    else None))))))
 
--- `sr OO`, `sw OO VV`, `sq`, `sq HH..`, `cr NNNNNNNNNNNNNNNN OOOO`, `cw NNNNNNNNNNNNNNNN OOOO VVVVVVVV`, `kr OO`,
--- `kw OO VV`, and the names that take no field
-abbrev pub command_of_name : (name : List ℕ) (fields : List (List ℕ)) → Option Command
-command_of_name name fields =
-    if bytes_eq name (codes "sr") then
-    option_map (λ offset. Serial (serial.Read offset)) (one_byte fields)
-    else (if bytes_eq name (codes "sw") then
-    option_map (λ bytes. Serial (serial.Write bytes.0 bytes.1)) (two_bytes fields)
-    else (if bytes_eq name (codes "sq") then
-    option_map (λ bytes. Serial (serial.Enqueue bytes)) (bytes_or_none fields)
-    else (if bytes_eq name (codes "cr") then
-    option_map (λ numbers. Clock (clock.Read numbers.0 numbers.1)) (moment_and_offset fields)
+-- `sr OO`, `sw OO VV`, `sq`, `sq HH..`, `sl`, `sl HH..`, and the names that take no field
+abbrev pub serial_line_of : (name : List ℕ) (fields : List (List ℕ)) → Option SerialLine
+serial_line_of name fields =
+    if bytes_eq name (codes "sr") then option_map (λ offset. serial.Read offset) (one_byte fields)
+    else (if bytes_eq name (codes "sw") then option_map (λ bytes. serial.Write bytes.0 bytes.1) (two_bytes fields)
+    else (if bytes_eq name (codes "sq") then option_map (λ bytes. serial.Enqueue bytes) (bytes_or_none fields)
+    else (if bytes_eq name (codes "sl") then option_map (λ bytes. serial.Load bytes) (bytes_or_none fields)
+    else option_and_then (λ _. line_of_name name) (no_field fields))))
+
+-- `cr NNNNNNNNNNNNNNNN OOOO`, `cw NNNNNNNNNNNNNNNN OOOO VVVVVVVV`, `cl`, `cl HH..` and `cb`
+abbrev pub clock_line_of : (name : List ℕ) (fields : List (List ℕ)) → Option ClockLine
+clock_line_of name fields =
+    if bytes_eq name (codes "cr") then
+    option_map (λ numbers. clock.Read numbers.0 numbers.1) (moment_and_offset fields)
     else (if bytes_eq name (codes "cw") then
-    option_map (λ numbers. Clock (clock.Write numbers.0 numbers.1 numbers.2)) (moment_offset_and_value fields)
-    else (if bytes_eq name (codes "kr") then
-    option_map (λ offset. Controller (controller.Read offset)) (one_byte fields)
-    else (if bytes_eq name (codes "kw") then
-    option_map (λ bytes. Controller (controller.Write bytes.0 bytes.1)) (two_bytes fields)
-    else
-    option_and_then (λ _. option_map (λ line. Serial line) (line_of_name name)) (no_field fields)))))))
+    option_map (λ numbers. clock.Write numbers.0 numbers.1 numbers.2) (moment_offset_and_value fields)
+    else (if bytes_eq name (codes "cl") then option_map (λ bytes. clock.Load bytes) (bytes_or_none fields)
+    else (if bytes_eq name (codes "cb") then option_map (λ _. clock.Save) (no_field fields)
+    else None)))
+
+-- `kr OO` and `kw OO VV`
+abbrev pub controller_line_of : (name : List ℕ) (fields : List (List ℕ)) → Option ControllerLine
+controller_line_of name fields =
+    if bytes_eq name (codes "kr") then option_map (λ offset. controller.Read offset) (one_byte fields)
+    else (if bytes_eq name (codes "kw") then option_map (λ bytes. controller.Write bytes.0 bytes.1) (two_bytes fields)
+    else None)
+
+-- a name begins with the letter of its device: the serial port's with `s`, the clock's with `c`, the controller's
+-- with `k`
+abbrev pub command_of_name : (name : List ℕ) (fields : List (List ℕ)) → Option Command
+command_of_name [] fields = None
+command_of_name (letter ∷ letters) fields =
+    let name = letter ∷ letters in
+    if letter == 0x73 then option_map (λ line. Serial line) (serial_line_of name fields)
+    else (if letter == 0x63 then option_map (λ line. Clock line) (clock_line_of name fields)
+    else (if letter == 0x6B then option_map (λ line. Controller line) (controller_line_of name fields)
+    else None))
 
 abbrev pub command_of_fields : (fields : List (List ℕ)) → Option Command
 command_of_fields [] = None
@@ -112,9 +132,19 @@ command_of_fields (name ∷ fields) = command_of_name name fields
 abbrev pub command_of : (line : List ℕ) → Option Command
 command_of line = command_of_fields (fields_of line)
 
--- a line is `ss`
-abbrev pub IsRestoreLine : (line : List ℕ) → Type 0
-IsRestoreLine line = command_of line ≡ Some (Serial serial.Restore)
+-- ---- memory
+
+-- `ss`, `sb` and `sl` take memory, and no other line does
+abbrev pub takes_memory : (line : SerialLine) → Bool
+takes_memory serial.Restore = true
+takes_memory serial.Save = true
+takes_memory (serial.Load bytes) = true
+takes_memory _ = false
+
+abbrev pub TakesMemory : (line : List ℕ) → Type 0
+TakesMemory line = (command : SerialLine) × (command_of line ≡ Some (Serial command)) × IsTrue (takes_memory command)
+
+-- ---- the first line
 
 -- the mask of a line `refuse MMMMMMMMMMMMMMMM`, which is a form of a script's first line alone
 abbrev pub mask_of_fields : (fields : List (List ℕ)) → Option ℕ

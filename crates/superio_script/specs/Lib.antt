@@ -5,7 +5,10 @@ pub mod Counts
 pub mod Driver
 pub mod Output
 pub mod Reply
+pub mod Loading
+pub mod PortSession
 pub mod SerialScript
+pub mod ClockScript
 pub mod Board
 pub mod Script
 pub mod ScriptFault

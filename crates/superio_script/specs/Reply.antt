@@ -1,14 +1,10 @@
 -- The reply to a line.
-use Rattle.std.specs.Prelude.{ℕ, List, [], ◌∷◌, ◌++◌, if◌then◌else◌, codes, Option, Some, None}
-use Rattle.std.specs.Int.{w32, w64, to_be_bytes}
+use Rattle.std.specs.Prelude.{ℕ, List, [], ◌∷◌, ◌++◌, if◌then◌else◌, codes}
+use Rattle.std.specs.Int.{w64, to_be_bytes}
 use Rattle.hex.specs.Hex.{encode_lower}
 use Rattle.vm_superio.specs.Port.Operations.{Response, ByteRead, WriteOk, EnqueueOk, TriggerRefused, WriterFailed, FifoFull, OutOfMemory, NoResponse}
-use Rattle.vm_superio.specs.Clock.Registers.{Access, read, write, clock_register_at, is_writable, fresh_clock}
-use Rattle.vm_superio.specs.Clock.History.{clock_history_response}
 use Rattle.vm_superio.specs.I8042.{is_reset_command}
 use Rattle.superio_script.specs.Counts.{EventCounts}
-use Rattle.superio_script.specs.declared.command.ClockLine.{ClockLine}
-use Rattle.superio_script.specs.declared.command.ClockLine.TheVariants as clock
 use Rattle.superio_script.specs.declared.command.ControllerLine.{ControllerLine}
 use Rattle.superio_script.specs.declared.command.ControllerLine.TheVariants as controller
 
@@ -45,30 +41,6 @@ abbrev pub counts_reply : (counts : EventCounts) → List ℕ
 counts_reply counts =
     with_lf (count_digits counts.buffer_reads ++ 32 ∷ count_digits counts.out_bytes
     ++ 32 ∷ count_digits counts.tx_lost_bytes ++ 32 ∷ count_digits counts.in_buffer_empties)
-
--- ---- the clock
-
--- the access of the clock that a line makes
-abbrev pub access_of : (line : ClockLine) → Access
-access_of (clock.Read moment offset) = read offset moment
-access_of (clock.Write moment offset value) = write offset value moment
-
--- the eight digits of the value that a read gives, or `invalid` where it gives none
-abbrev pub value_reply : (value : Option ℕ) → List ℕ
-value_reply (Some number) = digits_reply (to_be_bytes w32 number)
-value_reply None = with_lf (codes "invalid")
-
--- the reply to a line of a clock that started fresh, after these accesses, newest first
-abbrev pub clock_reply : (trace : List Access) (line : ClockLine) → List ℕ
-clock_reply trace (clock.Read moment offset) =
-    value_reply (clock_history_response fresh_clock trace (read offset moment))
-clock_reply trace (clock.Write moment offset value) =
-    with_lf (if is_writable (clock_register_at offset) then codes "ok" else codes "invalid")
-
--- the replies to lines of the clock, in order
-abbrev pub clock_replies : (trace : List Access) (lines : List ClockLine) → List (List ℕ)
-clock_replies trace [] = []
-clock_replies trace (line ∷ lines) = clock_reply trace line ∷ clock_replies (access_of line ∷ trace) lines
 
 -- ---- the i8042
 

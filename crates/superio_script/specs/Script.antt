@@ -2,11 +2,12 @@
 use Rattle.std.specs.Prelude.{◌≡◌, ℕ, ◌+◌, ◌≤◌, List, [], ◌∷◌, ◌++◌, length, map, if◌then◌else◌, Bool, Option, Some, None, is_some, IsTrue}
 use Rattle.std.specs.List.{list_all}
 use Rattle.std.specs.Io.KnownBytes.{Appends, Consumes, IsAtEnd}
-use Rattle.vm_superio.specs.Clock.Registers.{Access}
 use Rattle.superio_script.specs.Splitting.{lines_of}
-use Rattle.superio_script.specs.Command.{command_of, mask_of, IsRestoreLine}
-use Rattle.superio_script.specs.Reply.{clock_replies, controller_reply}
-use Rattle.superio_script.specs.SerialScript.{Session, fresh_session, Choice, IsPossible, serial_replies}
+use Rattle.superio_script.specs.Command.{command_of, mask_of, TakesMemory}
+use Rattle.superio_script.specs.Reply.{controller_reply}
+use Rattle.superio_script.specs.PortSession.{Session, fresh_session}
+use Rattle.superio_script.specs.SerialScript.{Choice, IsPossible, serial_replies}
+use Rattle.superio_script.specs.ClockScript.{ClockSession, fresh_clock_session, clock_replies}
 use Rattle.superio_script.specs.declared.command.Command.{Command}
 use Rattle.superio_script.specs.declared.command.Command.TheVariants.{Serial, Clock, Controller}
 use Rattle.superio_script.specs.declared.command.SerialLine.{SerialLine}
@@ -84,20 +85,20 @@ replies_in_order (Controller line ∷ commands) serial clock (reply ∷ controll
     reply ++ replies_in_order commands serial clock controller
 replies_in_order _ serial clock controller = []
 
--- the replies to these commands, from a session of the serial port and a trace of the clock's accesses on. The replies
--- of each device come from its own lines alone
+-- the replies to these commands, from a session of the serial port and one of the clock on. The replies of each device
+-- come from its own lines alone
 abbrev pub text_from :
-    (session : Session) (accesses : List Access) (choice : Choice) (commands : List Command) → List ℕ
-text_from session accesses choice commands =
+    (session : Session) (clock_session : ClockSession) (choice : Choice) (commands : List Command) → List ℕ
+text_from session clock_session choice commands =
     replies_in_order commands
     (serial_replies session choice (serial_lines commands))
-    (clock_replies accesses (clock_lines commands))
+    (clock_replies clock_session (clock_lines commands))
     (controller_replies (controller_lines commands))
 
 -- the replies to the good ones of these lines, from fresh devices, given the mask of the serial port's interrupt line
 -- and the choice
 abbrev pub text_of_lines : (mask : ℕ) (choice : Choice) (lines : List (List ℕ)) → List ℕ
-text_of_lines mask choice lines = text_from (fresh_session mask) [] choice (good_commands lines)
+text_of_lines mask choice lines = text_from (fresh_session mask) fresh_clock_session choice (good_commands lines)
 
 -- the number of a script's first bad line, counted from 1, or `None` where every line is good
 abbrev pub first_bad_line_of : (script : List ℕ) → Option ℕ
@@ -122,17 +123,17 @@ pub record RunsUpTo (bad : Option ℕ) (script : List ℕ) (left before after : 
 abbrev pub ReadsBytes : (count : ℕ) (before after : Option (List ℕ)) → Type 0
 ReadsBytes count before after = (bytes : List ℕ) × Consumes before after bytes × (length bytes ≡ count)
 
--- a run of these lines ended at a line that asks for a restore: all lines before it are good, and their text was
--- written
-pub record StopsAtRestore (mask : ℕ) (lines : List (List ℕ)) (before after : Option (List ℕ)) : Type 0 where
+-- a run of these lines ended at a line for which memory was refused: it is one that takes memory, all lines before it
+-- are good, and their text was written
+pub record StopsWithoutMemory (mask : ℕ) (lines : List (List ℕ)) (before after : Option (List ℕ)) : Type 0 where
   pub earlier : List (List ℕ)
   pub line : List ℕ
   pub later : List (List ℕ)
   pub split : lines ≡ earlier ++ line ∷ later
   pub all_good : IsTrue (list_all has_form earlier)
-  pub restore : IsRestoreLine line
+  pub takes_memory : TakesMemory line
   pub text : PrintsLines mask earlier before after
 
 -- the same of a run of this script
-abbrev pub EndsAtRestore : (script : List ℕ) (before after : Option (List ℕ)) → Type 0
-EndsAtRestore script before after = StopsAtRestore (body_of script).mask (body_of script).lines before after
+abbrev pub EndsWithoutMemory : (script : List ℕ) (before after : Option (List ℕ)) → Type 0
+EndsWithoutMemory script before after = StopsWithoutMemory (body_of script).mask (body_of script).lines before after

@@ -1,19 +1,18 @@
 -- The serial port's part of a script: the replies to its lines. They depend on these lines alone, through the trace of
 -- the port's calls.
-use Rattle.std.specs.Prelude.{ℕ, zero, suc, ◌+◌, ◌-◌, ◌≤◌, Bool, nat_le, if◌then◌else◌, List, [], ◌∷◌, length, drop, fold, codes, Option, Some, None, IsTrue}
+use Rattle.std.specs.Prelude.{ℕ, zero, suc, ◌+◌, ◌-◌, ◌≤◌, Bool, nat_le, if◌then◌else◌, List, [], ◌∷◌, length, drop, fold, codes, Option, Some, None, Result, Ok, Err, IsTrue}
 use Rattle.std.specs.List.{list_all}
+use Rattle.vm_superio.specs.declared.saved.Error.{Error}
 use Rattle.vm_superio.specs.declared.trace.Asked.{Asked}
 use Rattle.vm_superio.specs.declared.trace.Sent.{Sent}
-use Rattle.vm_superio.specs.Port.SavedState.{fresh_state}
-use Rattle.vm_superio.specs.Port.State.{not_empty}
+use Rattle.vm_superio.specs.Port.State.{State, not_empty}
 use Rattle.vm_superio.specs.Port.Operations.{Op, Read, Write, Enqueue, TraceEntry, is_sent, ends_in_refusal}
 use Rattle.vm_superio.specs.Port.OpKinds.{sent_by}
-use Rattle.vm_superio.specs.History.Registers.{kind_at, dlab, held_bytes}
-use Rattle.vm_superio.specs.History.Calls.{calls_due, history_events}
-use Rattle.vm_superio.specs.History.Interrupts.{restore_calls_due}
-use Rattle.vm_superio.specs.History.Reads.{none_lost, history_response, output}
-use Rattle.superio_script.specs.InterruptLine.{InterruptLine, fresh_interrupt_line, is_call_refused, interrupt_line_after_call}
-use Rattle.superio_script.specs.Counts.{EventCounts, no_counts, counts_after_event}
+use Rattle.vm_superio.specs.Saved.Form.{serial_form}
+use Rattle.superio_script.specs.InterruptLine.{InterruptLine, is_call_refused, interrupt_line_after_call}
+use Rattle.superio_script.specs.Counts.{counts_after_event}
+use Rattle.superio_script.specs.PortSession.{Session, session_kind, session_held_bytes, known_output, session_from, session_state, session_calls_due, session_response, session_events, session_restore_calls, drained_bytes}
+use Rattle.superio_script.specs.Loading.{loaded_port, fault_words}
 use Rattle.superio_script.specs.Reply.{with_lf, response_reply, digits_reply, count_digits, counts_reply}
 use Rattle.superio_script.specs.declared.command.SerialLine.{SerialLine}
 use Rattle.superio_script.specs.declared.command.SerialLine.TheVariants as serial
@@ -51,23 +50,6 @@ abbrev pub first_output : (outputs : List (List ℕ)) → List ℕ
 first_output [] = []
 first_output (bytes ∷ outputs) = bytes
 
--- ---- a session
-
--- a port that started fresh, and its objects, between two lines
-pub record Session : Type 0 where
-  -- the trace of its calls, newest first. A restore adds no entry, since a restored port goes on as the old one
-  pub trace : List TraceEntry
-  pub interrupt_line : InterruptLine
-  pub counts : EventCounts
-
--- a port that was never called. The mask names the calls that its interrupt line refuses
-abbrev pub fresh_session : (mask : ℕ) → Session
-fresh_session mask = record { trace = []; interrupt_line = fresh_interrupt_line mask; counts = no_counts }
-
--- the bytes that went out, which are not known once a byte was lost
-abbrev pub known_output : (trace : List TraceEntry) → Option (List ℕ)
-known_output trace = if none_lost trace then Some (output fresh_state [] trace) else None
-
 -- ---- a call of the port
 
 -- the interrupt line's answers to this many trigger calls, up to two. A refusal is the last answer
@@ -88,7 +70,7 @@ interrupt_line_after_answers line Asked.TookTook = interrupt_line_after_call (in
 interrupt_line_after_answers line Asked.TookRefused = interrupt_line_after_call (interrupt_line_after_call line)
 
 abbrev pub session_answers : (session : Session) (op : Op) → Asked
-session_answers session op = trigger_answers session.interrupt_line (calls_due fresh_state session.trace op)
+session_answers session op = trigger_answers session.interrupt_line (session_calls_due session op)
 
 -- the trace entry of a call, given the outcome of its byte
 abbrev pub session_entry : (session : Session) (op : Op) (outcome : Sent) → TraceEntry
@@ -96,21 +78,18 @@ session_entry session op outcome = record { op = op; asked = session_answers ses
 
 -- the reply to the call, and the session after it
 abbrev pub call_reply : (session : Session) (op : Op) (outcome : Sent) → List ℕ
-call_reply session op outcome =
-    response_reply (history_response fresh_state session.trace op (session_answers session op) outcome)
+call_reply session op outcome = response_reply (session_response session op (session_answers session op) outcome)
 
 abbrev pub session_after_call : (session : Session) (op : Op) (outcome : Sent) → Session
-session_after_call session op outcome = record {
+session_after_call session op outcome = record session {
   trace = session_entry session op outcome ∷ session.trace;
   interrupt_line = interrupt_line_after_answers session.interrupt_line (session_answers session op);
-  counts =
-      fold counts_after_event session.counts
-      (history_events fresh_state session.trace (session_entry session op outcome));
+  counts = fold counts_after_event session.counts (session_events session (session_entry session op outcome));
 }
 
 -- a call sends a byte to the writer
 abbrev pub session_sends : (session : Session) (op : Op) → Bool
-session_sends session op = not_empty (sent_by (kind_at fresh_state session.trace op))
+session_sends session op = not_empty (sent_by (session_kind session op))
 
 -- the outcome of the byte that a write sends, if it sends one, and the choice for what follows. No other call sends a
 -- byte
@@ -131,12 +110,6 @@ abbrev pub session_after_reads : (count : ℕ) (session : Session) → Session
 session_after_reads zero session = session
 session_after_reads (suc count) session = session_after_reads count (session_after_call session (Read 0) Sent.Nothing)
 
--- a driver reads as many bytes as are held, and replies with them; with DLAB set it makes no such read, and replies
--- with none
-abbrev pub drained_bytes : (session : Session) → List ℕ
-drained_bytes session =
-    if dlab fresh_state session.trace then [] else held_bytes fresh_state session.trace
-
 abbrev pub session_after_drain : (session : Session) → Session
 session_after_drain session = session_after_reads (length (drained_bytes session)) session
 
@@ -144,18 +117,36 @@ session_after_drain session = session_after_reads (length (drained_bytes session
 
 -- the interrupt line's answers to the calls of a restore, and whether they end the restore with a refusal
 abbrev pub restore_answers : (session : Session) → Asked
-restore_answers session = trigger_answers session.interrupt_line (length (restore_calls_due fresh_state session.trace))
+restore_answers session = trigger_answers session.interrupt_line (length (session_restore_calls session))
 
 abbrev pub is_restore_refused : (session : Session) → Bool
 is_restore_refused session = ends_in_refusal (restore_answers session)
 
--- a restore keeps the trace and the counts, and its trigger calls count. A refused restore leaves everything as it was
+abbrev pub restore_reply : (session : Session) → List ℕ
+restore_reply session = with_lf (if is_restore_refused session then codes "trigger" else codes "ok")
+
+-- an accepted restore keeps the trace and the counts, and its trigger calls count
+abbrev pub restored_session : (session : Session) → Session
+restored_session session =
+    record session { interrupt_line = interrupt_line_after_answers session.interrupt_line (restore_answers session) }
+
+-- a refused restore leaves everything as it was
 abbrev pub session_after_restore : (session : Session) → Session
-session_after_restore session =
-    if is_restore_refused session then session
-    else record session {
-      interrupt_line = interrupt_line_after_answers session.interrupt_line (restore_answers session);
-    }
+session_after_restore session = if is_restore_refused session then session else restored_session session
+
+-- ---- a load
+
+-- a load restores a port from the state that the bytes are. Bytes that are none change nothing, nor does a restore that
+-- is refused
+abbrev pub load_reply : (session : Session) (loaded : Result State Error) → List ℕ
+load_reply session (Err fault) = with_lf (fault_words fault)
+load_reply session (Ok state) = restore_reply (session_from session state)
+
+abbrev pub session_after_load : (session : Session) (loaded : Result State Error) → Session
+session_after_load session (Err fault) = session
+session_after_load session (Ok state) =
+    if is_restore_refused (session_from session state) then session
+    else restored_session (session_from session state)
 
 -- ---- the output
 
@@ -176,11 +167,12 @@ serial_reply session choice (serial.Read offset) = call_reply session (Read offs
 serial_reply session choice (serial.Write offset value) =
     call_reply session (Write offset value) (session_write_outcome session choice offset value)
 serial_reply session choice (serial.Enqueue bytes) = call_reply session (Enqueue bytes) Sent.Nothing
-serial_reply session choice serial.Capacity = digits_reply ((64 - length (held_bytes fresh_state session.trace)) ∷ [])
+serial_reply session choice serial.Capacity = digits_reply ((64 - length (session_held_bytes session)) ∷ [])
 serial_reply session choice serial.Drain = digits_reply (drained_bytes session)
-serial_reply session choice serial.Restore =
-    with_lf (if is_restore_refused session then codes "trigger" else codes "ok")
-serial_reply session choice serial.Output = digits_reply (output_or_chosen (known_output session.trace) choice)
+serial_reply session choice serial.Restore = restore_reply session
+serial_reply session choice serial.Save = digits_reply (serial_form (session_state session))
+serial_reply session choice (serial.Load bytes) = load_reply session (loaded_port bytes)
+serial_reply session choice serial.Output = digits_reply (output_or_chosen (known_output session) choice)
 serial_reply session choice serial.Calls = with_lf (count_digits session.interrupt_line.calls)
 serial_reply session choice serial.Events = counts_reply session.counts
 
@@ -191,12 +183,13 @@ session_after_line session choice (serial.Write offset value) =
 session_after_line session choice (serial.Enqueue bytes) = session_after_call session (Enqueue bytes) Sent.Nothing
 session_after_line session choice serial.Drain = session_after_drain session
 session_after_line session choice serial.Restore = session_after_restore session
+session_after_line session choice (serial.Load bytes) = session_after_load session (loaded_port bytes)
 session_after_line session choice _ = session
 
 abbrev pub choice_after_line : (session : Session) (choice : Choice) (line : SerialLine) → Choice
 choice_after_line session choice (serial.Write offset value) =
     choice_after_write (session_sends session (Write offset value)) choice
-choice_after_line session choice serial.Output = choice_after_output (known_output session.trace) choice
+choice_after_line session choice serial.Output = choice_after_output (known_output session) choice
 choice_after_line session choice _ = choice
 
 -- the replies to lines, in order

@@ -1,37 +1,81 @@
 //! The lines of the clock.
+ghost use Rattle.std.specs.Prelude.{◌≡◌};
 ghost use Rattle.superio_script.specs.Board.{IsClockLineStep};
+ghost use Rattle.superio_script.specs.Counts.{no_counts};
+ghost use Rattle.superio_script.specs.declared.command.ClockLine.TheVariants.{Read, Write, Save, Load};
 
 use crate::command::ClockLine;
 use crate::counts::Counts;
-use crate::replies::{Reply, digits, word};
-use vm_superio::Rtc;
+use crate::replies::{Reply, digits, fault, word};
+use vm_superio::{Rtc, RtcState, laws};
 
 /// Executes a line on the clock and returns the reply.
 pub(crate) fn clock_line(clock: &mut Rtc<Counts>, line: ClockLine) -> Reply
     ensures step { IsClockLineStep line result.items clock.old.state clock.new.state }
 {
-    // With fresh counts, the counts after the access show its own event only.
-    *clock = Rtc::from_state(&clock.state(), Counts::new());
     match line {
-        ClockLine::Read { moment, offset } => {
-            let mut bytes = [0; 4];
-            clock.read(offset, &mut bytes, moment);
-            if clock.events().invalid_read_count() == 1 {
-                return word(b"invalid");
-            }
-            bytes.reverse();
-            digits(&bytes)
-        }
+        ClockLine::Read { moment, offset } => read(clock, moment, offset),
         ClockLine::Write {
             moment,
             offset,
             value,
-        } => {
-            clock.write(offset, &value.to_le_bytes(), moment);
-            if clock.events().invalid_write_count() == 1 {
-                return word(b"invalid");
-            }
+        } => write(clock, moment, offset, value),
+        ClockLine::Save => save(clock),
+        ClockLine::Load { bytes } => load(clock, bytes.as_slice()),
+    }
+}
+
+/// Reads as the guest does.
+fn read(clock: &mut Rtc<Counts>, moment: u64, offset: u16) -> Reply
+    ensures step { IsClockLineStep (Read moment offset) result.items clock.old.state clock.new.state }
+{
+    clear_counts(clock);
+    let mut bytes = [0; 4];
+    clock.read(offset, &mut bytes, moment);
+    if clock.events().invalid_read_count() == 1 {
+        return word(b"invalid");
+    }
+    bytes.reverse();
+    digits(&bytes)
+}
+
+/// Writes as the guest does.
+fn write(clock: &mut Rtc<Counts>, moment: u64, offset: u16, value: u32) -> Reply
+    ensures step { IsClockLineStep (Write moment offset value) result.items clock.old.state clock.new.state }
+{
+    clear_counts(clock);
+    clock.write(offset, &value.to_le_bytes(), moment);
+    if clock.events().invalid_write_count() == 1 {
+        return word(b"invalid");
+    }
+    word(b"ok")
+}
+
+/// The clock's saved form.
+fn save(clock: &Rtc<Counts>) -> Reply
+    ensures step { IsClockLineStep Save result.items clock.now.state clock.now.state }
+{
+    digits(&clock.state().to_bytes())
+}
+
+/// Restores the clock from the state that these bytes are. Other bytes change nothing.
+fn load(clock: &mut Rtc<Counts>, bytes: &[u8]) -> Reply
+    ensures step { IsClockLineStep (Load bytes.now) result.items clock.old.state clock.new.state }
+{
+    laws::clock_is_history();
+    match RtcState::from_bytes(bytes) {
+        Ok(state) => {
+            *clock = Rtc::from_state(&state, Counts::new());
             word(b"ok")
         }
+        Err(error) => fault(error),
     }
+}
+
+/// Sets the counts to 0, so that after an access they show its own event only.
+fn clear_counts(clock: &mut Rtc<Counts>)
+    ensures state { clock.new.state ≡ clock.old.state }
+    ensures counts { clock.new.events ≡ no_counts }
+{
+    *clock = Rtc::from_state(&clock.state(), Counts::new());
 }

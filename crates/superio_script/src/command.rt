@@ -2,14 +2,14 @@
 ghost use Rattle.std.specs.Prelude.{◌≡◌};
 ghost use Rattle.std.specs.Int.{w8, w16, w32, w64};
 ghost use Rattle.superio_script.specs.Splitting.{remaining_fields};
-ghost use Rattle.superio_script.specs.Command.{bytes_of, number_of, arrival_of, no_field, one_byte, two_bytes, bytes_or_none, moment_and_offset, moment_offset_and_value, one_number64, line_of_name, command_of_name, command_of, mask_of};
+ghost use Rattle.superio_script.specs.Command.{bytes_of, number_of, field_bytes_of, no_field, one_byte, two_bytes, bytes_or_none, moment_and_offset, moment_offset_and_value, one_number64, line_of_name, serial_line_of, clock_line_of, controller_line_of, command_of_name, command_of, mask_of};
 
 use crate::splitting::Fields;
 use arrayvec::ArrayVec;
 use std::marker::Model;
 
-/// The most bytes that an `sq` line can have.
-const ARRIVAL_LIMIT: usize = 128;
+/// The most bytes that an `sq`, `sl` or `cl` line can have.
+const FIELD_LIMIT: usize = 128;
 
 /// What a line asks for.
 #[derive(Drop)]
@@ -30,13 +30,17 @@ pub(crate) enum SerialLine {
     /// `sw OO VV`: a write.
     Write { offset: u8, value: u8 },
     /// `sq` and `sq HH..`: bytes for the guest.
-    Enqueue { bytes: Arrival },
+    Enqueue { bytes: FieldBytes },
     /// `sc`: how many more bytes the FIFO has room for.
     Capacity,
     /// `sd`: a driver reads the bytes that the port holds.
     Drain,
     /// `ss`: a save and a restore of the port.
     Restore,
+    /// `sb`: the port's saved form.
+    Save,
+    /// `sl` and `sl HH..`: a restore of the port from a saved form.
+    Load { bytes: FieldBytes },
     /// `so`: the bytes that the port wrote.
     Output,
     /// `st`: how often the interrupt line was called.
@@ -46,7 +50,7 @@ pub(crate) enum SerialLine {
 }
 
 /// A line of the clock.
-#[derive(Clone, Copy)]
+#[derive(Drop)]
 pub(crate) enum ClockLine {
     /// `cr NNNNNNNNNNNNNNNN OOOO`: a read at a moment, in seconds since 1970.
     Read {
@@ -59,6 +63,12 @@ pub(crate) enum ClockLine {
         offset: u16,
         value: u32,
     },
+    /// `cb`: the clock's saved form.
+    Save,
+    /// `cl` and `cl HH..`: a restore of the clock from a saved form.
+    Load {
+        bytes: FieldBytes,
+    },
 }
 
 /// A line of the i8042 controller.
@@ -70,40 +80,40 @@ pub(crate) enum ControllerLine {
     Write { offset: u8, value: u8 },
 }
 
-/// The bytes of an `sq` line. In contracts it is a list.
+/// The bytes of an `sq`, `sl` or `cl` line. In contracts they are a list.
 #[derive(Drop)]
-pub(crate) struct Arrival {
-    bytes: ArrayVec<u8, ARRIVAL_LIMIT>,
+pub(crate) struct FieldBytes {
+    bytes: ArrayVec<u8, FIELD_LIMIT>,
 }
 
-impl Model for Arrival {
+impl Model for FieldBytes {
     ghost use Rattle.std.specs.Prelude.{List, ℕ};
 
     ghost Value = { List ℕ };
 
-    ghost view = { λ arrival. arrival.bytes.items };
+    ghost view = { λ field. field.bytes.items };
 }
 
-impl Arrival {
+impl FieldBytes {
     ghost use Rattle.std.specs.Prelude.{[], ◌≤◌, length};
 
     /// No bytes.
-    fn none() -> Arrival
+    fn none() -> FieldBytes
         ensures { result ≡ [] }
     {
-        Arrival {
+        FieldBytes {
             bytes: ArrayVec::new(),
         }
     }
 
     /// These bytes, at most 128.
-    fn of(bytes: &[u8]) -> Arrival
+    fn of(bytes: &[u8]) -> FieldBytes
         requires { length bytes.now ≤ 128 }
         ensures { result ≡ bytes.now }
     {
-        let mut arrival = ArrayVec::new();
-        arrival.try_extend_from_slice(bytes).unwrap();
-        Arrival { bytes: arrival }
+        let mut field = ArrayVec::new();
+        field.try_extend_from_slice(bytes).unwrap();
+        FieldBytes { bytes: field }
     }
 
     /// The bytes.
@@ -152,17 +162,17 @@ fn number32(field: &[u8]) -> Option<u32>
 }
 
 /// The 1 to 128 bytes of a field of two digits per byte.
-fn parse_arrival(field: &[u8]) -> Option<Arrival>
-    ensures { result ≡ arrival_of field.now }
+fn field_bytes(field: &[u8]) -> Option<FieldBytes>
+    ensures { result ≡ field_bytes_of field.now }
 {
-    let mut bytes = [0; ARRIVAL_LIMIT];
+    let mut bytes = [0; FIELD_LIMIT];
     let count = field.len() / 2;
-    if count == 0 || count > ARRIVAL_LIMIT {
+    if count == 0 || count > FIELD_LIMIT {
         return None;
     }
     let bytes = &mut bytes[..count];
     hex::decode_to_slice(field, bytes).ok()?;
-    Some(Arrival::of(bytes))
+    Some(FieldBytes::of(bytes))
 }
 
 /// `Some` if no field is left.
@@ -194,13 +204,13 @@ fn two_bytes(mut fields: Fields) -> Option<(u8, u8)>
 }
 
 /// The bytes of the one remaining field, or no bytes without a field.
-fn bytes_or_none(mut fields: Fields) -> Option<Arrival>
+fn bytes_or_none(mut fields: Fields) -> Option<FieldBytes>
     ensures { result ≡ bytes_or_none (remaining_fields fields.entry.rest) }
 {
     let Some(field) = fields.next_field() else {
-        return Some(Arrival::none());
+        return Some(FieldBytes::none());
     };
-    let bytes = parse_arrival(field)?;
+    let bytes = field_bytes(field)?;
     no_field(fields)?;
     Some(bytes)
 }
@@ -226,48 +236,32 @@ fn moment_offset_and_value(mut fields: Fields) -> Option<(u64, u16, u32)>
     Some((moment, offset, value))
 }
 
-/// What a line with this name and these fields after it asks for.
-fn command_of_name(name: &[u8], fields: Fields) -> Option<Command>
-    ensures { result ≡ command_of_name name.now (remaining_fields fields.entry.rest) }
+/// What a line of the serial port with this name and these fields after it asks for.
+fn serial_line_of(name: &[u8], fields: Fields) -> Option<SerialLine>
+    ensures { result ≡ serial_line_of name.now (remaining_fields fields.entry.rest) }
 {
-    Some(match name {
-        b"sr" => Command::Serial(SerialLine::Read {
+    match name {
+        b"sr" => Some(SerialLine::Read {
             offset: one_byte(fields)?,
         }),
         b"sw" => {
             let (offset, value) = two_bytes(fields)?;
-            Command::Serial(SerialLine::Write { offset, value })
+            Some(SerialLine::Write { offset, value })
         }
-        b"sq" => Command::Serial(SerialLine::Enqueue {
+        b"sq" => Some(SerialLine::Enqueue {
             bytes: bytes_or_none(fields)?,
         }),
-        b"cr" => {
-            let (moment, offset) = moment_and_offset(fields)?;
-            Command::Clock(ClockLine::Read { moment, offset })
-        }
-        b"cw" => {
-            let (moment, offset, value) = moment_offset_and_value(fields)?;
-            Command::Clock(ClockLine::Write {
-                moment,
-                offset,
-                value,
-            })
-        }
-        b"kr" => Command::Controller(ControllerLine::Read {
-            offset: one_byte(fields)?,
+        b"sl" => Some(SerialLine::Load {
+            bytes: bytes_or_none(fields)?,
         }),
-        b"kw" => {
-            let (offset, value) = two_bytes(fields)?;
-            Command::Controller(ControllerLine::Write { offset, value })
-        }
         _ => {
             no_field(fields)?;
-            Command::Serial(line_of_name(name)?)
+            line_of_name(name)
         }
-    })
+    }
 }
 
-/// What a line of only this name asks for.
+/// What a line of only this name asks of the serial port.
 fn line_of_name(name: &[u8]) -> Option<SerialLine>
     ensures { result ≡ line_of_name name.now }
 {
@@ -275,11 +269,68 @@ fn line_of_name(name: &[u8]) -> Option<SerialLine>
         b"sc" => Some(SerialLine::Capacity),
         b"sd" => Some(SerialLine::Drain),
         b"ss" => Some(SerialLine::Restore),
+        b"sb" => Some(SerialLine::Save),
         b"so" => Some(SerialLine::Output),
         b"st" => Some(SerialLine::Calls),
         b"se" => Some(SerialLine::Events),
         _ => None,
     }
+}
+
+/// What a line of the clock with this name and these fields after it asks for.
+fn clock_line_of(name: &[u8], fields: Fields) -> Option<ClockLine>
+    ensures { result ≡ clock_line_of name.now (remaining_fields fields.entry.rest) }
+{
+    match name {
+        b"cr" => {
+            let (moment, offset) = moment_and_offset(fields)?;
+            Some(ClockLine::Read { moment, offset })
+        }
+        b"cw" => {
+            let (moment, offset, value) = moment_offset_and_value(fields)?;
+            Some(ClockLine::Write {
+                moment,
+                offset,
+                value,
+            })
+        }
+        b"cl" => Some(ClockLine::Load {
+            bytes: bytes_or_none(fields)?,
+        }),
+        b"cb" => {
+            no_field(fields)?;
+            Some(ClockLine::Save)
+        }
+        _ => None,
+    }
+}
+
+/// What a line of the controller with this name and these fields after it asks for.
+fn controller_line_of(name: &[u8], fields: Fields) -> Option<ControllerLine>
+    ensures { result ≡ controller_line_of name.now (remaining_fields fields.entry.rest) }
+{
+    match name {
+        b"kr" => Some(ControllerLine::Read {
+            offset: one_byte(fields)?,
+        }),
+        b"kw" => {
+            let (offset, value) = two_bytes(fields)?;
+            Some(ControllerLine::Write { offset, value })
+        }
+        _ => None,
+    }
+}
+
+/// What a line with this name and these fields after it asks for. A name begins with the letter of its device.
+fn command_of_name(name: &[u8], fields: Fields) -> Option<Command>
+    ensures { result ≡ command_of_name name.now (remaining_fields fields.entry.rest) }
+{
+    Some(match name.first()? {
+        b's' => Command::Serial(serial_line_of(name, fields)?),
+        b'c' => Command::Clock(clock_line_of(name, fields)?),
+        b'k' => Command::Controller(controller_line_of(name, fields)?),
+        _ => return None,
+    })
 }
 
 /// What a line asks for, or `None` if it has no form.

@@ -1,7 +1,7 @@
 //! A board of devices, and the lines that drive it.
 ghost use Rattle.std.specs.Prelude.{◌≡◌, ◌↔◌, IfOk, IfErr, IsSomeAnd, IsErrOf, OnErr};
 ghost use Rattle.superio_script.specs.InterruptLine.{fresh_interrupt_line};
-ghost use Rattle.superio_script.specs.Command.{command_of, IsRestoreLine};
+ghost use Rattle.superio_script.specs.Command.{command_of, TakesMemory};
 ghost use Rattle.superio_script.specs.Reply.{controller_reply};
 ghost use Rattle.superio_script.specs.declared.devices.LineFault.TheVariants.{Bad, Memory};
 
@@ -22,14 +22,14 @@ use vm_superio::{I8042Device, Rtc, Serial};
 pub enum LineFault {
     /// The line has no form. `refuse` is a form only of a script's first line.
     Bad,
-    /// The allocator refused memory for an `ss`.
+    /// The allocator refused memory for an `ss`, `sb` or `sl`.
     Memory,
 }
 
 /// The devices that a script drives: a serial port, a clock and an i8042 controller.
 ///
-/// Between two lines, traces of calls describe the states of the serial port and the clock. [`Board::line`] states
-/// which calls a line adds to these traces.
+/// Between two lines, the serial port and the clock are each at a session: the state they started in, and the trace of
+/// the calls since. [`Board::line`] states which session a line leads to.
 #[derive(Drop)]
 pub struct Board {
     serial: Port,
@@ -73,19 +73,19 @@ impl Board {
     /// # Errors
     ///
     /// Returns [`LineFault::Bad`] if the line has no form or is `refuse`. Returns [`LineFault::Memory`] if memory is
-    /// refused for an `ss`. The board is then unchanged.
+    /// refused for an `ss`, `sb` or `sl`. The board is then unchanged.
     pub fn line(&mut self, alloc: Global, line: &[u8]) -> Result<Reply, LineFault>
         ensures bad { IsErrOf result LineFault.Bad ↔ (command_of line.now ≡ None) }
-        ensures memory { result ≡ Err LineFault.Memory → IsRestoreLine line.now }
+        ensures memory { result ≡ Err LineFault.Memory → TakesMemory line.now }
         ensures step { IfOk result (λ reply.
             IsSomeAnd (command_of line.now) (λ command. IsLineStep command reply.items self.old self.new)) }
         ensures unchanged { OnErr result (self.new ≡ self.old) }
     {
-        Ok(match parse(line).ok_or(LineFault::Bad)? {
-            Command::Serial(line) => serial_line(alloc, &mut self.serial, line)?,
-            Command::Clock(line) => clock_line(&mut self.clock, line),
-            Command::Controller(line) => self.controller_line(line),
-        })
+        match parse(line).ok_or(LineFault::Bad)? {
+            Command::Serial(line) => serial_line(alloc, &mut self.serial, line),
+            Command::Clock(line) => Ok(clock_line(&mut self.clock, line)),
+            Command::Controller(line) => Ok(self.controller_line(line)),
+        }
     }
 
     /// Executes a line on the controller, leaves it fresh, and returns the reply.

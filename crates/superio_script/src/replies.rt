@@ -1,10 +1,13 @@
 //! The reply to a line, with its LF.
 ghost use Rattle.std.specs.Prelude.{◌≡◌, ◌+◌, ◌*◌, ◌<◌, ◌≤◌, [], ◌∷◌, ◌++◌, length};
 ghost use Rattle.hex.specs.Hex.{encode_lower};
+ghost use Rattle.vm_superio.specs.declared.saved.Error.TheVariants.{UnknownVersion};
+ghost use Rattle.superio_script.specs.Loading.{fault_words};
 ghost use Rattle.superio_script.specs.Reply.{with_lf, digits_reply, count_digits, counts_reply};
 
 use crate::counts::Counts;
 use arrayvec::ArrayVec;
+use vm_superio::saved;
 
 /// A reply with its LF. The longest has 512 digits, for the 256 bytes that the serial port's output can hold.
 pub type Reply = ArrayVec<u8, 513>;
@@ -49,6 +52,34 @@ pub(crate) fn byte(value: u8) -> Reply
     ensures { result.items ≡ digits_reply (value ∷ []) }
 {
     digits(&[value])
+}
+
+/// The name of a saved state's error in words, and LF.
+pub(crate) fn fault(error: saved::Error) -> Reply
+    ensures { result.items ≡ with_lf (fault_words error) }
+{
+    match error {
+        saved::Error::TooShort => word(b"too short"),
+        saved::Error::NotASavedState => word(b"not a saved state"),
+        saved::Error::OtherDevice => word(b"other device"),
+        saved::Error::UnknownVersion(version) => unknown_version(version),
+        saved::Error::WrongLength => word(b"wrong length"),
+        saved::Error::TooManyBytes => word(b"too many bytes"),
+        saved::Error::InvalidArmed => word(b"invalid armed"),
+        // A line for which memory is refused has no reply.
+        saved::Error::Memory => word(b""),
+    }
+}
+
+/// The error's name with the version as two digits, and LF.
+fn unknown_version(version: u8) -> Reply
+    ensures { result.items ≡ with_lf (fault_words (UnknownVersion version)) }
+{
+    let mut reply = Reply::new();
+    reply.try_extend_from_slice(b"unknown version ").unwrap();
+    push_digits(&mut reply, &[version]);
+    reply.push(b'\n');
+    reply
 }
 
 /// The count as sixteen digits, and LF.

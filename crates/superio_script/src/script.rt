@@ -2,7 +2,7 @@
 ghost use Rattle.std.specs.Prelude.{◌≡◌, ◌≢◌, ◌⊎◌, ℕ, ◌+◌, ◌^◌, ◌<◌, ◌≤◌, length, IfOk, IfErr, IfSome, OnOk, vec_len, take, Some, None};
 ghost use Rattle.std.specs.Io.KnownBytes.{Keeps, Appends, Consumes, IsAtEnd};
 ghost use Rattle.superio_script.specs.Splitting.{lines_of};
-ghost use Rattle.superio_script.specs.Script.{body_of, first_bad_line, PrintsLines, StopsAtRestore, RunsUpTo, EndsAtRestore, ReadsBytes};
+ghost use Rattle.superio_script.specs.Script.{body_of, first_bad_line, PrintsLines, StopsWithoutMemory, RunsUpTo, EndsWithoutMemory, ReadsBytes};
 
 use crate::command::refused_mask;
 use crate::devices::{Board, LineFault};
@@ -101,7 +101,7 @@ fn write_replies<W: Write>(
         → (first_bad_line (skipped + 1) (lines_of lines.entry.rest.now) ≡ Some number)
         × PrintsLines mask (lines_of lines.entry.rest.now) (W.contents writer.old) (W.contents writer.new) }
     ensures memory { result ≡ Err ScriptFault.Memory → (writer.new ≡ writer.old)
-        ⊎ StopsAtRestore mask (lines_of lines.entry.rest.now) (W.contents writer.old) (W.contents writer.new) }
+        ⊎ StopsWithoutMemory mask (lines_of lines.entry.rest.now) (W.contents writer.old) (W.contents writer.new) }
     ensures never_long { result ≢ Err ScriptFault.TooLong }
 {
     let mut board = Board::new(alloc, mask)?;
@@ -128,8 +128,8 @@ fn write_replies<W: Write>(
 ///   lines before it were written, but the writer was not flushed.
 /// - [`ScriptFault::TooLong`] if the reader gave more than 65,536 bytes. Nothing was written, and no byte after the
 ///   65,537th was read.
-/// - [`ScriptFault::Memory`] if memory is refused. For the script or the board: nothing was written. For an `ss`: the
-///   replies to the lines before it were written.
+/// - [`ScriptFault::Memory`] if memory is refused. For the script or the board: nothing was written. For an `ss`, `sb` or
+///   `sl`: the replies to the lines before it were written.
 /// - [`ScriptFault::Io`] if a read, a write or the flush failed. After a failed read, nothing was written. After a
 ///   failed write or flush, some of the replies may have been written.
 pub fn run_script<R: Read, W: Write>(
@@ -143,7 +143,7 @@ pub fn run_script<R: Read, W: Write>(
         RunsUpTo (Some number) script (R.remaining reader.new) (W.contents writer.old) (W.contents writer.new)) }
     ensures memory { result ≡ Err ScriptFault.Memory → (writer.new ≡ writer.old)
         ⊎ IfSome (R.remaining reader.old) (λ script.
-        EndsAtRestore script (W.contents writer.old) (W.contents writer.new)) }
+        EndsWithoutMemory script (W.contents writer.old) (W.contents writer.new)) }
     ensures too_long { result ≡ Err ScriptFault.TooLong
         → IfSome (R.remaining reader.old) (λ script. 65536 < length script) }
     ensures too_long_unwritten { result ≡ Err ScriptFault.TooLong → writer.new ≡ writer.old }

@@ -1,27 +1,29 @@
 //! The lines of the serial port.
-ghost use Rattle.std.specs.Prelude.{◌≡◌, ◌<◌, IfOk, IfErr, OnErr};
+ghost use Rattle.std.specs.Prelude.{◌≡◌, ◌<◌, ◌≤◌, length, IfOk, IfErr, OnErr, IsTrue};
 ghost use Rattle.vm_superio.specs.Port.Model.{write_response, enqueue_response, failure_response};
 ghost use Rattle.superio_script.specs.Reply.{response_reply};
-ghost use Rattle.superio_script.specs.Board.{IsSerialLineStep};
-ghost use Rattle.superio_script.specs.declared.command.SerialLine.TheVariants.{Restore};
+ghost use Rattle.vm_superio.specs.Port.SavedState.{state_of};
+ghost use Rattle.superio_script.specs.Board.{IsSerialLineStep, IsRestore};
+ghost use Rattle.superio_script.specs.Command.{takes_memory};
+ghost use Rattle.superio_script.specs.declared.command.SerialLine.TheVariants.{Restore, Save, Load};
 
 use crate::command::SerialLine;
 use crate::counts::Counts;
 use crate::devices::LineFault;
 use crate::driver::drain;
 use crate::output::Output;
-use crate::replies::{Reply, byte, digits, event_counts, number, word};
+use crate::replies::{Reply, byte, digits, event_counts, fault, number, word};
 use crate::trigger::{Line, LineRefused};
 use std::alloc::Global;
 use std::mem;
 use vm_superio::serial::Error;
-use vm_superio::{Serial, laws};
+use vm_superio::{Serial, SerialState, laws, saved};
 
 /// The serial port of a board.
 pub(crate) type Port = Serial<Line, Counts, Output>;
 
-/// Executes a line on the serial port and returns the reply. Only a restore can fail, for lack of memory. The port is
-/// then unchanged.
+/// Executes a line on the serial port and returns the reply. Only a line that takes memory can fail, for lack of it. The
+/// port is then unchanged.
 pub(crate) fn serial_line(
     alloc: Global,
     serial: &mut Port,
@@ -30,9 +32,11 @@ pub(crate) fn serial_line(
     ensures step { IfOk result (λ reply. IsSerialLineStep line reply.items serial.old serial.new) }
     ensures unchanged { OnErr result (serial.new ≡ serial.old) }
     ensures only_memory { IfErr result (λ fault. fault ≡ LineFault.Memory) }
-    ensures only_restore { OnErr result (line ≡ Restore) }
+    ensures takes_memory { OnErr result (IsTrue (takes_memory line)) }
 {
     // The port's contracts describe its state, a session the trace of its calls.
+    laws::registers();
+    laws::held_bytes();
     laws::steps_of_history();
     laws::states_of_history();
     laws::coherence();
@@ -45,25 +49,66 @@ pub(crate) fn serial_line(
         SerialLine::Capacity => Ok(byte(serial.fifo_capacity() as u8)),
         SerialLine::Drain => Ok(digits(&drain(serial))),
         SerialLine::Restore => restore(alloc, serial),
+        SerialLine::Save => save(alloc, serial),
+        SerialLine::Load { bytes } => load(alloc, serial, bytes.as_slice()),
         SerialLine::Output => Ok(digits(serial.writer().bytes())),
         SerialLine::Calls => Ok(number(serial.interrupt_evt().calls())),
         SerialLine::Events => Ok(event_counts(serial.events())),
     }
 }
 
-/// Restores the port from its own state, with copies of its interrupt line and counts, and with its output.
+/// Restores the port from its own state.
 fn restore(alloc: Global, serial: &mut Port) -> Result<Reply, LineFault>
     ensures step { IfOk result (λ reply. IsSerialLineStep Restore reply.items serial.old serial.new) }
     ensures unchanged { OnErr result (serial.new ≡ serial.old) }
     ensures only_memory { IfErr result (λ fault. fault ≡ LineFault.Memory) }
 {
-    laws::steps_of_history();
     let Ok(state) = serial.state(alloc) else {
         return Err(LineFault::Memory);
     };
+    restore_from(alloc, serial, &state)
+}
+
+/// The port's saved form.
+fn save(alloc: Global, serial: &Port) -> Result<Reply, LineFault>
+    ensures step { IfOk result (λ reply. IsSerialLineStep Save reply.items serial.now serial.now) }
+    ensures only_memory { IfErr result (λ fault. fault ≡ LineFault.Memory) }
+{
+    laws::states_of_history();
+    let Ok(state) = serial.state(alloc) else {
+        return Err(LineFault::Memory);
+    };
+    Ok(digits(&state.to_bytes().unwrap()))
+}
+
+/// Restores the port from the state that these bytes are. Other bytes change nothing.
+fn load(alloc: Global, serial: &mut Port, bytes: &[u8]) -> Result<Reply, LineFault>
+    ensures step { IfOk result (λ reply. IsSerialLineStep (Load bytes.now) reply.items serial.old serial.new) }
+    ensures unchanged { OnErr result (serial.new ≡ serial.old) }
+    ensures only_memory { IfErr result (λ fault. fault ≡ LineFault.Memory) }
+{
+    laws::states_of_history();
+    match SerialState::from_bytes(alloc, bytes) {
+        Ok(state) => restore_from(alloc, serial, &state),
+        Err(error) => match error {
+            saved::Error::Memory => Err(LineFault::Memory),
+            error => Ok(fault(error)),
+        },
+    }
+}
+
+/// Restores the port from a state, with copies of its interrupt line and counts, and with its output.
+fn restore_from(alloc: Global, serial: &mut Port, state: &SerialState) -> Result<Reply, LineFault>
+    requires { length state.now.in_buffer.items ≤ 64 }
+    ensures restore { IfOk result (λ reply. IsRestore (state_of state.now) reply.items serial.old serial.new) }
+    ensures unchanged { OnErr result (serial.new ≡ serial.old) }
+    ensures only_memory { IfErr result (λ fault. fault ≡ LineFault.Memory) }
+{
+    laws::steps_of_history();
+    laws::states_of_history();
     let line = *serial.interrupt_evt();
     let counts = *serial.events();
-    match Serial::from_state(alloc, &state, line, counts, Output::new()) {
+    match Serial::from_state(alloc, state, line, counts, Output::new()) {
         Ok(restored) => {
             let old = mem::replace(serial, restored);
             *serial.writer_mut() = old.into_writer();

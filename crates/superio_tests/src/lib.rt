@@ -11,6 +11,8 @@ mod errors;
 #[cfg(test)]
 mod examples;
 #[cfg(test)]
+mod lent;
+#[cfg(test)]
 mod memory;
 #[cfg(test)]
 mod objects;

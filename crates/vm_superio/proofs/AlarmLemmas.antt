@@ -10,7 +10,7 @@ use Rattle.vm_superio.specs.Clock.History.{clock_of_history, guest_time_at, matc
 use Rattle.vm_superio.specs.Clock.Laws.{RaisesAt, RaisesNothingAt, AlarmDueByHistory}
 use Rattle.vm_superio.proofs.ClockLemmas.{guest_time-history}
 
--- an alarm is reached at an access where the history says so
+-- an alarm is reached at an access if the history says so
 reached : (start : RtcState) (trace : List Access) (access : Access) → is_alarm_reached (clock_of_history start trace) (host_time (moment_of access)) ≡ (is_armed start trace && nat_le (match_value start trace) (guest_time_at start trace access))
 reached start trace (read offset now) =
     ap (λ guest. is_armed start trace && nat_le (match_value start trace) guest) (guest_time-history start trace (host_time now))

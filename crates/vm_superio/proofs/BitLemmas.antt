@@ -24,7 +24,7 @@ without-xor number cleared =
     sym (and_assoc cleared number number) ∙ ap (λ n. bit_and n cleared) (and_self number) in
     omega (arith, again, xor_add_and number (bit_and number cleared))
 
--- a bit is left where the number has it and the cleared bits do not
+-- a bit is left if the number has it and the cleared bits do not
 pub bit_at-without : (number cleared k : ℕ) → bit_at (without_bits number cleared) k ≡ bit_at number k - bit_at cleared k
 bit_at-without number cleared k =
     let left = bit_at-lt number k in

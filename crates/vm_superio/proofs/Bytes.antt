@@ -24,7 +24,7 @@ pub data_ready_cleared : (byte : ℕ) → has_bits (without_bits byte 0x01) 0x01
 unfolding has_bits
 data_ready_cleared byte = ap (λ n. n == 0x01) (and-without byte 0x01)
 
--- LSR as it was, where data ready was right
+-- LSR as it was, if data ready was right
 right_where : (byte : ℕ) (bit : Bool) → (bit_and byte 0x01 == 0x01) ≡ bit → with_data_ready byte bit ≡ byte
 unfolding with_bits
 right_where byte true set = omega (arith, eqb-true _ _ set, or_add_and byte 0x01)

@@ -63,7 +63,7 @@ pub one_read : OneReadLaw
 one_read s op asked sent =
     ap (λ byte. byte ++ (step s op asked).in_buffer) (of_step s op asked sent) ∙ one_call s op asked
 
--- where the latch is hidden
+-- while the latch is hidden
 is_oldest : (held left : List ℕ) (byte : ℕ) → 0 < length held
     → byte_read RbrRead held (ByteRead byte) ++ left ≡ held ++ [] → byte ∷ left ≡ held
 is_oldest [] left byte some is = absurd (omega (arith, some))

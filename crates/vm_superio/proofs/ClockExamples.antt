@@ -163,7 +163,7 @@ a_restored_alarm_raises : Leaves (matching true) (read 0x014 200 ∷ []) 1 false
 unfolding with_bits
 a_restored_alarm_raises = record { steps = (refl, refl); history = (refl, refl) }
 
--- guest time is loaded back, and comes to the match later
+-- guest time is loaded back, and reaches the match later
 a_restored_alarm_waits_for_guest_time : Gives (matching true)
     (write 0x008 50 101 ∷ read 0x014 155 ∷ read 0x014 156 ∷ [])
     (None ∷ Some 0 ∷ Some 1 ∷ [])
@@ -234,14 +234,14 @@ far_away = record { before = refl; reached = refl }
 after_the_host_time_wraps : IsReachedFrom (armed_for 105 (pos 0)) (2 ^ 32 + 105)
 after_the_host_time_wraps = record { before = refl; reached = refl }
 
--- six seconds less than 2 ^ 32 ahead, so that the counter leaves 32 bits at 6
+-- six seconds less than 2 ^ 32 ahead, so the counter leaves 32 bits at 6
 by_the_host_time_where_the_counter_is_too_large : IsReachedFrom (armed_for 100 (pos 4294967290)) 100
 by_the_host_time_where_the_counter_is_too_large = record { before = refl; reached = refl }
 
 by_the_host_time_before_the_first_second : IsReachedFrom (armed_for 5 (negsuc 9)) 5
 by_the_host_time_before_the_first_second = record { before = refl; reached = refl }
 
--- and the counter comes to it again
+-- the counter reaches it again
 and_by_the_counter : IsReachedFrom (armed_for 5 (negsuc 9)) 15
 and_by_the_counter = record { before = refl; reached = refl }
 

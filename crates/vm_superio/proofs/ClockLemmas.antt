@@ -33,7 +33,7 @@ unfolding with_bits
 set-again kept true = or-twice kept 1
 set-again kept false = ap (λ n. bit_or n 1) (or_zero_r kept)
 
--- whether an alarm is reached, by whether one is set, passed and come to
+-- what becomes of an alarm: whether one was set, guest time had passed the match before, and has reached it now
 checked : (set passed come raised : Bool) (lr : ℕ) (offset : ℤ) (mr imsc kept : ℕ) →
     let old : RtcState = record { lr = lr; offset = offset; mr = mr; imsc = imsc; ris = with_bits kept (if raised then 1 else 0); armed = not passed && set } in
     (if (not passed && set) && come then record old { ris = with_bits old.ris 1; armed = false } else old)
@@ -223,7 +223,7 @@ pub states : (start : RtcState) (trace : List Access) → state_after_accesses s
 states start [] = begins start
 states start (access ∷ trace) = ap (λ state. clock_step state access) (states start trace) ∙ goes_on start trace access
 
--- a bit is cleared where some access cleared it
+-- a bit is cleared if some access cleared it
 bit_at-cleared : (trace : List Access) (bit : ℕ) → bit_at (cleared_bits trace) bit ≡ (if is_cleared trace bit then 1 else 0)
 bit_at-cleared [] bit = bit_at-zero bit
 bit_at-cleared (access ∷ trace) bit =

@@ -28,11 +28,11 @@ write offset value asked outcome = (record { op = Write offset value; asked = as
 abbrev pub store : ℕ → ℕ → TraceEntry × Response
 store offset value = write offset value Nothing sent.Nothing
 
--- a write that answers something else
+-- a write that returns something else
 abbrev pub write_fails : ℕ → ℕ → Asked → Sent → Response → TraceEntry × Response
 write_fails offset value asked outcome step_response = (record { op = Write offset value; asked = asked; sent = outcome }, step_response)
 
--- an enqueue, with what it asked and what it answers
+-- an enqueue, with the trigger's answers and what it returns
 abbrev pub enqueue : List ℕ → Asked → Response → TraceEntry × Response
 enqueue bytes asked step_response = (record { op = Enqueue bytes; asked = asked; sent = sent.Nothing }, step_response)
 

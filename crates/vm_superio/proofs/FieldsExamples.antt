@@ -1,5 +1,5 @@
--- Worked examples of a port in a plain struct: which bytes its places hold, which events a read tells, and what a refusal
--- takes back.
+-- Worked examples of a port in a plain struct: which bytes its places hold, which events a read reports, and what a
+-- refusal takes back.
 use Rattle.std.proofs.Common.{◌≡◌, ℕ, true, false, [], ◌∷◌, refl}
 use Rattle.vm_superio.specs.declared.serial.places.Places.{Places}
 use Rattle.vm_superio.specs.declared.trace.Asked.{Asked}
@@ -59,7 +59,7 @@ thre_taken_back :
 unfolding has_bits only_bits with_bits
 thre_taken_back = refl
 
--- told at another moment: nothing is pending afterwards, and IIR says so
+-- reported at another moment: nothing is pending afterwards, and IIR says so
 nothing_left : (without_thre (record fresh_state { interrupt_identification = 0x02 })).interrupt_identification ≡ 0x01
 nothing_left = refl
 

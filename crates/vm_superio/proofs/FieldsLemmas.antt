@@ -67,7 +67,7 @@ enqueue-sends-none :
 enqueue-sends-none bytes true = refl
 enqueue-sends-none bytes false = refl
 
--- where nothing arrives, nothing is taken, and no interrupt is asked for
+-- if nothing arrives, nothing is accepted, and no interrupt is requested
 none-taken :
     (loopback : Bool) (bytes held : List ℕ) → IsTrue (loopback || (length bytes == 0))
     → (if loopback then [] else bytes_that_fit held bytes) ≡ []
@@ -114,7 +114,7 @@ enqueue-response s bytes effects asked new is answered =
       ap (λ l. length l) (none-taken loopback bytes s.in_buffer nothing),
     ))
 
--- a write, and the telling of a first refusal of two where there was one, are the step
+-- a write, and the report of a first refusal of two if there was one, are the step
 settled-write :
     (offset value : ℕ) (effects : WriteEffects) (asked : Asked) (old written new : State) (refused : Bool)
     → is_first_of_two_refused effects.interrupts asked ≡ refused

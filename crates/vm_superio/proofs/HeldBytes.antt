@@ -64,7 +64,7 @@ drop_more all taken_bytes remaining_bytes more new parts =
     ∙ ap (λ n. drop n (taken_bytes ++ (remaining_bytes ++ new))) (length-append taken_bytes more)
     ∙ drop-append-add taken_bytes (remaining_bytes ++ new) (length more)
 
--- the held bytes after one more entry, where those taken and those held are all bytes
+-- the held bytes after one more entry, if those taken and those held are all bytes
 pub held_more : (start : State) (trace : List TraceEntry) (entry : TraceEntry)
     → taken_bytes start trace ++ held_bytes start trace ≡ start.in_buffer ++ accepted_bytes start trace
     → let k = kind_at start trace entry.op in

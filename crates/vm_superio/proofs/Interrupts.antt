@@ -1,4 +1,4 @@
--- The interrupt law: IIR shows the conditions that are pending, and an entry is admissible exactly where it is well-formed.
+-- The interrupt law: IIR shows the pending conditions, and an entry is admissible exactly if it is well-formed.
 use Rattle.std.proofs.Common.{◌≡◌, ℕ, ◌+◌, zero-add, add-zero, Bool, true, false, not, ◌==◌, ◌&&◌, ◌||◌, List, [], ◌∷◌, refl, ap, sym, ◌∙◌}
 use Rattle.std.specs.Prelude.{if◌then◌else◌}
 use Rattle.std.specs.Bool.{beq}
@@ -166,7 +166,7 @@ pending_law start (entry ∷ trace) thre receive_bytes e =
     ∙ ap (λ bytes. next_of bytes s.interrupt_enable) (held_bytes_law start trace)
     ∙ ap (next_of (held_bytes start trace)) registers.interrupt_enable
 
--- an entry is admissible exactly where it is well-formed
+-- an entry is admissible exactly if it is well-formed
 well_formed_law : (start : State) (trace : List TraceEntry) (thre receive_bytes : Bool) (entry : TraceEntry)
     → start.interrupt_identification ≡ identification_of thre receive_bytes
     → is_admissible (state_after start trace) entry.op entry.asked entry.sent ≡ is_well_formed_entry start trace entry

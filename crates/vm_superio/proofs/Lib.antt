@@ -3,6 +3,7 @@ mod Bounds
 mod ByKind
 mod Bytes
 mod BytesRead
+mod BytesSent
 pub mod BitLemmas
 mod ClockExamples
 pub mod ClockLemmas

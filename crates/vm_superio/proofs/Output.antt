@@ -1,4 +1,4 @@
--- Where nothing is lost, what the writer took is the output.
+-- If nothing is lost, what the writer took is the output.
 use Rattle.std.proofs.Common.{◌≡◌, ℕ, Bool, true, false, not, List, [], ◌∷◌, ◌++◌, refl, ap, ◌∙◌}
 use Rattle.std.proofs.lemmas.Bool.{and_parts, false≢true}
 use Rattle.std.specs.Prelude.{IsTrue, ◌==◌}
@@ -17,7 +17,7 @@ use Rattle.vm_superio.specs.Laws.Consequences.{OutputLaw}
 
 -- ---- one call
 
--- nothing is sent where the kind sends nothing
+-- nothing is sent if the kind sends nothing
 abbrev IsOutcome : List ℕ → Sent → Type 0
 IsOutcome bytes outcome = IsTrue (beq (is_sent outcome) (not_empty bytes))
 

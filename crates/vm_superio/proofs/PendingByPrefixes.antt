@@ -76,7 +76,7 @@ module _ (condition : Condition) (start : State) (raises : List TraceEntry → T
       let not_here = none [] newest entry refl in
       rw (not_here, rest) (or_true (raises (newest ++ trace) entry))
 
-  -- a point for the others is one for all, where the newest entry does not acknowledge
+  -- a point for the others is one for all, if the newest entry does not acknowledge
   grown : (entry : TraceEntry) (trace : List TraceEntry) → IsFalse (acknowledges condition (kind_at start trace entry.op))
       → ByPrefixes trace
       → ByPrefixes (entry ∷ trace)
@@ -134,7 +134,7 @@ pending_by_prefixes_law condition start trace =
 
 -- ---- waiting bytes
 
--- where bytes are held and RDA is enabled it is pending
+-- if bytes are held and RDA is enabled, it is pending
 abbrev IsTold : State → Bool → Type 0
 IsTold s pending = IsTrue (not_empty s.in_buffer) → IsTrue (has_bits s.interrupt_enable 0x01) → IsTrue pending
 

@@ -40,7 +40,7 @@ from-set p d j xs b long pn dn jn (after at) =
     ∙ ap (λ k. drop p xs ++ set (take p xs) k b) back
     ∙ sym (set-append_right (drop p xs) (take p xs) (64 - p) d b far (omega arith))
 
--- one more byte behind those that are held
+-- one more byte after those that are held
 take-from-set :
     (p d j : ℕ) (xs : List ℕ) (b : ℕ) → length xs ≡ 64 → p < 64 → d < 64 → j < 64
     → Lies p d j → take (d + 1) (from p (set xs j b)) ≡ take d (from p xs) ++ b ∷ []

@@ -17,7 +17,7 @@ use Rattle.vm_superio.proofs.Bytes.{data_ready_set, data_ready_cleared}
 use Rattle.vm_superio.proofs.BytesRead.{read_then_held}
 use Rattle.vm_superio.proofs.HeldBytes.{held_more, taken_then_held}
 
--- LSR shows data ready where a byte is held
+-- LSR shows data ready if a byte is held
 data_ready : (line_status : ℕ) (ready : Bool) → has_bits (with_data_ready line_status ready) 0x01 ≡ ready
 data_ready line_status true = data_ready_set line_status
 data_ready line_status false = data_ready_cleared line_status
@@ -74,7 +74,7 @@ reads_right : (other seen ready : Bool) → IsTrue (other || seen) → (IsTrue s
 reads_right true seen ready either right = refl
 reads_right false seen ready either right = right either
 
--- where LSR has shown data ready, a byte is held
+-- if LSR has shown data ready, a byte is held
 abbrev IsRight : State → List TraceEntry → Bool → Type 0
 IsRight start trace seen = IsTrue seen → IsTrue (not_empty (held_bytes start trace))
 

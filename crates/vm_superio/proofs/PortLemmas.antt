@@ -1,4 +1,4 @@
--- What a step of a port states of the trigger's calls.
+-- What a step of a port says about the trigger's calls.
 use Rattle.std.proofs.Common.{◌≡◌, length, Option, Some, None, refl, ap, sym, ◌∙◌}
 use Rattle.std.specs.Prelude.{is_some}
 use Rattle.vm_superio.specs.declared.trace.Asked.{Asked}
@@ -11,7 +11,7 @@ use Rattle.vm_superio.specs.Port.Model.{Port}
 use Rattle.vm_superio.specs.Step.PortStep.{turned_on_count, IsPortStep}
 use Rattle.vm_superio.proofs.TurnedBits.{turned_bits_law}
 
--- a record stands for as many answers as it counts, where it has the refusal that it ends in
+-- a record stands for as many answers as it counts, if it has the refusal that it ends in
 length-answers_of : {E : Type 0} (asked : Asked) (refusal : Option E) → is_some refusal ≡ ends_in_refusal asked → length (answers_of asked refusal) ≡ answer_count asked
 length-answers_of Nothing refusal h = refl
 length-answers_of Took refusal h = refl

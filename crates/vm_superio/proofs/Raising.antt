@@ -1,4 +1,4 @@
--- Raising a condition, where IIR shows two conditions.
+-- Raising a condition, if IIR shows two conditions.
 use Rattle.std.proofs.Common.{◌≡◌, ℕ, ◌+◌, Bool, true, false, not, ◌==◌, ◌&&◌, ◌||◌, List, refl, ap, ◌∙◌}
 use Rattle.std.specs.Prelude.{if◌then◌else◌}
 use Rattle.vm_superio.specs.declared.trace.Asked.{Asked}
@@ -121,7 +121,7 @@ refused_or_asked true false thre rda = refl
 refused_or_asked false true thre rda = refl
 refused_or_asked false false thre rda = refl
 
--- IIR afterwards, where the trigger refused for RDA or did not
+-- IIR afterwards, whether or not the trigger refused for RDA
 pub ier_write_leaves : (refused : Bool) (held : List ℕ) (value : ℕ) (thre rda : Bool)
     → (let identification = raise_rda_while_held held (only_bits value 0x0F) (identification_of thre rda) in
     if refused then identification else raise Thre (only_bits value 0x0F) identification)
@@ -147,7 +147,7 @@ ier_write_raises_thre held value thre rda =
 
 -- ---- the answers to the calls that are due
 
--- two calls may be due, and the second is not made where the first is refused
+-- two calls may be due, and the second is not made if the first is refused
 pub answers_counted : (first second : Bool) (asked : Asked)
     → answers_all (one_if first + one_if second) asked
     ≡ (answer_count asked == one_if first + one_if (second && not (first && is_first_refused asked)))

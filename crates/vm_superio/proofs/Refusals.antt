@@ -24,7 +24,7 @@ use Rattle.vm_superio.proofs.BitLemmas.{and-without, without-or}
 
 -- ---- IIR
 
--- where RDA was raised and then THRE, to lower THRE is not to have raised it
+-- if RDA was raised and then THRE, to lower THRE is not to have raised it
 lowered-bits : (identification : ℕ) → let rda = with_bits (without_bits identification 0x01) 0x04 in
     has_bits rda 0x02 ≡ false → lower Thre (with_bits (without_bits rda 0x01) 0x02) ≡ rda
 unfolding has_bits with_bits
@@ -52,7 +52,7 @@ one_if-few : (due : Bool) → one_if due ≤ 1
 one_if-few true = omega arith
 one_if-few false = omega arith
 
--- after an IER write, while bytes are held or not, where RDA and THRE are enabled and RDA is pending or not
+-- after an IER write, while bytes are held or not, if RDA and THRE are enabled and RDA is pending or not
 ier-lowered : (held rda thre : Bool) (identification : ℕ) →
     let first = if held then (if rda then with_bits (without_bits identification 0x01) 0x04 else identification) else identification in
     let second = thre && not (has_bits first 0x02) in
@@ -119,7 +119,7 @@ IsFirstRefused-without_thre s before offset value two is =
     ap without_thre (is ∙ write_step-unrefused register value TookTook before (and-false _))
     ∙ sym (write_step-refused register value before two)
 
--- what the port does after a write: it lowers THRE where the first of two calls was refused
+-- what the port does after a write: it lowers THRE if the first of two calls was refused
 pub write_step-settled :
     (register : Register) (value due : ℕ) (asked : Asked) (before : State) (registers : Registers) (bytes : List ℕ)
     (refused : Bool) → is_first_of_two_refused due asked ≡ refused

@@ -93,7 +93,7 @@ all_kept : (s : State) → SameRegisters s s
 unfolding SameRegisters
 all_kept s = refl
 
--- no register stands from offset 8 on
+-- there is no register from offset 8 on
 apart : (n k : ℕ) → k < 8 → eqb (suc (suc (suc (suc (suc (suc (suc (suc n)))))))) k ≡ false
 apart n k below =
     ⊎_elim (λ same. let e : suc (suc (suc (suc (suc (suc (suc (suc n))))))) ≡ k =
@@ -170,7 +170,7 @@ option_map_or-or : (f : ℕ → ℕ) (one other : Option ℕ) (byte : ℕ)
 option_map_or-or f None other byte = refl
 option_map_or-or f (Some value) other byte = refl
 
--- what the newest entry left of what the others left is what the whole trace tells
+-- what the newest entry left of what the others left is what the whole trace says
 more : (found : List TraceEntry → Op → Option ℕ) (entry : TraceEntry) (trace : List TraceEntry) (byte old new : ℕ)
     → old ≡ unwrap_or (last_found found trace) byte → new ≡ unwrap_or (found trace entry.op) old
     → new ≡ unwrap_or (last_found found (entry ∷ trace)) byte

@@ -21,7 +21,7 @@ loopback_tells_reads_alone : reported_events fresh_state (
 unfolding has_bits only_bits with_bits
 loopback_tells_reads_alone = refl
 
--- THR writes of n bytes below 64 and the rest behind them
+-- THR writes of n bytes below 64 and the rest after them
 loopback_writes : ℕ → List (TraceEntry × Response) → List (TraceEntry × Response)
 loopback_writes zero later = later
 loopback_writes (suc n) later = loopback_writes n (store 0 n ∷ later)

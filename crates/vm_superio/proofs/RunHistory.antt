@@ -1,4 +1,4 @@
--- The entries of a run follow each other by steps, so that the laws hold of them: the history theorem.
+-- The entries of a run follow each other by steps, so the laws hold for them: the history theorem.
 use Rattle.std.proofs.Common.{◌≡◌, ℕ, Bool, true, false, not, ◌&&◌, List, [], ◌∷◌, ◌++◌, refl, sym, ap, ◌∙◌, subst, append-nil}
 use Rattle.std.proofs.lemmas.Bool.{cond_both, false≢true}
 use Rattle.std.proofs.lemmas.List.Folds.{list_all-append}
@@ -59,7 +59,7 @@ op_of-restore (act.Read offset) is = absurd (false≢true (sym is))
 op_of-restore (act.Write offset value) is = absurd (false≢true (sym is))
 op_of-restore (act.Enqueue bytes) is = absurd (false≢true (sym is))
 
--- a further outcome, behind in the one list and in front in the other
+-- a further outcome, last in one list and first in the other
 swapped : (before now last : Bool) → before ≡ now → (before && (last && true)) ≡ (last && now)
 swapped true now true same = same
 swapped false now true same = same
@@ -128,7 +128,7 @@ module _ {T E EV W : Type 0} (links : PortLinks T E EV W) where
 
   -- ---- the bytes read
 
-  -- a reply that a read has is the byte of its response
+  -- the reply to a read is the byte of its response
   ReadIs-reply :
       (start : State) (trace : List TraceEntry) (made : Act) (asked : Asked) (sent : Sent) (reply : Reply T EV W E) →
       IsReplyTo made reply → response_of reply ≡ history_response start trace (op_of made) asked sent → ReadIs start trace made reply

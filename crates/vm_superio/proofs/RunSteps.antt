@@ -1,4 +1,4 @@
--- One call of a run, and what it makes of the segment.
+-- One call of a run, and what becomes of the segment.
 use Rattle.std.proofs.Common.{◌≡◌, ℕ, List, [], ◌∷◌, ◌++◌, Option, refl, sym, ap, ◌∙◌, subst}
 use Rattle.std.specs.Prelude.{◌↔◌}
 use Rattle.std.proofs.lemmas.Bool.{and_parts}
@@ -100,7 +100,7 @@ module _ {T E EV W : Type 0} (links : PortLinks T E EV W) (laws : LawfulLinks li
   }
   GoesOn-made segment _ asked sent _ old new before h = absurd h
 
-  -- so a run goes on with the call
+  -- so the call continues the run
   pub IsRun-step :
       (segment : Segment T E EV W) (call : Call T EV W) (calls all_calls : List (Call T EV W)) (done : Done T EV W E) (later : List (Done T EV W E)) (old new end : Port T EV W) →
       all_calls ≡ call ∷ calls → done.act ≡ act_of call → GoesOn segment call done.asked done.sent done.reply old new →

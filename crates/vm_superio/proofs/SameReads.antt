@@ -1,4 +1,4 @@
--- Neither the writer nor a restore changes a read: each trace is read as one of operations with what they asked alone.
+-- Neither the writer nor a restore changes a read: each trace is read as one of operations with the trigger's answers.
 use Rattle.std.proofs.Common.{◌≡◌, Bool, List, [], ◌∷◌, ◌++◌, refl, ap, sym, ◌∙◌}
 use Rattle.vm_superio.specs.declared.trace.Asked.{Asked}
 use Rattle.vm_superio.specs.declared.trace.Sent.{Sent}
@@ -103,7 +103,7 @@ one_unsent start trace calls (Enqueue bytes) asked outcome same =
     more start trace (unsent calls) (Enqueue bytes) asked outcome sent.Nothing same
 one_unsent start trace calls Restore asked outcome same = restored start trace (unsent calls) asked outcome same
 
--- every trace shows what its operations and what they asked show
+-- every trace shows what its operations and the trigger's answers show
 as_unsent : (start : State) (trace : List TraceEntry) → SameView start trace (unsent (ops_and_asked trace))
 unfolding unsent
 as_unsent start [] = record { state = refl; rda = refl; thre = refl }

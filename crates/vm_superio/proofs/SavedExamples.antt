@@ -1,5 +1,5 @@
 -- Worked examples of the byte form: those of docs/SAVED-STATES.md, and one for each check.
-use Rattle.std.specs.Prelude.{◌≡◌, true, negsuc, List, [], ◌∷◌, Some, None, refl, drop, take, ◌++◌, replicate}
+use Rattle.std.specs.Prelude.{◌≡◌, true, negsuc, [], ◌∷◌, Some, None, refl, drop, take, ◌++◌, replicate}
 use Rattle.vm_superio.specs.declared.rtc_pl031.RtcState.{RtcState}
 use Rattle.vm_superio.specs.declared.saved.Error.TheVariants.{TooShort, NotASavedState, OtherDevice, UnknownVersion, WrongLength, TooManyBytes, InvalidArmed}
 use Rattle.vm_superio.specs.Port.SavedState.{fresh_state}

@@ -1,4 +1,4 @@
--- Lemmas on the byte form of a saved state.
+-- Lemmas on the byte form of a saved state. Other crates' proofs use the public ones too.
 use Rattle.std.proofs.Common.{◌≡◌, ℕ, ◌<◌, ◌^◌, Bool, true, false, ap, sym, ◌∙◌, arith, refl, List, drop}
 use Rattle.std.specs.Prelude.{◌==◌, slice_index, Some, None, IfOk, Result, Ok, Err, ℤ, pos, negsuc, FitsSigned}
 use Rattle.std.specs.Result.{result_err}
@@ -13,7 +13,7 @@ use Rattle.vm_superio.specs.Saved.Faults.{clock_fault}
 use Rattle.vm_superio.specs.Saved.Laws.{IsClock, SerialFormLaw, ClockFormLaw, OneSerialStateLaw, OneClockStateLaw}
 
 -- the numbers at their places
-abbrev numbers_in : (bytes : List ℕ) → RtcState
+abbrev pub numbers_in : (bytes : List ℕ) → RtcState
 numbers_in bytes = record {
   lr = from_le_bytes w32 (drop 8 bytes);
   mr = from_le_bytes w32 (drop 12 bytes);
@@ -41,8 +41,8 @@ offset-bits (negsuc n) fits = omega arith
 offset-back : (offset : ℤ) (n : ℕ) → n ≡ cast_unsigned w64 offset → n < 2 ^ 64 → cast_signed w64 (from_le_bytes w64 (to_le_bytes w64 n)) ≡ cast_signed w64 (cast_unsigned w64 offset)
 offset-back offset n e h = ap (cast_signed w64) (from_le_bytes-to_le_bytes_8 n h ∙ e)
 
--- they are those of the state whose form it is
-numbers_in-form : (state : RtcState) → IsClock state → numbers_in (clock_form state) ≡ state
+-- they are those of the state that has this form
+pub numbers_in-form : (state : RtcState) → IsClock state → numbers_in (clock_form state) ≡ state
 numbers_in-form state fits =
     of-same _ _ _ _ _ _ _ _ _ _ _ _
     (from_le_bytes-to_le_bytes_4 state.lr fits.lr)

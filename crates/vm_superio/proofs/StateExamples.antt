@@ -23,7 +23,7 @@ both_still_pending : GivenByBoth both_pending (restore ∷ read 2 0xC6 ∷ [])
 unfolding has_bits only_bits with_bits both_pending
 both_still_pending = (refl, refl)
 
--- any bits of IER may stand in a state; the next write cuts them
+-- a state may have any bits of IER; the next write keeps four
 all_enabled : State
 all_enabled = record fresh_state { interrupt_identification = 0x02; interrupt_enable = 0xFF }
 

@@ -25,7 +25,7 @@ use Rattle.vm_superio.proofs.Output.{call_written}
 
 -- ---- events
 
--- where nothing is sent, no outcome is reported
+-- if nothing is sent, no outcome is reported
 not_sent : (outcome : Sent) → IsTrue (beq (is_sent outcome) false) → outcome ≡ sent.Nothing
 not_sent sent.Nothing outcome_fits = refl
 not_sent sent.Out outcome_fits = absurd (false≢true outcome_fits)
@@ -102,7 +102,7 @@ reported_at_point start trace Restore asked outcome goes_on outcome_fits =
 
 -- ---- trigger calls
 
--- as long as none is refused, THRE is raised as if no call was made for the other one
+-- as long as none is refused, THRE is raised as if no call were made for the other condition
 none_refused : (k : OpKind) (enable : ℕ) (called pending : Bool)
     → (raises_thre k enable false && not pending)
     ≡ (raises_thre k enable (called && false) && not pending)

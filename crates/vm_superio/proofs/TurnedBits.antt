@@ -105,7 +105,7 @@ module _ (old : ℕ) where
 
 -- ---- counts
 
--- a bit that is raised is turned where it was clear
+-- a bit that is raised is turned if it was clear
 set_once : (enabled bit : Bool) → (not bit && (enabled || bit)) ≡ (enabled && not bit)
 set_once true true = refl
 set_once true false = refl

@@ -1,4 +1,4 @@
--- A coherent state stays coherent, is the one that the trace describes, and answers what the history replies; so whole
+-- A coherent state stays coherent, is the one that the trace describes, and responds as the history says; so whole
 -- runs by the steps are well-formed traces.
 use Rattle.std.proofs.Common.{◌≡◌, ℕ, ◌+◌, ◌≤◌, Bool, true, false, ◌==◌, ◌&&◌, ◌||◌, List, [], ◌∷◌, length, drop, refl, ap, sym, ◌∙◌, subst, length-append, length-take, length-drop, arith}
 use Rattle.std.specs.Cmp.Derive.{both_true}

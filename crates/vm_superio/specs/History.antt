@@ -1,4 +1,4 @@
--- The history: what the operations so far say of the port, with no state kept. Nothing here names a step.
+-- The history: what the operations so far say about the port. It keeps no state, and nothing here names a step.
 pub mod Registers
 pub mod Interrupts
 pub mod Reads

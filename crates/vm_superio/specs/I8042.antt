@@ -1,4 +1,4 @@
--- The i8042 controller, of which only the CPU reset command is there.
+-- The i8042 controller, which emulates only the CPU reset command.
 use Rattle.std.specs.Prelude.{ℕ, Bool, ◌==◌, ◌&&◌}
 
 -- a write is the reset command: the byte 0xFE at offset 4, the command register

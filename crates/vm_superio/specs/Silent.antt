@@ -1,9 +1,9 @@
--- A `link` for an object of which contracts say nothing, such as one that signals a file descriptor, with the two laws
--- that a trait requires. It serves triggers and events objects of any type.
+-- A `link` for an object that contracts say nothing about, such as one that signals a file descriptor, with the two
+-- laws that a trait requires. It serves triggers and events objects of any type.
 use Rattle.std.specs.Prelude.{◌≡◌, ◌↔◌, ⊤, List, [], ◌∷◌, ◌++◌}
 use Rattle.std.proofs.Common.{sym, subst}
 
--- without a call the object is the same, and after one it may be any
+-- without a call the object is the same, and after one it may have any value
 abbrev pub SameWithoutCall : {Object Call : Type 0} → (old : Object) (calls : List Call) (new : Object) → Type 0
 SameWithoutCall old [] new = old ≡ new
 SameWithoutCall old (call ∷ calls) new = ⊤

@@ -34,6 +34,9 @@ impl<T: Trigger> Model for I8042Device<T> {
 }
 
 impl<T: Trigger> I8042Device<T> {
+    ghost use Rattle.std.specs.Borrow.{Lends, sem};
+    ghost use Rattle.vm_superio.specs.contracts.i8042.I8042Device.{the_row};
+
     /// Makes a device that owns `reset_evt`, without calling it.
     pub fn new(reset_evt: T) -> I8042Device<T>
         ensures { result ≡ reset_evt }
@@ -46,6 +49,15 @@ impl<T: Trigger> I8042Device<T> {
         ensures { result.now ≡ self.now }
     {
         &self.reset_evt
+    }
+
+    /// The reset trigger, mutably.
+    pub fn reset_evt_mut(&mut self) -> &mut T
+        ensures* lends { sem 𝓛 (Lends (the_row T.row T.E.row T.Trigger T.E.Debug) T.row
+            self.entry result (λ trigger. trigger)) }
+        ensures value { result.now ≡ self.old }
+    {
+        &mut self.reset_evt
     }
 
     /// Returns 0 at every offset; never calls the trigger.

@@ -7,7 +7,7 @@ ghost use Rattle.vm_superio.specs.Laws.Agreement.{RegisterLaw, HeldBytesLaw, Lin
 ghost use Rattle.vm_superio.specs.Laws.Consequences.{PendingByPrefixesLaw, TriggerBoundLaw, WaitingBytesLaw, SameReadsLaw, TakenThenHeldLaw, ReadsAreTakenLaw, ReadThenHeldLaw, OutputLaw};
 ghost use Rattle.vm_superio.specs.Laws.PollingDriver.{PollingDriverLaw, DriverGetsAllLaw, PollsBySightLaw};
 ghost use Rattle.vm_superio.specs.Laws.FieldsRun.{FieldsRunLaw};
-ghost use Rattle.vm_superio.specs.Laws.OneCall.{OneCallLaw, OneReadLaw, ReceivedLaw, RbrReadLaw, RbrDataReadyLaw, OutcomeEventsLaw, TurnedBitsLaw, AdmissibilityLaw};
+ghost use Rattle.vm_superio.specs.Laws.OneCall.{OneCallLaw, OneReadLaw, ReceivedLaw, RbrReadLaw, RbrDataReadyLaw, ThrWriteLaw, OutcomeEventsLaw, TurnedBitsLaw, AdmissibilityLaw};
 
 mod clock;
 pub mod saved;
@@ -122,20 +122,23 @@ pub fn polling_driver()
     ensures by_sight { PollsBySightLaw }
 {}
 
-/// From any start, if a segment of a well-formed trace loses no byte, the writer took exactly its output.
+/// From any start, if the newest entries of a well-formed trace lose no byte, the bytes that they record as taken are
+/// the output.
 pub fn output()
     ensures { OutputLaw }
 {}
 
 /// One call in any state: the bytes that it takes, then those held after, are those held before, then those it accepts.
 /// It gives a guest the byte that it takes. Received bytes, and an RBR read of a held byte, change only the FIFO, LSR
-/// and IIR. After an RBR read, LSR shows data ready if it did before and a byte is left.
+/// and IIR. After an RBR read, LSR shows data ready if it did before and a byte is left. A THR write outside loopback
+/// sends its byte and changes only IIR. If it returns `Ok`, a writer of known contents has grown by the byte.
 pub fn one_call()
     ensures taken { OneCallLaw }
     ensures read { OneReadLaw }
     ensures received { ReceivedLaw }
     ensures rbr_read { RbrReadLaw }
     ensures data_ready { RbrDataReadyLaw }
+    ensures thr_write { ThrWriteLaw }
 {}
 
 /// In any state, a THR write outside loopback reports either `out_byte` or `tx_lost_byte`, exactly once. No other call

@@ -176,6 +176,10 @@ impl Rtc<NoEvents> {
 }
 
 impl<EV: RtcEvents> Rtc<EV> {
+    ghost use Rattle.std.specs.Borrow.{Lends, sem};
+    ghost use Rattle.vm_superio.specs.contracts.rtc_pl031.Rtc.{the_row};
+    ghost use Rattle.vm_superio.specs.Clock.Step.{with_clock_events};
+
     /// Makes a clock from `state`, whatever its values, that owns the events object `rtc_events`. Does not call the
     /// object.
     pub fn from_state(state: &RtcState, rtc_events: EV) -> Self
@@ -208,6 +212,15 @@ impl<EV: RtcEvents> Rtc<EV> {
         ensures { result.now ≡ self.now.events }
     {
         &self.events
+    }
+
+    /// The events object, mutably. Nothing else in the clock changes.
+    pub fn events_mut(&mut self) -> &mut EV
+        ensures* lends { sem 𝓛 (Lends (the_row EV.row EV.RtcEvents) EV.row
+            self.entry result (with_clock_events self.old)) }
+        ensures value { result.now ≡ self.old.events }
+    {
+        &mut self.events
     }
 
     /// Whether the interrupt line is up: bit 0 of RTCMIS, set if both the raw interrupt status and the mask have it.

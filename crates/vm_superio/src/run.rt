@@ -30,7 +30,7 @@ pub enum Call<T, EV, W> {
 }
 
 /// A call without its objects.
-#[derive(Debug, Drop, Eq, PartialEq)]
+#[derive(Drop)]
 pub enum Act {
     /// `read` at this offset.
     Read(u8),
@@ -115,39 +115,70 @@ fn make<T: Trigger, EV: SerialEvents, W: Write>(
         serial.old serial.new }
 {
     match call {
-        Call::Read(offset) => {
-            let read = serial.traced_read(offset);
-            Done {
-                act: Act::Read(offset),
-                asked: read.asked,
-                sent: read.sent,
-                reply: Reply::Byte(read.reply),
-            }
-        }
-        Call::Write(offset, value) => {
-            let Traced { reply, asked, sent } = serial.traced_write(offset, value);
-            Done {
-                act: Act::Write(offset, value),
-                asked,
-                sent,
-                reply: Reply::Wrote(reply),
-            }
-        }
-        Call::Enqueue(bytes) => {
-            let Traced { reply, asked, sent } = serial.traced_enqueue(&bytes);
-            Done {
-                act: Act::Enqueue(bytes),
-                asked,
-                sent,
-                reply: Reply::Enqueued(reply),
-            }
-        }
+        Call::Read(offset) => read(serial, offset),
+        Call::Write(offset, value) => write(serial, offset, value),
+        Call::Enqueue(bytes) => enqueue(serial, bytes),
         Call::Restore(trigger, events, out) => Done {
             act: Act::Restore,
             asked: Asked::Nothing,
             sent: Sent::Nothing,
             reply: restore(alloc, serial, trigger, events, out),
         },
+    }
+}
+
+/// Makes a read.
+fn read<T: Trigger, EV: SerialEvents, W: Write>(
+    serial: &mut Serial<T, EV, W>,
+    offset: u8,
+) -> Done<T, EV, W>
+    ensures act { result.act ≡ Act.Read offset }
+    ensures made { IsCallStep (port_links T.link EV.link W.contents) (Call.Read offset) result.asked result.sent
+        result.reply serial.old serial.new }
+{
+    let Traced { reply, asked, sent } = serial.traced_read(offset);
+    Done {
+        act: Act::Read(offset),
+        asked,
+        sent,
+        reply: Reply::Byte(reply),
+    }
+}
+
+/// Makes a write.
+fn write<T: Trigger, EV: SerialEvents, W: Write>(
+    serial: &mut Serial<T, EV, W>,
+    offset: u8,
+    value: u8,
+) -> Done<T, EV, W>
+    ensures act { result.act ≡ Act.Write offset value }
+    ensures made { IsCallStep (port_links T.link EV.link W.contents) (Call.Write offset value) result.asked result.sent
+        result.reply serial.old serial.new }
+{
+    let Traced { reply, asked, sent } = serial.traced_write(offset, value);
+    Done {
+        act: Act::Write(offset, value),
+        asked,
+        sent,
+        reply: Reply::Wrote(reply),
+    }
+}
+
+/// Makes an enqueue.
+fn enqueue<T: Trigger, EV: SerialEvents, W: Write>(
+    serial: &mut Serial<T, EV, W>,
+    bytes: Vec<u8>,
+) -> Done<T, EV, W>
+    ensures act { result.act ≡ Act.Enqueue bytes }
+    ensures made { IsCallStep (port_links T.link EV.link W.contents) (Call.Enqueue bytes) result.asked result.sent
+        result.reply serial.old serial.new }
+{
+    let Traced { reply, asked, sent } = serial.traced_enqueue(&bytes);
+    Done {
+        act: Act::Enqueue(bytes),
+        asked,
+        sent,
+        reply: Reply::Enqueued(reply),
     }
 }
 

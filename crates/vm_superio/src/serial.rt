@@ -87,7 +87,7 @@ impl<T: Trigger, W: Write> Serial<T, NoEvents, W> {
 impl<T: Trigger, EV: SerialEvents, W: Write> Serial<T, EV, W> {
     ghost use Rattle.std.specs.Borrow.{Lends, sem};
     ghost use Rattle.vm_superio.specs.contracts.serial.Serial.{the_row};
-    ghost use Rattle.vm_superio.specs.Step.PortStep.{with_trigger, with_writer};
+    ghost use Rattle.vm_superio.specs.Step.PortStep.{with_trigger, with_events, with_writer};
     ghost use Rattle.vm_superio.specs.Step.PortStep.{IsReadStep, IsWriteStep, IsEnqueueStep, IsRetryStep};
     ghost use Rattle.vm_superio.specs.Step.Admissible.{kind_in_state};
     ghost use Rattle.vm_superio.specs.Port.Operations.{Read};
@@ -229,11 +229,31 @@ impl<T: Trigger, EV: SerialEvents, W: Write> Serial<T, EV, W> {
         &self.interrupt_evt
     }
 
+    /// The trigger, mutably. Nothing else in the port changes.
+    pub fn interrupt_evt_mut(&mut self) -> &mut T
+        ensures* lends { sem 𝓛 (Lends
+            (the_row T.row EV.row W.row T.E.row T.Trigger T.E.Debug EV.SerialEvents W.Write) T.row
+            self.entry result (with_trigger self.old)) }
+        ensures value { result.now ≡ self.old.trigger }
+    {
+        &mut self.interrupt_evt
+    }
+
     /// The events object.
     pub fn events(&self) -> &EV
         ensures { result.now ≡ self.now.events }
     {
         &self.events
+    }
+
+    /// The events object, mutably. Nothing else in the port changes.
+    pub fn events_mut(&mut self) -> &mut EV
+        ensures* lends { sem 𝓛 (Lends
+            (the_row T.row EV.row W.row T.E.row T.Trigger T.E.Debug EV.SerialEvents W.Write) EV.row
+            self.entry result (with_events self.old)) }
+        ensures value { result.now ≡ self.old.events }
+    {
+        &mut self.events
     }
 
     /// Writes `value` at `offset`, as a guest does.

@@ -1,6 +1,6 @@
 /*
- * Each number of MISUSE is one mistake that a compiler has to warn of, and 0 is
- * none. tools/c/misuse.py has the warnings that it wants.
+ * Each number of MISUSE is a mistake that a compiler has to warn of, and 0 is
+ * none. tools/c/misuse.py has the warnings.
  */
 #include <superio.h>
 

@@ -3,7 +3,7 @@ use Rattle.std.proofs.Common.{Some, None, inl, inr, subst, ⊎_elim}
 use Rattle.std.proofs.lemmas.Result.{on_ok_weaker}
 use Rattle.std.specs.Io.KnownBytes.{Keeps}
 use Rattle.std.specs.Io.Buffered.{writer_inner, writer_buffer, writer_contents}
-use Rattle.superio.proofs.BufferLemmas.{Keeps-behind, RunsUpTo-kept, StopsAtRestore-kept, IfSome-weaker}
+use Rattle.superio.proofs.BufferLemmas.{Keeps-behind, RunsUpTo-kept, StopsWithoutMemory-kept, IfSome-weaker}
 use Rattle.superio.proofs.run_buffered.Goals as goal
 
 pub returns-in-Ok-clause-ok : goal.returns-in-Ok-clause-ok
@@ -24,7 +24,7 @@ returns-in-Ok-clause-memory g c = λ e.
     let kept = Keeps-behind _ (g.W.Write.contents (writer_inner c.flush.new.self)) (writer_buffer c.flush.new.self) c.in-Ok.ensures.ok c.in-Ok.ensures.bytes in
     ⊎_elim
     (λ same. inl (subst (λ output. Keeps (writer_contents g.W.Write.contents output) (g.W.Write.contents (writer_inner c.flush.new.self))) same kept))
-    (λ ran. inr (IfSome-weaker (g.R.Read.remaining c.args.reader.now) (λ script stops. StopsAtRestore-kept _ _ _ _ _ stops kept) ran))
+    (λ ran. inr (IfSome-weaker (g.R.Read.remaining c.args.reader.now) (λ script stops. StopsWithoutMemory-kept _ _ _ _ _ stops kept) ran))
     (c.run_script-end.ensures.memory e)
 
 pub returns-in-Ok-clause-too_long_unwritten : goal.returns-in-Ok-clause-too_long_unwritten

@@ -6,24 +6,31 @@ use superio_examples::console::Console;
 use superio_examples::driver::{receive_all, run_polled};
 use superio_examples::first_claim::read_back;
 use superio_examples::input::Input;
-use superio_examples::migration::{restore, restore_input, save};
+use superio_examples::migration::{RestoreError, restore, restore_input, save};
 use superio_examples::monitor::saved_devices;
 use vm_superio::Rtc;
 use vm_superio::run::{Call, Done, Reply};
+use vm_superio::saved::Error as FormError;
 
 /// A hundred bytes.
 const INPUT: [u8; 100] = *b"\
 0123456789abcdefghijABCDEFGHIJ)!@#$%^&*(9876543210\
 jihgfedcbaJIHGFEDCBA(*&^%$#@!)5678901234efghijabcd";
 
+/// Sizes about the FIFO's, and above any that a body could have in mind.
+const SIZES: [usize; 7] = [0, 1, 63, 64, 65, 1_000, 100_000];
+
 #[test]
 fn input_takes_as_many_bytes_as_there_is_room_for(rt: HostRuntime) -> Result<(), Fail> {
-    let mut input = Input::new(rt.alloc(), 65_536)?;
-    let bytes = b"a".repeat(rt.alloc(), 40_000)?;
-    for (taken, room) in [(40_000, 25_536), (25_536, 0), (0, 0)] {
-        assert!(rt; input.push(&bytes) == taken && input.room() == room);
+    let bytes = b"a".repeat(rt.alloc(), 100_000)?;
+    for limit in SIZES {
+        let mut input = Input::new(rt.alloc(), limit)?;
+        let part = limit / 3;
+        for (length, taken) in [(part, part), (100_000, limit - part), (1, 0)] {
+            assert!(rt; input.push(&bytes[..length]) == taken, "{limit}: {length}");
+        }
+        assert!(rt; input.room() == 0 && input.waiting(rt.alloc())?.len() == limit);
     }
-    assert!(rt; input.waiting(rt.alloc())?.len() == 65_536);
     Ok(())
 }
 
@@ -137,7 +144,7 @@ fn input_stops_and_starts_and_a_refused_interrupt_is_tried_again(
 }
 
 #[test]
-fn devices_are_saved_however_many_bytes_are_held(rt: HostRuntime) -> Result<(), Fail> {
+fn devices_are_saved_and_restored_however_many_bytes_are_held(rt: HostRuntime) -> Result<(), Fail> {
     let log = Log::new();
     let mut serial = port(rt.alloc(), &log)?;
     let (mut clock, input) = (
@@ -148,17 +155,43 @@ fn devices_are_saved_however_many_bytes_are_held(rt: HostRuntime) -> Result<(), 
     for (register, value) in [(8, 5u32), (4, 1_000)] {
         clock.write(register, &value.to_le_bytes(), 1_700_000_000);
     }
+    let object = Object::new(&log);
     for count in 0..=64usize {
         let saved = save(rt.alloc(), &serial, &clock, &input)?;
-        assert!(rt; saved.serial.in_buffer.len() == count && saved.clock.armed);
+        assert!(rt; saved.serial.len() == 17 + count && saved.clock.len() == 33);
+        let restored = restore(rt.alloc(), &saved, object, object, object, object);
+        let moved = restored.ok().expect(&rt, "restored devices");
+        assert!(rt; save(rt.alloc(), &moved.serial, &moved.clock, &input)? == saved);
         assert!(rt; serial.enqueue_raw_bytes(b"a").is_ok() == (count < 64));
     }
     Ok(())
 }
 
 #[test]
+fn waiting_input_of_any_length_is_saved_and_restored(rt: HostRuntime) -> Result<(), Fail> {
+    let log = Log::new();
+    let serial = port(rt.alloc(), &log)?;
+    let clock = Rtc::with_events(Object::new(&log));
+    let bytes = b"waiting ".repeat(rt.alloc(), 12_500)?;
+    for count in SIZES {
+        let mut input = Input::new(rt.alloc(), count)?;
+        assert!(rt; input.push(&bytes[..count]) == count);
+        let saved = save(rt.alloc(), &serial, &clock, &input)?;
+        for limit in [0, count, 2 * count] {
+            let restored = restore_input(rt.alloc(), &saved, limit)?;
+            assert!(rt;
+                restored.waiting(rt.alloc())?.as_slice() == &bytes[..count],
+                "{count}"
+            );
+            assert!(rt; restored.room() == limit.saturating_sub(count), "{count}");
+        }
+    }
+    Ok(())
+}
+
+#[test]
 fn devices_go_on_on_another_machine(rt: HostRuntime) -> Result<(), Fail> {
-    let saved = saved_devices(rt.alloc())?;
+    let mut saved = saved_devices(rt.alloc())?;
     let input = restore_input(rt.alloc(), &saved, 2)?;
     assert!(rt; input.waiting(rt.alloc())?.as_slice() == b"def".as_slice());
     let log = Log::new();
@@ -166,7 +199,13 @@ fn devices_go_on_on_another_machine(rt: HostRuntime) -> Result<(), Fail> {
     // The trigger first refuses the interrupt.
     log.refused.set(1);
     let refused = restore(rt.alloc(), &saved, object, object, object, object);
-    assert!(rt; refused.is_err() && log.calls() == 1);
+    assert!(rt;
+        matches!(
+            refused.err().map(|refused| refused.error),
+            Some(RestoreError::Serial(_))
+        )
+    );
+    assert!(rt; log.calls() == 1);
     let restored = restore(rt.alloc(), &saved, object, object, object, object);
     let mut moved = restored.ok().expect(&rt, "restored devices");
     assert!(rt; log.calls() == 2);
@@ -176,6 +215,11 @@ fn devices_go_on_on_another_machine(rt: HostRuntime) -> Result<(), Fail> {
     let mut bytes = [0; 4];
     moved.clock.read(0x000, &mut bytes, 5_000_007);
     assert!(rt; u32::from_le_bytes(bytes) == 1_007);
+    // Bytes of another device are no port, and the objects are not called.
+    saved.serial = saved.clock.clone()?;
+    let refused = restore(rt.alloc(), &saved, object, object, object, object);
+    let error = refused.err().map(|refused| refused.error);
+    assert!(rt; matches!(error, Some(RestoreError::Bytes(FormError::OtherDevice))));
     Ok(())
 }
 
@@ -183,8 +227,8 @@ fn devices_go_on_on_another_machine(rt: HostRuntime) -> Result<(), Fail> {
 fn a_guest_gets_the_input(rt: HostRuntime) -> Result<(), Fail> {
     let log = Log::new();
     let object = Object::new(&log);
-    let input = b"guest ".repeat(rt.alloc(), 25)?;
-    for count in [0, 1, 63, 64, 65, 150] {
+    let input = b"guest's ".repeat(rt.alloc(), 12_500)?;
+    for count in SIZES {
         let read = read_back(rt.alloc(), object, object, &input[..count])?;
         assert!(rt; read.as_slice() == &input[..count.min(64)]);
         let received = receive_all(rt.alloc(), object, object, &input[..count])?;
@@ -195,28 +239,43 @@ fn a_guest_gets_the_input(rt: HostRuntime) -> Result<(), Fail> {
     Ok(())
 }
 
-/// The records of a driver that polls a port with two bytes.
+/// The records of a driver that polls a port with this many bytes, at most 64, and then as often in vain.
 fn polled<'a>(
     alloc: Global,
     log: &'a Log,
+    count: usize,
 ) -> Result<Vec<Done<Object<'a>, Object<'a>, Object<'a>>>, Fail> {
     let mut serial = port(alloc, log)?;
     let mut calls: Vec<Call<Object<'a>, Object<'a>, Object<'a>>> = Vec::new(alloc);
-    calls.push(Call::Enqueue(b"ab".to_vec(alloc)?))?;
-    for offset in [5, 0, 5, 0, 5] {
-        let call: Call<Object<'a>, Object<'a>, Object<'a>> = Call::Read(offset);
-        calls.push(call)?;
+    calls.push(Call::Enqueue(b"a".repeat(alloc, count)?))?;
+    for _ in 0..count.min(64) {
+        calls.push(Call::Read(5))?;
+        calls.push(Call::Read(0))?;
+    }
+    for _ in 0..count {
+        calls.push(Call::Read(5))?;
     }
     Ok(run_polled(alloc, &mut serial, calls)?)
 }
 
 #[test]
 fn a_run_of_a_driver_that_polls_reads_what_was_enqueued(rt: HostRuntime) -> Result<(), Fail> {
-    let log = Log::new();
-    let done = polled(rt.alloc(), &log)?;
-    for (done, want) in done.iter().skip(1).zip(b"\x61a\x61b\x60") {
-        assert!(rt; matches!(done.reply, Reply::Byte(byte) if byte == *want));
+    for count in SIZES {
+        let log = Log::new();
+        let done = polled(rt.alloc(), &log, count)?;
+        let held = count.min(64);
+        assert!(rt; done.len() == 1 + 2 * held + count, "{count}");
+        for (number, done) in done.iter().skip(1).enumerate() {
+            let want = match number {
+                _ if number >= 2 * held => 0x60,
+                _ if number % 2 == 0 => 0x61,
+                _ => b'a',
+            };
+            assert!(rt;
+                matches!(done.reply, Reply::Byte(byte) if byte == want),
+                "{count}: {number}"
+            );
+        }
     }
-    assert!(rt; done.len() == 6);
     Ok(())
 }

@@ -1,15 +1,37 @@
 //! What a guest reaches by port and by address, and a trigger that is a file descriptor.
 use crate::objects::{Log, Object, port};
+use std::alloc::Global;
 use std::test::Fail;
-use superio_examples::bus::{Bus, BusError};
+use superio_examples::alarm::{Alarm, alarm_at, find_alarm};
+use superio_examples::bus::{Bus, BusError, COM1, COM2, COM3, COM4};
 use superio_examples::event_fd::EventFd;
 use superio_examples::mmio::ClockWindow;
+use vm_superio::serial::Error;
 use vm_superio::{I8042Device, Rtc, Trigger};
+
+/// A bus over the tests' objects.
+type TestBus<'a> = Bus<Object<'a>, Object<'a>, Object<'a>, Object<'a>>;
+
+/// The largest error number of the operating system.
+const LARGEST: i32 = 133;
+
+/// The error number of an interrupted call, which is made again.
+const INTERRUPTED: i32 = 4;
+
+/// A bus over a log's objects, whose serial port begins at `base`.
+fn bus_at(alloc: Global, log: &Log, base: u16) -> Result<TestBus<'_>, Fail> {
+    Ok(Bus {
+        base,
+        serial: port(alloc, log)?,
+        controller: I8042Device::new(Object::new(log)),
+    })
+}
 
 #[test]
 fn a_bus_reaches_its_devices_by_port(rt: HostRuntime) -> Result<(), Fail> {
     let (log, resets) = (Log::new(), Log::new());
     let mut bus = Bus {
+        base: COM1,
         serial: port(rt.alloc(), &log)?,
         controller: I8042Device::new(Object::new(&resets)),
     };
@@ -62,12 +84,62 @@ fn a_bus_reaches_its_devices_by_port(rt: HostRuntime) -> Result<(), Fail> {
 }
 
 #[test]
+fn a_serial_port_is_where_the_bus_has_it(rt: HostRuntime) -> Result<(), Fail> {
+    let log = Log::new();
+    let bases = [COM1, COM2, COM3, COM4];
+    assert!(rt; bases == [0x3F8, 0x2F8, 0x3E8, 0x2E8]);
+    // Two ports side by side keep what the guest wrote to the scratch register of each.
+    for (first, second) in [(COM1, COM2), (COM3, COM4)] {
+        let mut buses = [
+            bus_at(rt.alloc(), &log, first)?,
+            bus_at(rt.alloc(), &log, second)?,
+        ];
+        for bus in &mut buses {
+            assert!(rt; bus.write(first + 7, 0x11).is_ok());
+            assert!(rt; bus.write(second + 7, 0x22).is_ok());
+        }
+        let [one, two] = &mut buses;
+        for base in bases {
+            let (of_one, of_two) = (one.read(base + 7), two.read(base + 7));
+            assert!(rt;
+                of_one == if base == first { 0x11 } else { 0xFF },
+                "{base:#x}"
+            );
+            assert!(rt;
+                of_two == if base == second { 0x22 } else { 0xFF },
+                "{base:#x}"
+            );
+            assert!(rt;
+                one.read(base - 1) == 0xFF && two.read(base + 8) == 0xFF,
+                "{base:#x}"
+            );
+        }
+    }
+    Ok(())
+}
+
+#[test]
+fn a_bus_returns_the_fault_of_the_writer(rt: HostRuntime) -> Result<(), Fail> {
+    let log = Log::new();
+    let mut bus = bus_at(rt.alloc(), &log, COM1)?;
+    for number in 1..=LARGEST {
+        if number == INTERRUPTED {
+            continue;
+        }
+        log.write_fault.set(number);
+        let fault = match bus.write(0x3F8, b'A') {
+            Err(BusError::Serial(Error::IOError(fault))) => fault.raw_os_error(),
+            _ => None,
+        };
+        assert!(rt; fault == Some(number), "{number}");
+    }
+    Ok(())
+}
+
+#[test]
 fn a_wide_access_is_one_of_each_byte(rt: HostRuntime) -> Result<(), Fail> {
     let log = Log::new();
-    let mut bus = Bus {
-        serial: port(rt.alloc(), &log)?,
-        controller: I8042Device::new(Object::new(&log)),
-    };
+    let mut bus = bus_at(rt.alloc(), &log, COM1)?;
     log.refused.set(2);
     // LCR to LSR, IER and IIR, a length that no guest has, and a fault of the first byte. The second is still written.
     for (at, bytes, is_ok) in [
@@ -89,7 +161,7 @@ fn a_wide_access_is_one_of_each_byte(rt: HostRuntime) -> Result<(), Fail> {
 }
 
 #[test]
-fn a_clock_is_reached_in_its_window_by_four_bytes(rt: HostRuntime) {
+fn a_clock_is_reached_in_its_window(rt: HostRuntime) {
     let base = 0x10_0000_0000;
     let log = Log::new();
     let mut window = ClockWindow {
@@ -99,7 +171,20 @@ fn a_clock_is_reached_in_its_window_by_four_bytes(rt: HostRuntime) {
     window.write(base + 8, &1_000u32.to_le_bytes(), 1_700_000_000);
     for (address, length, want) in [
         (base, 4, [0xEF, 0x03, 0, 0]),
-        (base, 2, [0, 0, 0xAA, 0xAA]),
+        // Parts of a register, and of two.
+        (base, 2, [0xEF, 0x03, 0xAA, 0xAA]),
+        (base + 1, 1, [0x03, 0xAA, 0xAA, 0xAA]),
+        (base + 3, 2, [0, 0, 0xAA, 0xAA]),
+        (base, 3, [0, 0, 0, 0xAA]),
+        // The identification, as EDK II reads it.
+        (base + 0xFE0, 1, [0x31, 0xAA, 0xAA, 0xAA]),
+        (base + 0xFE4, 1, [0x10, 0xAA, 0xAA, 0xAA]),
+        (base + 0xFE8, 1, [0x04, 0xAA, 0xAA, 0xAA]),
+        (base + 0xFEC, 1, [0x00, 0xAA, 0xAA, 0xAA]),
+        (base + 0xFF0, 1, [0x0D, 0xAA, 0xAA, 0xAA]),
+        (base + 0xFF4, 1, [0xF0, 0xAA, 0xAA, 0xAA]),
+        (base + 0xFF8, 1, [0x05, 0xAA, 0xAA, 0xAA]),
+        (base + 0xFFC, 1, [0xB1, 0xAA, 0xAA, 0xAA]),
         (base - 4, 4, [0; 4]),
         (base + 0x1000, 4, [0; 4]),
         (base + 0xFE0, 4, [0x31, 0, 0, 0]),
@@ -110,7 +195,9 @@ fn a_clock_is_reached_in_its_window_by_four_bytes(rt: HostRuntime) {
         window.read(address, &mut bytes[..length], 1_700_000_007);
         assert!(rt; bytes == want, "at {address:#x}");
     }
-    window.write(base + 4, &[0xFF; 8], 1_700_000_007);
+    for length in [1, 2, 3, 8] {
+        window.write(base + 4, &[0xFF; 8][..length], 1_700_000_007);
+    }
     // One read was at no register.
     assert!(rt; window.clock.state().mr == 0 && log.events.get() == 1);
 }
@@ -121,10 +208,33 @@ fn an_event_is_one_write_of_eight_bytes(rt: HostRuntime) {
     let mut event = EventFd {
         file: Object::new(&log),
     };
-    // EAGAIN, then success.
-    for fault in [11, 0] {
+    for fault in 0..=LARGEST {
+        if fault == INTERRUPTED {
+            continue;
+        }
         log.write_fault.set(fault);
-        assert!(rt; event.trigger().is_ok() == (fault == 0));
+        log.writes.set(0);
+        assert!(rt;
+            event.trigger().is_ok() == (fault == 0) && log.writes.get() == 1,
+            "{fault}"
+        );
     }
-    assert!(rt; log.writes.get() == 2 && log.flushes.get() == 0);
+    assert!(rt; log.flushes.get() == 0);
+}
+
+#[test]
+fn an_alarm_is_found_when_the_timer_goes_off(rt: HostRuntime) {
+    let log = Log::new();
+    let mut clock = Rtc::with_events(Object::new(&log));
+    let alarm = |line, next| Alarm { line, next };
+    assert!(rt; alarm_at(&clock, 1_000) == alarm(false, None));
+    // The guest unmasks the interrupt and sets an alarm in a minute.
+    clock.write(0x010, &1u32.to_le_bytes(), 1_000);
+    clock.write(0x004, &1_060u32.to_le_bytes(), 1_000);
+    assert!(rt; alarm_at(&clock, 1_000) == alarm(false, Some(1_060)));
+    assert!(rt; find_alarm(&mut clock, 1_059) == alarm(false, Some(1_060)));
+    assert!(rt; find_alarm(&mut clock, 1_060) == alarm(true, None));
+    // It is cleared.
+    clock.write(0x01C, &1u32.to_le_bytes(), 1_061);
+    assert!(rt; alarm_at(&clock, 1_061) == alarm(false, None) && log.calls() == 0);
 }

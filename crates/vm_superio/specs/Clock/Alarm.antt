@@ -13,20 +13,20 @@ pub record IsDueIn (state : RtcState) (now seconds : ℕ) : Type 0 where
   pub reached : is_alarm_reached state (host_time (now + seconds)) ≡ true
   pub not_sooner : (sooner : ℕ) → sooner < seconds → is_alarm_reached state (host_time (now + sooner)) ≡ false
 
--- in how many seconds after a moment the alarm is due; `None` where an access at no later moment finds it reached
+-- how many seconds after a moment the alarm is due; `None` if no access at a later moment finds it reached
 abbrev pub IsAlarmDue : (state : RtcState) (now : ℕ) (due : Option ℕ) → Type 0
 IsAlarmDue state now (Some seconds) = IsDueIn state now seconds
 IsAlarmDue state now None = (later : ℕ) → is_alarm_reached state (host_time (now + later)) ≡ false
 
--- guest time has come to a value, at a host's time
+-- guest time has reached a value, at a host's time
 abbrev pub HasCome : (offset : ℤ) (value time : ℕ) → Type 0
 HasCome offset value time = value ≤ guest_time (pos time +ℤ offset) time
 
--- and has not
+-- it has not
 abbrev pub IsToCome : (offset : ℤ) (value time : ℕ) → Type 0
 IsToCome offset value time = guest_time (pos time +ℤ offset) time < value
 
--- the first host's time from one on, up to the largest, at which guest time has come to a value
+-- the first host's time from one on, up to the largest, at which guest time has reached a value
 pub record IsFirst (offset : ℤ) (value from first : ℕ) : Type 0 where
   pub in_order : from ≤ first
   pub in_range : first < 2 ^ 32

@@ -1,5 +1,5 @@
 -- The history of a clock: what its registers hold, by a search of its accesses alone. A trace is a list of accesses,
--- newest first. No state is kept along it.
+-- newest first. It keeps no state.
 use Rattle.std.specs.Prelude.{ℕ, ◌+◌, ◌%◌, ℤ, pos, ◌+ℤ◌, ◌-ℤ◌, Bool, false, not, ◌==◌, ◌&&◌, ◌||◌, nat_lt, nat_le, is_some, if◌then◌else◌, List, [], ◌∷◌, Option, Some, None, unwrap_or, bit_or}
 use Rattle.std.specs.Option.{option_or, option_map_or}
 use Rattle.vm_superio.specs.declared.rtc_pl031.RtcState.{RtcState}
@@ -7,7 +7,7 @@ use Rattle.std.specs.Int.{bit_at}
 use Rattle.vm_superio.specs.Port.Bits.{with_bits, without_bits}
 use Rattle.vm_superio.specs.Clock.Registers.{Access, read, write, clock_register_at, host_time, guest_time, clock_register_read}
 
--- the value of the newest access for which `find` gives one
+-- the value of the newest access that `find` gives one for
 abbrev pub newest_found : {A : Type 0} → (find : Access → Option A) (trace : List Access) → Option A
 newest_found find [] = None
 newest_found find (access ∷ trace) = option_or (find access) (newest_found find trace)
@@ -78,14 +78,14 @@ match_written access = value_written 0x004 access
 abbrev pub match_value : (start : RtcState) (trace : List Access) → ℕ
 match_value start trace = unwrap_or (newest_found match_written trace) start.mr
 
--- the last match write wrote a value that guest time was yet to come to; or with none, the start has an alarm
+-- the last match write wrote a value that guest time had still to reach; or there was none, and the start has an alarm
 abbrev pub is_alarm_set : (start : RtcState) (trace : List Access) → Bool
 is_alarm_set start [] = start.armed
 is_alarm_set start (access ∷ trace) =
     option_map_or (λ value. nat_lt (guest_time_at start trace access) value) (match_written access)
     (is_alarm_set start trace)
 
--- guest time had come to the match at some access since the last match write, or with none since the start
+-- guest time had reached the match at some access since the last match write or, without one, since the start
 abbrev pub is_match_passed : (start : RtcState) (trace : List Access) → Bool
 is_match_passed start [] = false
 is_match_passed start (access ∷ trace) =
@@ -96,7 +96,7 @@ is_match_passed start (access ∷ trace) =
 abbrev pub is_armed : (start : RtcState) (trace : List Access) → Bool
 is_armed start trace = not (is_match_passed start trace) && is_alarm_set start trace
 
--- an access raises the interrupt where it is a match write of guest time itself, or reaches the alarm
+-- an access raises the interrupt if it is a match write of guest time itself, or reaches the alarm
 abbrev pub raises_alarm : (start : RtcState) (trace : List Access) (access : Access) → Bool
 raises_alarm start trace access =
     option_map_or (λ value. value == guest_time_at start trace access) (match_written access) false
@@ -111,8 +111,8 @@ is_alarm_raised start (access ∷ trace) =
 -- ---- the clock
 
 -- the offset is how far the counter is ahead of the host's time, so the counter at host's time 0; the mask is bit 0 of
--- the last write to RTCIMSC, at 0x010; a raw bit is set where the start has it and no write to RTCICR had it, and bit 0
--- where the alarm raised it too
+-- the last write to RTCIMSC, at 0x010; a raw bit is set if the start has it and no write to RTCICR had it, and bit 0
+-- also if the alarm raised it
 abbrev pub clock_of_history : (start : RtcState) (trace : List Access) → RtcState
 clock_of_history start trace = record {
   lr = load_by (newest_found setting_of trace) start;
@@ -123,7 +123,7 @@ clock_of_history start trace = record {
   armed = is_armed start trace;
 }
 
--- the number that a read shows at its moment, at which it may have reached an alarm itself; a write responds nothing
+-- the number that a read shows at its moment, when it may reach an alarm itself; a write responds nothing
 abbrev pub clock_history_response : (start : RtcState) (trace : List Access) (access : Access) → Option ℕ
 clock_history_response start trace (read offset now) =
     clock_register_read (clock_register_at offset) (guest_time_at start trace (read offset now))

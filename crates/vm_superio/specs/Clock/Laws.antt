@@ -26,7 +26,7 @@ GoesOnByHistory old access new =
     (start : RtcState) (trace : List Access) → old ≡ clock_of_history start trace
     → new ≡ clock_of_history start (access ∷ trace)
 
--- the clock is its history, at each access and so over any accesses from any state; the counter is at each moment the
+-- the clock is its history, at each access and so over any accesses from any state. At each moment the counter is the
 -- host's time and the offset together
 pub record ClockIsHistory : Type 0 where
   pub response_follows :
@@ -45,7 +45,7 @@ pub record ClockIsHistory : Type 0 where
 abbrev pub is_cleared : (trace : List Access) (bit : ℕ) → Bool
 is_cleared trace bit = list_any (λ access. bit_at (cleared_by access) bit == 1) trace
 
--- a raw interrupt bit is that of the start, unless an access of the trace cleared it; and bit 0 is set where the alarm
+-- a raw interrupt bit is that of the start, unless an access of the trace cleared it. Bit 0 is also set if the alarm
 -- raised it
 abbrev pub RawBitsByHistory : Type 0
 RawBitsByHistory =
@@ -65,8 +65,8 @@ RaisesNothingAt start trace moment =
     (access : Access) → moment_of access ≡ moment → match_written access ≡ None
     → raises_alarm start trace access ≡ false
 
--- an alarm that is due raises the interrupt then, by the history, and not sooner; one that never is does at no later
--- moment; and a read sooner changes nothing, so that the alarm stays due
+-- an alarm that is due raises the interrupt then, by the history, and not sooner. One that never is does so at no later
+-- moment. An earlier read changes nothing, so the alarm stays due
 pub record AlarmDueByHistory : Type 0 where
   pub raised :
       (start : RtcState) (trace : List Access) (now seconds : ℕ)

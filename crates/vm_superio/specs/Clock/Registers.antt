@@ -42,7 +42,7 @@ pub data ClockRegister : Type 0 where
   Reserved : ClockRegister
 
 -- the register at an offset: RTCDR, RTCMR, RTCLR, RTCCR, RTCIMSC, RTCRIS, RTCMIS, RTCICR and the identification, of
--- which each byte stands at four offsets
+-- which each byte is at four offsets
 abbrev pub clock_register_at : (offset : ℕ) → ClockRegister
 clock_register_at offset =
     if offset == 0x000 then Dr else
@@ -74,12 +74,12 @@ is_writable _ = false
 abbrev pub host_time : (now : ℕ) → ℕ
 host_time now = now % 2 ^ 32
 
--- guest time at a host's time: the counter where 32 bits hold it, else the host's time
+-- guest time at a host's time: the counter if 32 bits hold it, otherwise the host's time
 abbrev pub guest_time : (counter : ℤ) (time : ℕ) → ℕ
 guest_time (pos counter) time = if nat_lt counter (2 ^ 32) then counter else time
 guest_time (negsuc _) time = time
 
--- the number that a read of a register shows, where it may be read
+-- the number that a read of a register shows, if it may be read
 abbrev pub clock_register_read : (register : ClockRegister) (guest : ℕ) (state : RtcState) → Option ℕ
 clock_register_read Dr guest state = Some guest
 clock_register_read Mr guest state = Some state.mr
@@ -92,7 +92,7 @@ clock_register_read Icr guest state = None
 clock_register_read (Id byte) guest state = Some byte
 clock_register_read Reserved guest state = None
 
--- the four bytes that a read leaves: the number that it shows, lowest byte first, else those that were there
+-- the four bytes that a read leaves: the number that it shows, lowest byte first, otherwise those that were there
 abbrev pub bytes_left : (response : Option ℕ) (bytes : List ℕ) → List ℕ
 bytes_left (Some number) bytes = to_le_bytes w32 number
 bytes_left None bytes = bytes

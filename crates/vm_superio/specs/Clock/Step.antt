@@ -11,6 +11,10 @@ pub record ClockDevice (EV : Type 0) : Type 0 where
   pub state : RtcState
   pub events : EV
 
+-- the clock with another events object, and nothing else changed
+abbrev pub with_clock_events : {EV : Type 0} → (clock : ClockDevice EV) (object : EV) → ClockDevice EV
+with_clock_events clock object = record clock { events = object }
+
 -- guest time at a host's time
 abbrev pub guest_time_in : (state : RtcState) (time : ℕ) → ℕ
 guest_time_in state time = guest_time (pos time +ℤ state.offset) time
@@ -19,7 +23,7 @@ guest_time_in state time = guest_time (pos time +ℤ state.offset) time
 abbrev pub is_alarm_reached : (state : RtcState) (time : ℕ) → Bool
 is_alarm_reached state time = state.armed && nat_le state.mr (guest_time_in state time)
 
--- every access begins with the alarm: where it is reached, the raw interrupt is raised and the alarm is off
+-- every access begins with the alarm: if it is reached, the raw interrupt is raised and the alarm is off
 abbrev pub after_alarm : (state : RtcState) (time : ℕ) → RtcState
 after_alarm state time =
     if is_alarm_reached state time
@@ -33,7 +37,7 @@ clock_response state (read offset now) =
     clock_register_read (clock_register_at offset) (guest_time_in found (host_time now)) found
 clock_response state (write _ _ _) = None
 
--- a match write sets an alarm where guest time is yet to come to the value, and raises at once where it is the value
+-- a match write sets an alarm if guest time has still to reach the value, and raises at once if it is the value
 abbrev pub match_write : (state : RtcState) (value time : ℕ) → RtcState
 match_write state value time =
     let guest = guest_time_in state time in
@@ -59,7 +63,7 @@ clock_step state (write offset value now) =
     let time = host_time now in
     after_write (after_alarm state time) (clock_register_at offset) value time
 
--- the events that an access reports: one where its register has no such access
+-- the events that an access reports: one if its register has no such access
 abbrev pub clock_events : (access : Access) → List RtcEvent
 clock_events (read offset now) = if is_readable (clock_register_at offset) then [] else invalid_read ∷ []
 clock_events (write offset value now) = if is_writable (clock_register_at offset) then [] else invalid_write ∷ []

@@ -8,7 +8,7 @@ use Rattle.vm_superio.specs.Port.OpKinds.{OpKind, RbrRead}
 use Rattle.vm_superio.specs.History.Registers.{kind_at, held_bytes}
 use Rattle.vm_superio.specs.History.Interrupts.{trigger_calls}
 
--- an RBR read reports that no byte is left, where none is, and then that it read; a byte that was sent is reported as
+-- an RBR read reports that no byte is left, if none is, and then that it read. A byte that was sent is reported as
 -- out or as lost
 abbrev pub kind_events : (kind : OpKind) (left : List ℕ) (sent : Sent) → List Event
 kind_events RbrRead left sent = (if not_empty left then [] else in_buffer_empty ∷ []) ++ buffer_read ∷ []

@@ -10,12 +10,12 @@ use Rattle.vm_superio.specs.History.Registers.{accepted_by, kind_at, interrupt_e
 
 -- ---- raised, acknowledged and pending
 
--- an IIR read acknowledges both; an RBR read acknowledges RDA, also where it takes nothing
+-- an IIR read acknowledges both; an RBR read acknowledges RDA, even if it takes nothing
 abbrev pub acknowledges : (condition : Condition) (kind : OpKind) → Bool
 acknowledges Rda kind = is_iir_read kind || is_rbr_read kind
 acknowledges Thre kind = is_iir_read kind
 
--- the newest entry that raises or acknowledges the condition raises it; or no entry does, and it was pending at the
+-- the newest entry that raises or acknowledges the condition raises it, or no entry does and it was pending at the
 -- start
 abbrev pub pending_since :
     (condition : Condition) (start : State) (raises : Trace → TraceEntry → Bool) (trace : Trace) → Bool
@@ -55,7 +55,7 @@ is_raised Thre start trace entry =
 abbrev pub is_pending : (condition : Condition) (start : State) (trace : Trace) → Bool
 is_pending condition start trace = pending_since condition start (is_raised condition start) trace
 
--- a trigger call is due where a condition is raised and was not pending
+-- a trigger call is due if a condition is raised and was not pending
 abbrev pub is_call_due : (condition : Condition) (start : State) (trace : Trace) (entry : TraceEntry) → Bool
 is_call_due condition start trace entry =
     is_raised condition start trace entry && not (is_pending condition start trace)
@@ -67,7 +67,7 @@ abbrev pub trigger_calls : (start : State) (trace : Trace) (entry : TraceEntry) 
 trigger_calls start trace entry =
     one_if (is_call_due Rda start trace entry) + one_if (is_call_due Thre start trace entry)
 
--- there are as many answers as trigger calls, and an outcome exactly where a byte is sent
+-- there are as many answers as trigger calls, and an outcome exactly if a byte is sent
 abbrev pub is_well_formed_entry : (start : State) (trace : Trace) (entry : TraceEntry) → Bool
 is_well_formed_entry start trace entry =
     (answer_count entry.asked == trigger_calls start trace entry)
@@ -96,7 +96,7 @@ IsWithinBound start trace =
     sum_by (λ (entry : TraceEntry). answer_count entry.asked) trace
     ≤ 2 + 2 * count_by is_iir_read (op_kinds start trace) + count_by is_rbr_read (op_kinds start trace)
 
--- none of the newest entries, those in front of `trace`, acknowledges
+-- none of the newest entries, those before `trace` in the list, acknowledges
 abbrev pub NoneAcknowledges :
     (start : State) (acknowledges : OpKind → Bool) (newest trace : Trace) → Type 0
 NoneAcknowledges start acknowledges newest trace =
@@ -108,7 +108,7 @@ abbrev pub shows_waiting_bytes : (kind : OpKind) (held : List ℕ) → Bool
 shows_waiting_bytes (IerWrite value) held = true
 shows_waiting_bytes kind held = not_empty (accepted_by kind held)
 
--- after such an operation, with no IIR and no RBR read since, RDA is pending where bytes are held and IER enables it
+-- after such an operation, with no IIR and no RBR read since, RDA is pending if bytes are held and IER enables it
 abbrev pub WaitingBytesShow : (start : State) (trace : Trace) → Type 0
 WaitingBytesShow start trace =
     (after before : Trace) (entry : TraceEntry) → trace ≡ after ++ entry ∷ before

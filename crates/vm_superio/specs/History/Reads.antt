@@ -1,5 +1,5 @@
--- What the history says of a port: its state, what a guest reads, what the other calls respond, the bytes read from the
--- FIFO, and the output.
+-- What the history says about a port: its state, what a guest reads, what the other calls respond, the bytes read from
+-- the FIFO, and the output.
 use Rattle.std.specs.Prelude.{◌≡◌, ⊤, ℕ, Bool, not, ◌==◌, ◌||◌, nat_le, if◌then◌else◌, List, [], ◌∷◌, ◌++◌, length}
 use Rattle.std.specs.List.{list_all}
 use Rattle.vm_superio.specs.Port.Bits.{with_bits, without_bits, lsr_dr_bit}
@@ -41,8 +41,8 @@ state_of_history start trace = record {
 abbrev pub guest_read : (start : State) (trace : Trace) (offset : ℕ) → ℕ
 guest_read start trace offset = register_read (register_at (dlab start trace) offset) (state_of_history start trace)
 
--- an enqueue responds 0 in loopback or for no bytes; else that the FIFO is full where 64 bytes are held; else the
--- trigger's refusal; else how many bytes it accepted
+-- an enqueue responds 0 in loopback or for no bytes; otherwise that the FIFO is full, if 64 are held; otherwise the
+-- trigger's refusal; otherwise how many bytes it accepted
 abbrev pub enqueue_history_response :
     (start : State) (trace : Trace) (bytes : List ℕ) (asked : Asked) → Response
 enqueue_history_response start trace bytes asked =
@@ -77,8 +77,7 @@ bytes_read start trace [] = []
 bytes_read start trace (call ∷ later) =
     byte_read (kind_at start trace call.0.op) (held_bytes start trace) call.1 ++ bytes_read start (call.0 ∷ trace) later
 
--- the output of the newest entries, those in front of `trace`: the values of their THR writes outside loopback, in
--- order
+-- the output of the newest entries, those before `trace` in the list: the values of their THR writes, in order
 abbrev pub output : (start : State) (trace newest : Trace) → List ℕ
 output start trace [] = []
 output start trace (entry ∷ newest) =

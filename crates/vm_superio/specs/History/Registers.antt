@@ -15,7 +15,7 @@ abbrev pub value_written_at : (offset : ℕ) (op : Op) → Option ℕ
 value_written_at offset (Write at value) = if at == offset then Some value else None
 value_written_at offset _ = None
 
--- the last value found, where each operation is looked at with the trace before it
+-- the last value found; each operation is looked at with the trace before it
 abbrev pub last_found : (find : Trace → Op → Option ℕ) (trace : Trace) → Option ℕ
 last_found find [] = None
 last_found find (entry ∷ trace) = option_or (find trace entry.op) (last_found find trace)
@@ -59,17 +59,17 @@ kind_at start trace op = kind_of (dlab start trace) (loopback start trace) op
 
 -- ---- received bytes
 
--- of the bytes that come in, the first that find room beside the held ones in a FIFO of 64 are accepted
+-- of the bytes that come in, the first are accepted, as many as have room beside the held ones in a FIFO of 64
 abbrev pub accepted_by : (kind : OpKind) (held : List ℕ) → List ℕ
 accepted_by (Arrival bytes) held = take (64 - length held) bytes
 accepted_by _ held = []
 
--- an RBR read takes the first held byte, where there is one
+-- an RBR read takes the first held byte, if there is one
 abbrev pub taken_by : (kind : OpKind) (held : List ℕ) → List ℕ
 taken_by RbrRead held = take 1 held
 taken_by _ held = []
 
--- the bytes that remain: those at the start and those accepted, less as many from the front as were taken
+-- the bytes that remain: those at the start, then those accepted, without as many of the first as were taken
 abbrev pub remaining_bytes : (first accepted taken : List ℕ) → List ℕ
 remaining_bytes first accepted taken = drop (length taken) (first ++ accepted)
 

@@ -49,7 +49,7 @@ LineStatusLaw = (start : State) (trace : Trace)
     → (state_after start trace).line_status ≡ line_status start trace
 
 -- the interrupt law, from a start whose IIR is 1, 2, 4 or 6, and over any trace: IIR shows the conditions that are
--- pending, an entry is admissible exactly where it is well-formed, and a restore makes the calls that are due
+-- pending, an entry is admissible exactly if it is well-formed, and a restore makes the calls that are due
 pub record InterruptsAgree (start : State) (trace : Trace) (s : State) : Type 0 where
   pub pending : s.interrupt_identification ≡ interrupt_identification start trace
   pub calls :
@@ -65,7 +65,7 @@ InterruptLaw = (start : State) (trace : Trace) (thre rda : Bool)
 abbrev pub CoherenceLaw : Type 0
 CoherenceLaw = (s : State) (op : Op) (asked : Asked) → Coherent s → Coherent (step s op asked)
 
--- from a coherent start the state is the one of the history
+-- from a coherent start, the state is that of the history
 abbrev pub StateLaw : Type 0
 StateLaw = (start : State) (trace : Trace) → Coherent start
     → state_after start trace ≡ state_of_history start trace
@@ -111,7 +111,7 @@ pub record CallAgrees
   pub response : reply ≡ history_response start trace entry.op entry.asked entry.sent
   pub state : new ≡ state_of_history start (entry ∷ trace)
 
--- by what its contract says of the step: which answers were possible, the reply, and the state after it
+-- by what its contract says about the step: which answers were possible, the reply, and the state after it
 abbrev pub CallLaw : Type 0
 CallLaw = (start : State) (trace : Trace) (entry : TraceEntry) (reply : Response) (old new : State)
     → Coherent start → old ≡ state_of_history start trace
@@ -119,7 +119,7 @@ CallLaw = (start : State) (trace : Trace) (entry : TraceEntry) (reply : Response
     → reply ≡ step_response old entry.op entry.asked entry.sent → new ≡ step old entry.op entry.asked
     → CallAgrees start trace entry reply new
 
--- interrupts tried again in that state: the trigger calls are those of a restore there, and the call counts as one. Its
+-- a retry in that state: the trigger calls are those of a restore there, and it counts as one. Its
 -- entry is well-formed, responds nothing, and the state is that of the trace with this entry added
 pub record RetryAgrees (start : State) (trace : Trace) (s : State) : Type 0 where
   pub calls : restore_calls s ≡ restore_calls_due start trace
@@ -132,7 +132,7 @@ RetryLaw = (start : State) (trace : Trace) (s : State) → Coherent start → s 
 
 -- ---- a whole run
 
--- entries, oldest first and each with its response, that follow each other by steps, to an end
+-- entries, oldest first and each with its response, that follow each other by steps
 abbrev pub StepsFollow : (s : State) (calls : List (TraceEntry × Response)) (end : State) → Type 0
 StepsFollow s [] end = end ≡ s
 StepsFollow s (call ∷ later) end =
@@ -140,7 +140,7 @@ StepsFollow s (call ∷ later) end =
     × (call.1 ≡ step_response s call.0.op call.0.asked call.0.sent)
     × StepsFollow (step s call.0.op call.0.asked) later end
 
--- behind `trace` the calls make a well-formed trace with these responses, and end in its state, which is coherent
+-- after `trace` the calls make a well-formed trace with these responses, and end in its state, which is coherent
 pub record RunAgrees
     (start : State) (trace : Trace) (calls : List (TraceEntry × Response)) (end : State) : Type 0 where
   pub well_formed : IsTrue (is_well_formed start (trace_after trace calls))

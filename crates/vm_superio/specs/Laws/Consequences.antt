@@ -38,7 +38,7 @@ WaitingBytesLaw = (start : State) (trace : Trace) → WaitingBytesShow start tra
 
 -- ---- reads
 
--- an operation with the trigger's answers, but for a restore
+-- an operation with the trigger's answers, unless it is a restore
 abbrev pub op_and_asked : (op : Op) (asked : Asked) → List (Op × Asked)
 op_and_asked Restore asked = []
 op_and_asked op asked = (op, asked) ∷ []
@@ -47,7 +47,7 @@ abbrev pub ops_and_asked : (trace : Trace) → List (Op × Asked)
 ops_and_asked [] = []
 ops_and_asked (entry ∷ trace) = op_and_asked entry.op entry.asked ++ ops_and_asked trace
 
--- neither the writer nor a restore changes a read: it depends on the operations and the trigger's answers alone
+-- neither the writer nor a restore changes a read: it depends only on the operations and the trigger's answers
 abbrev pub SameReadsLaw : Type 0
 SameReadsLaw = (start : State) (one other : Trace) → ops_and_asked one ≡ ops_and_asked other
     → (offset : ℕ) → guest_read start one offset ≡ guest_read start other offset
@@ -76,7 +76,7 @@ abbrev pub recorded_output : (newest : Trace) → List ℕ
 recorded_output [] = []
 recorded_output (entry ∷ newest) = recorded_output newest ++ bytes_written entry.op entry.sent
 
--- in the newest entries of a well-formed trace, if no byte of them is lost, the recorded output is the output
+-- if the newest entries of a well-formed trace lose no byte, the bytes recorded as taken are the output
 abbrev pub OutputLaw : Type 0
 OutputLaw = (start : State) (trace newest : Trace) → IsTrue (is_well_formed start (newest ++ trace))
     → IsTrue (none_lost newest)

@@ -19,17 +19,17 @@ pub data FieldsCall : Type 0 where
   FieldsRead : (offset : ℕ) (effects : ReadEffects) → FieldsCall
   FieldsWrite : (offset value : ℕ) (effects : WriteEffects) (asked : Asked) (sent : Sent) → FieldsCall
   FieldsEnqueue : (bytes : List ℕ) (effects : EnqueueEffects) (asked : Asked) → FieldsCall
-  -- the struct was copied, or a refused interrupt is asked for again: as often as is due
+  -- the struct was copied, or a refused interrupt is requested again: as often as is due
   FieldsRestore : (interrupts : ℕ) → FieldsCall
 
--- after a write the caller called `first_refused` if the first of two interrupts was refused, and else did not
+-- after a write the caller called `first_refused` if the first of two interrupts was refused, and otherwise did not
 abbrev pub IsSettled : (interrupts : ℕ) (asked : Asked) (old new : State) → Type 0
 IsSettled interrupts asked old new =
     (is_first_of_two_refused interrupts asked ≡ true → IsFirstRefused old new)
     × (is_first_of_two_refused interrupts asked ≡ false → new ≡ old)
 
--- the call met its contract, and the caller did what it was to do: it asked as often as it was told, sent a byte
--- exactly where one goes out, and told a first refusal of two
+-- the call met its contract, and the caller did its part: it called its trigger as often as it was told, sent a byte
+-- exactly if one goes out, and reported a refusal of the first of two calls
 abbrev pub IsFieldsCall : (call : FieldsCall) (old new : State) → Type 0
 IsFieldsCall (FieldsRead offset effects) old new = IsFieldsRead offset effects old new
 IsFieldsCall (FieldsWrite offset value effects asked sent) old new =
@@ -41,7 +41,7 @@ IsFieldsCall (FieldsEnqueue bytes effects asked) old new =
     IsFieldsEnqueue bytes effects old new × IsTrue (answers_all effects.interrupts asked)
 IsFieldsCall (FieldsRestore interrupts) old new = (interrupts ≡ length (restore_calls old)) × (new ≡ old)
 
--- such calls, oldest first, lead from a state to an end
+-- such calls, oldest first, lead from one state to another
 abbrev pub FieldsCallsFollow : (s : State) (calls : List FieldsCall) (end : State) → Type 0
 FieldsCallsFollow s [] end = end ≡ s
 FieldsCallsFollow s (call ∷ later) end =

@@ -1,13 +1,16 @@
 -- The laws of one call, in any state.
-use Rattle.std.specs.Prelude.{◌≡◌, ◌↔◌, ℕ, zero, suc, Bool, true, false, if◌then◌else◌, List, ◌∷◌, ◌++◌, ◌<◌, ◌&&◌, length, count_by, IsTrue}
+use Rattle.std.specs.Prelude.{◌≡◌, ◌↔◌, ℕ, zero, suc, Bool, true, false, not, if◌then◌else◌, List, [], ◌∷◌, ◌++◌, ◌<◌, ◌&&◌, length, count_by, IsTrue, Option}
+use Rattle.std.specs.List.{list_all}
+use Rattle.std.specs.Io.KnownBytes.{Appends}
 use Rattle.vm_superio.specs.declared.trace.Asked.{Asked}
 use Rattle.vm_superio.specs.declared.trace.Sent.{Sent}
 use Rattle.vm_superio.specs.Port.Bits.{has_bits, lsr_dr_bit}
 use Rattle.vm_superio.specs.Port.State.{State, not_empty}
-use Rattle.vm_superio.specs.Port.Registers.{is_dlab}
-use Rattle.vm_superio.specs.Port.Operations.{Op, Read, ByteRead, Event, out_byte, tx_lost_byte, answer_count}
+use Rattle.vm_superio.specs.Port.Registers.{is_dlab, is_loopback, Thre}
+use Rattle.vm_superio.specs.Port.Operations.{Op, Read, Write, Response, ByteRead, WriteOk, Event, out_byte, tx_lost_byte, answer_count, is_sent, is_lost}
 use Rattle.vm_superio.specs.Port.OpKinds.{sent_by}
-use Rattle.vm_superio.specs.Step.Raising.{receive_bytes}
+use Rattle.vm_superio.specs.Port.WriterLink.{bytes_written}
+use Rattle.vm_superio.specs.Step.Raising.{raise, receive_bytes}
 use Rattle.vm_superio.specs.Step.Transition.{step, step_response, step_events}
 use Rattle.vm_superio.specs.Step.Admissible.{kind_in_state, step_calls, sends_byte, is_admissible}
 use Rattle.vm_superio.specs.Step.PortStep.{turned_on_count}
@@ -27,7 +30,7 @@ OneReadLaw = (s : State) (op : Op) (asked : Asked) (sent : Sent)
     → byte_read (kind_in_state s op) s.in_buffer (step_response s op asked sent) ++ (step s op asked).in_buffer
     ≡ s.in_buffer ++ accepted_by (kind_in_state s op) s.in_buffer
 
--- bytes that are received go behind those held, and nothing else changes but LSR and IIR
+-- received bytes follow those held, and nothing else changes but LSR and IIR
 abbrev pub ReceivedLaw : Type 0
 ReceivedLaw = (s : State) (bytes : List ℕ)
     → receive_bytes bytes s ≡ record s {
@@ -36,7 +39,7 @@ ReceivedLaw = (s : State) (bytes : List ℕ)
       interrupt_identification = (receive_bytes bytes s).interrupt_identification;
     }
 
--- an RBR read in a state that holds bytes gives the oldest, and leaves the others; and nothing else changes but LSR and
+-- an RBR read in a state that holds bytes gives the oldest and leaves the others. Nothing else changes but LSR and
 -- IIR
 pub record GivesOldest (s new : State) (byte : ℕ) : Type 0 where
   pub bytes : byte ∷ new.in_buffer ≡ s.in_buffer
@@ -51,11 +54,28 @@ RbrReadLaw = (s : State) (byte : ℕ) → is_dlab s.line_control ≡ false → 0
     → ByteRead byte ≡ step_response s (Read 0) Asked.Nothing Sent.Nothing
     → GivesOldest s (step s (Read 0) Asked.Nothing) byte
 
--- after an RBR read LSR shows data ready where it did before and a byte is left
+-- after an RBR read LSR shows data ready if it did before and a byte is left
 abbrev pub RbrDataReadyLaw : Type 0
 RbrDataReadyLaw = (s : State) → is_dlab s.line_control ≡ false
     → let new = step s (Read 0) Asked.Nothing in
     has_bits new.line_status lsr_dr_bit ≡ (has_bits s.line_status lsr_dr_bit && not_empty new.in_buffer)
+
+-- a THR write outside loopback sends its byte: the writer takes it, or fails. THRE is raised, and nothing else changes.
+-- `Ok` means that the writer took the byte: its contents, if they are known, grew by it
+pub record SendsByte (s new : State) (value : ℕ) (response : Response) (sent : Sent) : Type 0 where
+  pub outcome : IsTrue (is_sent sent)
+  pub state : new ≡ record s { interrupt_identification = raise Thre s.interrupt_enable s.interrupt_identification }
+  pub taken :
+      WriteOk ≡ response → (before after : Option (List ℕ))
+      → (IsTrue (list_all (λ outcome. not (is_lost outcome)) (sent ∷ []))
+      → Appends before after (bytes_written (Write 0 value) sent))
+      → Appends before after (value ∷ [])
+
+abbrev pub ThrWriteLaw : Type 0
+ThrWriteLaw = (s : State) (value : ℕ) (asked : Asked) (sent : Sent)
+    → is_dlab s.line_control ≡ false → is_loopback s.modem_control ≡ false
+    → IsTrue (is_admissible s (Write 0 value) asked sent)
+    → SendsByte s (step s (Write 0 value) asked) value (step_response s (Write 0 value) asked sent) sent
 
 -- the events that report the outcome of a byte
 abbrev pub reports_outcome : (event : Event) → Bool
@@ -87,7 +107,7 @@ abbrev pub sent_when : (sends success : Bool) → Sent
 sent_when false success = Sent.Nothing
 sent_when true success = if success then Sent.Out else Sent.Lost
 
--- admissible is what some answers to the trigger's calls and some success or failure of the writer give, and no more
+-- an entry is admissible exactly if some answers of the trigger and some success or failure of the writer give it
 abbrev pub AdmissibilityLaw : Type 0
 AdmissibilityLaw = (s : State) (op : Op) (asked : Asked) (sent : Sent)
     → IsTrue (is_admissible s op asked sent)

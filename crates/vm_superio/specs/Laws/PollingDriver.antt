@@ -1,4 +1,4 @@
--- A driver that polls: what a guest gets that reads RBR only where LSR has shown data ready.
+-- A driver that polls: what a guest gets that reads RBR only if LSR has shown data ready.
 use Rattle.std.specs.Prelude.{◌≡◌, ℕ, Bool, true, false, not, ◌==◌, ◌&&◌, ◌||◌, List, [], ◌∷◌, ◌++◌, IsTrue}
 use Rattle.vm_superio.specs.Port.Bits.{has_bits, lsr_dr_bit}
 use Rattle.vm_superio.specs.Port.State.{State}
@@ -20,7 +20,7 @@ driver_bytes start trace (call ∷ later) =
 
 -- ---- data ready shows at each RBR read
 
--- each RBR read is made where a read of LSR would show data ready. What else is called plays no part
+-- each RBR read is made while a read of LSR would show data ready. Other calls play no part
 abbrev pub polls : (start : State) (trace : Trace) (calls : List (TraceEntry × Response)) → Bool
 polls start trace [] = true
 polls start trace (call ∷ later) =
@@ -35,7 +35,7 @@ PollingDriverLaw = (start : State) (calls : List (TraceEntry × Response)) → R
     → driver_bytes start [] calls ++ held_bytes start (trace_after [] calls)
     ≡ start.in_buffer ++ accepted_bytes start (trace_after [] calls)
 
--- and where LSR does not show data ready in the end, it has got all of them
+-- and if LSR does not show data ready in the end, it has got all of them
 abbrev pub DriverGetsAllLaw : Type 0
 DriverGetsAllLaw = (start : State) (calls : List (TraceEntry × Response)) → ResponsesAre start [] calls
     → IsTrue (polls start [] calls) → has_bits (guest_read start (trace_after [] calls) 5) lsr_dr_bit ≡ false
@@ -48,7 +48,7 @@ abbrev pub shows_data_ready : (op : Op) (reply : Response) → Bool
 shows_data_ready (Read offset) (ByteRead byte) = (offset == 5) && has_bits byte lsr_dr_bit
 shows_data_ready op reply = false
 
--- the driver reads RBR only where a read of LSR has shown data ready since its RBR read before
+-- the driver reads RBR only if a read of LSR has shown data ready since its previous RBR read
 abbrev pub polls_by_sight : (start : State) (trace : Trace) (seen : Bool) (calls : List (TraceEntry × Response)) → Bool
 polls_by_sight start trace seen [] = true
 polls_by_sight start trace seen (call ∷ later) =

@@ -5,7 +5,7 @@ use Rattle.vm_superio.specs.Port.State.{State, not_empty}
 use Rattle.vm_superio.specs.Port.Registers.{identification_of}
 
 -- IIR shows which of THRE and RDA are pending; RDA is pending only while a received byte is held; data ready is set
--- exactly while one is; and at most 64 are. The other fields are free
+-- exactly while one is; at most 64 are. The other fields are free
 pub record Coherent (s : State) : Type 0 where
   pub thre : Bool
   pub rda : Bool

@@ -10,6 +10,6 @@ use Rattle.vm_superio.specs.Port.Places.{held_bytes}
 abbrev pub state_of_fields : (fields : SerialFields) → State
 state_of_fields fields = state_with fields.registers (held_bytes fields.in_buffer)
 
--- the state is coherent, and no more bytes are said to be held than can be
+-- the state is coherent, and `held` is at most 64
 abbrev pub CoherentFields : (fields : SerialFields) → Type 0
 CoherentFields fields = (fields.in_buffer.held ≤ 64) × Coherent (state_of_fields fields)

@@ -1,4 +1,4 @@
--- What a contract sees of a serial port, and of what its calls answer.
+-- What a contract sees of a serial port, and of what its calls return.
 use Rattle.std.specs.Prelude.{ℕ, Option, Some, None, Result, Ok, Err}
 use Rattle.vm_superio.specs.declared.serial.errors.Error.{Error}
 use Rattle.vm_superio.specs.declared.serial.errors.Error.TheVariants.{Trigger, IOError, FullFifo, Memory}
@@ -12,7 +12,7 @@ pub record Port (T EV W : Type 0) : Type 0 where
   pub events : EV
   pub out : W
 
--- what a write or an enqueue returns, as a response, and the refusal in it. Neither ever lacks memory
+-- what a write or an enqueue returns, as a response, and the refusal in it. Neither takes memory
 abbrev pub failure_response : {E : Type 0} → (error : Error E) → Response
 failure_response (Trigger refusal) = TriggerRefused
 failure_response (IOError fault) = WriterFailed

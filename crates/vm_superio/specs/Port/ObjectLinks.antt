@@ -15,11 +15,12 @@ Link Object Call = Object → List Call → Object → Type 0
 abbrev pub TriggerAnswer : (E : Type 0) → Type 0
 TriggerAnswer E = Result (Unit {0}) E
 
--- the bytes that a writer holds, where its type makes them known
+-- the bytes that a writer holds, if its type makes them known
 abbrev pub Contents : (W : Type 0) → Type 0
 Contents W = W → Option (List ℕ)
 
--- the answers that a record stands for. A refusal among them is the one in the reply, which has one exactly then
+-- the answers that a record stands for. A refusal among them is the one in the reply, which has one exactly in that
+-- case
 abbrev pub answers_of : {E : Type 0} → (asked : Asked) (refusal : Option E) → List (TriggerAnswer E)
 answers_of Asked.Nothing refusal = []
 answers_of Asked.Took refusal = Ok tt ∷ []
@@ -33,7 +34,7 @@ module _ {E : Type 0} where
   all_ok [] = []
   all_ok (condition ∷ due) = Ok tt ∷ all_ok due
 
-  -- or once for each of the first conditions, where the last of these calls alone is refused, and ends the restore
+  -- or once for each of the first conditions; only the last of these calls is refused, and ends the restore
   abbrev pub StopsAtRefusal : (due : List Condition) (refusal : E) (answers : List (TriggerAnswer E)) → Type 0
   StopsAtRefusal [] refusal answers = ⊥
   StopsAtRefusal (condition ∷ due) refusal [] = ⊥

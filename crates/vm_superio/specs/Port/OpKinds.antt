@@ -10,11 +10,11 @@ pub data OpKind : Type 0 where
   IirRead : OpKind
   -- a write at offset 1 with DLAB clear
   IerWrite : (value : ℕ) → OpKind
-  -- a write at offset 0 with DLAB clear, outside loopback
+  -- a write at offset 0 with DLAB and loopback clear
   ThrWrite : (value : ℕ) → OpKind
-  -- bytes that come in: an enqueue outside loopback, or the byte of a THR write in loopback
+  -- bytes that come in: an enqueue outside loopback, or the byte of a write at offset 0 in loopback, with DLAB clear
   Arrival : (bytes : List ℕ) → OpKind
-  -- everything else, a restore and an enqueue in loopback among them
+  -- everything else, for example a restore, or an enqueue in loopback
   Other : OpKind
 
 abbrev pub read_kind : (register : Register) → OpKind

@@ -3,14 +3,14 @@ use Rattle.std.specs.Prelude.{ℕ, Bool, true, false, ◌==◌, ◌&&◌, if◌t
 pub use Rattle.vm_superio.specs.declared.trace.Asked.{Asked}
 pub use Rattle.vm_superio.specs.declared.trace.Sent.{Sent}
 
--- an operation, without the objects that a restore brings
+-- an operation, without the objects of a restore
 pub data Op : Type 0 where
   Read : (offset : ℕ) → Op
   Write : (offset value : ℕ) → Op
   Enqueue : (bytes : List ℕ) → Op
   Restore : Op
 
--- an entry of a trace, which stands newest first: the operation, the trigger's answers to its calls, and the outcome of
+-- an entry of a trace: the operation, the trigger's answers to its calls, and the outcome of
 -- the byte that it sent to the writer
 pub record TraceEntry : Type 0 where
   pub op : Op
@@ -20,7 +20,7 @@ pub record TraceEntry : Type 0 where
 abbrev pub Trace : Type 0
 Trace = List TraceEntry
 
--- what a call responds; nothing is stated of a restore's response
+-- what a call responds; nothing is stated about a restore's response
 pub data Response : Type 0 where
   ByteRead : (byte : ℕ) → Response
   WriteOk : Response

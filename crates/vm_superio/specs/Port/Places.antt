@@ -2,7 +2,7 @@
 use Rattle.std.specs.Prelude.{ℕ, ◌%◌, min, List, ◌++◌, take, drop}
 use Rattle.vm_superio.specs.declared.serial.places.Places.{Places}
 
--- the places in a ring, from the oldest byte's on: `first` counts modulo 64
+-- the places of the ring, from the oldest byte on: `first` counts modulo 64
 abbrev pub places_from : (first : ℕ) (places : List ℕ) → List ℕ
 places_from first places = drop (first % 64) places ++ take (first % 64) places
 

@@ -25,7 +25,7 @@ pub data Condition : Type 0 where
   Rda : Condition
   Thre : Condition
 
--- the register at an offset: DLAB matters at offsets 0 and 1 alone, and offsets from 8 on reach none
+-- the register at an offset: DLAB matters only at offsets 0 and 1, and offsets from 8 on reach none
 abbrev pub register_at : (dlab : Bool) (offset : ℕ) → Register
 register_at dlab offset =
     if offset == 0 then (if dlab then Dll else RbrThr)
@@ -91,6 +91,6 @@ identification_of true false = 0x02
 identification_of false true = 0x04
 identification_of true true = 0x06
 
--- those of the two conditions that are true, THRE first
+-- the pending ones of the two conditions, THRE first
 abbrev pub thre_then_rda : (thre rda : Bool) → List Condition
 thre_then_rda thre rda = (if thre then Thre ∷ [] else []) ++ (if rda then Rda ∷ [] else [])

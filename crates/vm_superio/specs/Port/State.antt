@@ -1,7 +1,7 @@
 -- The state of a serial port.
 use Rattle.std.specs.Prelude.{ℕ, Bool, true, false, List, [], ◌∷◌}
 
--- the ten fields of a port's state; the received bytes stand oldest first
+-- the ten fields of a port's state; the received bytes are oldest first
 pub record State : Type 0 where
   pub baud_divisor_low : ℕ
   pub baud_divisor_high : ℕ

@@ -17,14 +17,14 @@ abbrev pub port_links :
     → PortLinks T E EV W
 port_links trigger events contents = record { trigger = trigger; events = events; contents = contents }
 
--- the byte that the writer took in a call: a write's value, where it went out
+-- the byte that the writer took in a call: a write's value, if it went out
 abbrev pub bytes_written : (op : Op) (sent : Sent) → List ℕ
 bytes_written (Write offset value) Sent.Out = value ∷ []
 bytes_written _ _ = []
 
--- a writer before and after calls with these outcomes, in order, in which it took `bytes`. It is unchanged where
--- nothing was sent. Where nothing was lost it grew by these bytes, if its contents are known. Else nothing is stated of
--- it
+-- a writer before and after calls with these outcomes, in order, in which it took `bytes`. It is unchanged if
+-- nothing was sent. If nothing was lost and its contents are known, it grew by these bytes. Otherwise nothing is stated
+-- about it
 pub record WriterLink
     {W : Type 0} (contents : Contents W) (outcomes : List Sent) (bytes : List ℕ) (old new : W) : Type 0 where
   pub unchanged : IsTrue (list_all (λ outcome. not (is_sent outcome)) outcomes) → new ≡ old

@@ -23,7 +23,7 @@ pub record HistoryTheorem
   pub read_bytes :
       bytes_read start.state [] (entries_of records) ++ end.state.in_buffer
       ≡ start.state.in_buffer ++ accepted_bytes start.state (trace_of records)
-  -- bytes taken, then those held, are the same
+  -- the bytes taken, then those held, are that list too
   pub received_bytes :
       taken_bytes start.state (trace_of records) ++ end.state.in_buffer
       ≡ start.state.in_buffer ++ accepted_bytes start.state (trace_of records)
@@ -36,7 +36,7 @@ pub record HistoryTheorem
   pub output :
       OutputsAre contents start.state (record { before = []; newest = []; initial = start.out }) calls records end.out
   -- each trigger gave the answers that are recorded: the first from the run's start, each later one from its restore,
-  -- which makes the calls that are due. And restores change no later read
+  -- which makes the calls that are due
   pub restores :
       TriggersAre trigger_link start.state [] (record { initial = start.trigger; answers = [] })
       calls records end.trigger

@@ -11,7 +11,7 @@ use Rattle.vm_superio.specs.History.Reads.{guest_read, output, none_lost}
 use Rattle.vm_superio.specs.Run.Trace.{Act, Call, Reply, Byte, Restored, NotRestored, Done, entry_of, refusal_in_reply}
 
 module _ {T E EV W : Type 0} where
-  -- each read replied the guest read at its point of the trace
+  -- the reply to each read is the guest read at its point of the trace
   abbrev pub ReadIs : (start : State) (trace : Trace) (act : Act) (reply : Reply T EV W E) → Type 0
   ReadIs start trace (Read offset) reply = reply ≡ Byte (guest_read start trace offset)
   ReadIs start trace _ reply = ⊤
@@ -29,7 +29,7 @@ pub record WriterSegment (W : Type 0) : Type 0 where
   pub newest : Trace
   pub initial : W
 
--- where no byte of the segment is lost, a writer whose contents are known took the segment's output
+-- if no byte of the segment is lost, a writer of known contents took the segment's output
 abbrev pub OutputIs :
     {W : Type 0} → (contents : Contents W) (start : State) (segment : WriterSegment W) (now : W) → Type 0
 OutputIs contents start segment now =
@@ -42,7 +42,7 @@ module _ {T E EV W : Type 0} (contents : Contents W) (start : State) where
   OutputAtRestore segment (Restore trigger events out) (Restored old) = OutputIs contents start segment old.out
   OutputAtRestore segment call reply = ⊤
 
-  -- and the writer that it brings begins the next
+  -- and its writer begins the next
   abbrev pub next_writer_segment :
       (segment : WriterSegment W) (entry : TraceEntry) (call : Call T EV W) (reply : Reply T EV W E) → WriterSegment W
   next_writer_segment segment entry (Restore trigger events out) (Restored old) =
@@ -66,8 +66,8 @@ pub record TriggerSegment (T E : Type 0) : Type 0 where
   pub answers : List (TriggerAnswer E)
 
 module _ {T E EV W : Type 0} (link : Link T (TriggerAnswer E)) (start : State) where
-  -- at a restore that succeeds the old trigger gave the answers of its segment, and the new one is called for the
-  -- conditions that are due, and refuses none. The trigger of a restore that fails is called up to the refusal
+  -- at a restore that succeeds, the old trigger has given the answers of its segment, and the new one is called for the
+  -- conditions that are due, and refuses no call. The trigger of a restore that fails is called up to the refusal
   abbrev pub TriggerAtRestore :
       (trace : Trace) (segment : TriggerSegment T E) (call : Call T EV W) (reply : Reply T EV W E) → Type 0
   TriggerAtRestore trace segment (Restore trigger events out) (Restored old) =
@@ -77,7 +77,7 @@ module _ {T E EV W : Type 0} (link : Link T (TriggerAnswer E)) (start : State) w
       RefusesOwnState link (restore_calls_due start trace) refused.error trigger refused.trigger
   TriggerAtRestore trace segment call reply = ⊤
 
-  -- the trigger of a successful restore begins a segment with these calls; every other call adds its own answers
+  -- the trigger of a successful restore begins a segment with these calls. Every other call adds its own answers
   abbrev pub next_trigger_segment :
       (trace : Trace) (segment : TriggerSegment T E) (call : Call T EV W) (asked : Asked)
       (reply : Reply T EV W E) → TriggerSegment T E

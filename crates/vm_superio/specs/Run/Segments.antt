@@ -11,8 +11,8 @@ use Rattle.vm_superio.specs.Port.WriterLink.{PortLinks, bytes_written, WriterLin
 use Rattle.vm_superio.specs.Port.Model.{Port}
 use Rattle.vm_superio.specs.Step.Transition.{step_events}
 
--- the objects as they were at its start; and since then the trigger's answers, the events reported, the outcomes of the
--- bytes sent, and the bytes that the writer took, each in order
+-- the objects as they were at its start and, since then, the trigger's answers, the events reported, the outcomes of
+-- the bytes sent, and the bytes that the writer took, each in order
 pub record Segment (T E EV W : Type 0) : Type 0 where
   pub trigger : T
   pub events : EV
@@ -35,7 +35,7 @@ module _ {T E EV W : Type 0} where
     written_bytes = [];
   }
 
-  -- each later one begins with the objects that a restore brings, and with the calls of its trigger that are due then
+  -- each later one begins with a restore's objects, and with the trigger calls that are due then
   abbrev pub segment_from : (due : List Condition) (trigger : T) (events : EV) (out : W) → Segment T E EV W
   segment_from due trigger events out = record {
     trigger = trigger;
@@ -47,7 +47,7 @@ module _ {T E EV W : Type 0} where
     written_bytes = [];
   }
 
-  -- it goes on by a call in a state
+  -- it continues with a call in a state
   abbrev pub extend :
       (segment : Segment T E EV W) (s : State) (op : Op) (asked : Asked) (sent : Sent) (refusal : Option E)
       → Segment T E EV W
@@ -58,7 +58,7 @@ module _ {T E EV W : Type 0} where
     written_bytes = segment.written_bytes ++ bytes_written op sent;
   }
 
-  -- a port of this state, whose objects are those of the segment's start after all that was done with them
+  -- a port in this state, whose objects are those of the segment's start after all calls of them
   pub record IsAfter
       (links : PortLinks T E EV W) (segment : Segment T E EV W) (s : State) (port : Port T EV W) : Type 0 where
     pub state : port.state ≡ s

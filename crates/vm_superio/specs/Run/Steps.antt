@@ -1,4 +1,4 @@
--- A run of calls, with a record of each, by the steps of its calls.
+-- A run of calls with a record of each, by the steps of these calls.
 use Rattle.std.specs.Prelude.{◌≡◌, List, [], ◌∷◌, None, IsTrue}
 use Rattle.vm_superio.specs.declared.trace.Asked.{Asked}
 use Rattle.vm_superio.specs.declared.trace.Sent.{Sent}
@@ -25,7 +25,7 @@ module _ {T E EV W : Type 0} (links : PortLinks T E EV W) where
       IsTrue (is_admissible s op asked sent) × (response ≡ step_response s op asked sent)
 
   -- one call and its record. A restore records no trigger answers and no sent byte. On success the old port comes back,
-  -- its segment over, and the new trigger is called; else the objects come back
+  -- its segment over, and the new trigger is called. Otherwise the objects come back
   abbrev pub CallFollows :
       (s : State) (segment : Segment T E EV W) (call : Call T EV W) (asked : Asked) (sent : Sent)
       (reply : Reply T EV W E) → Type 0
@@ -44,7 +44,7 @@ module _ {T E EV W : Type 0} (links : PortLinks T E EV W) where
       × (refused.events ≡ events) × (refused.out ≡ out)
   CallFollows s segment _ asked sent _ = ⊥
 
-  -- the segment goes on by the call; a successful restore begins a new one, and a refused restore changes nothing
+  -- a call continues the segment. A successful restore begins a new one, and a refused restore changes nothing
   abbrev pub next_segment :
       (s : State) (segment : Segment T E EV W) (call : Call T EV W) (asked : Asked) (sent : Sent)
       (reply : Reply T EV W E) → Segment T E EV W
@@ -54,7 +54,7 @@ module _ {T E EV W : Type 0} (links : PortLinks T E EV W) where
   next_segment s segment call asked sent reply =
       extend segment s (op_of (act_of call)) asked sent (refusal_in_reply reply)
 
-  -- there is one record for each call, in order; and the run ends with the port that the last segment leaves
+  -- there is one record for each call, in order, and the run ends with the port that the last segment leaves
   abbrev pub IsRun :
       (s : State) (segment : Segment T E EV W) (calls : List (Call T EV W)) (records : List (Done T EV W E))
       (end : Port T EV W) → Type 0

@@ -26,13 +26,13 @@ act_of (Call.Write offset value) = Act.Write offset value
 act_of (Call.Enqueue bytes) = Act.Enqueue bytes
 act_of (Call.Restore trigger events out) = Act.Restore
 
--- the trace with further entries, which stand oldest first, each with its response
+-- the trace with further entries, oldest first, each with its response
 abbrev pub trace_after : (trace : Trace) (later : List (TraceEntry × Response)) → Trace
 trace_after trace [] = trace
 trace_after trace (next ∷ later) = trace_after (next.0 ∷ trace) later
 
 module _ {T E EV W : Type 0} where
-  -- a reply is of the kind that the act has
+  -- a reply is of the kind that belongs to the act
   abbrev pub IsReplyTo : (act : Act) (reply : Reply T EV W E) → Type 0
   IsReplyTo (Act.Read offset) (Byte byte) = ⊤
   IsReplyTo (Act.Write offset value) (Wrote answer) = ⊤

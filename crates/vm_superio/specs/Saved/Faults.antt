@@ -7,7 +7,7 @@ use Rattle.vm_superio.specs.declared.saved.Error.{Error}
 use Rattle.vm_superio.specs.declared.saved.Error.TheVariants.{TooShort, NotASavedState, OtherDevice, UnknownVersion, WrongLength, TooManyBytes, InvalidArmed}
 use Rattle.vm_superio.specs.Saved.Form.{magic, serial_kind, clock_kind, version}
 
--- the header: there is one; the magic, the kind of this device and the version of this form stand in it; and its length
+-- there is a header; it has the magic, the kind of this device and the version of this form; and its length
 -- is that of what follows
 abbrev pub header_fault : (kind : ℕ) (bytes : List ℕ) → Option Error
 header_fault kind (m0 ∷ m1 ∷ m2 ∷ m3 ∷ its_kind ∷ its_version ∷ low ∷ high ∷ contents) =
@@ -27,7 +27,7 @@ serial_contents_fault contents =
 abbrev pub serial_fault : (bytes : List ℕ) → Option Error
 serial_fault bytes = option_or (header_fault serial_kind bytes) (serial_contents_fault (drop 8 bytes))
 
--- what follows the header of a clock: 25 bytes, of which the last is 0 or 1
+-- what follows the header of a clock: 25 bytes, the last of them 0 or 1
 abbrev pub clock_contents_fault : (contents : List ℕ) → Option Error
 clock_contents_fault contents =
     if not (length contents == 25) then Some WrongLength

@@ -1,4 +1,4 @@
--- The bytes of a saved state: a header of eight bytes, and what the device keeps. Numbers stand lowest byte first.
+-- The bytes of a saved state: a header of eight bytes, and what the device keeps. Numbers have their lowest byte first.
 use Rattle.std.specs.Prelude.{ℕ, Bool, if◌then◌else◌, List, [], ◌∷◌, ◌++◌, length}
 use Rattle.std.specs.Int.{w16, w32, w64, to_le_bytes, cast_unsigned}
 use Rattle.vm_superio.specs.declared.rtc_pl031.RtcState.{RtcState}
@@ -41,7 +41,7 @@ serial_form state = form serial_kind (serial_contents state)
 
 -- ---- the clock
 
--- 1 where an alarm is set, and 0 where none is
+-- 1 if an alarm is set, otherwise 0
 abbrev pub flag : (set : Bool) → ℕ
 flag set = if set then 1 else 0
 

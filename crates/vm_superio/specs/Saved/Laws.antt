@@ -1,4 +1,4 @@
--- The laws of the byte form: a form fails no check, and no two states share one.
+-- The laws of the byte form: a form passes each check, and no two states share one.
 use Rattle.std.specs.Prelude.{◌≡◌, ◌<◌, ◌≤◌, ◌^◌, length, None, FitsSigned}
 use Rattle.std.specs.Int.{w64}
 use Rattle.vm_superio.specs.declared.rtc_pl031.RtcState.{RtcState}
@@ -14,7 +14,7 @@ pub record IsClock (state : RtcState) : Type 0 where
   pub ris : state.ris < 2 ^ 32
   pub offset : FitsSigned w64 state.offset
 
--- the form of a port that holds at most 64 bytes fails no check, whatever its registers hold; nor does that of a clock
+-- the form of a port that holds at most 64 bytes passes each check, whatever its registers hold. So does a clock's form
 abbrev pub SerialFormLaw : Type 0
 SerialFormLaw = (state : State) → length state.in_buffer ≤ 64 → serial_fault (serial_form state) ≡ None
 

@@ -50,7 +50,7 @@ answers_all calls Asked.TookRefused = calls == 2
 abbrev pub sends_byte : (s : State) (op : Op) → Bool
 sends_byte s op = not_empty (sent_by (kind_in_state s op))
 
--- the trigger's calls are answered, and there is an outcome exactly where a byte goes to the writer
+-- the trigger's calls are answered, and there is an outcome exactly if a byte goes to the writer
 abbrev pub is_admissible : (s : State) (op : Op) (asked : Asked) (sent : Sent) → Bool
 is_admissible s op asked sent =
     answers_all (step_calls s op) asked && beq (is_sent sent) (sends_byte s op)

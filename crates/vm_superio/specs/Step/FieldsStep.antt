@@ -1,5 +1,5 @@
--- One call of a port in a plain struct, as its contract states it: the effects that it leaves to the caller, and the
--- state after it, which is that of a step whatever the caller finds when it carries them out.
+-- One call of a port in a plain struct, as its contract states it: the effects that the caller has to carry out, and
+-- the state after it, which is that of a step whatever the caller finds when it does.
 use Rattle.std.specs.Prelude.{◌≡◌, ℕ, false, not, ◌==◌, ◌&&◌, ◌||◌, nat_le, List, length, IsTrue}
 use Rattle.vm_superio.specs.declared.trace.Asked.{Asked}
 use Rattle.vm_superio.specs.declared.trace.Sent.{Sent}
@@ -37,12 +37,12 @@ IsFirstRefused old new =
     (before : State) (offset value : ℕ) → step_calls before (Write offset value) ≡ 2
     → old ≡ step before (Write offset value) Asked.TookTook → new ≡ step before (Write offset value) Asked.Refused
 
--- which in any state is to lower THRE
+-- in any state that is to lower THRE
 abbrev pub without_thre : (s : State) → State
 without_thre s = record s { interrupt_identification = lower Thre s.interrupt_identification }
 
--- an enqueue: the bytes that have room are taken, whatever becomes of the interrupt. The FIFO is said to be full where
--- bytes are passed outside loopback and 64 are held
+-- an enqueue: the bytes that have room are accepted, whatever becomes of the interrupt. The FIFO is reported full if
+-- bytes are passed outside loopback while 64 are held
 pub record IsFieldsEnqueue (bytes : List ℕ) (effects : EnqueueEffects) (old new : State) : Type 0 where
   pub taken : effects.taken ≡ length (enqueued_bytes old bytes)
   pub full :

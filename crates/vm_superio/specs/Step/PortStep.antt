@@ -30,9 +30,13 @@ pub record IsPortStep
 abbrev pub with_writer : {T EV W : Type 0} → (port : Port T EV W) (writer : W) → Port T EV W
 with_writer port writer = record port { out = writer }
 
--- the port with another trigger, likewise
+-- the port with another trigger, and nothing else changed
 abbrev pub with_trigger : {T EV W : Type 0} → (port : Port T EV W) (trigger : T) → Port T EV W
 with_trigger port trigger = record port { trigger = trigger }
+
+-- the port with another events object, likewise
+abbrev pub with_events : {T EV W : Type 0} → (port : Port T EV W) (object : EV) → Port T EV W
+with_events port object = record port { events = object }
 
 -- ---- trigger calls, by the bits of IIR
 
@@ -76,7 +80,7 @@ module _ {T E EV W : Type 0} (trigger : Link T (TriggerAnswer E)) (events : Link
         (enqueue_response result) (refusal_in_result result) old new
     pub calls : length (answers_of asked (refusal_in_result result)) ≡ turned_on_count old.state new.state
 
-  -- interrupts tried again: but for its trigger, the port goes the step of a restore, which records no answers
+  -- a retry of refused interrupts: except for its trigger, the port makes the step of a restore without answers
   abbrev pub IsRetryStep : (old new : Port T EV W) → Type 0
   IsRetryStep old new =
       IsPortStep (port_links trigger events contents) Restore Asked.Nothing Sent.Nothing

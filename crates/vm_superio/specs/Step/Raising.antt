@@ -11,13 +11,13 @@ iir_none_bit = 0x01
 
 -- ---- raising a condition
 
--- a condition that is raised becomes pending where IER enables it and IIR does not show it; the trigger is called
+-- a condition that is raised becomes pending if IER enables it and IIR does not show it; the trigger is called
 -- exactly then
 abbrev pub becomes_pending : (condition : Condition) (enable identification : ℕ) → Bool
 becomes_pending condition enable identification =
     has_bits enable (ier_bit condition) && not (has_bits identification (iir_bit condition))
 
--- IIR afterwards: where the condition became pending, its bit is set and the bit for 'none' cleared. A refusal of the
+-- IIR afterwards: if the condition became pending, its bit is set and the bit for 'none' cleared. A refusal of the
 -- trigger takes neither back
 abbrev pub raise : (condition : Condition) (enable identification : ℕ) → ℕ
 raise condition enable identification =
@@ -25,7 +25,7 @@ raise condition enable identification =
     then with_bits (without_bits identification iir_none_bit) (iir_bit condition)
     else identification
 
--- IIR after a condition was lowered: its bit is cleared, and where no bit is left nothing is pending
+-- IIR after a condition was lowered: its bit is cleared, and if no bit is left, nothing is pending
 abbrev pub lower : (condition : Condition) (identification : ℕ) → ℕ
 lower condition identification =
     let others = without_bits identification (iir_bit condition) in
@@ -41,7 +41,7 @@ raise_rda_while_held held enable identification =
 
 -- ---- receiving bytes
 
--- as many of the first bytes as there is room for beside the held ones: the FIFO holds at most 64
+-- the first bytes, as many as have room beside the held ones: the FIFO holds at most 64
 abbrev pub bytes_that_fit : (held bytes : List ℕ) → List ℕ
 bytes_that_fit held bytes = take (64 - length held) bytes
 
@@ -49,7 +49,7 @@ bytes_that_fit held bytes = take (64 - length held) bytes
 abbrev pub enqueued_bytes : (s : State) (bytes : List ℕ) → List ℕ
 enqueued_bytes s bytes = if is_loopback s.modem_control then [] else bytes_that_fit s.in_buffer bytes
 
--- received bytes go behind the others, data ready is set, and RDA is raised; no bytes change nothing
+-- received bytes follow the others, data ready is set, and RDA is raised. No bytes change nothing
 abbrev pub receive_bytes : (bytes : List ℕ) (s : State) → State
 receive_bytes [] s = s
 receive_bytes (byte ∷ bytes) s = record s {

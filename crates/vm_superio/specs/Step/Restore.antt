@@ -16,8 +16,8 @@ is_asserted condition s =
 abbrev pub restore_calls : (s : State) → List Condition
 restore_calls s = thre_then_rda (is_asserted Thre s) (is_asserted Rda s)
 
--- a state that was not restored: why, and what became of the trigger. It holds more than 64 bytes, and the trigger was
--- not called; or it holds no more, and is refused as a port's own state is
+-- a state that was not restored: why, and what became of the trigger. Either it holds more than 64 bytes, and the
+-- trigger was not called, or it holds no more, and is refused as a port's own state is
 abbrev pub RefusesRestore :
     {T E : Type 0} → (link : Link T (TriggerAnswer E)) (s : State) (error : Error E) (old new : T) → Type 0
 RefusesRestore link s FullFifo old new = (64 < length s.in_buffer) × (new ≡ old)

@@ -11,8 +11,8 @@ use Rattle.vm_superio.specs.Step.Raising.{iir_none_bit, raise, lower, rda_become
 
 -- ---- the response
 
--- an enqueue responds 0 in loopback, whatever is passed, and for no bytes; else that the FIFO is full; else the
--- trigger's refusal; else how many bytes it added
+-- an enqueue responds 0 in loopback, whatever is passed, and for no bytes; otherwise that the FIFO is full; otherwise
+-- the trigger's refusal; otherwise how many bytes it added
 abbrev pub enqueue_step_response : (s : State) (bytes : List ℕ) (asked : Asked) → Response
 enqueue_step_response s bytes asked =
     if is_loopback s.modem_control || (length bytes == 0) then EnqueueOk 0
@@ -30,7 +30,7 @@ step_response s Restore asked sent = NoResponse
 
 -- ---- the state afterwards
 
--- an RBR read lowers RDA; it takes the oldest byte, and clears data ready when none is left
+-- an RBR read lowers RDA, takes the oldest byte, and clears data ready if none is left
 abbrev pub rbr_read : (s : State) → State
 rbr_read s =
     let left = drop 1 s.in_buffer in
@@ -84,7 +84,7 @@ step s Restore asked = s
 
 -- ---- the events
 
--- an RBR read reports that no byte is left, where none is, and then that it read
+-- an RBR read reports that no byte is left, if none is, and then that it read
 abbrev pub read_events : (register : Register) (held : List ℕ) → List Event
 read_events RbrThr held = (if not_empty (drop 1 held) then [] else in_buffer_empty ∷ []) ++ buffer_read ∷ []
 read_events _ held = []

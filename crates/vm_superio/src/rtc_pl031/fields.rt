@@ -17,7 +17,7 @@ use super::registers::ClockRegister;
 
 /// A clock without an events object. Any values are valid.
 #[repr(C)]
-#[derive(Clone, Copy, Debug, Eq, PartialEq)]
+#[derive(Clone, Copy)]
 pub struct RtcFields {
     /// RTCLR, the load register: the last loaded value, or 0 after a reset.
     pub lr: u32,

@@ -5,10 +5,10 @@
 //!     bindings [CALLS [SEED]]
 //!
 //! Without arguments it makes a million calls of seed 1. It prints the first ten that differ, how often each case was
-//! reached, and in the last line how many calls differ. Exits 1 where one does.
+//! reached, and in the last line how many calls differ. Exits 1 if one does.
 //!
-//! A write to RTCMR is of a match that is past, since a match that is not is an alarm in bindings/rust and has no effect
-//! in the Rust crate.
+//! It writes only matches that are past to RTCMR: any other is an alarm in bindings/rust, and has no effect in the Rust
+//! crate.
 #![allow(clippy::duplicate_mod)] // devices.rs, below
 mod call;
 mod random;

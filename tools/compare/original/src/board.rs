@@ -2,12 +2,13 @@
 use std::mem;
 use std::sync::Arc;
 
-use vm_superio::serial::{Error, Serial};
+use vm_superio::serial::{Error, Serial, SerialState};
 use vm_superio::{I8042Device, Rtc};
 
 use crate::command::Command;
 use crate::moment;
 use crate::objects::{Count, Counts, Line, Output, Refused};
+use crate::saved;
 
 pub struct Board {
     serial: Serial<Line, Arc<Counts>, Output>,
@@ -36,12 +37,19 @@ impl Board {
             },
             Command::SerialCapacity => format!("{:02x}", self.serial.fifo_capacity()),
             Command::SerialDrain => digits(&self.drain_serial()),
-            Command::SerialRestore => reply_to(self.restore_serial()),
+            Command::SerialRestore => reply_to(self.restore_serial(&self.serial.state())),
+            Command::SerialSave => digits(&saved::port_form(&self.serial.state())),
+            Command::SerialLoad(bytes) => match saved::port_of(&bytes) {
+                Ok(state) => reply_to(self.restore_serial(&state)),
+                Err(fault) => fault.to_string(),
+            },
             Command::SerialOutput => digits(self.serial.writer().bytes()),
             Command::SerialCalls => format!("{:016x}", self.serial.interrupt_evt().calls()),
             Command::SerialEvents => reported(self.serial.events()),
             Command::ClockRead { moment, offset } => self.read_clock(moment, offset),
             Command::ClockWrite { moment, offset, value } => self.write_clock(moment, offset, value),
+            Command::ClockSave => digits(&saved::clock_form(&self.clock.state())),
+            Command::ClockLoad(bytes) => self.load_clock(&bytes),
             Command::ControllerRead { offset } => format!("{:02x}", self.controller.read(offset)),
             Command::ControllerWrite { offset, value } => self.write_controller(offset, value),
         }
@@ -59,11 +67,11 @@ impl Board {
         bytes
     }
 
-    /// Replaces the port by one that is restored from its state. If that is refused the old port stays.
-    fn restore_serial(&mut self) -> Result<(), Error<Refused>> {
+    /// Replaces the port by one that is restored from a state. If that is refused the old port stays.
+    fn restore_serial(&mut self, state: &SerialState) -> Result<(), Error<Refused>> {
         let line = self.serial.interrupt_evt().clone();
         let counts = Arc::clone(self.serial.events());
-        let restored = Serial::from_state(&self.serial.state(), line, counts, Output::default())?;
+        let restored = Serial::from_state(state, line, counts, Output::default())?;
         let old = mem::replace(&mut self.serial, restored);
         *self.serial.writer_mut() = old.into_writer();
         Ok(())
@@ -73,6 +81,16 @@ impl Board {
     fn restore_clock(&mut self, moment: u64) {
         self.clock = Rtc::from_state(&self.clock.state(), Arc::default());
         moment::set(moment);
+    }
+
+    fn load_clock(&mut self, bytes: &[u8]) -> String {
+        match saved::clock_of(bytes) {
+            Ok(state) => {
+                self.clock = Rtc::from_state(&state, Arc::default());
+                "ok".to_string()
+            }
+            Err(fault) => fault.to_string(),
+        }
     }
 
     fn read_clock(&mut self, moment: u64, offset: u16) -> String {

@@ -8,11 +8,15 @@ pub enum Command {
     SerialCapacity,
     SerialDrain,
     SerialRestore,
+    SerialSave,
+    SerialLoad(Vec<u8>),
     SerialOutput,
     SerialCalls,
     SerialEvents,
     ClockRead { moment: u64, offset: u16 },
     ClockWrite { moment: u64, offset: u16, value: u32 },
+    ClockSave,
+    ClockLoad(Vec<u8>),
     ControllerRead { offset: u8 },
     ControllerWrite { offset: u8, value: u8 },
 }
@@ -25,10 +29,13 @@ impl Command {
             [b"sr", offset] => Self::SerialRead { offset: number(offset)? },
             [b"sw", offset, value] => Self::SerialWrite { offset: number(offset)?, value: number(value)? },
             [b"sq"] => Self::SerialEnqueue(Vec::new()),
-            [b"sq", bytes] => Self::SerialEnqueue(bytes_to_enqueue(bytes)?),
+            [b"sq", bytes] => Self::SerialEnqueue(bytes_of(bytes)?),
             [b"sc"] => Self::SerialCapacity,
             [b"sd"] => Self::SerialDrain,
             [b"ss"] => Self::SerialRestore,
+            [b"sb"] => Self::SerialSave,
+            [b"sl"] => Self::SerialLoad(Vec::new()),
+            [b"sl", bytes] => Self::SerialLoad(bytes_of(bytes)?),
             [b"so"] => Self::SerialOutput,
             [b"st"] => Self::SerialCalls,
             [b"se"] => Self::SerialEvents,
@@ -36,6 +43,9 @@ impl Command {
             [b"cw", moment, offset, value] => {
                 Self::ClockWrite { moment: number(moment)?, offset: number(offset)?, value: number(value)? }
             }
+            [b"cb"] => Self::ClockSave,
+            [b"cl"] => Self::ClockLoad(Vec::new()),
+            [b"cl", bytes] => Self::ClockLoad(bytes_of(bytes)?),
             [b"kr", offset] => Self::ControllerRead { offset: number(offset)? },
             [b"kw", offset, value] => Self::ControllerWrite { offset: number(offset)?, value: number(value)? },
             _ => return None,
@@ -59,7 +69,7 @@ fn number<T: TryFrom<u64>>(field: &[u8]) -> Option<T> {
 }
 
 /// From 1 to 128 bytes, two digits each.
-fn bytes_to_enqueue(field: &[u8]) -> Option<Vec<u8>> {
+fn bytes_of(field: &[u8]) -> Option<Vec<u8>> {
     if !(1..=256).contains(&field.len()) {
         return None;
     }

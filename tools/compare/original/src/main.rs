@@ -7,6 +7,7 @@ mod board;
 mod command;
 mod moment;
 mod objects;
+mod saved;
 mod script;
 
 use std::io::{self, BufRead, BufReader, BufWriter, Write};

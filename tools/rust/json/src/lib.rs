@@ -1,4 +1,4 @@
-//! Takes saved states through JSON. The field names are those of vm-superio's states.
+//! Tests that saved states go through JSON. The field names are those of vm-superio's states.
 #![cfg(test)]
 
 use serde_json::{from_value, json, to_value};

@@ -1,5 +1,5 @@
 -- A piece goes into an empty FIFO whole, and the driver takes all of it.
-use Rattle.std.proofs.Common.{rules, ◌≡◌, ◌≤◌, ◌-◌, false, [], ◌∷◌, ◌++◌, length, take, ap, sym, ◌∙◌, append_assoc, arith, refl}
+use Rattle.std.proofs.Common.{rules, ◌≡◌, ◌≤◌, ◌-◌, [], ◌++◌, length, take, ap, ◌∙◌, append_assoc, refl}
 use Rattle.std.proofs.lemmas.List.{take-append-drop, take_all}
 use Rattle.std.specs.Prelude.{if◌then◌else◌}
 use Rattle.vm_superio.specs.Port.Bits.{has_bits}

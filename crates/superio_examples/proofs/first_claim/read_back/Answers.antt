@@ -13,7 +13,7 @@ pub loop-init : goal.loop-init
 unfolding has_bits
 loop-init g c =
     let enqueued = c.enqueue_raw_bytes.ensures.step in
-    let fresh : c.in_ok-serial.serial.state ≡ fresh_state = search rules in
+    let fresh = c.in_ok-serial.ensures.fresh in
     let after = enqueued.step.state ∙ ap (λ s. step s (Enqueue c.args.input.now) enqueued.asked) fresh
     ∙ c.one_call.ensures.received fresh_state (take 64 c.args.input.now) in
     let nothing_read : c.in_ok-read.read.items ≡ [] = search rules in

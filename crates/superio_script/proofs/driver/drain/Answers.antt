@@ -1,12 +1,11 @@
 -- A read of LCR or LSR changes nothing, and a read of RBR is the next one of those that take all bytes.
-use Rattle.std.proofs.Common.{◌≡◌, ◌≤◌, ◌+◌, ◌<◌, [], ◌∷◌, ◌++◌, length, true, false, sym, ap, ◌∙◌, subst, append_assoc, append-nil, refl, arith}
+use Rattle.std.proofs.Common.{[], ◌∷◌, ◌++◌, sym, ap, ◌∙◌, subst, append_assoc, append-nil, refl, arith}
 use Rattle.std.proofs.lemmas.Bool.{false≢true}
 use Rattle.vm_superio.specs.Port.Bits.{has_bits}
 use Rattle.vm_superio.specs.Port.State.{State}
 use Rattle.vm_superio.specs.Port.Model.{Port}
 use Rattle.vm_superio.specs.Port.Registers.{is_dlab}
-use Rattle.vm_superio.specs.Step.PortStep.{IsReadStep}
-use Rattle.superio_script.specs.Driver.{IsReady, ReadsWhileReady}
+use Rattle.superio_script.specs.Driver.{ReadsWhileReady}
 use Rattle.superio_script.proofs.DriverLemmas.{reads_left-few, lcr_read, lsr_read, pass, coherent_after, takes_all}
 use Rattle.superio_script.proofs.driver.drain.Goals as goal
 

@@ -7,23 +7,23 @@ use Rattle.superio_script.proofs.serial_lines.serial_line.Goals as goal
 
 pub returns-in-Read-clause-step : goal.returns-in-Read-clause-step
 returns-in-Read-clause-step c = rw (c.in-Read.is, c.byte.ensures)
-    (read-step c.steps_of_history.ensures c.args.serial.now c.read.new.self (ByteRead c.read.result) None c.in-Read.offset c.read.ensures.step)
+    (read-step (record { registers = c.registers.ensures; held = c.held_bytes.ensures.bytes; states = c.states_of_history.ensures.state; responses = c.states_of_history.ensures.response; steps = c.steps_of_history.ensures; coherence = c.coherence.ensures }) c.args.serial.now c.read.new.self (ByteRead c.read.result) None c.in-Read.offset c.read.ensures.step)
 
 pub returns-in-Write-clause-step : goal.returns-in-Write-clause-step
 returns-in-Write-clause-step c =
     let step = c.write.ensures.step in
     rw (c.in-Write.is, c.write_result_reply.ensures)
-    (write-step c.steps_of_history.ensures c.args.serial.now c.write.new.self (write_response c.write.result) (refusal_in_result c.write.result) c.in-Write.offset c.in-Write.value step.asked step.sent step.step)
+    (write-step (record { registers = c.registers.ensures; held = c.held_bytes.ensures.bytes; states = c.states_of_history.ensures.state; responses = c.states_of_history.ensures.response; steps = c.steps_of_history.ensures; coherence = c.coherence.ensures }) c.args.serial.now c.write.new.self (write_response c.write.result) (refusal_in_result c.write.result) c.in-Write.offset c.in-Write.value step.asked step.sent step.step)
 
 pub returns-in-Enqueue-clause-step : goal.returns-in-Enqueue-clause-step
 returns-in-Enqueue-clause-step c =
     let step = rw c.as_slice.ensures at c.enqueue_raw_bytes.ensures.step in
     let enqueued = c.enqueue_raw_bytes.result in
     rw (c.in-Enqueue.is, c.enqueue_result_reply.ensures)
-    (enqueue-step c.steps_of_history.ensures c.args.serial.now c.enqueue_raw_bytes.new.self (enqueue_response enqueued) (refusal_in_result enqueued) c.in-Enqueue.bytes step.asked step.sent step.step)
+    (enqueue-step (record { registers = c.registers.ensures; held = c.held_bytes.ensures.bytes; states = c.states_of_history.ensures.state; responses = c.states_of_history.ensures.response; steps = c.steps_of_history.ensures; coherence = c.coherence.ensures }) c.args.serial.now c.enqueue_raw_bytes.new.self (enqueue_response enqueued) (refusal_in_result enqueued) c.in-Enqueue.bytes step.asked step.sent step.step)
 
 pub returns-in-Capacity-clause-step : goal.returns-in-Capacity-clause-step
-returns-in-Capacity-clause-step c = rw (c.in-Capacity.is, c.byte-in-Capacity.ensures, c.fifo_capacity.ensures.value) (capacity-step c.args.serial.now)
+returns-in-Capacity-clause-step c = rw (c.in-Capacity.is, c.byte-in-Capacity.ensures, c.fifo_capacity.ensures.value) (capacity-step c.args.serial.now (record { registers = c.registers.ensures; held = c.held_bytes.ensures.bytes; states = c.states_of_history.ensures.state; responses = c.states_of_history.ensures.response; steps = c.steps_of_history.ensures; coherence = c.coherence.ensures }))
 
 pub returns-in-Output-clause-step : goal.returns-in-Output-clause-step
 returns-in-Output-clause-step c = rw (c.in-Output.is, c.digits-in-Output.ensures, c.bytes.ensures, c.writer.ensures) (output-step c.args.serial.now)
@@ -38,5 +38,5 @@ pub returns-in-Drain-clause-step : goal.returns-in-Drain-clause-step
 returns-in-Drain-clause-step c =
     let made = c.drain.ensures in
     rw (c.in-Drain.is, c.digits.ensures, c.deref.ensures.0)
-    (drain-step c.steps_of_history.ensures c.coherence.ensures c.states_of_history.ensures.state c.drain.result.items c.args.serial.now c.drain.new.serial
-    made.reads made.latch made.all)
+    (drain-step (record { registers = c.registers.ensures; held = c.held_bytes.ensures.bytes; states = c.states_of_history.ensures.state; responses = c.states_of_history.ensures.response; steps = c.steps_of_history.ensures; coherence = c.coherence.ensures }) c.drain.result.items c.args.serial.now c.drain.new.serial
+    made.reads made.few made.latch made.ends made.all)

@@ -1,5 +1,6 @@
 use Rattle.vm_superio.proofs.HeldBytes.{one_call, received}
 use Rattle.vm_superio.proofs.BytesRead.{one_read, rbr_read, rbr_data_ready}
+use Rattle.vm_superio.proofs.BytesSent.{thr_write}
 use Rattle.vm_superio.proofs.laws.one_call.Goals as goal
 
 pub returns-clause-taken : goal.returns-clause-taken
@@ -16,3 +17,6 @@ returns-clause-rbr_read c = rbr_read
 
 pub returns-clause-data_ready : goal.returns-clause-data_ready
 returns-clause-data_ready c = rbr_data_ready
+
+pub returns-clause-thr_write : goal.returns-clause-thr_write
+returns-clause-thr_write c = thr_write

@@ -1,4 +1,4 @@
--- The segment so far, and that what goes on from it makes the whole run. The calls that are left get fewer.
+-- The segment so far, and that what continues it makes the whole run. The calls that are left get fewer.
 use Rattle.std.proofs.Common.{◌≤◌, ◌+◌, List, ◌++◌, vec_len}
 use Rattle.std.specs.Prelude.{vec_capacity}
 use Rattle.std.specs.VecDeque.{deque_len}

@@ -11,6 +11,7 @@ returns-in-1-clause-bytes g c = rw (c.in-1.is, c.copy_from_slice.ensures.after) 
     controller = c.read.ensures.controller;
     controller_alone = c.read.ensures.controller_alone;
     vacant = c.read.ensures.vacant;
+    base = c.read.ensures.base;
   },
   refl,
 )
@@ -24,6 +25,7 @@ returns-in-2-clause-bytes g c = rw (c.in-2.is, c.copy_from_slice-in-2.ensures.af
     controller = c.read-in-2.ensures.controller;
     controller_alone = c.read-in-2.ensures.controller_alone;
     vacant = c.read-in-2.ensures.vacant;
+    base = c.read-in-2.ensures.base;
   },
   (
     c.read-in-2-2.new.self,
@@ -33,6 +35,7 @@ returns-in-2-clause-bytes g c = rw (c.in-2.is, c.copy_from_slice-in-2.ensures.af
       controller = c.read-in-2-2.ensures.controller;
       controller_alone = c.read-in-2-2.ensures.controller_alone;
       vacant = c.read-in-2-2.ensures.vacant;
+      base = c.read-in-2-2.ensures.base;
     },
     refl,
   ),

@@ -20,6 +20,7 @@ returns-in-len1-clause-bytes g c =
         reset_called = c.write.ensures.reset;
         controller_alone = c.write.ensures.controller_alone;
         others = c.write.ensures.others;
+        base = c.write.ensures.base;
       },
       (refl, refl),
       and-ok c.write.result,
@@ -42,6 +43,7 @@ returns-in-len2-clause-bytes g c =
         reset_called = c.write-first.ensures.reset;
         controller_alone = c.write-first.ensures.controller_alone;
         others = c.write-first.ensures.others;
+        base = c.write-first.ensures.base;
       },
       (
         c.write-in-len2.result,
@@ -53,6 +55,7 @@ returns-in-len2-clause-bytes g c =
           reset_called = c.write-in-len2.ensures.reset;
           controller_alone = c.write-in-len2.ensures.controller_alone;
           others = c.write-in-len2.ensures.others;
+          base = c.write-in-len2.ensures.base;
         },
         (refl, refl),
         and-ok c.write-in-len2.result,

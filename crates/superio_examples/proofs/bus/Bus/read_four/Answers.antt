@@ -11,6 +11,7 @@ returns-clause-bytes g c = (
     controller = c.read.ensures.controller;
     controller_alone = c.read.ensures.controller_alone;
     vacant = c.read.ensures.vacant;
+    base = c.read.ensures.base;
   },
   (
     c.read-2.new.self,
@@ -20,6 +21,7 @@ returns-clause-bytes g c = (
       controller = c.read-2.ensures.controller;
       controller_alone = c.read-2.ensures.controller_alone;
       vacant = c.read-2.ensures.vacant;
+      base = c.read-2.ensures.base;
     },
     (
       c.read-3.new.self,
@@ -29,6 +31,7 @@ returns-clause-bytes g c = (
         controller = c.read-3.ensures.controller;
         controller_alone = c.read-3.ensures.controller_alone;
         vacant = c.read-3.ensures.vacant;
+        base = c.read-3.ensures.base;
       },
       (
         c.read-4.new.self,
@@ -38,6 +41,7 @@ returns-clause-bytes g c = (
           controller = c.read-4.ensures.controller;
           controller_alone = c.read-4.ensures.controller_alone;
           vacant = c.read-4.ensures.vacant;
+          base = c.read-4.ensures.base;
         },
         refl,
       ),

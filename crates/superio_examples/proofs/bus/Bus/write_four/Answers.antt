@@ -14,6 +14,7 @@ returns-clause-bytes g c = (
     reset_called = c.write-at_first.ensures.reset;
     controller_alone = c.write-at_first.ensures.controller_alone;
     others = c.write-at_first.ensures.others;
+    base = c.write-at_first.ensures.base;
   },
   (
     c.write-at_second.result,
@@ -25,6 +26,7 @@ returns-clause-bytes g c = (
       reset_called = c.write-at_second.ensures.reset;
       controller_alone = c.write-at_second.ensures.controller_alone;
       others = c.write-at_second.ensures.others;
+      base = c.write-at_second.ensures.base;
     },
     (
       c.write-at_third.result,
@@ -36,6 +38,7 @@ returns-clause-bytes g c = (
         reset_called = c.write-at_third.ensures.reset;
         controller_alone = c.write-at_third.ensures.controller_alone;
         others = c.write-at_third.ensures.others;
+        base = c.write-at_third.ensures.base;
       },
       (
         c.write-at_fourth.result,
@@ -47,6 +50,7 @@ returns-clause-bytes g c = (
           reset_called = c.write-at_fourth.ensures.reset;
           controller_alone = c.write-at_fourth.ensures.controller_alone;
           others = c.write-at_fourth.ensures.others;
+          base = c.write-at_fourth.ensures.base;
         },
         (refl, refl),
         and-ok c.write-at_fourth.result,

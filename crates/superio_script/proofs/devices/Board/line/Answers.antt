@@ -1,14 +1,42 @@
--- After a line of the clock, its access is one more.
-use Rattle.std.proofs.Common.{◌∷◌}
-use Rattle.superio_script.specs.Reply.{access_of}
+-- After a line of the serial port or of the clock, its session goes on.
+use Rattle.std.proofs.Common.{◌≡◌, ℕ, List, Result, Ok, Err, sym, subst}
+use Rattle.std.specs.Prelude.{IfOk, OnErr}
+use Rattle.vm_superio.specs.Clock.Step.{ClockDevice}
+use Rattle.vm_superio.specs.Port.Model.{Port}
+use Rattle.superio_script.specs.Board.{IsBetweenLines, IsSerialLineStep}
+use Rattle.superio_script.specs.ClockScript.{clock_session_after_line}
+use Rattle.superio_script.specs.Counts.{EventCounts}
+use Rattle.superio_script.specs.InterruptLine.{InterruptLine}
+use Rattle.superio_script.specs.SerialScript.{session_after_line}
+use Rattle.superio_script.specs.declared.command.SerialLine.{SerialLine}
+use Rattle.superio_script.specs.declared.output.Output.{Output}
 use Rattle.superio_script.proofs.devices.Board.line.Goals as goal
+
+after-serial_line :
+    {Reply Failure : Type 0} (items : Reply → List ℕ) (line : SerialLine) (result : Result Reply Failure) (old new : Port InterruptLine EventCounts Output) (rtc : ClockDevice EventCounts) (reset_line : InterruptLine) →
+    IfOk result (λ reply. IsSerialLineStep line (items reply) old new) → OnErr result (new ≡ old) → IsBetweenLines old rtc reset_line → IsBetweenLines new rtc reset_line
+after-serial_line items line (Ok reply) old new rtc reset_line step unchanged before =
+    let taken = step before.session before.serial in record {
+      session = session_after_line before.session taken.0 line;
+      serial = taken.3;
+      clock_session = before.clock_session;
+      clock = before.clock;
+      controller = before.controller;
+    }
+after-serial_line items line (Err failure) old new rtc reset_line step unchanged before =
+    subst (λ (port : Port InterruptLine EventCounts Output). IsBetweenLines port rtc reset_line) (sym unchanged) before
+
+pub invariant_of-self : goal.invariant_of-self
+invariant_of-self c =
+    after-serial_line (λ reply. reply.items) c.in-Serial.line c.serial_line.result c.self.inside.serial c.serial_line.new.serial c.self.inside.clock c.self.inside.controller
+    c.serial_line.ensures.step c.serial_line.ensures.unchanged c.self.invariant
 
 pub invariant_of-self-in-Clock : goal.invariant_of-self-in-Clock
 invariant_of-self-in-Clock c =
     let before = c.self-in-Clock.invariant in record {
       session = before.session;
       serial = before.serial;
-      accesses = access_of c.in-Clock.line ∷ before.accesses;
-      clock = (c.clock_line.ensures.step before.accesses before.clock).1;
+      clock_session = clock_session_after_line before.clock_session c.in-Clock.line;
+      clock = (c.clock_line.ensures.step before.clock_session before.clock).1;
       controller = before.controller;
     }

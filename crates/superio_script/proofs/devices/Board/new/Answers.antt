@@ -1,8 +1,9 @@
 -- No call and no access led to fresh devices.
-use Rattle.std.proofs.Common.{rules, ◌≡◌, [], ◌∙◌}
+use Rattle.std.proofs.Common.{rules, ◌≡◌, ◌∙◌}
 use Rattle.vm_superio.specs.Clock.Registers.{fresh_clock}
 use Rattle.vm_superio.proofs.PublicLemmas.{fresh_clock-history}
-use Rattle.superio_script.specs.SerialScript.{fresh_session}
+use Rattle.superio_script.specs.ClockScript.{fresh_clock_session}
+use Rattle.superio_script.specs.PortSession.{fresh_session}
 use Rattle.superio_script.proofs.SerialScriptLemmas.{at-start}
 use Rattle.superio_script.proofs.devices.Board.new.Goals as goal
 
@@ -12,7 +13,7 @@ invariant_of-result c =
     record {
       session = fresh_session c.args.mask;
       serial = at-start c.args.mask _ (search rules) (search rules) (search rules) (search rules);
-      accesses = [];
+      clock_session = fresh_clock_session;
       clock = fresh ∙ fresh_clock-history;
       controller = search rules;
     }

@@ -1,4 +1,4 @@
--- The step of the registers, with THRE taken back where the first of two calls was refused.
+-- The step of the registers, with THRE taken back if the first of two calls was refused.
 use Rattle.std.proofs.Common.{rules, refl, ap, ◌∙◌}
 use Rattle.vm_superio.specs.Port.CodeNames.{register_of}
 use Rattle.vm_superio.specs.Port.SavedState.{state_with}

@@ -1,4 +1,4 @@
--- One more byte stands behind the others.
+-- One more byte follows the others.
 use Rattle.std.proofs.Common.{◌≡◌, suc, ◌+◌, ◌<◌, [], ◌∷◌, ◌++◌, length, take, slice_index_or, slice_set, sym, ap, ◌∙◌, arith, length-set}
 use Rattle.std.proofs.lemmas.List.{append_assoc}
 use Rattle.std.proofs.Math.Seq.{take-suc}

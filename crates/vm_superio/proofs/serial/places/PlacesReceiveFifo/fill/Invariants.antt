@@ -1,4 +1,4 @@
--- The bytes so far stand behind those that were held.
+-- The bytes so far follow those that were held.
 use Rattle.std.proofs.Common.{◌≡◌, ◌+◌, ◌++◌, length, take}
 use Rattle.vm_superio.specs.Port.Places.{held_bytes, places_from}
 use Rattle.vm_superio.proofs.serial.places.PlacesReceiveFifo.fill.Given as goal

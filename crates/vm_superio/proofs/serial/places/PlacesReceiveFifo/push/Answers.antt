@@ -1,4 +1,4 @@
--- One more byte stands behind the others.
+-- One more byte follows the others.
 use Rattle.std.proofs.Common.{◌≡◌, ◌+◌, ◌-◌, ◌<◌, ◌≤◌, min, [], ◌∷◌, ◌++◌, length, take, slice_set, sym, ap, ◌∙◌, arith, length-take}
 use Rattle.std.proofs.lemmas.List.{take_all}
 use Rattle.vm_superio.specs.Port.Places.{held_bytes, places_from}

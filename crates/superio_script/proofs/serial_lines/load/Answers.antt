@@ -1,0 +1,24 @@
+-- Bytes that are a state restore the port, and other bytes change nothing.
+use Rattle.std.proofs.Common.{Err, refl}
+use Rattle.vm_superio.specs.Port.SavedState.{state_of}
+use Rattle.vm_superio.specs.Saved.Faults.{serial_fault}
+use Rattle.superio_script.specs.Loading.{port_in}
+use Rattle.superio_script.proofs.LoadingLemmas.{port-loaded, port-refused}
+use Rattle.superio_script.proofs.SerialScriptLemmas.{load-step, refused-load-step, reply-weaker}
+use Rattle.superio_script.proofs.serial_lines.load.Goals as goal
+
+pub returns-in-Ok-clause-step : goal.returns-in-Ok-clause-step
+returns-in-Ok-clause-step c =
+    let old = c.args.serial.now in
+    let new = c.restore_from.new.serial in
+    let state = state_of c.in-Ok.state in
+    let loads = port-loaded c.args.bytes.now state c.in-Ok.ensures.few c.in-Ok.ensures.form in
+    reply-weaker c.restore_from.result
+    (λ reply restores. load-step old new reply.items c.states_of_history.ensures.state c.args.bytes.now state loads restores)
+    c.restore_from.ensures.restore
+
+pub returns-in_default-clause-step : goal.returns-in_default-clause-step
+returns-in_default-clause-step c =
+    let fails = port-refused (serial_fault c.args.bytes.now) (port_in c.args.bytes.now) (Err c.in-Err.error) c.in-Err.error refl c.in-Err.ensures.fault c.in-Err.ensures.memory
+    (λ is. c.in_default.not-Memory is) in
+    rw c.fault.ensures (refused-load-step c.args.bytes.now c.args.serial.now c.in-Err.error fails)

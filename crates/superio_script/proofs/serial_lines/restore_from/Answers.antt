@@ -1,0 +1,36 @@
+-- A restore, whether its calls were accepted or one was refused. Without memory it has no reply.
+use Rattle.std.proofs.Common.{◌≡◌, refl, ap, sym, ◌∙◌, subst}
+use Rattle.vm_superio.specs.declared.serial.errors.Error.TheVariants.{Memory}
+use Rattle.vm_superio.specs.Port.SavedState.{state_of}
+use Rattle.vm_superio.specs.Step.Restore.{restore_calls, RefusesRestore}
+use Rattle.vm_superio.specs.Port.Model.{Port}
+use Rattle.vm_superio.specs.Port.ObjectLinks.{all_ok}
+use Rattle.superio_script.specs.InterruptLine.{InterruptLine, InterruptLineLink}
+use Rattle.superio_script.specs.Counts.{EventCounts}
+use Rattle.superio_script.specs.declared.output.Output.{Output}
+use Rattle.superio_script.proofs.SerialScriptLemmas.{restore-accepts, restore-refuses}
+use Rattle.superio_script.proofs.serial_lines.restore_from.Goals as goal
+
+pub returns-in-Ok-clause-restore : goal.returns-in-Ok-clause-restore
+returns-in-Ok-clause-restore c =
+    let old = c.args.serial.now in
+    let state = state_of c.args.state.now in
+    let made = c.in-Ok.ensures in
+    let after = c.replace-old.ensures.after in
+    let link = subst (λ (new : InterruptLine). InterruptLineLink old.trigger (all_ok (restore_calls state)) new) (ap (λ (port : Port InterruptLine EventCounts Output). port.trigger) (sym after))
+    (subst (λ (l : InterruptLine). InterruptLineLink l (all_ok (restore_calls state)) c.in-Ok.restored.trigger) c.interrupt_evt-line.ensures made.called) in
+    rw c.word.ensures (restore-accepts c.states_of_history.ensures.state c.steps_of_history.ensures old _ state
+    (ap (λ (port : Port InterruptLine EventCounts Output). port.state) after ∙ made.state)
+    link
+    (ap (λ (port : Port InterruptLine EventCounts Output). port.events) after ∙ made.events ∙ c.events-counts.ensures)
+    (c.into_writer.ensures ∙ ap (λ (port : Port InterruptLine EventCounts Output). port.out) c.replace-old.ensures.value))
+
+pub returns-in_default-clause-restore : goal.returns-in_default-clause-restore
+returns-in_default-clause-restore c =
+    let old = c.args.serial.now in
+    let state = state_of c.args.state.now in
+    let refused = c.in-Err.refused in
+    let refuses = subst (λ (l : InterruptLine). RefusesRestore InterruptLineLink state refused.error l refused.trigger) c.interrupt_evt-line.ensures c.in-Err.ensures.refused in
+    let other = λ (is : refused.error ≡ Memory). c.in_default.not-Memory (c.into_error.ensures ∙ is) in
+    rw (c.error_reply.ensures, c.into_error.ensures)
+    (restore-refuses c.states_of_history.ensures.state c.steps_of_history.ensures old old state refused.trigger refused.error c.requires refuses other refl)

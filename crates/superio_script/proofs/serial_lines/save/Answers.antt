@@ -1,0 +1,15 @@
+-- The saved form is that of the session's state.
+use Rattle.std.proofs.Common.{ℕ, List, ap, sym, ◌∙◌, subst}
+use Rattle.vm_superio.specs.Saved.Form.{serial_form}
+use Rattle.superio_script.specs.Board.{IsSerialLineStep}
+use Rattle.superio_script.specs.Reply.{digits_reply}
+use Rattle.superio_script.specs.declared.command.SerialLine.TheVariants.{Save}
+use Rattle.superio_script.proofs.SerialScriptLemmas.{save-step}
+use Rattle.superio_script.proofs.serial_lines.save.Goals as goal
+
+pub returns-clause-step : goal.returns-clause-step
+returns-clause-step c =
+    let port = c.args.serial.now in
+    let form = rw c.unwrap.ensures at c.to_bytes.ensures.form in
+    let same = c.digits.ensures ∙ ap digits_reply (c.deref.ensures.0 ∙ form ∙ ap serial_form c.in-Ok.ensures.saved) in
+    subst (λ (reply : List ℕ). IsSerialLineStep Save reply port port) (sym same) (save-step port)

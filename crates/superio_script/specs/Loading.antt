@@ -1,0 +1,71 @@
+-- What the bytes of `sl` and `cl` are: the saved state of a device, or bytes that fail a check.
+use Rattle.std.specs.Prelude.{◌≡◌, ℕ, ◌==◌, ◌≤◌, List, [], ◌∷◌, ◌++◌, length, drop, slice_index, codes, Option, Some, None, Result, Ok, Err}
+use Rattle.std.specs.Int.{w32, w64, from_le_bytes, cast_signed}
+use Rattle.hex.specs.Hex.{encode_lower}
+use Rattle.vm_superio.specs.declared.rtc_pl031.RtcState.{RtcState}
+use Rattle.vm_superio.specs.declared.saved.Error.{Error}
+use Rattle.vm_superio.specs.declared.saved.Error.TheVariants.{TooShort, NotASavedState, OtherDevice, UnknownVersion, WrongLength, TooManyBytes, InvalidArmed, Memory}
+use Rattle.vm_superio.specs.Port.State.{State}
+use Rattle.vm_superio.specs.Saved.Form.{serial_form, clock_form}
+use Rattle.vm_superio.specs.Saved.Faults.{serial_fault, clock_fault}
+use Rattle.vm_superio.specs.Saved.Laws.{IsClock}
+
+-- ---- the states
+
+-- the first check that fails, or what is loaded where none does
+abbrev pub unless_fault : {A : Type 0} → (fault : Option Error) (loaded : A) → Result A Error
+unless_fault None loaded = Ok loaded
+unless_fault (Some fault) loaded = Err fault
+
+-- the registers and the received bytes of a port, at their places in a form
+abbrev pub port_in : (bytes : List ℕ) → State
+port_in bytes = record {
+  baud_divisor_low = slice_index bytes 8;
+  baud_divisor_high = slice_index bytes 9;
+  interrupt_enable = slice_index bytes 10;
+  interrupt_identification = slice_index bytes 11;
+  line_control = slice_index bytes 12;
+  line_status = slice_index bytes 13;
+  modem_control = slice_index bytes 14;
+  modem_status = slice_index bytes 15;
+  scratch = slice_index bytes 16;
+  in_buffer = drop 17 bytes;
+}
+
+abbrev pub loaded_port : (bytes : List ℕ) → Result State Error
+loaded_port bytes = unless_fault (serial_fault bytes) (port_in bytes)
+
+-- the registers of a clock, likewise
+abbrev pub clock_in : (bytes : List ℕ) → RtcState
+clock_in bytes = record {
+  lr = from_le_bytes w32 (drop 8 bytes);
+  mr = from_le_bytes w32 (drop 12 bytes);
+  imsc = from_le_bytes w32 (drop 16 bytes);
+  ris = from_le_bytes w32 (drop 20 bytes);
+  offset = cast_signed w64 (from_le_bytes w64 (drop 24 bytes));
+  armed = slice_index bytes 32 == 1;
+}
+
+abbrev pub loaded_clock : (bytes : List ℕ) → Result RtcState Error
+loaded_clock bytes = unless_fault (clock_fault bytes) (clock_in bytes)
+
+-- the form of a state loads this state
+abbrev pub PortFormLoads : Type 0
+PortFormLoads = (state : State) → length state.in_buffer ≤ 64 → loaded_port (serial_form state) ≡ Ok state
+
+abbrev pub ClockFormLoads : Type 0
+ClockFormLoads = (state : RtcState) → IsClock state → loaded_clock (clock_form state) ≡ Ok state
+
+-- ---- the errors
+
+-- the name of an error, in words
+abbrev pub fault_words : (fault : Error) → List ℕ
+fault_words TooShort = codes "too short"
+fault_words NotASavedState = codes "not a saved state"
+fault_words OtherDevice = codes "other device"
+fault_words (UnknownVersion version) = codes "unknown version " ++ encode_lower (version ∷ [])
+fault_words WrongLength = codes "wrong length"
+fault_words TooManyBytes = codes "too many bytes"
+fault_words InvalidArmed = codes "invalid armed"
+-- no check of bytes fails with this
+fault_words Memory = []

@@ -1,0 +1,166 @@
+"""Tests that `tools/c/fuzz` finds what differs, and of what `tools/c/install` and `tools/c/prebuild` write."""
+import hashlib
+import os
+import re
+import shutil
+import unittest
+
+from repository import ROOT, CopyTest
+
+TARGETS = ("aarch64-linux", "x86_64-linux")
+LIBRARIES = ("libsuperio.so.0", "libsuperio_c.a")
+SOURCES = ("crates/superio_c/src", "crates/vm_superio/src")
+# A change of the model, or of what is expected of the controller, and what is said to differ.
+CHANGES = [
+    ("model.c", "port->registers[SCR] = value;", "port->registers[SCR] = value & 0x7F;", "the port"),
+    ("model.c", "case 0x010: effects.value = clock->imsc;", "case 0x010: effects.value = clock->ris;",
+     "the effects of superio_rtc_read"),
+    ("fuzz.c", "value == 0xFE), \"superio_i8042_write\"", "value == 0xFF), \"superio_i8042_write\"",
+     "superio_i8042_write"),
+]
+# In place of the kit: `rt doc` names a page of the kit, `rt lib` writes a library that says what it is for, and the
+# linker one that says what it was linked of.
+RT = """#!/bin/sh
+case "$1" in
+doc) echo "$KIT/page" ;;
+lib) mkdir -p out && echo "static for $2 $3" > out/libsuperio_c.a && echo built && [ -z "$FAILS" ] ;;
+esac
+"""
+LINKER = """#!/bin/sh
+while [ "$1" != -m ]; do shift; done
+emulation=$2
+while [ "$1" != --whole-archive ]; do shift; done
+echo "shared for $emulation of $(cat "$2")" > "$4"
+"""
+BUILT = {
+    "aarch64-linux/libsuperio_c.a": "static for --target aarch64-unknown-linux-gnu\n",
+    "aarch64-linux/libsuperio.so.0": "shared for aarch64linux of static for --target aarch64-unknown-linux-gnu\n",
+    "x86_64-linux/libsuperio_c.a": "static for --cpu=x86-64 \n",
+    "x86_64-linux/libsuperio.so.0": "shared for elf_x86_64 of static for --cpu=x86-64 \n",
+}
+
+
+@unittest.skipUnless(shutil.which("gcc"), "gcc is not there")
+class Fuzzing(CopyTest):
+    def setUp(self):
+        super().setUp()
+        self.take("include", "prebuilt")
+
+    def test_the_same_replies_pass(self):
+        self.assertEqual(self.run_tool("tools/c/fuzz", "3000", "7"), (0, "3000 calls\n", ""))
+
+    def test_each_device_is_compared(self):
+        for name, old, new, what in CHANGES:
+            with self.subTest(what):
+                self.change(f"tools/c/tests/{name}", old, new)
+                self.assertEqual(self.run_tool("tools/c/fuzz", "30000"), (1, f"{what} differs from the model\n", ""))
+                self.change(f"tools/c/tests/{name}", new, old)
+
+    def test_other_arguments_are_refused(self):
+        for arguments in (["all"], ["1", "2", "3"], ["-1"]):
+            status, printed, said = self.run_tool("tools/c/fuzz", *arguments)
+            self.assertEqual((status, printed), (1, ""))
+            self.assertIn("tools/c/fuzz [CALLS [SEED]]", said)
+
+    def test_a_missing_source_is_named(self):
+        (self.root / "tools/c/tests/model.c").unlink()
+        status, printed, said = self.run_tool("tools/c/fuzz")
+        self.assertEqual((status, printed), (1, ""))
+        self.assertIn("model.c", said)
+
+
+class Installing(CopyTest):
+    def setUp(self):
+        super().setUp()
+        self.take("LICENSE", "include", "prebuilt")
+        self.prefix = self.root / "a prefix"
+
+    def install(self, *arguments):
+        self.assertEqual(self.run_tool("tools/c/install", *arguments, self.prefix), (0, "", ""))
+
+    def test_the_libraries_are_those_of_the_target(self):
+        for target in TARGETS:
+            self.install("--target", target)
+            for name in LIBRARIES:
+                self.assertEqual((self.prefix / "lib" / name).read_bytes(), (ROOT / "prebuilt" / target / name).read_bytes())
+
+    def test_all_files_and_no_others(self):
+        self.install("--target", TARGETS[0])
+        found = {path.relative_to(self.prefix).as_posix() for path in self.prefix.rglob("*") if path.is_file()}
+        self.assertEqual(found, {"include/superio.h", "lib/pkgconfig/superio.pc", "share/licenses/superio/LICENSE",
+                                 *(f"lib/{name}" for name in LIBRARIES)})
+
+    def test_what_pkg_config_reads(self):
+        """No path of this machine, so that the prefix may be moved, and the version of CHANGELOG.md."""
+        self.install("--target", TARGETS[0])
+        text = (self.prefix / "lib/pkgconfig/superio.pc").read_text(encoding="ascii")
+        version = re.search(r"^## (\d+\.\d+\.\d+)$", (ROOT / "CHANGELOG.md").read_text(encoding="utf-8"), re.M)[1]
+        self.assertIn(f"\nVersion: {version}\n", text)
+        self.assertTrue(text.startswith("prefix=${pcfiledir}/../..\n"), text)
+        self.assertNotIn(str(self.root), text)
+
+    def test_an_installed_file_is_replaced_as_a_whole(self):
+        """A program that has the old library open keeps it."""
+        self.install("--target", TARGETS[0])
+        with open(self.prefix / "lib" / LIBRARIES[0], "rb") as opened:
+            self.install("--target", TARGETS[1])
+            self.assertEqual(opened.read(), (ROOT / "prebuilt" / TARGETS[0] / LIBRARIES[0]).read_bytes())
+
+    def test_a_missing_library_is_named(self):
+        (self.root / "prebuilt" / TARGETS[0] / LIBRARIES[1]).unlink()
+        status, _, said = self.run_tool("tools/c/install", "--target", TARGETS[0], self.prefix)
+        self.assertEqual(status, 1)
+        self.assertIn(f"{TARGETS[0]}/{LIBRARIES[1]}", said)
+
+
+class Building(CopyTest):
+    def setUp(self):
+        super().setUp()
+        self.take("bindings/rust/prebuilt", *SOURCES, "include", "prebuilt")
+        tools = self.root / "kit" / "toolchain" / "bin"
+        tools.mkdir(parents=True)
+        for path, script in ((self.root / "kit" / "rt", RT), (tools / "ld.lld", LINKER)):
+            path.write_text(script, encoding="ascii")
+            path.chmod(0o755)
+        self.environment = {"PATH": f"{self.root}/kit:{os.environ['PATH']}", "KIT": f"{self.root}/kit"}
+
+    def check(self, folder):
+        """A folder has the libraries of both processors, their sums, and the digest of the sources."""
+        for name, text in BUILT.items():
+            self.assertEqual((folder / name).read_text(encoding="ascii"), text)
+        sums = "".join(f"{hashlib.sha256(text.encode()).hexdigest()}  {name}\n"
+                       for name, text in BUILT.items())
+        self.assertEqual((folder / "SHA256SUMS").read_text(encoding="ascii"), sums)
+        names = sorted(path.relative_to(ROOT).as_posix() for source in SOURCES for path in (ROOT / source).rglob("*.rt"))
+        listing = "".join(f"{hashlib.sha256((ROOT / name).read_bytes()).hexdigest()}  {name}\n" for name in names)
+        self.assertEqual((folder / "SOURCES").read_text(encoding="ascii"),
+                         f"{hashlib.sha256(listing.encode()).hexdigest()}  the sources in {' and '.join(SOURCES)}\n")
+
+    def test_into_a_folder(self):
+        folder = self.root / "folder"
+        self.assertEqual(self.run_tool("tools/c/prebuild", folder, env=self.environment), (0, "", ""))
+        self.check(folder)
+        for name in ("prebuilt", "bindings/rust/prebuilt"):
+            library = f"{name}/x86_64-linux/libsuperio_c.a"
+            self.assertEqual((self.root / library).read_bytes(), (ROOT / library).read_bytes())
+
+    def test_into_the_repository(self):
+        self.assertEqual(self.run_tool("tools/c/prebuild", env=self.environment), (0, "", ""))
+        self.check(self.root / "prebuilt")
+        for target in TARGETS:
+            packed = self.root / "bindings/rust/prebuilt" / target / "libsuperio_c.a"
+            self.assertEqual(packed.read_text(encoding="ascii"), BUILT[f"{target}/libsuperio_c.a"])
+
+    def test_a_build_that_fails_says_where_its_output_is(self):
+        status, _, said = self.run_tool("tools/c/prebuild", self.root / "folder", env={**self.environment, "FAILS": "1"})
+        self.assertEqual(status, 1)
+        log = re.fullmatch(r"tools/c/prebuild: .* for aarch64-linux failed: (\S+) has what it printed\n", said)[1]
+        with open(log, encoding="utf-8") as kept:
+            self.assertEqual(kept.read(), "built\n")
+        shutil.rmtree(os.path.dirname(log))
+
+    def test_without_the_kit(self):
+        status, printed, said = self.run_tool("tools/c/prebuild", self.root / "folder", env={"PATH": ""})
+        self.assertEqual((status, printed), (1, ""))
+        self.assertIn("tools/c/prebuild: this needs the Rattle kit", said)
+        self.assertFalse((self.root / "folder").exists())

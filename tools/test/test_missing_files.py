@@ -1,0 +1,96 @@
+"""Tests that tools name a file that is missing or damaged, count it as failed, and end with their sum."""
+import re
+import shutil
+import unittest
+
+import tiny
+from repository import ROOT, CopyTest
+
+# Prints a script as its own replies.
+CAT = shutil.which("cat")
+# Beside each tool what it says if the repository has nothing but tools/.
+WITHOUT_ALL = {
+    "broken_scripts": "tests/whole_scripts.txt: No such file or directory",
+    "calls": "calls/clocks.txt is not there",
+    "excerpts": "README.md: No such file or directory",
+    "failing_io": "tests/whole_scripts.txt: No such file or directory",
+    "replay": "boot.recording: No such file or directory",
+    "scripts": "tests/clock.txt is not there",
+    "transcripts": "README.md: No such file or directory",
+}
+
+
+@unittest.skipUnless(CAT and shutil.which("cc"), "cat and cc are needed")
+class MissingFiles(CopyTest):
+    def sum_of(self, tool, *arguments, says, **options):
+        """What a tool of the copy passed and failed. One of its lines has to end as `says`."""
+        status, printed, _ = self.run_tool(f"tools/{tool}", *arguments, **options)
+        *lines, last = printed.splitlines()
+        self.assertTrue(any(line.endswith(says) for line in lines), printed)
+        passed, failed = map(int, re.match(r"(\d+) passed, (\d+) failed", last).groups())
+        self.assertEqual(status, 1 if failed else 0)
+        return passed, failed
+
+    def test_without_any_file(self):
+        for tool, says in WITHOUT_ALL.items():
+            with self.subTest(tool):
+                passed, failed = self.sum_of(tool, *([] if tool == "excerpts" else [CAT]), says=says)
+                self.assertEqual(passed, 0)
+                self.assertGreater(failed, 0)
+
+    def test_a_file_that_is_lost_later(self):
+        self.take("README.md", "docs", "examples/c")
+        passed, failed = self.sum_of("excerpts", says="No such file or directory")
+        self.assertGreater(passed, 0)
+        self.assertEqual(failed, 1)
+
+    def test_a_program_that_is_not_there(self):
+        for tool in ("scripts", "calls", "hostile"):
+            with self.subTest(tool):
+                _, failed = self.sum_of(tool, "/nowhere/at/all", says="/nowhere/at/all is not there")
+                self.assertGreater(failed, 0)
+
+    def test_a_lost_or_new_file_of_scripts(self):
+        (self.root / "tests").mkdir()
+        names = [path.name for path in (ROOT / "tests").glob("*.txt")]
+        for name in names:
+            (self.root / "tests" / name).write_text("kr 04  kr 04\n", encoding="ascii")
+        self.assertEqual(self.sum_of("scripts", CAT, says=f"{len(names)} lines"), (len(names), 0))
+        (self.root / "tests" / "clock.txt").rename(self.root / "tests" / "other.txt")
+        for says in ("tests/clock.txt is not there", "tests/other.txt is not in the tool's list"):
+            self.assertEqual(self.sum_of("scripts", CAT, says=says), (len(names), 2))
+
+    def test_the_checks_of_c_and_rust(self):
+        self.take("CHANGELOG.md", "LICENSE", "README.md", "bindings/rust", "crates/superio_c/src", "crates/vm_superio/src",
+                  "examples/c", "include", "prebuilt")
+        # Cargo is there, and fails.
+        (self.root / "cargo").write_text('#!/bin/sh\n[ "$*" = --version ]\n', encoding="ascii")
+        (self.root / "cargo").chmod(0o755)
+        library = "prebuilt/aarch64-linux/libsuperio_c.a"
+        (self.root / library).unlink()
+        for tool in ("c/check", "rust/check"):
+            _, failed = self.sum_of(tool, says=f"{library}'", env={"PATH": str(self.root)})
+            self.assertGreater(failed, 0)
+
+    def test_wrong_bodies_without_the_prover(self):
+        tiny.make(self.root, [("one", "same", "ensures", "    number", "    0")])
+        says = "tiny/one: BAD: the crate tiny is not proved"
+        self.assertEqual(self.sum_of("wrong_bodies", "--root", self.root, says=says, env={"PATH": ""}), (0, 1))
+
+    def test_a_damaged_recording(self):
+        self.take("tests")
+        packed = self.root / "tests" / "calls" / "calls.txt.xz"
+        packed.write_bytes(packed.read_bytes()[:-1000])
+        _, failed = self.sum_of("calls", CAT, says="end-of-stream marker was reached", env={"PATH": ""})
+        self.assertGreater(failed, 0)
+
+    def test_saved_forms_without_its_document(self):
+        self.take("include", "prebuilt")
+        says = "docs/SAVED-STATES.md: No such file or directory"
+        self.assertEqual(self.sum_of("saved_forms", says=says), (0, 1))
+        (self.root / "docs").mkdir()
+        (self.root / "docs" / "SAVED-STATES.md").write_text("Without an example.\n", encoding="ascii")
+        says = "one good example of each device is wanted, and these are there: {}"
+        self.assertEqual(self.sum_of("saved_forms", says=says), (0, 1))
+        shutil.rmtree(self.root / "prebuilt")
+        self.assertEqual(self.sum_of("saved_forms", says="returned non-zero exit status 1."), (0, 1))
