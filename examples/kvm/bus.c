@@ -13,11 +13,12 @@ static void serial_write(struct monitor *monitor, uint8_t offset, uint8_t value)
     if (offset == 0)
         console_await_room(monitor);
     superio_serial_write_effects done = superio_serial_write(&monitor->serial, offset, value);
-    const char *reply = done.sends ? trace_sent(monitor, value) : "ok";
-    if (done.sends)
+    if (done.sends) {
         console_send(monitor, value);
+        trace_sent(monitor, value);
+    }
     bool is_refused = interrupts_ask(monitor, done.interrupts);
-    trace_row(monitor, "sw %02x %02x  %s", offset, value, is_refused ? "trigger" : reply);
+    trace_row(monitor, "sw %02x %02x  %s", offset, value, is_refused ? "trigger" : "ok");
     if (offset == 4) /* loopback may have ended */
         console_feed(monitor);
 }

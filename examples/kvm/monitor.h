@@ -152,7 +152,7 @@ void snapshot_restore(struct monitor *monitor, const char *path);
 void trace_open(struct monitor *monitor, const char *path);
 void trace_row(struct monitor *monitor, const char *format, ...) PRINTF(2, 3);
 void trace_asked(struct monitor *monitor, unsigned accepted, bool is_refused);
-const char *trace_sent(struct monitor *monitor, uint8_t byte);
+void trace_sent(struct monitor *monitor, uint8_t byte);
 const char *trace_bytes(const uint8_t *bytes, size_t count);
 void trace_close(struct monitor *monitor);
 
