@@ -1,0 +1,183 @@
+# A guest in real mode, for the tests of the monitor. It prints 'ready', and then echoes what is typed, by interrupts and as
+# Linux's 8250 driver does: it reads IIR once for each interrupt, and then bytes for as long as LSR shows data ready. These
+# bytes are commands:
+#
+#     Ctrl-D  resets the machine
+#     Ctrl-E  enables the interrupt of the transmitter too
+#     Ctrl-F  fills the FIFO in loopback, and prints how many bytes it held, in hexadecimal
+#     Ctrl-O  prints 100,000 full stops
+#     Ctrl-T  prints 'waiting', and reads no more until an alarm two seconds later, at which it prints 'alarm'
+#     Ctrl-W  prints bytes of the clock that it reads in ones and twos
+        .code16
+        .set COM1, 0x3F8
+        .set RBR, COM1; .set THR, COM1; .set IER, COM1 + 1; .set IIR, COM1 + 2; .set LCR, COM1 + 3; .set MCR, COM1 + 4
+        .set LSR, COM1 + 5
+        .set MASTER, 0x20; .set SLAVE, 0xA0     # the interrupt controllers
+        .set CLOCK, 0xD000                      # the clock's segment
+        .set RTCDR, 0x000; .set RTCMR, 0x004; .set RTCIMSC, 0x010; .set RTCMIS, 0x018; .set RTCICR, 0x01C
+
+        .macro outb value, port
+        mov $\port, %dx
+        mov $\value, %al
+        out %al, %dx
+        .endm
+
+        .globl _start
+_start: cli
+        xor %ax, %ax
+        mov %ax, %ds
+        mov %ax, %es
+        mov %ax, %ss
+        mov $0x7C00, %sp
+        mov $CLOCK, %ax
+        mov %ax, %fs
+        movl $serial, 0x24 * 4                  # the vector of IRQ 4, in segment 0
+        movl $alarm, 0x28 * 4                   # and of IRQ 8
+        outb 0x11, MASTER                       # ICW1 to ICW4, and the masks: IRQ 4, 2 and 8
+        outb 0x20, MASTER + 1
+        outb 0x04, MASTER + 1
+        outb 0x01, MASTER + 1
+        outb 0xEB, MASTER + 1
+        outb 0x11, SLAVE
+        outb 0x28, SLAVE + 1
+        outb 0x02, SLAVE + 1
+        outb 0x01, SLAVE + 1
+        outb 0xFE, SLAVE + 1
+        outb 0x03, LCR
+        outb 0x0B, MCR                          # DTR, RTS, OUT2
+        fwait                                   # which KVM does not emulate, where it emulates guests
+        mov $ready, %si
+        call print
+        outb 0x01, IER
+        sti
+sleep:  hlt
+        jmp sleep
+
+serial: pusha
+        mov $IIR, %dx
+        in %dx, %al
+        test $0x01, %al                         # nothing is pending
+        jnz 2f
+1:      mov $LSR, %dx
+        in %dx, %al
+        test $0x01, %al                         # data ready
+        jz 2f
+        mov $RBR, %dx
+        in %dx, %al
+        call typed
+        cmpb $0, is_waiting
+        je 1b
+2:      outb 0x20, MASTER                       # end of interrupt
+        popa
+        iret
+
+alarm:  pusha
+        cmpb $1, %fs:RTCMIS
+        jne 1f
+        movl $1, %fs:RTCICR
+        movb $0, is_waiting
+        mov $alarmed, %si
+        call print
+        outb 0x01, IER                          # raises RDA for the bytes that came
+1:      outb 0x20, SLAVE
+        outb 0x20, MASTER
+        popa
+        iret
+
+# What to do about the byte in AL.
+typed:  cmp $0x04, %al
+        je reset
+        cmp $0x05, %al
+        je enable
+        cmp $0x06, %al
+        je fill
+        cmp $0x0F, %al
+        je flood
+        cmp $0x14, %al
+        je await
+        cmp $0x17, %al
+        je widths
+send:   mov $THR, %dx
+        out %al, %dx
+        ret
+
+reset:  outb 0xFE, 0x64
+        hlt
+
+enable: outb 0x03, IER
+        ret
+
+# As Linux's size_fifo: more bytes than fit, and a count of those that come back.
+fill:   outb 0x1B, MCR                          # loopback
+        mov $100, %cx
+        mov $THR, %dx
+1:      out %al, %dx
+        loop 1b
+        xor %bx, %bx
+2:      mov $LSR, %dx
+        in %dx, %al
+        test $0x01, %al
+        jz 3f
+        mov $RBR, %dx
+        in %dx, %al
+        inc %bx
+        jmp 2b
+3:      outb 0x0B, MCR
+        mov %bl, %al
+        jmp hex
+
+flood:  mov $100000, %ecx
+        mov $'.', %al
+        mov $THR, %dx
+1:      out %al, %dx
+        dec %ecx
+        jnz 1b
+        ret
+
+await:  movb $1, is_waiting
+        outb 0x00, IER
+        movl %fs:RTCDR, %eax
+        add $2, %eax
+        movl $1, %fs:RTCIMSC
+        movl %eax, %fs:RTCMR
+        mov $waits, %si
+        jmp print
+
+widths: movl $0x04030201, %fs:RTCMR             # a time that is past, so no alarm is set
+        movw $0xFFFF, %fs:RTCMR                 # two bytes, which the clock does not take
+        movb %fs:0xFE0, %al
+        call hex
+        movb %fs:RTCMR + 1, %al
+        call hex
+        movw %fs:RTCMR + 2, %ax
+        push %ax
+        call hex
+        pop %ax
+        mov %ah, %al
+        call hex
+        movb %fs:RTCMR, %al
+        # and goes on in hex
+
+# Prints AL.
+hex:    mov %al, %bl
+        shr $4, %al
+        call 1f
+        mov %bl, %al
+        and $0x0F, %al
+1:      add $'0', %al
+        cmp $'9', %al
+        jbe send
+        add $'a' - '9' - 1, %al
+        jmp send
+
+print:  lodsb
+        test %al, %al
+        jz 1f
+        call send
+        jmp print
+1:      ret
+
+ready:  .asciz "ready\r\n"
+waits:  .asciz "waiting\r\n"
+alarmed: .asciz "alarm\r\n"
+is_waiting: .byte 0
