@@ -14,6 +14,7 @@ CRATES = Path(__file__).resolve().parent.parent / "crates"
 SOURCES = {
     "superio": ["superio", "superio_script", "vm_superio"],
     "superio_calls": ["superio_calls", "vm_superio"],
+    "superio_refusals": ["superio_refusals", "superio_script", "vm_superio"],
     "superio_c": ["superio_c", "vm_superio"],
 }
 

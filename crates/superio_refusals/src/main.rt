@@ -32,6 +32,7 @@ fn outcome_of(alloc: Global, call: &str) -> Result<&'static str, AllocError> {
         "Serial::with_events" => Ok(ports::with_events(alloc)),
         "Serial::from_state" => ports::from_state(alloc),
         "Serial::state" => ports::state(alloc),
+        "SerialState::default" => Ok(ports::default(alloc)),
         "SerialState::clone" => ports::clone(alloc),
         "SerialState::from_bytes" => ports::from_bytes(alloc),
         "run" => ports::run_over_a_restore(alloc),

@@ -105,6 +105,15 @@ pub fn state(alloc: Global) -> Result<&'static str, AllocError> {
     }
 }
 
+pub fn default(alloc: Global) -> &'static str {
+    let state = SerialState::default(alloc);
+    if state.is_coherent() && state.in_buffer.is_empty() {
+        "the state"
+    } else {
+        "another state"
+    }
+}
+
 pub fn clone(alloc: Global) -> Result<&'static str, AllocError> {
     let state = pending_state(alloc)?;
     Ok(copied(state.clone(alloc), &state))
