@@ -5,7 +5,7 @@ use std::rc::Rc;
 use std::sync::atomic::{AtomicU32, Ordering};
 use std::sync::{Arc, Mutex};
 use std::thread;
-use std::time::{SystemTime, UNIX_EPOCH};
+use std::time::{Duration, Instant, SystemTime, UNIX_EPOCH};
 
 use vm_superio::rtc_pl031::RtcEvents;
 use vm_superio::serial::{Error, NoEvents, SerialEvents};
@@ -330,10 +330,12 @@ impl Trigger for SharedLine {
 fn threads_share_a_port_behind_a_lock() {
     let input: Vec<u8> = (0..=255).collect();
     let port = Mutex::new(Serial::with_events(SharedLine::default(), Log::default(), Vec::new()));
+    // If a byte is lost, neither thread would end by itself.
+    let end = Instant::now() + Duration::from_secs(60);
     thread::scope(|threads| {
         threads.spawn(|| {
             let mut rest = &input[..];
-            while !rest.is_empty() {
+            while !rest.is_empty() && Instant::now() < end {
                 let mut port = port.lock().unwrap();
                 let count = port.fifo_capacity().min(rest.len());
                 if count > 0 {
@@ -345,7 +347,7 @@ fn threads_share_a_port_behind_a_lock() {
         // The guest sends each byte back.
         threads.spawn(|| {
             let mut count = 0;
-            while count < input.len() {
+            while count < input.len() && Instant::now() < end {
                 let mut port = port.lock().unwrap();
                 if port.read(5) & 0x01 != 0 {
                     let byte = port.read(0);
