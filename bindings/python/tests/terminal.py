@@ -4,6 +4,7 @@ import os
 import pty
 import re
 import select
+import signal
 import struct
 import termios
 import time
@@ -20,6 +21,8 @@ class Terminal:
     def __init__(self, command, environment, columns=80):
         self._pid, self._end = pty.fork()
         if self._pid == 0:
+            # What runs in the background ignores Ctrl-C, and so would the program.
+            signal.signal(signal.SIGINT, signal.SIG_DFL)
             os.execve(command[0], command, environment)
         self.resize(columns)
         self.raw = ""
