@@ -24,13 +24,13 @@ struct Counter {
 impl Trigger for Counter {
     type E = Infallible;
 
-    ghost use Rattle.vm_superio.specs.Silent.{Silent, Silent-nil, Silent-append};
+    ghost use Rattle.vm_superio.specs.Links.Unspecified.{Unspecified, Unspecified-nil, Unspecified-append};
 
-    ghost link = { Silent };
+    ghost link = { Unspecified };
 
-    ghost no_call = { Silent-nil };
+    ghost no_call = { Unspecified-nil };
 
-    ghost joined = { Silent-append };
+    ghost joined = { Unspecified-append };
 
     fn trigger(&mut self) -> Result<(), Infallible> {
         self.calls = self.calls.wrapping_add(1);

@@ -1,10 +1,10 @@
 //! The clock. Its struct is `superio_rtc` in the header.
 ghost use Rattle.std.specs.Prelude.{◌≡◌, not};
 ghost use Rattle.superio_c.specs.Clock.{effects_of_response, due_of};
-ghost use Rattle.vm_superio.specs.Clock.Alarm.{is_line_up, IsAlarmDue};
-ghost use Rattle.vm_superio.specs.Clock.Fields.{state_of_clock};
-ghost use Rattle.vm_superio.specs.Clock.Registers.{fresh_clock, read, write, clock_register_at, is_writable};
-ghost use Rattle.vm_superio.specs.Clock.Step.{clock_response, clock_step};
+ghost use Rattle.vm_superio.specs.Rtc.Alarm.{is_line_up, IsAlarmDue};
+ghost use Rattle.vm_superio.specs.Rtc.Fields.{state_of_clock};
+ghost use Rattle.vm_superio.specs.Rtc.Registers.{fresh_clock, read, write, clock_register_at, is_writable};
+ghost use Rattle.vm_superio.specs.Rtc.Step.{clock_response, clock_step};
 
 use vm_superio::rtc_pl031::fields::RtcFields;
 

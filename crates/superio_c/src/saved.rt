@@ -1,8 +1,8 @@
 //! Saved states as bytes.
 ghost use Rattle.std.specs.Prelude.{◌≡◌, ◌≢◌, ◌++◌, length, drop, Some};
 ghost use Rattle.superio_c.specs.Saved.{load_status};
-ghost use Rattle.vm_superio.specs.Clock.Fields.{state_of_clock};
-ghost use Rattle.vm_superio.specs.Port.Fields.{state_of_fields};
+ghost use Rattle.vm_superio.specs.Rtc.Fields.{state_of_clock};
+ghost use Rattle.vm_superio.specs.Serial.Port.Fields.{state_of_fields};
 ghost use Rattle.vm_superio.specs.Saved.Faults.{serial_fault, clock_fault};
 ghost use Rattle.vm_superio.specs.Saved.Form.{serial_form, clock_form};
 

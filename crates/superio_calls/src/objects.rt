@@ -1,5 +1,5 @@
 //! The trigger, the events object and the writer of the devices: what they answer in a call, and what they were asked.
-ghost use Rattle.vm_superio.specs.Silent.{Silent, Silent-nil, Silent-append};
+ghost use Rattle.vm_superio.specs.Links.Unspecified.{Unspecified, Unspecified-nil, Unspecified-append};
 
 use arrayvec::ArrayString;
 use std::cell::Cell;
@@ -90,11 +90,11 @@ pub struct Refusal;
 impl Trigger for Object<'_> {
     type E = Refusal;
 
-    ghost link = { Silent };
+    ghost link = { Unspecified };
 
-    ghost no_call = { Silent-nil };
+    ghost no_call = { Unspecified-nil };
 
-    ghost joined = { Silent-append };
+    ghost joined = { Unspecified-append };
 
     fn trigger(&mut self) -> Result<(), Refusal> {
         let (is_refused, next) = self.0.refusals.get();
@@ -105,11 +105,11 @@ impl Trigger for Object<'_> {
 }
 
 impl SerialEvents for Object<'_> {
-    ghost link = { Silent };
+    ghost link = { Unspecified };
 
-    ghost no_event = { Silent-nil };
+    ghost no_event = { Unspecified-nil };
 
-    ghost joined = { Silent-append };
+    ghost joined = { Unspecified-append };
 
     fn buffer_read(&mut self) {
         self.0.note(" b");
@@ -129,11 +129,11 @@ impl SerialEvents for Object<'_> {
 }
 
 impl RtcEvents for Object<'_> {
-    ghost link = { Silent };
+    ghost link = { Unspecified };
 
-    ghost no_event = { Silent-nil };
+    ghost no_event = { Unspecified-nil };
 
-    ghost joined = { Silent-append };
+    ghost joined = { Unspecified-append };
 
     fn invalid_read(&mut self) {
         self.0.note(" i");

@@ -5,11 +5,11 @@ use Rattle.std.proofs.lemmas.List.{take-append-drop, length-take, drop_min}
 use Rattle.circular_buffer.specs.Buffer.{keep_last}
 use Rattle.vm_superio.specs.declared.serial.errors.Error.{Error}
 use Rattle.vm_superio.specs.declared.serial.errors.Error.TheVariants.{Trigger, IOError, FullFifo, Memory}
-use Rattle.vm_superio.specs.Port.State.{State}
-use Rattle.vm_superio.specs.Port.Registers.{is_loopback}
-use Rattle.vm_superio.specs.Step.Raising.{enqueued_bytes, receive_bytes}
-use Rattle.vm_superio.specs.Port.Model.{refusal_in_error}
-use Rattle.vm_superio.specs.Laws.OneCall.{ReceivedLaw}
+use Rattle.vm_superio.specs.Serial.Port.State.{State}
+use Rattle.vm_superio.specs.Serial.Port.Registers.{is_loopback}
+use Rattle.vm_superio.specs.Serial.Step.Raising.{enqueued_bytes, receive_bytes}
+use Rattle.vm_superio.specs.Serial.Port.Model.{refusal_in_error}
+use Rattle.vm_superio.specs.Serial.Laws.OneCall.{ReceivedLaw}
 use Rattle.superio_examples.specs.Input.{room_in}
 
 -- none, or as many of the first as there is room for, and then the bytes behind so many

@@ -2,7 +2,7 @@
 use Rattle.std.specs.Prelude.{◌≡◌, ℕ, ◌+◌, ◌-◌, ◌^◌, min, Option}
 use Rattle.std.specs.Option.{option_map}
 use Rattle.vm_superio.specs.declared.rtc_pl031.RtcState.{RtcState}
-use Rattle.vm_superio.specs.Clock.Alarm.{is_line_up, IsAlarmDue}
+use Rattle.vm_superio.specs.Rtc.Alarm.{is_line_up, IsAlarmDue}
 use Rattle.superio_examples.specs.declared.alarm.Alarm.{Alarm}
 
 -- the moment so many seconds after another. Moments end at the largest of 64 bits

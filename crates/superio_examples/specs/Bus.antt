@@ -1,9 +1,9 @@
 -- The ports of a PC's bus: which device each belongs to, and what an access does there.
 use Rattle.std.specs.Prelude.{ℕ, ◌+◌, Bool, ◌&&◌, ◌||◌, ◌==◌, not, nat_le, nat_lt, [], ◌∷◌, Result, Ok, Err}
-use Rattle.vm_superio.specs.Port.Operations.{Event}
-use Rattle.vm_superio.specs.Port.ObjectLinks.{Link, TriggerAnswer, Contents}
-use Rattle.vm_superio.specs.Port.Model.{Port}
-use Rattle.vm_superio.specs.Step.PortStep.{IsWriteStep}
+use Rattle.vm_superio.specs.Serial.Port.Operations.{Event}
+use Rattle.vm_superio.specs.Links.Objects.{Link, TriggerAnswer, Contents}
+use Rattle.vm_superio.specs.Serial.Port.Model.{Port}
+use Rattle.vm_superio.specs.Serial.Step.PortStep.{IsWriteStep}
 use Rattle.superio_examples.specs.declared.bus.BusError.{BusError}
 use Rattle.superio_examples.specs.declared.bus.BusError.TheVariants.{Serial, Reset}
 

@@ -4,11 +4,11 @@ use Rattle.std.specs.Bool.{OnTrue, OnFalse}
 use Rattle.circular_buffer.specs.Buffer.{buffer}
 use Rattle.vm_superio.specs.declared.serial.errors.Error.{Error}
 use Rattle.vm_superio.specs.declared.serial.errors.Error.TheVariants.{Trigger}
-use Rattle.vm_superio.specs.Port.Operations.{Event}
-use Rattle.vm_superio.specs.Port.Registers.{Condition}
-use Rattle.vm_superio.specs.Port.ObjectLinks.{Link, TriggerAnswer, Contents, RefusesOwnState}
-use Rattle.vm_superio.specs.Port.Model.{refusal_in_result}
-use Rattle.vm_superio.specs.Step.PortStep.{IsReadStep, IsWriteStep}
+use Rattle.vm_superio.specs.Serial.Port.Operations.{Event}
+use Rattle.vm_superio.specs.Serial.Port.Registers.{Condition}
+use Rattle.vm_superio.specs.Links.Objects.{Link, TriggerAnswer, Contents, RefusesOwnState}
+use Rattle.vm_superio.specs.Serial.Port.Model.{refusal_in_result}
+use Rattle.vm_superio.specs.Serial.Step.PortStep.{IsReadStep, IsWriteStep}
 use Rattle.superio_examples.specs.declared.console.Console.{Console}
 use Rattle.superio_examples.specs.Input.{room_in, ForwardsEnqueue}
 

@@ -1,13 +1,13 @@
 -- Input that waits for room in a serial port.
 use Rattle.std.specs.Prelude.{◌≡◌, ℕ, ◌-◌, if◌then◌else◌, List, length, Result}
 use Rattle.std.specs.Result.{result_err}
-use Rattle.vm_superio.specs.Port.State.{State}
-use Rattle.vm_superio.specs.Port.Registers.{is_loopback}
+use Rattle.vm_superio.specs.Serial.Port.State.{State}
+use Rattle.vm_superio.specs.Serial.Port.Registers.{is_loopback}
 use Rattle.vm_superio.specs.declared.serial.errors.Error.{Error}
-use Rattle.vm_superio.specs.Port.Operations.{Event}
-use Rattle.vm_superio.specs.Port.ObjectLinks.{Link, TriggerAnswer, Contents}
-use Rattle.vm_superio.specs.Port.Model.{Port, refusal_in_result}
-use Rattle.vm_superio.specs.Step.PortStep.{IsEnqueueStep}
+use Rattle.vm_superio.specs.Serial.Port.Operations.{Event}
+use Rattle.vm_superio.specs.Links.Objects.{Link, TriggerAnswer, Contents}
+use Rattle.vm_superio.specs.Serial.Port.Model.{Port, refusal_in_result}
+use Rattle.vm_superio.specs.Serial.Step.PortStep.{IsEnqueueStep}
 
 -- how many bytes a serial port has room for: what is left of its 64, and none in loopback
 abbrev pub room_in : (s : State) → ℕ

@@ -1,9 +1,9 @@
 -- What a restore of saved devices makes, and what it returns where it is refused.
 use Rattle.std.specs.Prelude.{◌≡◌, List, Option, Some, None, Result}
 use Rattle.std.specs.Option.{option_or}
-use Rattle.vm_superio.specs.Step.Restore.{restore_calls, RefusesRestore}
-use Rattle.vm_superio.specs.Port.ObjectLinks.{all_ok}
-use Rattle.vm_superio.specs.Port.State.{State}
+use Rattle.vm_superio.specs.Serial.Step.Restore.{restore_calls, RefusesRestore}
+use Rattle.vm_superio.specs.Links.Objects.{all_ok}
+use Rattle.vm_superio.specs.Serial.Port.State.{State}
 use Rattle.vm_superio.specs.Saved.Form.{serial_form, clock_form}
 use Rattle.vm_superio.specs.Saved.Faults.{serial_fault, clock_fault}
 use Rattle.vm_superio.specs.declared.saved.Error.{Error}

@@ -1,9 +1,9 @@
 -- A clock's window in a guest's memory.
 use Rattle.std.specs.Prelude.{◌≡◌, ℕ, ◌+◌, ◌-◌, ◌%◌, Bool, ◌&&◌, ◌||◌, ◌==◌, nat_le, nat_lt, if◌then◌else◌, List, length, take, drop, replicate}
-use Rattle.vm_superio.specs.Port.ObjectLinks.{Link}
-use Rattle.vm_superio.specs.Clock.Events.{RtcEvent}
-use Rattle.vm_superio.specs.Clock.Registers.{read, write_of, host_time, bytes_left}
-use Rattle.vm_superio.specs.Clock.Step.{ClockDevice, after_alarm, clock_response, clock_step, clock_events}
+use Rattle.vm_superio.specs.Links.Objects.{Link}
+use Rattle.vm_superio.specs.Rtc.Events.{RtcEvent}
+use Rattle.vm_superio.specs.Rtc.Registers.{read, write_of, host_time, bytes_left}
+use Rattle.vm_superio.specs.Rtc.Step.{ClockDevice, after_alarm, clock_response, clock_step, clock_events}
 
 -- in the 4096 bytes from `base` on
 abbrev pub is_inside : (base address : ℕ) → Bool

@@ -1,8 +1,8 @@
 //! A bus that forwards a guest's port I/O to a serial port and a reset controller, by port number.
 ghost use Rattle.std.specs.Prelude.{◌≡◌, ◌-◌, ◌||◌, if◌then◌else◌, Some, None};
 ghost use Rattle.std.specs.Bool.{OnTrue, OnFalse};
-ghost use Rattle.vm_superio.specs.Port.Coherent.{Coherent};
-ghost use Rattle.vm_superio.specs.Step.PortStep.{IsReadStep};
+ghost use Rattle.vm_superio.specs.Serial.Port.Coherent.{Coherent};
+ghost use Rattle.vm_superio.specs.Serial.Step.PortStep.{IsReadStep};
 ghost use Rattle.superio_examples.specs.Bus.{is_serial, is_i8042, is_vacant, is_reset};
 ghost use Rattle.superio_examples.specs.Bus.{ForwardsWrite, ForwardsReset};
 

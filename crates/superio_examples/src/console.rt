@@ -3,11 +3,11 @@
 ghost use Rattle.std.specs.Prelude.{◌≡◌, ◌-◌, ◌==◌, ◌++◌, length, take, drop, min, is_some, false, true, IfOk, OnErr};
 ghost use Rattle.std.specs.Io.KnownBytes.{WriteAppends};
 ghost use Rattle.circular_buffer.specs.Buffer.{buffer};
-ghost use Rattle.vm_superio.specs.Port.Coherent.{Coherent};
-ghost use Rattle.vm_superio.specs.Port.ObjectLinks.{all_ok};
-ghost use Rattle.vm_superio.specs.Port.Model.{refusal_in_result};
-ghost use Rattle.vm_superio.specs.Step.Restore.{restore_calls};
-ghost use Rattle.vm_superio.specs.Step.PortStep.{with_trigger, with_writer};
+ghost use Rattle.vm_superio.specs.Serial.Port.Coherent.{Coherent};
+ghost use Rattle.vm_superio.specs.Links.Objects.{all_ok};
+ghost use Rattle.vm_superio.specs.Serial.Port.Model.{refusal_in_result};
+ghost use Rattle.vm_superio.specs.Serial.Step.Restore.{restore_calls};
+ghost use Rattle.vm_superio.specs.Serial.Step.PortStep.{with_trigger, with_writer};
 ghost use Rattle.superio_examples.specs.Console.{Feeds, ReadsThenFeeds, RefusesAgain, WritesThenFeeds};
 
 use crate::input::Input;
@@ -86,7 +86,7 @@ impl<T: Trigger, EV: SerialEvents, W: Write> Console<T, EV, W> {
             T.link self.old.serial.trigger (all_ok (restore_calls self.old.serial.state)) self.new.serial.trigger }
         ensures refused { self.old.is_refused ≡ true → self.new.is_refused ≡ true →
             RefusesAgain T.link (restore_calls self.old.serial.state) self.old.serial.trigger self.new.serial.trigger }
-        ensures others { self.new ≡ record self.old {
+        ensures rest_unchanged { self.new ≡ record self.old {
           serial = with_trigger self.old.serial self.new.serial.trigger;
           is_refused = self.new.is_refused;
         } }
@@ -119,7 +119,7 @@ impl<T: Trigger, EV: SerialEvents> Console<T, EV, Output> {
         ensures taken { IfOk result (λ count.
             self.new.serial.out ≡ record self.old.serial.out { items = drop count self.old.serial.out.items }) }
         ensures refused { OnErr result (self.new ≡ self.old) }
-        ensures others { self.new ≡ record self.old {
+        ensures rest_unchanged { self.new ≡ record self.old {
           serial = with_writer self.old.serial self.new.serial.out;
         } }
     {

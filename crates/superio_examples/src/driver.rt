@@ -1,10 +1,10 @@
 //! A guest's claims: a polling driver loses no byte and gets them in order.
 ghost use Rattle.std.specs.Prelude.{◌≡◌, [], ◌++◌, false, IfOk, OnErr, IsTrue};
-ghost use Rattle.vm_superio.specs.History.Registers.{accepted_bytes};
-ghost use Rattle.vm_superio.specs.Laws.PollingDriver.{driver_bytes, polls_by_sight};
-ghost use Rattle.vm_superio.specs.Port.Coherent.{Coherent};
-ghost use Rattle.vm_superio.specs.Run.HistoryTheorem.{HistoryTheorem};
-ghost use Rattle.vm_superio.specs.Run.Trace.{entries_of, trace_of};
+ghost use Rattle.vm_superio.specs.Serial.History.Registers.{accepted_bytes};
+ghost use Rattle.vm_superio.specs.Serial.Laws.PollingDriver.{driver_bytes, polls_after_data_ready};
+ghost use Rattle.vm_superio.specs.Serial.Port.Coherent.{Coherent};
+ghost use Rattle.vm_superio.specs.Serial.Run.HistoryTheorem.{HistoryTheorem};
+ghost use Rattle.vm_superio.specs.Serial.Run.Trace.{entries_of, trace_of};
 
 use std::alloc::{AllocError, Global};
 use std::io::Write;
@@ -28,7 +28,7 @@ pub fn run_polled<T: Trigger + Drop, EV: SerialEvents + Drop, W: Write + Drop>(
         → HistoryTheorem T.link W.contents serial.old calls.items done.items serial.new) }
     ensures refused { OnErr result (serial.new ≡ serial.old) }
     ensures in_order { Coherent serial.old.state → IfOk result (λ done.
-        IsTrue (polls_by_sight serial.old.state [] false (entries_of done.items))
+        IsTrue (polls_after_data_ready serial.old.state [] false (entries_of done.items))
         → driver_bytes serial.old.state [] (entries_of done.items) ++ serial.new.state.in_buffer
         ≡ serial.old.state.in_buffer ++ accepted_bytes serial.old.state (trace_of done.items)) }
 {

@@ -2,7 +2,7 @@
 //! interrupt line.
 ghost use Rattle.std.specs.Prelude.{◌≡◌, [], ◌∷◌, OnOk};
 ghost use Rattle.std.specs.Io.KnownBytes.{Appends};
-ghost use Rattle.vm_superio.specs.Silent.{Silent, Silent-nil, Silent-append};
+ghost use Rattle.vm_superio.specs.Links.Unspecified.{Unspecified, Unspecified-nil, Unspecified-append};
 
 use std::io;
 use std::io::Write;
@@ -21,11 +21,11 @@ pub struct EventFd<W: Write> {
 impl<W: Write> Trigger for EventFd<W> {
     type E = io::Error;
 
-    ghost link = { Silent };
+    ghost link = { Unspecified };
 
-    ghost no_call = { Silent-nil };
+    ghost no_call = { Unspecified-nil };
 
-    ghost joined = { Silent-append };
+    ghost joined = { Unspecified-append };
 
     /// Adds 1 to the descriptor's counter: writes eight bytes.
     ///
@@ -33,7 +33,7 @@ impl<W: Write> Trigger for EventFd<W> {
     ///
     /// Returns the write's error. From a nonblocking descriptor, `WouldBlock` says that its counter is full.
     fn trigger(&mut self) -> io::Result<()>
-        ensures link { Silent self.old (result ∷ []) self.new }
+        ensures link { Unspecified self.old (result ∷ []) self.new }
         ensures written { OnOk result (Appends (W.contents self.old.file) (W.contents self.new.file)
             (1 ∷ 0 ∷ 0 ∷ 0 ∷ 0 ∷ 0 ∷ 0 ∷ 0 ∷ [])) }
     {

@@ -1,7 +1,7 @@
 //! Input for a guest. It waits until the serial port's FIFO has room, and no byte of it is lost.
 ghost use Rattle.std.specs.Prelude.{◌≡◌, ◌+◌, ◌-◌, ℕ, List, [], ◌∷◌, ◌++◌, length, take, drop, min, OnOk, IfOk, IfErr};
 ghost use Rattle.circular_buffer.specs.Buffer.{Buffer, buffer};
-ghost use Rattle.vm_superio.specs.Port.Coherent.{Coherent};
+ghost use Rattle.vm_superio.specs.Serial.Port.Coherent.{Coherent};
 ghost use Rattle.superio_examples.specs.Input.{room_in, ForwardsEnqueue};
 
 use circular_buffer::HeapCircularBuffer;

@@ -1,7 +1,7 @@
 //! Serves a guest's port accesses of any width byte by byte, as the bus of a PC does for 8-bit devices.
 ghost use Rattle.std.specs.Prelude.{◌≡◌, [], ◌∷◌, length, replicate};
 ghost use Rattle.std.specs.Bool.{OnTrue, OnFalse};
-ghost use Rattle.vm_superio.specs.Port.Coherent.{Coherent};
+ghost use Rattle.vm_superio.specs.Serial.Port.Coherent.{Coherent};
 ghost use Rattle.superio_examples.specs.PortIo.{is_width, ReadsBytes, WritesBytes};
 
 use crate::bus::{Bus, BusError};

@@ -52,9 +52,9 @@ pub fn restore_line(alloc: Global) -> Result<&'static str, AllocError> {
         Err(LineFault::Memory) => ("Memory, and the board as it was", b"0000000000000001\n"),
         Err(LineFault::Bad) => return Ok("a bad line"),
     };
-    let is_as_told = has_replies(alloc, &mut board, &[(b"st", calls)])
+    let answers_match = has_replies(alloc, &mut board, &[(b"st", calls)])
         && has_replies(alloc, &mut board, &AFTER);
-    Ok(if is_as_told { outcome } else { "another board" })
+    Ok(if answers_match { outcome } else { "another board" })
 }
 
 /// A script of most forms. Its mask refuses the second call of the interrupt line.

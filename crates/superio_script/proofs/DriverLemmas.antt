@@ -5,17 +5,17 @@ use Rattle.std.proofs.lemmas.Bool.{false≢true}
 use Rattle.std.specs.Int.Bits.{and_mask}
 use Rattle.std.specs.Prelude.{◌↔◌, IsTrue, bit_and, drop, slice_index, if◌then◌else◌, ◌&&◌}
 use Rattle.vm_superio.specs.declared.trace.Asked.TheVariants.{Nothing}
-use Rattle.vm_superio.specs.Port.Bits.{has_bits, without_bits}
-use Rattle.vm_superio.specs.Port.State.{State, not_empty}
-use Rattle.vm_superio.specs.Port.Coherent.{Coherent}
-use Rattle.vm_superio.specs.Port.Registers.{RbrThr, register_at, is_dlab, register_read, identification_of}
-use Rattle.vm_superio.specs.Port.Operations.{Read, Response, ByteRead, Event, buffer_read, in_buffer_empty}
-use Rattle.vm_superio.specs.Port.ObjectLinks.{Link, TriggerAnswer, Contents}
-use Rattle.vm_superio.specs.Port.Model.{Port}
-use Rattle.vm_superio.specs.Step.PortStep.{IsReadStep}
-use Rattle.vm_superio.specs.Step.Transition.{rbr_read, read_step, step, read_events}
-use Rattle.vm_superio.specs.Laws.Agreement.{CoherenceLaw}
-use Rattle.vm_superio.specs.Laws.OneCall.{RbrDataReadyLaw}
+use Rattle.vm_superio.specs.Bits.{has_bits, without_bits}
+use Rattle.vm_superio.specs.Serial.Port.State.{State, not_empty}
+use Rattle.vm_superio.specs.Serial.Port.Coherent.{Coherent}
+use Rattle.vm_superio.specs.Serial.Port.Registers.{RbrThr, register_at, is_dlab, register_read, identification_of}
+use Rattle.vm_superio.specs.Serial.Port.Operations.{Read, Response, ByteRead, Event, buffer_read, in_buffer_empty}
+use Rattle.vm_superio.specs.Links.Objects.{Link, TriggerAnswer, Contents}
+use Rattle.vm_superio.specs.Serial.Port.Model.{Port}
+use Rattle.vm_superio.specs.Serial.Step.PortStep.{IsReadStep}
+use Rattle.vm_superio.specs.Serial.Step.Transition.{rbr_read, read_step, step, read_events}
+use Rattle.vm_superio.specs.Serial.Laws.Agreement.{CoherenceLaw}
+use Rattle.vm_superio.specs.Serial.Laws.OneCall.{RbrDataReadyLaw}
 use Rattle.superio_script.specs.Driver.{IsReady, ReadsWhileReady, bytes_while_ready, without_bytes, drain_events, TakesAll}
 
 -- ---- how many reads are to come

@@ -5,10 +5,10 @@ use Rattle.vm_superio.specs.declared.rtc_pl031.RtcState.{RtcState}
 use Rattle.vm_superio.specs.declared.saved.Error.{Error}
 use Rattle.vm_superio.specs.declared.serial.state.SerialState.{SerialState}
 use Rattle.vm_superio.specs.declared.saved.Error.TheVariants.{Memory}
-use Rattle.vm_superio.specs.Port.State.{State}
+use Rattle.vm_superio.specs.Serial.Port.State.{State}
 use Rattle.vm_superio.specs.Saved.Form.{serial_form, clock_form}
 use Rattle.vm_superio.specs.Saved.Laws.{IsClock}
-use Rattle.vm_superio.proofs.SavedForms.{numbers_in-form, serial_form-fault, clock_form-fault}
+use Rattle.vm_superio.proofs.Lemmas.Saved.Forms.{numbers_in-form, serial_form-fault, clock_form-fault}
 use Rattle.superio_script.specs.Loading.{unless_fault, port_in, loaded_port, clock_in, loaded_clock, PortFormLoads, ClockFormLoads}
 
 -- ---- the laws

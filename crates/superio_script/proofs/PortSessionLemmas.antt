@@ -9,18 +9,18 @@ use Rattle.std.proofs.lemmas.Bool.Decides.{nat_tests}
 use Rattle.vm_superio.specs.declared.trace.Asked.{Asked}
 use Rattle.vm_superio.specs.declared.trace.Sent.{Sent}
 use Rattle.vm_superio.specs.declared.trace.Sent.TheVariants as sent
-use Rattle.vm_superio.specs.Port.Bits.{has_bits}
-use Rattle.vm_superio.specs.Port.Coherent.{Coherent}
-use Rattle.vm_superio.specs.Port.Registers.{Register, RbrThr, Ier, Iir, register_at, is_dlab, is_loopback, identification_of}
-use Rattle.vm_superio.specs.Port.State.{State, not_empty}
-use Rattle.vm_superio.specs.Port.Operations.{Op, Read, Write, Enqueue, Restore, TraceEntry, Trace, is_sent, is_lost}
-use Rattle.vm_superio.specs.Port.OpKinds.{read_kind, write_kind, kind_of, sent_by}
-use Rattle.vm_superio.specs.Port.WriterLink.{bytes_written}
-use Rattle.vm_superio.specs.Step.Admissible.{step_calls, kind_in_state, is_admissible}
-use Rattle.vm_superio.specs.Step.Restore.{restore_calls}
-use Rattle.vm_superio.specs.Step.Transition.{step_response, step_events}
-use Rattle.vm_superio.specs.History.Registers.{modem_control}
-use Rattle.vm_superio.specs.Laws.Agreement.{state_after, RegisterLaw, HeldBytesLaw, StateLaw, ResponseLaw, StepLaw, CoherenceLaw}
+use Rattle.vm_superio.specs.Bits.{has_bits}
+use Rattle.vm_superio.specs.Serial.Port.Coherent.{Coherent}
+use Rattle.vm_superio.specs.Serial.Port.Registers.{Register, RbrThr, Ier, Iir, register_at, is_dlab, is_loopback, identification_of}
+use Rattle.vm_superio.specs.Serial.Port.State.{State, not_empty}
+use Rattle.vm_superio.specs.Serial.Port.Operations.{Op, Read, Write, Enqueue, Restore, TraceEntry, Trace, is_sent, is_lost}
+use Rattle.vm_superio.specs.Serial.Port.OpKinds.{read_kind, write_kind, kind_of, sent_by}
+use Rattle.vm_superio.specs.Links.Writer.{bytes_written}
+use Rattle.vm_superio.specs.Serial.Step.Admissible.{step_calls, kind_in_state, is_admissible}
+use Rattle.vm_superio.specs.Serial.Step.Restore.{restore_calls}
+use Rattle.vm_superio.specs.Serial.Step.Transition.{step_response, step_events}
+use Rattle.vm_superio.specs.Serial.History.Registers.{modem_control}
+use Rattle.vm_superio.specs.Serial.Laws.Agreement.{state_after, RegisterLaw, HeldBytesLaw, StateLaw, ResponseLaw, StepLaw, CoherenceLaw}
 use Rattle.superio_script.specs.PortSession.{Session, shows_conditions, is_coherent, CoherenceIsDecided, output_since, known_output, session_from, session_dlab, session_kind, session_held_bytes, session_state, stepped_state, session_calls_due, session_response, session_events, session_restore_calls}
 
 -- ---- a coherent state
@@ -78,7 +78,7 @@ coherent-by_test s is =
       identification = pending.2;
       received = pending.3;
       data_ready = same-by_test ready held shown.1;
-      few = at_most (length s.in_buffer) parts.1;
+      at_most_64 = at_most (length s.in_buffer) parts.1;
     }
 
 test-of_few : (count : ℕ) → count ≤ 64 → IsTrue (nat_le count 64)
@@ -91,7 +91,7 @@ coherence_decided s = (
       let held = not_empty s.in_buffer in
       let pending = subst (λ iir. IsTrue (shows_conditions iir held)) (sym is.identification) (shown is.thre is.rda held is.received) in
       let ready = test-of_same (has_bits s.line_status 0x01) held is.data_ready in
-      both_true (both_true pending ready) (test-of_few (length s.in_buffer) is.few),
+      both_true (both_true pending ready) (test-of_few (length s.in_buffer) is.at_most_64),
 )
 
 -- ---- a session

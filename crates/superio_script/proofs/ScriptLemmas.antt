@@ -8,12 +8,12 @@ use Rattle.std.specs.List.{list_all}
 use Rattle.vm_superio.specs.declared.trace.Sent.{Sent}
 use Rattle.vm_superio.specs.declared.trace.Sent.TheVariants as sent
 use Rattle.vm_superio.specs.declared.saved.Error.{Error as Fault}
-use Rattle.vm_superio.specs.Port.State.{State, not_empty}
-use Rattle.vm_superio.specs.Port.Operations.{Op, Read, Write, Enqueue, is_sent}
-use Rattle.vm_superio.specs.Port.OpKinds.{OpKind, ThrWrite, sent_by}
-use Rattle.vm_superio.specs.Clock.Step.{ClockDevice}
-use Rattle.vm_superio.specs.Port.Model.{Port}
-use Rattle.vm_superio.proofs.PublicLemmas.{Appends-nothing, Appends-append, fresh_clock-history}
+use Rattle.vm_superio.specs.Serial.Port.State.{State, not_empty}
+use Rattle.vm_superio.specs.Serial.Port.Operations.{Op, Read, Write, Enqueue, is_sent}
+use Rattle.vm_superio.specs.Serial.Port.OpKinds.{OpKind, ThrWrite, sent_by}
+use Rattle.vm_superio.specs.Rtc.Step.{ClockDevice}
+use Rattle.vm_superio.specs.Serial.Port.Model.{Port}
+use Rattle.vm_superio.proofs.Lemmas.Public.{Appends-nothing, Appends-append, fresh_clock-history}
 use Rattle.superio_script.specs.InterruptLine.{InterruptLine}
 use Rattle.superio_script.specs.Counts.{EventCounts}
 use Rattle.superio_script.specs.Output.{written_bytes}
@@ -21,34 +21,34 @@ use Rattle.superio_script.specs.Command.{command_of, TakesMemory}
 use Rattle.superio_script.specs.Reply.{digits_reply}
 use Rattle.superio_script.specs.Loading.{loaded_port}
 use Rattle.superio_script.specs.PortSession.{Session, fresh_session, known_output, session_from, session_kind, drained_bytes}
-use Rattle.superio_script.specs.SerialScript.{Choice, IsPossible, first_outcome, first_output, bytes_before_loss, is_short, session_entry, session_sends, outcome_if_sent, choice_after_write, output_or_chosen, choice_after_output, call_reply, session_after_call, session_after_reads, is_restore_refused, restored_session, session_after_load, serial_reply, session_after_line, choice_after_line}
+use Rattle.superio_script.specs.SerialScript.{Environment, IsPossible, first_outcome, first_output, bytes_before_loss, is_short, session_entry, session_sends, outcome_if_sent, choice_after_write, output_or_chosen, choice_after_output, call_reply, session_after_call, session_after_reads, is_restore_refused, restored_session, session_after_load, serial_reply, session_after_line, choice_after_line}
 use Rattle.superio_script.specs.ClockScript.{ClockSession, fresh_clock_session, clock_session_state, clock_session_after_line}
 use Rattle.superio_script.specs.Board.{Devices, IsAt, IsFresh, IsSerialLineStep, IsLineStep}
-use Rattle.superio_script.specs.Script.{has_form, prepend_if_good, good_commands, first_bad_line, text_from, PrintsLines, StopsWithoutMemory}
+use Rattle.superio_script.specs.Script.{has_form, until_bad, good_commands, first_bad_line, text_from, PrintsLines, StopsWithoutMemory}
 use Rattle.superio_script.proofs.PortSessionLemmas.{known_output-from}
-use Rattle.superio_script.proofs.SerialScriptLemmas.{no_choice, output_after, known_output-after}
+use Rattle.superio_script.proofs.SerialScriptLemmas.{no_environment, output_after, known_output-after}
 use Rattle.superio_script.specs.declared.output.Output.{Output}
 use Rattle.superio_script.specs.declared.command.Command.{Command}
 use Rattle.superio_script.specs.declared.command.Command.TheVariants.{Serial, Clock, Controller}
-use Rattle.superio_script.specs.declared.command.SerialLine.{SerialLine}
-use Rattle.superio_script.specs.declared.command.SerialLine.TheVariants as line
+use Rattle.superio_script.specs.declared.command.SerialCommand.{SerialCommand}
+use Rattle.superio_script.specs.declared.command.SerialCommand.TheVariants as line
 
--- ---- a choice for what follows
+-- ---- a environment for what follows
 
 -- while nothing was lost, the bytes that went out and those that will go out before a loss are at most 256
 abbrev pub HasRoom : (output : Option (List ℕ)) (outcomes : List Sent) → Type 0
 HasRoom None outcomes = Unit {0}
 HasRoom (Some output) outcomes = length output + bytes_before_loss outcomes ≤ 256
 
--- a possible choice for what follows, where this went out before
-pub record IsPossibleFrom (output : Option (List ℕ)) (choice : Choice) : Type 0 where
-  pub sent : IsTrue (list_all is_sent choice.outcomes)
-  pub room : HasRoom output choice.outcomes
-  pub short : IsTrue (list_all is_short choice.outputs)
+-- a possible environment for what follows, where this went out before
+pub record IsPossibleFrom (output : Option (List ℕ)) (environment : Environment) : Type 0 where
+  pub sent : IsTrue (list_all is_sent environment.outcomes)
+  pub room : HasRoom output environment.outcomes
+  pub short : IsTrue (list_all is_short environment.outputs)
 
-IsPossibleFrom-no_choice : (output : Option (List ℕ)) → IfSome output (λ all. length all ≤ 256) → IsPossibleFrom output no_choice
-IsPossibleFrom-no_choice None few = record { sent = refl; room = tt; short = refl }
-IsPossibleFrom-no_choice (Some all) few = record { sent = refl; room = omega arith; short = refl }
+IsPossibleFrom-no_environment : (output : Option (List ℕ)) → IfSome output (λ all. length all ≤ 256) → IsPossibleFrom output no_environment
+IsPossibleFrom-no_environment None few = record { sent = refl; room = tt; short = refl }
+IsPossibleFrom-no_environment (Some all) few = record { sent = refl; room = omega arith; short = refl }
 
 first-sent : (outcomes : List Sent) → IsTrue (list_all is_sent outcomes) → IsTrue (is_sent (first_outcome outcomes))
 first-sent [] all = refl
@@ -85,15 +85,15 @@ one-sent : (k : OpKind) → not_empty (sent_by k) ≡ true → length (sent_by k
 one-sent (ThrWrite value) sends = refl
 one-sent _ sends = absurd (false≢true sends)
 
-module _ (choice later : Choice) (possible : IsPossible choice) where
-  -- a choice for a write that sends a byte or none, and for what follows it
+module _ (environment later : Environment) (possible : IsPossible environment) where
+  -- a environment for a write that sends a byte or none, and for what follows it
   write-joins :
       (sending : Bool) (output : Option (List ℕ)) (bytes : List ℕ) → (sending ≡ true → length bytes ≡ 1) → IfSome output (λ all. length all ≤ 256) →
-      IsPossibleFrom (output_after output (outcome_if_sent sending choice) bytes) later →
-      (whole : Choice) × IsPossibleFrom output whole × (outcome_if_sent sending whole ≡ outcome_if_sent sending choice) × (choice_after_write sending whole ≡ later)
+      IsPossibleFrom (output_after output (outcome_if_sent sending environment) bytes) later →
+      (whole : Environment) × IsPossibleFrom output whole × (outcome_if_sent sending whole ≡ outcome_if_sent sending environment) × (choice_after_write sending whole ≡ later)
   write-joins true output bytes one few rest_possible =
-      let outcome = first_outcome choice.outcomes in
-      let is = first-sent choice.outcomes possible.sent in (
+      let outcome = first_outcome environment.outcomes in
+      let is = first-sent environment.outcomes possible.sent in (
         record { outcomes = outcome ∷ later.outcomes; outputs = later.outputs },
         record {
           sent = both_true is rest_possible.sent;
@@ -106,18 +106,18 @@ module _ (choice later : Choice) (possible : IsPossible choice) where
   write-joins false output bytes one few rest_possible =
       (later, record { sent = rest_possible.sent; room = room-unsent output sent.Nothing bytes later.outcomes refl rest_possible.room; short = rest_possible.short }, refl, refl)
 
-  -- a choice for a line that prints the output, and for what follows it
+  -- a environment for a line that prints the output, and for what follows it
   output-joins :
       (output : Option (List ℕ)) → IsPossibleFrom output later →
-      (whole : Choice) × IsPossibleFrom output whole × (output_or_chosen output whole ≡ output_or_chosen output choice) × (choice_after_output output whole ≡ later)
+      (whole : Environment) × IsPossibleFrom output whole × (output_or_chosen output whole ≡ output_or_chosen output environment) × (choice_after_output output whole ≡ later)
   output-joins (Some all) rest_possible = (later, rest_possible, refl, refl)
   output-joins None rest_possible =
-      let bytes = first_output choice.outputs in (
+      let bytes = first_output environment.outputs in (
         record { outcomes = later.outcomes; outputs = bytes ∷ later.outputs },
         record {
           sent = rest_possible.sent;
           room = tt;
-          short = both_true (first-short choice.outputs possible.short) rest_possible.short;
+          short = both_true (first-short environment.outputs possible.short) rest_possible.short;
         },
         refl,
         refl,
@@ -141,11 +141,11 @@ module _ (choice later : Choice) (possible : IsPossible choice) where
       unsent-joins before (Read 0) (reads-join count (session_after_call before (Read 0) sent.Nothing) rest_possible)
 
   module _ (before : Session) (few : IfSome (known_output before) (λ all. length all ≤ 256)) where
-    -- a choice for a line, and for what follows it
-    abbrev LineJoins : (line : SerialLine) → Type 0
+    -- a environment for a line, and for what follows it
+    abbrev LineJoins : (line : SerialCommand) → Type 0
     LineJoins line =
-        (whole : Choice) × IsPossibleFrom (known_output before) whole × (serial_reply before whole line ≡ serial_reply before choice line)
-        × (session_after_line before whole line ≡ session_after_line before choice line) × (choice_after_line before whole line ≡ later)
+        (whole : Environment) × IsPossibleFrom (known_output before) whole × (serial_reply before whole line ≡ serial_reply before environment line)
+        × (session_after_line before whole line ≡ session_after_line before environment line) × (choice_after_line before whole line ≡ later)
 
     -- a restore or a load leaves the output as it is
     output-after_restore : (refused : Bool) (session : Session) → known_output session ≡ known_output before →
@@ -158,7 +158,7 @@ module _ (choice later : Choice) (possible : IsPossible choice) where
     output-after_load (Ok state) =
         output-after_restore (is_restore_refused (session_from before state)) (session_from before state) (known_output-from before state)
 
-    line-joins : (line : SerialLine) → IsPossibleFrom (known_output (session_after_line before choice line)) later → LineJoins line
+    line-joins : (line : SerialCommand) → IsPossibleFrom (known_output (session_after_line before environment line)) later → LineJoins line
     line-joins (line.Read offset) rest_possible = (later, unsent-joins before (Read offset) rest_possible, refl, refl, refl)
     line-joins (line.Write offset value) rest_possible =
         let op = Write offset value in
@@ -187,18 +187,18 @@ output-few None out was = tt
 output-few (Some all) out was = subst (λ bytes. length bytes ≤ 256) was out.few
 
 module _ (mask : ℕ) (start : Option (List ℕ)) where
-  -- for some choice, the text of these commands was written from the start on
+  -- for some environment, the text of these commands was written from the start on
   abbrev pub Prints : (commands : List Command) (end : Option (List ℕ)) → Type 0
   Prints commands end =
-      (choice : Choice) × IsPossible choice × Appends start end (text_from (fresh_session mask) fresh_clock_session choice commands)
+      (environment : Environment) × IsPossible environment × Appends start end (text_from (fresh_session mask) fresh_clock_session environment commands)
 
   -- whatever commands follow those before, and whatever is chosen for them, their text completes that of all of them,
-  -- for some choice
+  -- for some environment
   abbrev Completes :
       (before : Option (List ℕ)) (session : Session) (clock_session : ClockSession) (earlier : List Command) → Type 0
   Completes before session clock_session earlier =
-      (commands : List Command) (choice : Choice) → IsPossibleFrom (known_output session) choice → (end : Option (List ℕ)) →
-      Appends before end (text_from session clock_session choice commands) → Prints (earlier ++ commands) end
+      (commands : List Command) (environment : Environment) → IsPossibleFrom (known_output session) environment → (end : Option (List ℕ)) →
+      Appends before end (text_from session clock_session environment commands) → Prints (earlier ++ commands) end
 
   -- a board to which these commands led, whose replies were written: where the serial port and the clock are
   abbrev pub Continues : (before : Option (List ℕ)) (board : Devices) (earlier : List Command) → Type 0
@@ -211,7 +211,7 @@ module _ (mask : ℕ) (start : Option (List ℕ)) where
   Prints-so_far before board earlier (session, clock_session, at, is, completes) =
       let few = output-few (known_output session) board.serial.out at.output in
       subst (λ commands. Prints commands before) (append-nil earlier)
-      (completes [] no_choice (IsPossibleFrom-no_choice (known_output session) few) before (Appends-nothing before))
+      (completes [] no_environment (IsPossibleFrom-no_environment (known_output session) few) before (Appends-nothing before))
 
   -- at the start, no command was carried out
   pub Continues-at_start : (board : Devices) → IsFresh mask board → Continues start board []
@@ -220,7 +220,7 @@ module _ (mask : ℕ) (start : Option (List ℕ)) where
     fresh_clock_session,
     is_fresh.serial,
     ap (λ (c : ClockDevice EventCounts). c.state) is_fresh.clock ∙ fresh_clock-history,
-    λ commands choice rest_possible end text. (choice, record { sent = rest_possible.sent; room = omega (arith, rest_possible.room); short = rest_possible.short }, text),
+    λ commands environment rest_possible end text. (environment, record { sent = rest_possible.sent; room = omega (arith, rest_possible.room); short = rest_possible.short }, text),
   )
 
   module _ (before after : Option (List ℕ)) (reply : List ℕ) (wrote : Appends before after reply) (earlier : List Command) where
@@ -230,22 +230,22 @@ module _ (mask : ℕ) (start : Option (List ℕ)) where
     one-more command commands end = subst (λ all. Prints all end) (sym (append_assoc earlier (command ∷ []) commands))
 
     Continues-after_serial :
-        (line : SerialLine) (old new : Port InterruptLine EventCounts Output) (clock_session : ClockSession) (session : Session) →
+        (line : SerialCommand) (old new : Port InterruptLine EventCounts Output) (clock_session : ClockSession) (session : Session) →
         IsAt session old → IsSerialLineStep line reply old new → Completes before session clock_session earlier →
         (next : Session) × IsAt next new × Completes after next clock_session (earlier ++ Serial line ∷ [])
     Continues-after_serial line old new clock_session session at step completes =
         let taken = step session at in
-        let choice = taken.0 in
-        let next = session_after_line session choice line in (
+        let environment = taken.0 in
+        let next = session_after_line session environment line in (
           next,
           taken.3,
           λ commands later rest_possible end rest.
               let few = output-few (known_output session) old.out at.output in
-              let whole = line-joins choice later taken.1 session few line rest_possible in
+              let whole = line-joins environment later taken.1 session few line rest_possible in
               let same : text_from session clock_session whole.0 (Serial line ∷ commands) ≡ reply ++ text_from next clock_session later commands =
               ap (λ xs. xs ++ text_from (session_after_line session whole.0 line) clock_session (choice_after_line session whole.0 line) commands) (whole.2 ∙ sym taken.2)
               ∙ ap (λ (s : Session). reply ++ text_from s clock_session (choice_after_line session whole.0 line) commands) whole.3
-              ∙ ap (λ (c : Choice). reply ++ text_from next clock_session c commands) whole.4 in
+              ∙ ap (λ (c : Environment). reply ++ text_from next clock_session c commands) whole.4 in
               one-more (Serial line) commands end (completes (Serial line ∷ commands) whole.0 whole.1 end
               (subst (λ xs. Appends before end xs) (sym same) (Appends-append before after end reply (text_from next clock_session later commands) wrote rest))),
         )
@@ -263,9 +263,9 @@ module _ (mask : ℕ) (start : Option (List ℕ)) where
           next,
           subst (λ (port : Port InterruptLine EventCounts Output). IsAt session port) (sym step.1) at,
           taken.1,
-          λ commands choice rest_possible end rest.
-              let text = text_from session next choice commands in
-              one-more (Clock line) commands end (completes (Clock line ∷ commands) choice rest_possible end
+          λ commands environment rest_possible end rest.
+              let text = text_from session next environment commands in
+              one-more (Clock line) commands end (completes (Clock line ∷ commands) environment rest_possible end
               (subst (λ xs. Appends before end (xs ++ text)) taken.0 (Appends-append before after end reply text wrote rest))),
         )
     Continues-after_command (Controller line) old new step (session, clock_session, at, is, completes) =
@@ -274,19 +274,19 @@ module _ (mask : ℕ) (start : Option (List ℕ)) where
           clock_session,
           at,
           is,
-          λ commands choice rest_possible end rest.
-              let text = text_from session clock_session choice commands in
-              one-more (Controller line) commands end (completes (Controller line ∷ commands) choice rest_possible end
+          λ commands environment rest_possible end rest.
+              let text = text_from session clock_session environment commands in
+              one-more (Controller line) commands end (completes (Controller line ∷ commands) environment rest_possible end
               (subst (λ xs. Appends before end (xs ++ text)) step.0 (Appends-append before after end reply text wrote rest))),
         )
 
 -- ---- the lines
 
 -- among good lines, each has a command
-prepend_if_good-append : (command : Option Command) (earlier : List Command) (commands : List Command) → IsTrue (is_some command) →
-    prepend_if_good command (earlier ++ commands) ≡ prepend_if_good command earlier ++ commands
-prepend_if_good-append None earlier commands good = absurd (false≢true good)
-prepend_if_good-append (Some command) earlier commands good = refl
+until_bad-append : (command : Option Command) (earlier : List Command) (commands : List Command) → IsTrue (is_some command) →
+    until_bad command (earlier ++ commands) ≡ until_bad command earlier ++ commands
+until_bad-append None earlier commands good = absurd (false≢true good)
+until_bad-append (Some command) earlier commands good = refl
 
 first_bad_line-step : (command : Option Command) (number : ℕ) (others : Option ℕ) → IsTrue (is_some command) →
     (if is_some command then others else Some number) ≡ others
@@ -298,8 +298,8 @@ good_commands-append : (earlier lines : List (List ℕ)) → IsTrue (list_all ha
 good_commands-append [] lines good = refl
 good_commands-append (line ∷ earlier) lines good =
     let rest = (and_parts (has_form line) (list_all has_form earlier) good).1 in
-    ap (prepend_if_good (command_of line)) (good_commands-append earlier lines rest)
-    ∙ prepend_if_good-append (command_of line) (good_commands earlier) (good_commands lines) (and_parts (has_form line) (list_all has_form earlier) good).0
+    ap (until_bad (command_of line)) (good_commands-append earlier lines rest)
+    ∙ until_bad-append (command_of line) (good_commands earlier) (good_commands lines) (and_parts (has_form line) (list_all has_form earlier) good).0
 
 first_bad_line-append : (number : ℕ) (earlier lines : List (List ℕ)) → IsTrue (list_all has_form earlier) →
     first_bad_line number (earlier ++ lines) ≡ first_bad_line (number + length earlier) lines
@@ -353,7 +353,7 @@ module _ (mask : ℕ) (start : Option (List ℕ)) (all rest : List (List ℕ)) (
         has-form (Some command) step = refl
 
         by-command : (command : Option Command) → IsSomeAnd command (λ command. IsLineStep command reply board new) →
-            Continues mask start after new (good_commands carried.earlier ++ prepend_if_good command [])
+            Continues mask start after new (good_commands carried.earlier ++ until_bad command [])
         by-command None step = absurd step
         by-command (Some command) step =
             Continues-after_command mask start before after reply wrote (good_commands carried.earlier) command board new step carried.text
@@ -368,7 +368,7 @@ module _ (mask : ℕ) (start : Option (List ℕ)) (all rest : List (List ℕ)) (
 
     pub Prints-before_bad : command_of line ≡ None → PrintsLines mask all start before
     Prints-before_bad none =
-        let no_more = ap (λ (command : Option Command). prepend_if_good command (good_commands more)) none in
+        let no_more = ap (λ (command : Option Command). until_bad command (good_commands more)) none in
         let same = ap good_commands (carried.split ∙ ap (λ lines. carried.earlier ++ lines) next) ∙ good_commands-append carried.earlier (line ∷ more) carried.all_good
         ∙ ap (λ commands. good_commands carried.earlier ++ commands) no_more ∙ append-nil (good_commands carried.earlier) in
         subst (λ commands. Prints mask start commands before) (sym same) (Prints-so_far mask start before board (good_commands carried.earlier) carried.text)

@@ -11,38 +11,38 @@ use Rattle.vm_superio.specs.declared.trace.Asked.{Asked}
 use Rattle.vm_superio.specs.declared.trace.Asked.TheVariants.{Nothing, Took, Refused, TookTook, TookRefused}
 use Rattle.vm_superio.specs.declared.trace.Sent.{Sent}
 use Rattle.vm_superio.specs.declared.trace.Sent.TheVariants as sent
-use Rattle.vm_superio.specs.Port.State.{State, not_empty}
-use Rattle.vm_superio.specs.Port.SavedState.{fresh_state}
-use Rattle.vm_superio.specs.Port.Bits.{has_bits, only_bits}
-use Rattle.vm_superio.specs.Port.Coherent.{Coherent}
-use Rattle.vm_superio.specs.Port.Registers.{Condition, is_dlab, thre_then_rda}
-use Rattle.vm_superio.specs.Port.Operations.{Op, Read, Write, Enqueue, TraceEntry, Response, ByteRead, is_sent, is_lost, ends_in_refusal}
-use Rattle.vm_superio.specs.Port.OpKinds.{OpKind, Arrival, Other, sent_by}
-use Rattle.vm_superio.specs.Step.Admissible.{answers_all, step_calls, sends_byte, is_admissible}
-use Rattle.vm_superio.specs.Step.Restore.{restore_calls, RefusesRestore}
-use Rattle.vm_superio.specs.History.Registers.{kind_at, loopback}
-use Rattle.vm_superio.specs.History.Reads.{none_lost, output}
-use Rattle.vm_superio.specs.Laws.Agreement.{StateLaw, StepLaw}
-use Rattle.vm_superio.specs.Port.ObjectLinks.{answers_of, all_ok, StopsAtRefusal}
-use Rattle.vm_superio.specs.Port.WriterLink.{PortLinks, port_links, bytes_written, WriterLink}
-use Rattle.vm_superio.specs.Port.Model.{Port, failure_response}
+use Rattle.vm_superio.specs.Serial.Port.State.{State, not_empty}
+use Rattle.vm_superio.specs.Serial.Port.SavedState.{fresh_state}
+use Rattle.vm_superio.specs.Bits.{has_bits, only_bits}
+use Rattle.vm_superio.specs.Serial.Port.Coherent.{Coherent}
+use Rattle.vm_superio.specs.Serial.Port.Registers.{Condition, is_dlab, pending_in_order}
+use Rattle.vm_superio.specs.Serial.Port.Operations.{Op, Read, Write, Enqueue, TraceEntry, Response, ByteRead, is_sent, is_lost, ends_in_refusal}
+use Rattle.vm_superio.specs.Serial.Port.OpKinds.{OpKind, Arrival, Other, sent_by}
+use Rattle.vm_superio.specs.Serial.Step.Admissible.{answers_all, step_calls, sends_byte, is_admissible}
+use Rattle.vm_superio.specs.Serial.Step.Restore.{restore_calls, RefusesRestore}
+use Rattle.vm_superio.specs.Serial.History.Registers.{kind_at, loopback}
+use Rattle.vm_superio.specs.Serial.History.Reads.{none_lost, output}
+use Rattle.vm_superio.specs.Serial.Laws.Agreement.{StateLaw, StepLaw}
+use Rattle.vm_superio.specs.Links.Objects.{answers_of, all_ok, StopsAtRefusal}
+use Rattle.vm_superio.specs.Links.Writer.{PortLinks, port_links, bytes_written, WriterLink}
+use Rattle.vm_superio.specs.Serial.Port.Model.{Port, failure_response}
 use Rattle.vm_superio.specs.Saved.Form.{serial_form}
-use Rattle.vm_superio.specs.Step.PortStep.{IsPortStep}
+use Rattle.vm_superio.specs.Serial.Step.PortStep.{IsPortStep}
 use Rattle.vm_superio.specs.declared.serial.errors.Error.{Error}
 use Rattle.vm_superio.specs.declared.serial.errors.Error.TheVariants.{Trigger, IOError, FullFifo, Memory}
-use Rattle.vm_superio.specs.Counting.{Folds}
+use Rattle.vm_superio.specs.Links.FoldsEvents.{FoldsEvents}
 use Rattle.superio_script.specs.InterruptLine.{InterruptLine, fresh_interrupt_line, InterruptLineLink, is_call_refused, interrupt_line_after_call}
 use Rattle.superio_script.specs.Counts.{EventCounts, no_counts, counts_after_event}
 use Rattle.superio_script.specs.Output.{written_bytes}
 use Rattle.superio_script.specs.Reply.{with_lf, response_reply, digits_reply, count_digits, counts_reply}
 use Rattle.superio_script.specs.Loading.{loaded_port, fault_words}
 use Rattle.superio_script.specs.PortSession.{Session, fresh_session, output_since, known_output, is_coherent, session_from, session_dlab, session_kind, session_held_bytes, stepped_state, session_response, session_events, drained_bytes}
-use Rattle.superio_script.specs.SerialScript.{Choice, IsPossible, trigger_answers, interrupt_line_after_answers, session_answers, session_sends, outcome_if_sent, call_reply, session_after_call, session_after_reads, output_or_chosen, is_restore_refused, restored_session, load_reply, session_after_load}
+use Rattle.superio_script.specs.SerialScript.{Environment, IsPossible, trigger_answers, interrupt_line_after_answers, session_answers, session_sends, outcome_if_sent, call_reply, session_after_call, session_after_reads, output_or_chosen, is_restore_refused, restored_session, load_reply, session_after_load}
 use Rattle.superio_script.specs.Driver.{ReadsWhileReady, bytes_while_ready, TakesAll}
 use Rattle.superio_script.specs.Board.{IsAt, RestoresTo, IsRestore, IsSerialLineStep}
 use Rattle.superio_script.specs.declared.output.Output.{Output}
 use Rattle.superio_script.specs.declared.trigger.LineRefused.{LineRefused}
-use Rattle.superio_script.specs.declared.command.SerialLine.TheVariants as line
+use Rattle.superio_script.specs.declared.command.SerialCommand.TheVariants as line
 use Rattle.superio_script.proofs.DriverLemmas.{reads-are_stepped}
 use Rattle.superio_script.proofs.PortSessionLemmas.{PortLaws, state-is_stepped, calls-are_stepped, restore_calls-are_stepped, response-is_stepped, events-are_stepped, dlab-is_stepped, kind-is_stepped, held-are_stepped, session-coherent, known_output-from, written-is_sent}
 
@@ -106,21 +106,21 @@ trigger_answers-from_link line new calls TookRefused (Some refusal) fits some li
 
 -- ---- the byte that was sent
 
--- the choice where nothing is left open
-abbrev pub no_choice : Choice
-no_choice = record { outcomes = []; outputs = [] }
+-- the environment where nothing is left open
+abbrev pub no_environment : Environment
+no_environment = record { outcomes = []; outputs = [] }
 
-pub IsPossible-no_choice : IsPossible no_choice
-IsPossible-no_choice = record { sent = refl; room = omega arith; short = refl }
+pub IsPossible-no_environment : IsPossible no_environment
+IsPossible-no_environment = record { sent = refl; room = omega arith; short = refl }
 
--- a choice by which the next byte has this outcome
-abbrev pub choice_of : (outcome : Sent) → Choice
-choice_of sent.Nothing = no_choice
+-- a environment by which the next byte has this outcome
+abbrev pub choice_of : (outcome : Sent) → Environment
+choice_of sent.Nothing = no_environment
 choice_of sent.Out = record { outcomes = sent.Out ∷ []; outputs = [] }
 choice_of sent.Lost = record { outcomes = sent.Lost ∷ []; outputs = [] }
 
 pub IsPossible-choice_of : (outcome : Sent) → IsPossible (choice_of outcome)
-IsPossible-choice_of sent.Nothing = IsPossible-no_choice
+IsPossible-choice_of sent.Nothing = IsPossible-no_environment
 IsPossible-choice_of sent.Out = record { sent = refl; room = omega arith; short = refl }
 IsPossible-choice_of sent.Lost = record { sent = refl; room = omega arith; short = refl }
 
@@ -205,7 +205,7 @@ session_after before entry = record before {
 
 -- the links of the board's objects
 abbrev pub board_links : PortLinks InterruptLine LineRefused EventCounts Output
-board_links = port_links InterruptLineLink (Folds counts_after_event) (λ output. Some (written_bytes output))
+board_links = port_links InterruptLineLink (FoldsEvents counts_after_event) (λ output. Some (written_bytes output))
 
 -- the state of a port at a session is the one that the steps lead to
 pub stepped-at : StateLaw → (session : Session) (port : Port InterruptLine EventCounts Output) → IsAt session port → port.state ≡ stepped_state session
@@ -292,7 +292,7 @@ module _ (laws : PortLaws) where
         let sending = session_sends before op in
         let none = nothing-sent outcome sending (enqueue-sends_nothing (loopback before.start before.trace) bytes) (sends-here before op asked outcome here.admissible) in
         let found = subst (IsSessionStep op asked outcome response refusal old new before) none step in
-        (no_choice, IsPossible-no_choice, found.0, found.1)
+        (no_environment, IsPossible-no_environment, found.0, found.1)
 
     pub read-step :
         (offset : ℕ) →
@@ -301,7 +301,7 @@ module _ (laws : PortLaws) where
     read-step offset made before at =
         let here = port_step-at (Read offset) Nothing sent.Nothing response refusal old new before at made in
         let found = session_step-from_port_step (Read offset) Nothing sent.Nothing response refusal old new before at here in
-        (no_choice, IsPossible-no_choice, found.0, found.1)
+        (no_environment, IsPossible-no_environment, found.0, found.1)
 
 -- ---- a drain
 
@@ -315,7 +315,7 @@ drained false false bytes held stepped set history steps = steps refl
 
 module _ (laws : PortLaws) where
   reads-step : (bytes : List ℕ) (old new : Port InterruptLine EventCounts Output) (before : Session) → IsAt before old
-      → ReadsWhileReady InterruptLineLink (Folds counts_after_event) (λ output. Some (written_bytes output)) bytes old new
+      → ReadsWhileReady InterruptLineLink (FoldsEvents counts_after_event) (λ output. Some (written_bytes output)) bytes old new
       → IsAt (session_after_reads (length bytes) before) new
   reads-step [] old new before at same = subst (IsAt before) (sym same) at
   reads-step (byte ∷ bytes) old new before at (ready, (middle, made, later)) =
@@ -324,11 +324,11 @@ module _ (laws : PortLaws) where
 
   pub drain-step :
       (bytes : List ℕ) (old new : Port InterruptLine EventCounts Output)
-      → ReadsWhileReady InterruptLineLink (Folds counts_after_event) (λ output. Some (written_bytes output)) bytes old new
+      → ReadsWhileReady InterruptLineLink (FoldsEvents counts_after_event) (λ output. Some (written_bytes output)) bytes old new
       → length bytes ≤ 64
       → (IsTrue (is_dlab old.state.line_control) → bytes ≡ [])
       → (is_dlab old.state.line_control ≡ false → has_bits new.state.line_status 0x01 ≡ false)
-      → (Coherent old.state → is_dlab old.state.line_control ≡ false → TakesAll (Folds counts_after_event) bytes old new)
+      → (Coherent old.state → is_dlab old.state.line_control ≡ false → TakesAll (FoldsEvents counts_after_event) bytes old new)
       → IsSerialLineStep line.Drain (digits_reply bytes) old new
   drain-step bytes old new reads few latch ends all before at =
       let here = stepped-at laws.states before old at in
@@ -342,10 +342,10 @@ module _ (laws : PortLaws) where
       (λ clear is. (all (subst Coherent (sym here) (session-coherent laws before is)) (sym shows ∙ clear)).bytes ∙ held)
       (λ clear.
       let hidden = sym shows ∙ clear in
-      reads-are_stepped InterruptLineLink (Folds counts_after_event) (λ output. Some (written_bytes output)) 64 bytes old new hidden reads (ends hidden) few
+      reads-are_stepped InterruptLineLink (FoldsEvents counts_after_event) (λ output. Some (written_bytes output)) 64 bytes old new hidden reads (ends hidden) few
       ∙ ap (bytes_while_ready 64) here) in (
-        no_choice,
-        IsPossible-no_choice,
+        no_environment,
+        IsPossible-no_environment,
         ap digits_reply taken,
         subst (λ (bytes : List ℕ). IsAt (session_after_reads (length bytes) before) new) taken (reads-step bytes old new before at reads),
       )
@@ -364,28 +364,28 @@ output_or_chosen-written (Some all) bytes was = was
 module _ (port : Port InterruptLine EventCounts Output) where
   pub capacity-step : PortLaws → IsSerialLineStep line.Capacity (digits_reply ((64 - length port.state.in_buffer) ∷ [])) port port
   capacity-step laws before at = (
-    no_choice,
-    IsPossible-no_choice,
+    no_environment,
+    IsPossible-no_environment,
     ap (λ (s : State). digits_reply ((64 - length s.in_buffer) ∷ [])) (stepped-at laws.states before port at)
         ∙ ap (λ (held : List ℕ). digits_reply ((64 - length held) ∷ [])) (sym (held-are_stepped laws before)),
     at,
   )
 
   pub save-step : IsSerialLineStep line.Save (digits_reply (serial_form port.state)) port port
-  save-step before at = (no_choice, IsPossible-no_choice, ap (λ (s : State). digits_reply (serial_form s)) at.state, at)
+  save-step before at = (no_environment, IsPossible-no_environment, ap (λ (s : State). digits_reply (serial_form s)) at.state, at)
 
   pub calls-step : IsSerialLineStep line.Calls (with_lf (count_digits port.trigger.calls)) port port
   calls-step before at =
-      (no_choice, IsPossible-no_choice, ap (λ (l : InterruptLine). with_lf (count_digits l.calls)) at.interrupt_line, at)
+      (no_environment, IsPossible-no_environment, ap (λ (l : InterruptLine). with_lf (count_digits l.calls)) at.interrupt_line, at)
 
   pub events-step : IsSerialLineStep line.Events (counts_reply port.events) port port
-  events-step before at = (no_choice, IsPossible-no_choice, ap counts_reply at.counts, at)
+  events-step before at = (no_environment, IsPossible-no_environment, ap counts_reply at.counts, at)
 
   pub output-step : IsSerialLineStep line.Output (digits_reply (written_bytes port.out)) port port
   output-step before at =
-      let choice : Choice = record { outcomes = []; outputs = written_bytes port.out ∷ [] } in
+      let environment : Environment = record { outcomes = []; outputs = written_bytes port.out ∷ [] } in
       let few : nat_le (length (written_bytes port.out)) 256 ≡ true = short-enough (length (written_bytes port.out)) port.out.few in
-      (choice, record { sent = refl; room = omega arith; short = both_true few refl }, ap digits_reply (output_or_chosen-written (known_output before) (written_bytes port.out) at.output), at)
+      (environment, record { sent = refl; room = omega arith; short = both_true few refl }, ap digits_reply (output_or_chosen-written (known_output before) (written_bytes port.out) at.output), at)
 
 -- ---- a restore
 
@@ -416,8 +416,8 @@ AreAccepted line new calls =
 
 -- where all calls of a restore were accepted, no response is a refusal
 restore-accepted :
-    (line new : InterruptLine) (thre rda : Bool) → InterruptLineLink line (all_ok (thre_then_rda thre rda)) new →
-    AreAccepted line new (length (thre_then_rda thre rda))
+    (line new : InterruptLine) (thre rda : Bool) → InterruptLineLink line (all_ok (pending_in_order thre rda)) new →
+    AreAccepted line new (length (pending_in_order thre rda))
 restore-accepted line new false false link = (refl, sym link)
 restore-accepted line new true false link = one-accepted line new link
 restore-accepted line new false true link = one-accepted line new link
@@ -431,8 +431,8 @@ restore-accepted line new true true link =
 -- where one was refused, the last response is a refusal
 restore-refused :
     (line new : InterruptLine) (thre rda : Bool) (refusal : LineRefused) (responses : List (Result (Unit {0}) LineRefused)) →
-    StopsAtRefusal (thre_then_rda thre rda) refusal responses → InterruptLineLink line responses new →
-    ends_in_refusal (trigger_answers line (length (thre_then_rda thre rda))) ≡ true
+    StopsAtRefusal (pending_in_order thre rda) refusal responses → InterruptLineLink line responses new →
+    ends_in_refusal (trigger_answers line (length (pending_in_order thre rda))) ≡ true
 restore-refused line new false false refusal responses ends link = absurd ends
 restore-refused line new true false refusal [] ends link = absurd ends
 restore-refused line new true false refusal (response ∷ responses) ends link = one-refused line refusal response ends link.0
@@ -501,7 +501,7 @@ module _ (old new : Port InterruptLine EventCounts Output) (reply : List ℕ) wh
   pub restore-step : IsRestore old.state reply old new → IsSerialLineStep line.Restore reply old new
   restore-step restores before at =
       let restored = restores before at in
-      (no_choice, IsPossible-no_choice, restored.replied, at-unless (is_restore_refused before) before (restored_session before) at restored)
+      (no_environment, IsPossible-no_environment, restored.replied, at-unless (is_restore_refused before) before (restored_session before) at restored)
 
   pub load-step : StateLaw → (bytes : List ℕ) (state : State) → loaded_port bytes ≡ Ok state → IsRestore state reply old new →
       IsSerialLineStep (line.Load bytes) reply old new
@@ -514,8 +514,8 @@ module _ (old new : Port InterruptLine EventCounts Output) (reply : List ℕ) wh
         output = subst (λ (known : Option (List ℕ)). IfSome known (λ all. written_bytes old.out ≡ all)) (sym (known_output-from before state)) at.output;
       } in
       let restored = restores from here in (
-        no_choice,
-        IsPossible-no_choice,
+        no_environment,
+        IsPossible-no_environment,
         restored.replied ∙ ap (load_reply before) (sym loads),
         subst (λ (loaded : Result State Fault). IsAt (session_after_load before loaded) new) (sym loads)
             (at-unless (is_restore_refused from) before (restored_session from) at restored),
@@ -524,8 +524,8 @@ module _ (old new : Port InterruptLine EventCounts Output) (reply : List ℕ) wh
 pub refused-load-step : (bytes : List ℕ) (port : Port InterruptLine EventCounts Output) (fault : Fault) → loaded_port bytes ≡ Err fault →
     IsSerialLineStep (line.Load bytes) (with_lf (fault_words fault)) port port
 refused-load-step bytes port fault fails before at = (
-  no_choice,
-  IsPossible-no_choice,
+  no_environment,
+  IsPossible-no_environment,
   ap (load_reply before) (sym fails),
   subst (λ (loaded : Result State Fault). IsAt (session_after_load before loaded) port) (sym fails) at,
 )

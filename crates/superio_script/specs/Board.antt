@@ -1,22 +1,22 @@
 -- What a contract sees of a board, and of one line on it.
 use Rattle.std.specs.Prelude.{◌≡◌, ℕ, Bool, false, if◌then◌else◌, List, codes, IfSome, IsTrue}
 use Rattle.vm_superio.specs.declared.rtc_pl031.RtcState.{RtcState}
-use Rattle.vm_superio.specs.Port.State.{State}
-use Rattle.vm_superio.specs.Port.Model.{Port}
-use Rattle.vm_superio.specs.Clock.Registers.{fresh_clock}
-use Rattle.vm_superio.specs.Clock.Step.{ClockDevice}
+use Rattle.vm_superio.specs.Serial.Port.State.{State}
+use Rattle.vm_superio.specs.Serial.Port.Model.{Port}
+use Rattle.vm_superio.specs.Rtc.Registers.{fresh_clock}
+use Rattle.vm_superio.specs.Rtc.Step.{ClockDevice}
 use Rattle.superio_script.specs.InterruptLine.{InterruptLine, fresh_interrupt_line}
 use Rattle.superio_script.specs.Counts.{EventCounts, no_counts}
 use Rattle.superio_script.specs.Output.{written_bytes}
 use Rattle.superio_script.specs.Reply.{with_lf, controller_reply}
 use Rattle.superio_script.specs.PortSession.{Session, fresh_session, known_output, session_state}
-use Rattle.superio_script.specs.SerialScript.{Choice, IsPossible, serial_reply, is_restore_refused, restored_session, session_after_line}
+use Rattle.superio_script.specs.SerialScript.{Environment, IsPossible, serial_reply, is_restore_refused, restored_session, session_after_line}
 use Rattle.superio_script.specs.ClockScript.{ClockSession, clock_session_state, clock_reply, clock_session_after_line}
 use Rattle.superio_script.specs.declared.output.Output.{Output}
 use Rattle.superio_script.specs.declared.command.Command.{Command}
 use Rattle.superio_script.specs.declared.command.Command.TheVariants.{Serial, Clock, Controller}
-use Rattle.superio_script.specs.declared.command.SerialLine.{SerialLine}
-use Rattle.superio_script.specs.declared.command.ClockLine.{ClockLine}
+use Rattle.superio_script.specs.declared.command.SerialCommand.{SerialCommand}
+use Rattle.superio_script.specs.declared.command.ClockCommand.{ClockCommand}
 
 -- the devices. Of the controller, a contract sees its reset line
 pub record Devices : Type 0 where
@@ -48,14 +48,14 @@ pub record IsFresh (mask : ℕ) (board : Devices) : Type 0 where
   pub clock : board.clock ≡ record { state = fresh_clock; events = no_counts }
   pub controller : board.controller ≡ fresh_interrupt_line 0
 
--- a line of the serial port. From each session that the port is at there is a possible choice by which the reply is the
+-- a line of the serial port. From each session that the port is at there is a possible environment by which the reply is the
 -- session's, and the port is then at the session after the line. That no more than 256 bytes go out before a loss, over
 -- several lines, follows from where the port is: its output holds no more
 abbrev pub IsSerialLineStep :
-    (line : SerialLine) (reply : List ℕ) (old new : Port InterruptLine EventCounts Output) → Type 0
+    (line : SerialCommand) (reply : List ℕ) (old new : Port InterruptLine EventCounts Output) → Type 0
 IsSerialLineStep line reply old new =
-    (before : Session) → IsAt before old → (choice : Choice)
-    × IsPossible choice × (reply ≡ serial_reply before choice line) × IsAt (session_after_line before choice line) new
+    (before : Session) → IsAt before old → (environment : Environment)
+    × IsPossible environment × (reply ≡ serial_reply before environment line) × IsAt (session_after_line before environment line) new
 
 -- a restore of the port in a state, with the old port's objects. From each session that a port in this state with these
 -- objects is at, the reply is that of a restore, and the port is then at the restored session, or unchanged where the
@@ -74,7 +74,7 @@ IsRestore state reply old new =
 
 -- a line of the clock. From each session that the clock is at, the reply is the session's, and the clock is then at the
 -- session after the line
-abbrev pub IsClockLineStep : (line : ClockLine) (reply : List ℕ) (old new : RtcState) → Type 0
+abbrev pub IsClockLineStep : (line : ClockCommand) (reply : List ℕ) (old new : RtcState) → Type 0
 IsClockLineStep line reply old new =
     (session : ClockSession) → old ≡ clock_session_state session
     → (reply ≡ clock_reply session line) × (new ≡ clock_session_state (clock_session_after_line session line))

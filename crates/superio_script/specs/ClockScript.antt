@@ -4,13 +4,13 @@ use Rattle.std.specs.Prelude.{ℕ, List, [], ◌∷◌, if◌then◌else◌, cod
 use Rattle.std.specs.Int.{w32, to_be_bytes}
 use Rattle.vm_superio.specs.declared.rtc_pl031.RtcState.{RtcState}
 use Rattle.vm_superio.specs.declared.saved.Error.{Error}
-use Rattle.vm_superio.specs.Clock.Registers.{Access, read, write, clock_register_at, is_writable, fresh_clock}
-use Rattle.vm_superio.specs.Clock.History.{clock_of_history, clock_history_response}
+use Rattle.vm_superio.specs.Rtc.Registers.{Access, read, write, clock_register_at, is_writable, fresh_clock}
+use Rattle.vm_superio.specs.Rtc.History.{clock_of_history, clock_history_response}
 use Rattle.vm_superio.specs.Saved.Form.{clock_form}
 use Rattle.superio_script.specs.Loading.{loaded_clock, fault_words}
 use Rattle.superio_script.specs.Reply.{with_lf, digits_reply}
-use Rattle.superio_script.specs.declared.command.ClockLine.{ClockLine}
-use Rattle.superio_script.specs.declared.command.ClockLine.TheVariants as clock
+use Rattle.superio_script.specs.declared.command.ClockCommand.{ClockCommand}
+use Rattle.superio_script.specs.declared.command.ClockCommand.TheVariants as clock
 
 -- ---- a session
 
@@ -48,7 +48,7 @@ clock_session_after_load session (Ok state) = record { start = state; accesses =
 clock_session_after_load session (Err fault) = session
 
 -- the reply to a line, and the session after it
-abbrev pub clock_reply : (session : ClockSession) (line : ClockLine) → List ℕ
+abbrev pub clock_reply : (session : ClockSession) (line : ClockCommand) → List ℕ
 clock_reply session (clock.Read moment offset) =
     value_reply (clock_history_response session.start session.accesses (read offset moment))
 clock_reply session (clock.Write moment offset value) =
@@ -56,7 +56,7 @@ clock_reply session (clock.Write moment offset value) =
 clock_reply session clock.Save = digits_reply (clock_form (clock_session_state session))
 clock_reply session (clock.Load bytes) = clock_load_reply (loaded_clock bytes)
 
-abbrev pub clock_session_after_line : (session : ClockSession) (line : ClockLine) → ClockSession
+abbrev pub clock_session_after_line : (session : ClockSession) (line : ClockCommand) → ClockSession
 clock_session_after_line session (clock.Read moment offset) = clock_session_after_access session (read offset moment)
 clock_session_after_line session (clock.Write moment offset value) =
     clock_session_after_access session (write offset value moment)
@@ -64,7 +64,7 @@ clock_session_after_line session clock.Save = session
 clock_session_after_line session (clock.Load bytes) = clock_session_after_load session (loaded_clock bytes)
 
 -- the replies to lines, in order
-abbrev pub clock_replies : (session : ClockSession) (lines : List ClockLine) → List (List ℕ)
+abbrev pub clock_replies : (session : ClockSession) (lines : List ClockCommand) → List (List ℕ)
 clock_replies session [] = []
 clock_replies session (line ∷ lines) =
     clock_reply session line ∷ clock_replies (clock_session_after_line session line) lines

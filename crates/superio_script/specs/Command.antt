@@ -8,12 +8,12 @@ use Rattle.hex.specs.Hex.{decode_sized}
 use Rattle.superio_script.specs.Splitting.{fields_of}
 use Rattle.superio_script.specs.declared.command.Command.{Command}
 use Rattle.superio_script.specs.declared.command.Command.TheVariants.{Serial, Clock, Controller}
-use Rattle.superio_script.specs.declared.command.SerialLine.{SerialLine}
-use Rattle.superio_script.specs.declared.command.SerialLine.TheVariants as serial
-use Rattle.superio_script.specs.declared.command.ClockLine.{ClockLine}
-use Rattle.superio_script.specs.declared.command.ClockLine.TheVariants as clock
-use Rattle.superio_script.specs.declared.command.ControllerLine.{ControllerLine}
-use Rattle.superio_script.specs.declared.command.ControllerLine.TheVariants as controller
+use Rattle.superio_script.specs.declared.command.SerialCommand.{SerialCommand}
+use Rattle.superio_script.specs.declared.command.SerialCommand.TheVariants as serial
+use Rattle.superio_script.specs.declared.command.ClockCommand.{ClockCommand}
+use Rattle.superio_script.specs.declared.command.ClockCommand.TheVariants as clock
+use Rattle.superio_script.specs.declared.command.ControllerCommand.{ControllerCommand}
+use Rattle.superio_script.specs.declared.command.ControllerCommand.TheVariants as controller
 
 -- ---- one field
 
@@ -75,8 +75,8 @@ one_number64 _ = None
 -- ---- the forms
 
 -- `sc`, `sd`, `ss`, `sb`, `so`, `st` and `se`, which take no field
-abbrev pub line_of_name : (name : List ℕ) → Option SerialLine
-line_of_name name =
+abbrev pub command_without_fields : (name : List ℕ) → Option SerialCommand
+command_without_fields name =
     if bytes_eq name (codes "sc") then Some serial.Capacity
     else (if bytes_eq name (codes "sd") then Some serial.Drain
     else (if bytes_eq name (codes "ss") then Some serial.Restore
@@ -87,17 +87,17 @@ line_of_name name =
     else None))))))
 
 -- `sr OO`, `sw OO VV`, `sq`, `sq HH..`, `sl`, `sl HH..`, and the names that take no field
-abbrev pub serial_line_of : (name : List ℕ) (fields : List (List ℕ)) → Option SerialLine
-serial_line_of name fields =
+abbrev pub serial_command_of : (name : List ℕ) (fields : List (List ℕ)) → Option SerialCommand
+serial_command_of name fields =
     if bytes_eq name (codes "sr") then option_map (λ offset. serial.Read offset) (one_byte fields)
     else (if bytes_eq name (codes "sw") then option_map (λ bytes. serial.Write bytes.0 bytes.1) (two_bytes fields)
     else (if bytes_eq name (codes "sq") then option_map (λ bytes. serial.Enqueue bytes) (bytes_or_none fields)
     else (if bytes_eq name (codes "sl") then option_map (λ bytes. serial.Load bytes) (bytes_or_none fields)
-    else option_and_then (λ _. line_of_name name) (no_field fields))))
+    else option_and_then (λ _. command_without_fields name) (no_field fields))))
 
 -- `cr NNNNNNNNNNNNNNNN OOOO`, `cw NNNNNNNNNNNNNNNN OOOO VVVVVVVV`, `cl`, `cl HH..` and `cb`
-abbrev pub clock_line_of : (name : List ℕ) (fields : List (List ℕ)) → Option ClockLine
-clock_line_of name fields =
+abbrev pub clock_command_of : (name : List ℕ) (fields : List (List ℕ)) → Option ClockCommand
+clock_command_of name fields =
     if bytes_eq name (codes "cr") then
     option_map (λ numbers. clock.Read numbers.0 numbers.1) (moment_and_offset fields)
     else (if bytes_eq name (codes "cw") then
@@ -107,8 +107,8 @@ clock_line_of name fields =
     else None)))
 
 -- `kr OO` and `kw OO VV`
-abbrev pub controller_line_of : (name : List ℕ) (fields : List (List ℕ)) → Option ControllerLine
-controller_line_of name fields =
+abbrev pub controller_command_of : (name : List ℕ) (fields : List (List ℕ)) → Option ControllerCommand
+controller_command_of name fields =
     if bytes_eq name (codes "kr") then option_map (λ offset. controller.Read offset) (one_byte fields)
     else (if bytes_eq name (codes "kw") then option_map (λ bytes. controller.Write bytes.0 bytes.1) (two_bytes fields)
     else None)
@@ -119,9 +119,9 @@ abbrev pub command_of_name : (name : List ℕ) (fields : List (List ℕ)) → Op
 command_of_name [] fields = None
 command_of_name (letter ∷ letters) fields =
     let name = letter ∷ letters in
-    if letter == 0x73 then option_map (λ line. Serial line) (serial_line_of name fields)
-    else (if letter == 0x63 then option_map (λ line. Clock line) (clock_line_of name fields)
-    else (if letter == 0x6B then option_map (λ line. Controller line) (controller_line_of name fields)
+    if letter == 0x73 then option_map (λ line. Serial line) (serial_command_of name fields)
+    else (if letter == 0x63 then option_map (λ line. Clock line) (clock_command_of name fields)
+    else (if letter == 0x6B then option_map (λ line. Controller line) (controller_command_of name fields)
     else None))
 
 abbrev pub command_of_fields : (fields : List (List ℕ)) → Option Command
@@ -135,14 +135,14 @@ command_of line = command_of_fields (fields_of line)
 -- ---- memory
 
 -- `ss`, `sb` and `sl` take memory, and no other line does
-abbrev pub takes_memory : (line : SerialLine) → Bool
+abbrev pub takes_memory : (line : SerialCommand) → Bool
 takes_memory serial.Restore = true
 takes_memory serial.Save = true
 takes_memory (serial.Load bytes) = true
 takes_memory _ = false
 
 abbrev pub TakesMemory : (line : List ℕ) → Type 0
-TakesMemory line = (command : SerialLine) × (command_of line ≡ Some (Serial command)) × IsTrue (takes_memory command)
+TakesMemory line = (command : SerialCommand) × (command_of line ≡ Some (Serial command)) × IsTrue (takes_memory command)
 
 -- ---- the first line
 

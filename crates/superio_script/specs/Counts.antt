@@ -1,7 +1,7 @@
 -- Counts of the events that devices report.
 use Rattle.std.specs.Prelude.{ℕ}
-use Rattle.vm_superio.specs.Port.Operations.{Event, buffer_read, out_byte, tx_lost_byte, in_buffer_empty}
-use Rattle.vm_superio.specs.Clock.Events.{RtcEvent, invalid_read, invalid_write}
+use Rattle.vm_superio.specs.Serial.Port.Operations.{Event, buffer_read, out_byte, tx_lost_byte, in_buffer_empty}
+use Rattle.vm_superio.specs.Rtc.Events.{RtcEvent, invalid_read, invalid_write}
 use Rattle.superio_script.specs.InterruptLine.{saturating_increment}
 
 -- how often each event of a serial port and of a clock was reported

@@ -1,14 +1,15 @@
 -- A driver on the guest's side of a serial port, which polls.
 use Rattle.std.specs.Prelude.{◌≡◌, ◌++◌, ℕ, zero, suc, false, if◌then◌else◌, List, [], ◌∷◌, length, IsTrue}
 use Rattle.std.specs.List.{repeat}
-use Rattle.vm_superio.specs.Port.Bits.{has_bits, without_bits, lsr_dr_bit}
-use Rattle.vm_superio.specs.Port.State.{State}
-use Rattle.vm_superio.specs.Port.Registers.{RbrThr, register_read, Thre, iir_bit, identification_of}
-use Rattle.vm_superio.specs.Port.Operations.{Event, buffer_read, in_buffer_empty}
-use Rattle.vm_superio.specs.Port.ObjectLinks.{Link, TriggerAnswer, Contents}
-use Rattle.vm_superio.specs.Port.Model.{Port}
-use Rattle.vm_superio.specs.Step.PortStep.{IsReadStep}
-use Rattle.vm_superio.specs.Step.Transition.{rbr_read}
+use Rattle.vm_superio.specs.Bits.{has_bits, without_bits}
+use Rattle.vm_superio.specs.Serial.Port.Bits.{lsr_dr_bit}
+use Rattle.vm_superio.specs.Serial.Port.State.{State}
+use Rattle.vm_superio.specs.Serial.Port.Registers.{RbrThr, register_read, Thre, iir_bit, identification_of}
+use Rattle.vm_superio.specs.Serial.Port.Operations.{Event, buffer_read, in_buffer_empty}
+use Rattle.vm_superio.specs.Links.Objects.{Link, TriggerAnswer, Contents}
+use Rattle.vm_superio.specs.Serial.Port.Model.{Port}
+use Rattle.vm_superio.specs.Serial.Step.PortStep.{IsReadStep}
+use Rattle.vm_superio.specs.Serial.Step.Transition.{rbr_read}
 
 -- LSR shows data ready
 abbrev pub IsReady : (s : State) → Type 0

@@ -4,21 +4,22 @@ use Rattle.std.specs.Bool.{beq}
 use Rattle.std.specs.Option.{option_map}
 use Rattle.vm_superio.specs.declared.trace.Asked.{Asked}
 use Rattle.vm_superio.specs.declared.trace.Sent.{Sent}
-use Rattle.vm_superio.specs.Port.Bits.{has_bits, lsr_dr_bit}
-use Rattle.vm_superio.specs.Port.Coherent.{Coherent}
-use Rattle.vm_superio.specs.Port.SavedState.{fresh_state}
-use Rattle.vm_superio.specs.Port.State.{State, not_empty}
-use Rattle.vm_superio.specs.Port.Registers.{Condition}
-use Rattle.vm_superio.specs.Port.Operations.{Op, TraceEntry, Trace, Response, Event}
-use Rattle.vm_superio.specs.Port.OpKinds.{OpKind}
-use Rattle.vm_superio.specs.Step.Transition.{step_response, step_events}
-use Rattle.vm_superio.specs.Step.Admissible.{step_calls}
-use Rattle.vm_superio.specs.Step.Restore.{restore_calls}
-use Rattle.vm_superio.specs.History.Registers.{kind_at, dlab, held_bytes}
-use Rattle.vm_superio.specs.History.Calls.{calls_due, history_events}
-use Rattle.vm_superio.specs.History.Interrupts.{restore_calls_due}
-use Rattle.vm_superio.specs.History.Reads.{none_lost, output, state_of_history, history_response}
-use Rattle.vm_superio.specs.Laws.Agreement.{state_after}
+use Rattle.vm_superio.specs.Bits.{has_bits}
+use Rattle.vm_superio.specs.Serial.Port.Bits.{lsr_dr_bit}
+use Rattle.vm_superio.specs.Serial.Port.Coherent.{Coherent}
+use Rattle.vm_superio.specs.Serial.Port.SavedState.{fresh_state}
+use Rattle.vm_superio.specs.Serial.Port.State.{State, not_empty}
+use Rattle.vm_superio.specs.Serial.Port.Registers.{Condition}
+use Rattle.vm_superio.specs.Serial.Port.Operations.{Op, TraceEntry, Trace, Response, Event}
+use Rattle.vm_superio.specs.Serial.Port.OpKinds.{OpKind}
+use Rattle.vm_superio.specs.Serial.Step.Transition.{step_response, step_events}
+use Rattle.vm_superio.specs.Serial.Step.Admissible.{step_calls}
+use Rattle.vm_superio.specs.Serial.Step.Restore.{restore_calls}
+use Rattle.vm_superio.specs.Serial.History.Registers.{kind_at, dlab, held_bytes}
+use Rattle.vm_superio.specs.Serial.History.Calls.{calls_due, history_events}
+use Rattle.vm_superio.specs.Serial.History.Interrupts.{restore_calls_due}
+use Rattle.vm_superio.specs.Serial.History.Reads.{none_lost, output, state_of_history, history_response}
+use Rattle.vm_superio.specs.Serial.Laws.Agreement.{state_after}
 use Rattle.superio_script.specs.InterruptLine.{InterruptLine, fresh_interrupt_line}
 use Rattle.superio_script.specs.Counts.{EventCounts, no_counts}
 use Rattle.superio_script.specs.Driver.{bytes_while_ready}

@@ -2,11 +2,11 @@
 use Rattle.std.specs.Prelude.{ℕ, List, [], ◌∷◌, ◌++◌, if◌then◌else◌, codes}
 use Rattle.std.specs.Int.{w64, to_be_bytes}
 use Rattle.hex.specs.Hex.{encode_lower}
-use Rattle.vm_superio.specs.Port.Operations.{Response, ByteRead, WriteOk, EnqueueOk, TriggerRefused, WriterFailed, FifoFull, OutOfMemory, NoResponse}
+use Rattle.vm_superio.specs.Serial.Port.Operations.{Response, ByteRead, WriteOk, EnqueueOk, TriggerRefused, WriterFailed, FifoFull, OutOfMemory, NoResponse}
 use Rattle.vm_superio.specs.I8042.{is_reset_command}
 use Rattle.superio_script.specs.Counts.{EventCounts}
-use Rattle.superio_script.specs.declared.command.ControllerLine.{ControllerLine}
-use Rattle.superio_script.specs.declared.command.ControllerLine.TheVariants as controller
+use Rattle.superio_script.specs.declared.command.ControllerCommand.{ControllerCommand}
+use Rattle.superio_script.specs.declared.command.ControllerCommand.TheVariants as controller
 
 -- ---- the text of a reply
 
@@ -46,7 +46,7 @@ counts_reply counts =
 
 -- the reply to a line of the i8042. A fresh controller replaces one that was reset, and an access changes nothing else,
 -- so the reply depends on no other line
-abbrev pub controller_reply : (line : ControllerLine) → List ℕ
+abbrev pub controller_reply : (line : ControllerCommand) → List ℕ
 -- each offset reads 0
 controller_reply (controller.Read offset) = digits_reply (0 ∷ [])
 -- the reset command, and nothing else, calls the reset line

@@ -6,13 +6,13 @@ use Rattle.superio_script.specs.Splitting.{lines_of}
 use Rattle.superio_script.specs.Command.{command_of, mask_of, TakesMemory}
 use Rattle.superio_script.specs.Reply.{controller_reply}
 use Rattle.superio_script.specs.PortSession.{Session, fresh_session}
-use Rattle.superio_script.specs.SerialScript.{Choice, IsPossible, serial_replies}
+use Rattle.superio_script.specs.SerialScript.{Environment, IsPossible, serial_replies}
 use Rattle.superio_script.specs.ClockScript.{ClockSession, fresh_clock_session, clock_replies}
 use Rattle.superio_script.specs.declared.command.Command.{Command}
 use Rattle.superio_script.specs.declared.command.Command.TheVariants.{Serial, Clock, Controller}
-use Rattle.superio_script.specs.declared.command.SerialLine.{SerialLine}
-use Rattle.superio_script.specs.declared.command.ClockLine.{ClockLine}
-use Rattle.superio_script.specs.declared.command.ControllerLine.{ControllerLine}
+use Rattle.superio_script.specs.declared.command.SerialCommand.{SerialCommand}
+use Rattle.superio_script.specs.declared.command.ClockCommand.{ClockCommand}
+use Rattle.superio_script.specs.declared.command.ControllerCommand.{ControllerCommand}
 
 -- ---- the lines
 
@@ -35,14 +35,14 @@ abbrev pub body_of : (script : List ℕ) → Body
 body_of script = body_of_lines (lines_of script)
 
 -- the command of a line that has a form, in front of the others. A line that has none ends them
-abbrev pub prepend_if_good : (command : Option Command) (commands : List Command) → List Command
-prepend_if_good None commands = []
-prepend_if_good (Some command) commands = command ∷ commands
+abbrev pub until_bad : (command : Option Command) (commands : List Command) → List Command
+until_bad None commands = []
+until_bad (Some command) commands = command ∷ commands
 
 -- the commands of the good lines, which are those before the first line that has no form
 abbrev pub good_commands : (lines : List (List ℕ)) → List Command
 good_commands [] = []
-good_commands (line ∷ lines) = prepend_if_good (command_of line) (good_commands lines)
+good_commands (line ∷ lines) = until_bad (command_of line) (good_commands lines)
 
 -- a line has a form
 abbrev pub has_form : (line : List ℕ) → Bool
@@ -55,22 +55,22 @@ first_bad_line number (line ∷ lines) = if has_form line then first_bad_line (n
 
 -- ---- each device's own lines
 
-abbrev pub serial_lines : (commands : List Command) → List SerialLine
+abbrev pub serial_lines : (commands : List Command) → List SerialCommand
 serial_lines [] = []
 serial_lines (Serial line ∷ commands) = line ∷ serial_lines commands
 serial_lines (_ ∷ commands) = serial_lines commands
 
-abbrev pub clock_lines : (commands : List Command) → List ClockLine
+abbrev pub clock_lines : (commands : List Command) → List ClockCommand
 clock_lines [] = []
 clock_lines (Clock line ∷ commands) = line ∷ clock_lines commands
 clock_lines (_ ∷ commands) = clock_lines commands
 
-abbrev pub controller_lines : (commands : List Command) → List ControllerLine
+abbrev pub controller_lines : (commands : List Command) → List ControllerCommand
 controller_lines [] = []
 controller_lines (Controller line ∷ commands) = line ∷ controller_lines commands
 controller_lines (_ ∷ commands) = controller_lines commands
 
-abbrev pub controller_replies : (lines : List ControllerLine) → List (List ℕ)
+abbrev pub controller_replies : (lines : List ControllerCommand) → List (List ℕ)
 controller_replies lines = map controller_reply lines
 
 -- ---- the text
@@ -88,17 +88,17 @@ replies_in_order _ serial clock controller = []
 -- the replies to these commands, from a session of the serial port and one of the clock on. The replies of each device
 -- come from its own lines alone
 abbrev pub text_from :
-    (session : Session) (clock_session : ClockSession) (choice : Choice) (commands : List Command) → List ℕ
-text_from session clock_session choice commands =
+    (session : Session) (clock_session : ClockSession) (environment : Environment) (commands : List Command) → List ℕ
+text_from session clock_session environment commands =
     replies_in_order commands
-    (serial_replies session choice (serial_lines commands))
+    (serial_replies session environment (serial_lines commands))
     (clock_replies clock_session (clock_lines commands))
     (controller_replies (controller_lines commands))
 
 -- the replies to the good ones of these lines, from fresh devices, given the mask of the serial port's interrupt line
--- and the choice
-abbrev pub text_of_lines : (mask : ℕ) (choice : Choice) (lines : List (List ℕ)) → List ℕ
-text_of_lines mask choice lines = text_from (fresh_session mask) fresh_clock_session choice (good_commands lines)
+-- and the environment
+abbrev pub text_of_lines : (mask : ℕ) (environment : Environment) (lines : List (List ℕ)) → List ℕ
+text_of_lines mask environment lines = text_from (fresh_session mask) fresh_clock_session environment (good_commands lines)
 
 -- the number of a script's first bad line, counted from 1, or `None` where every line is good
 abbrev pub first_bad_line_of : (script : List ℕ) → Option ℕ
@@ -106,10 +106,10 @@ first_bad_line_of script = first_bad_line (body_of script).first (body_of script
 
 -- ---- a run
 
--- for some possible choice, the text of these lines was written: what the writer held before, and what it holds after
+-- for some possible environment, the text of these lines was written: what the writer held before, and what it holds after
 abbrev pub PrintsLines : (mask : ℕ) (lines : List (List ℕ)) (before after : Option (List ℕ)) → Type 0
 PrintsLines mask lines before after =
-    (choice : Choice) × IsPossible choice × Appends before after (text_of_lines mask choice lines)
+    (environment : Environment) × IsPossible environment × Appends before after (text_of_lines mask environment lines)
 
 -- a run read the whole script, which is within the limit, found this line to be the first bad one, and wrote the text
 -- of the lines before it: what remains in the reader, and what the writer held before and holds after

@@ -5,22 +5,22 @@ use Rattle.std.specs.List.{list_all}
 use Rattle.vm_superio.specs.declared.saved.Error.{Error}
 use Rattle.vm_superio.specs.declared.trace.Asked.{Asked}
 use Rattle.vm_superio.specs.declared.trace.Sent.{Sent}
-use Rattle.vm_superio.specs.Port.State.{State, not_empty}
-use Rattle.vm_superio.specs.Port.Operations.{Op, Read, Write, Enqueue, TraceEntry, is_sent, ends_in_refusal}
-use Rattle.vm_superio.specs.Port.OpKinds.{sent_by}
+use Rattle.vm_superio.specs.Serial.Port.State.{State, not_empty}
+use Rattle.vm_superio.specs.Serial.Port.Operations.{Op, Read, Write, Enqueue, TraceEntry, is_sent, ends_in_refusal}
+use Rattle.vm_superio.specs.Serial.Port.OpKinds.{sent_by}
 use Rattle.vm_superio.specs.Saved.Form.{serial_form}
 use Rattle.superio_script.specs.InterruptLine.{InterruptLine, is_call_refused, interrupt_line_after_call}
 use Rattle.superio_script.specs.Counts.{counts_after_event}
 use Rattle.superio_script.specs.PortSession.{Session, session_kind, session_held_bytes, known_output, session_from, session_state, session_calls_due, session_response, session_events, session_restore_calls, drained_bytes}
 use Rattle.superio_script.specs.Loading.{loaded_port, fault_words}
 use Rattle.superio_script.specs.Reply.{with_lf, response_reply, digits_reply, count_digits, counts_reply}
-use Rattle.superio_script.specs.declared.command.SerialLine.{SerialLine}
-use Rattle.superio_script.specs.declared.command.SerialLine.TheVariants as serial
+use Rattle.superio_script.specs.declared.command.SerialCommand.{SerialCommand}
+use Rattle.superio_script.specs.declared.command.SerialCommand.TheVariants as serial
 
 -- ---- what the script leaves open
 
 -- what a script does not determine: whether the writer takes a byte, and what the writer holds after a loss
-pub record Choice : Type 0 where
+pub record Environment : Type 0 where
   -- what becomes of each byte that the port sends to the writer, in order. Where the list ends, bytes are lost
   pub outcomes : List Sent
   -- the bytes that each `so` after a loss prints, in order. Where the list ends, it prints none
@@ -37,10 +37,10 @@ is_short bytes = nat_le (length bytes) 256
 
 -- the possible choices: each byte goes out or is lost; one of the first 257 is lost, since the board's output has room
 -- for 256; and no `so` prints more than these
-pub record IsPossible (choice : Choice) : Type 0 where
-  pub sent : IsTrue (list_all is_sent choice.outcomes)
-  pub room : bytes_before_loss choice.outcomes ≤ 256
-  pub short : IsTrue (list_all is_short choice.outputs)
+pub record IsPossible (environment : Environment) : Type 0 where
+  pub sent : IsTrue (list_all is_sent environment.outcomes)
+  pub room : bytes_before_loss environment.outcomes ≤ 256
+  pub short : IsTrue (list_all is_short environment.outputs)
 
 abbrev pub first_outcome : (outcomes : List Sent) → Sent
 first_outcome [] = Sent.Lost
@@ -91,17 +91,17 @@ session_after_call session op outcome = record session {
 abbrev pub session_sends : (session : Session) (op : Op) → Bool
 session_sends session op = not_empty (sent_by (session_kind session op))
 
--- the outcome of the byte that a write sends, if it sends one, and the choice for what follows. No other call sends a
+-- the outcome of the byte that a write sends, if it sends one, and the environment for what follows. No other call sends a
 -- byte
-abbrev pub outcome_if_sent : (sends : Bool) (choice : Choice) → Sent
-outcome_if_sent sends choice = if sends then first_outcome choice.outcomes else Sent.Nothing
+abbrev pub outcome_if_sent : (sends : Bool) (environment : Environment) → Sent
+outcome_if_sent sends environment = if sends then first_outcome environment.outcomes else Sent.Nothing
 
-abbrev pub choice_after_write : (sends : Bool) (choice : Choice) → Choice
-choice_after_write sends choice = record choice { outcomes = if sends then drop 1 choice.outcomes else choice.outcomes }
+abbrev pub choice_after_write : (sends : Bool) (environment : Environment) → Environment
+choice_after_write sends environment = record environment { outcomes = if sends then drop 1 environment.outcomes else environment.outcomes }
 
-abbrev pub session_write_outcome : (session : Session) (choice : Choice) (offset value : ℕ) → Sent
-session_write_outcome session choice offset value =
-    outcome_if_sent (session_sends session (Write offset value)) choice
+abbrev pub session_write_outcome : (session : Session) (environment : Environment) (offset value : ℕ) → Sent
+session_write_outcome session environment offset value =
+    outcome_if_sent (session_sends session (Write offset value)) environment
 
 -- ---- a drain
 
@@ -150,51 +150,51 @@ session_after_load session (Ok state) =
 
 -- ---- the output
 
--- the bytes that went out, or the chosen ones where they are not known, and the choice for what follows
-abbrev pub output_or_chosen : (known : Option (List ℕ)) (choice : Choice) → List ℕ
-output_or_chosen (Some bytes) choice = bytes
-output_or_chosen None choice = first_output choice.outputs
+-- the bytes that went out, or the chosen ones where they are not known, and the environment for what follows
+abbrev pub output_or_chosen : (known : Option (List ℕ)) (environment : Environment) → List ℕ
+output_or_chosen (Some bytes) environment = bytes
+output_or_chosen None environment = first_output environment.outputs
 
-abbrev pub choice_after_output : (known : Option (List ℕ)) (choice : Choice) → Choice
-choice_after_output (Some bytes) choice = choice
-choice_after_output None choice = record choice { outputs = drop 1 choice.outputs }
+abbrev pub choice_after_output : (known : Option (List ℕ)) (environment : Environment) → Environment
+choice_after_output (Some bytes) environment = environment
+choice_after_output None environment = record environment { outputs = drop 1 environment.outputs }
 
 -- ---- the lines
 
--- the reply to a line, the session after it, and the choice for what follows
-abbrev pub serial_reply : (session : Session) (choice : Choice) (line : SerialLine) → List ℕ
-serial_reply session choice (serial.Read offset) = call_reply session (Read offset) Sent.Nothing
-serial_reply session choice (serial.Write offset value) =
-    call_reply session (Write offset value) (session_write_outcome session choice offset value)
-serial_reply session choice (serial.Enqueue bytes) = call_reply session (Enqueue bytes) Sent.Nothing
-serial_reply session choice serial.Capacity = digits_reply ((64 - length (session_held_bytes session)) ∷ [])
-serial_reply session choice serial.Drain = digits_reply (drained_bytes session)
-serial_reply session choice serial.Restore = restore_reply session
-serial_reply session choice serial.Save = digits_reply (serial_form (session_state session))
-serial_reply session choice (serial.Load bytes) = load_reply session (loaded_port bytes)
-serial_reply session choice serial.Output = digits_reply (output_or_chosen (known_output session) choice)
-serial_reply session choice serial.Calls = with_lf (count_digits session.interrupt_line.calls)
-serial_reply session choice serial.Events = counts_reply session.counts
+-- the reply to a line, the session after it, and the environment for what follows
+abbrev pub serial_reply : (session : Session) (environment : Environment) (line : SerialCommand) → List ℕ
+serial_reply session environment (serial.Read offset) = call_reply session (Read offset) Sent.Nothing
+serial_reply session environment (serial.Write offset value) =
+    call_reply session (Write offset value) (session_write_outcome session environment offset value)
+serial_reply session environment (serial.Enqueue bytes) = call_reply session (Enqueue bytes) Sent.Nothing
+serial_reply session environment serial.Capacity = digits_reply ((64 - length (session_held_bytes session)) ∷ [])
+serial_reply session environment serial.Drain = digits_reply (drained_bytes session)
+serial_reply session environment serial.Restore = restore_reply session
+serial_reply session environment serial.Save = digits_reply (serial_form (session_state session))
+serial_reply session environment (serial.Load bytes) = load_reply session (loaded_port bytes)
+serial_reply session environment serial.Output = digits_reply (output_or_chosen (known_output session) environment)
+serial_reply session environment serial.Calls = with_lf (count_digits session.interrupt_line.calls)
+serial_reply session environment serial.Events = counts_reply session.counts
 
-abbrev pub session_after_line : (session : Session) (choice : Choice) (line : SerialLine) → Session
-session_after_line session choice (serial.Read offset) = session_after_call session (Read offset) Sent.Nothing
-session_after_line session choice (serial.Write offset value) =
-    session_after_call session (Write offset value) (session_write_outcome session choice offset value)
-session_after_line session choice (serial.Enqueue bytes) = session_after_call session (Enqueue bytes) Sent.Nothing
-session_after_line session choice serial.Drain = session_after_drain session
-session_after_line session choice serial.Restore = session_after_restore session
-session_after_line session choice (serial.Load bytes) = session_after_load session (loaded_port bytes)
-session_after_line session choice _ = session
+abbrev pub session_after_line : (session : Session) (environment : Environment) (line : SerialCommand) → Session
+session_after_line session environment (serial.Read offset) = session_after_call session (Read offset) Sent.Nothing
+session_after_line session environment (serial.Write offset value) =
+    session_after_call session (Write offset value) (session_write_outcome session environment offset value)
+session_after_line session environment (serial.Enqueue bytes) = session_after_call session (Enqueue bytes) Sent.Nothing
+session_after_line session environment serial.Drain = session_after_drain session
+session_after_line session environment serial.Restore = session_after_restore session
+session_after_line session environment (serial.Load bytes) = session_after_load session (loaded_port bytes)
+session_after_line session environment _ = session
 
-abbrev pub choice_after_line : (session : Session) (choice : Choice) (line : SerialLine) → Choice
-choice_after_line session choice (serial.Write offset value) =
-    choice_after_write (session_sends session (Write offset value)) choice
-choice_after_line session choice serial.Output = choice_after_output (known_output session) choice
-choice_after_line session choice _ = choice
+abbrev pub choice_after_line : (session : Session) (environment : Environment) (line : SerialCommand) → Environment
+choice_after_line session environment (serial.Write offset value) =
+    choice_after_write (session_sends session (Write offset value)) environment
+choice_after_line session environment serial.Output = choice_after_output (known_output session) environment
+choice_after_line session environment _ = environment
 
 -- the replies to lines, in order
-abbrev pub serial_replies : (session : Session) (choice : Choice) (lines : List SerialLine) → List (List ℕ)
-serial_replies session choice [] = []
-serial_replies session choice (line ∷ lines) =
-    serial_reply session choice line
-    ∷ serial_replies (session_after_line session choice line) (choice_after_line session choice line) lines
+abbrev pub serial_replies : (session : Session) (environment : Environment) (lines : List SerialCommand) → List (List ℕ)
+serial_replies session environment [] = []
+serial_replies session environment (line ∷ lines) =
+    serial_reply session environment line
+    ∷ serial_replies (session_after_line session environment line) (choice_after_line session environment line) lines

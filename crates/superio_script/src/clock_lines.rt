@@ -2,26 +2,26 @@
 ghost use Rattle.std.specs.Prelude.{◌≡◌};
 ghost use Rattle.superio_script.specs.Board.{IsClockLineStep};
 ghost use Rattle.superio_script.specs.Counts.{no_counts};
-ghost use Rattle.superio_script.specs.declared.command.ClockLine.TheVariants.{Read, Write, Save, Load};
+ghost use Rattle.superio_script.specs.declared.command.ClockCommand.TheVariants.{Read, Write, Save, Load};
 
-use crate::command::ClockLine;
+use crate::command::ClockCommand;
 use crate::counts::Counts;
 use crate::replies::{Reply, digits, fault, word};
 use vm_superio::{Rtc, RtcState, laws};
 
 /// Executes a line on the clock and returns the reply.
-pub(crate) fn clock_line(clock: &mut Rtc<Counts>, line: ClockLine) -> Reply
+pub(crate) fn clock_line(clock: &mut Rtc<Counts>, line: ClockCommand) -> Reply
     ensures step { IsClockLineStep line result.items clock.old.state clock.new.state }
 {
     match line {
-        ClockLine::Read { moment, offset } => read(clock, moment, offset),
-        ClockLine::Write {
+        ClockCommand::Read { moment, offset } => read(clock, moment, offset),
+        ClockCommand::Write {
             moment,
             offset,
             value,
         } => write(clock, moment, offset, value),
-        ClockLine::Save => save(clock),
-        ClockLine::Load { bytes } => load(clock, bytes.as_slice()),
+        ClockCommand::Save => save(clock),
+        ClockCommand::Load { bytes } => load(clock, bytes.as_slice()),
     }
 }
 

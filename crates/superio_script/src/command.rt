@@ -2,7 +2,7 @@
 ghost use Rattle.std.specs.Prelude.{◌≡◌};
 ghost use Rattle.std.specs.Int.{w8, w16, w32, w64};
 ghost use Rattle.superio_script.specs.Splitting.{remaining_fields};
-ghost use Rattle.superio_script.specs.Command.{bytes_of, number_of, field_bytes_of, no_field, one_byte, two_bytes, bytes_or_none, moment_and_offset, moment_offset_and_value, one_number64, line_of_name, serial_line_of, clock_line_of, controller_line_of, command_of_name, command_of, mask_of};
+ghost use Rattle.superio_script.specs.Command.{bytes_of, number_of, field_bytes_of, no_field, one_byte, two_bytes, bytes_or_none, moment_and_offset, moment_offset_and_value, one_number64, command_without_fields, serial_command_of, clock_command_of, controller_command_of, command_of_name, command_of, mask_of};
 
 use crate::splitting::Fields;
 use arrayvec::ArrayVec;
@@ -15,16 +15,16 @@ const FIELD_LIMIT: usize = 128;
 #[derive(Drop)]
 pub(crate) enum Command {
     /// A line of the serial port.
-    Serial(SerialLine),
+    Serial(SerialCommand),
     /// A line of the clock.
-    Clock(ClockLine),
+    Clock(ClockCommand),
     /// A line of the i8042 controller.
-    Controller(ControllerLine),
+    Controller(ControllerCommand),
 }
 
 /// A line of the serial port.
 #[derive(Drop)]
-pub(crate) enum SerialLine {
+pub(crate) enum SerialCommand {
     /// `sr OO`: a read.
     Read { offset: u8 },
     /// `sw OO VV`: a write.
@@ -51,7 +51,7 @@ pub(crate) enum SerialLine {
 
 /// A line of the clock.
 #[derive(Drop)]
-pub(crate) enum ClockLine {
+pub(crate) enum ClockCommand {
     /// `cr NNNNNNNNNNNNNNNN OOOO`: a read at a moment, in seconds since 1970.
     Read {
         moment: u64,
@@ -73,7 +73,7 @@ pub(crate) enum ClockLine {
 
 /// A line of the i8042 controller.
 #[derive(Clone, Copy)]
-pub(crate) enum ControllerLine {
+pub(crate) enum ControllerCommand {
     /// `kr OO`: a read.
     Read { offset: u8 },
     /// `kw OO VV`: a write.
@@ -141,21 +141,21 @@ fn byte(field: &[u8]) -> Option<u8>
 }
 
 /// The number of a field of sixteen digits.
-fn number64(field: &[u8]) -> Option<u64>
+fn parse_u64(field: &[u8]) -> Option<u64>
     ensures { result ≡ number_of w64 field.now }
 {
     Some(u64::from_be_bytes(bytes(field)?))
 }
 
 /// The number of a field of four digits.
-fn number16(field: &[u8]) -> Option<u16>
+fn parse_u16(field: &[u8]) -> Option<u16>
     ensures { result ≡ number_of w16 field.now }
 {
     Some(u16::from_be_bytes(bytes(field)?))
 }
 
 /// The number of a field of eight digits.
-fn number32(field: &[u8]) -> Option<u32>
+fn parse_u32(field: &[u8]) -> Option<u32>
     ensures { result ≡ number_of w32 field.now }
 {
     Some(u32::from_be_bytes(bytes(field)?))
@@ -219,8 +219,8 @@ fn bytes_or_none(mut fields: Fields) -> Option<FieldBytes>
 fn moment_and_offset(mut fields: Fields) -> Option<(u64, u16)>
     ensures { result ≡ moment_and_offset (remaining_fields fields.entry.rest) }
 {
-    let moment = number64(fields.next_field()?)?;
-    let offset = number16(fields.next_field()?)?;
+    let moment = parse_u64(fields.next_field()?)?;
+    let offset = parse_u16(fields.next_field()?)?;
     no_field(fields)?;
     Some((moment, offset))
 }
@@ -229,93 +229,93 @@ fn moment_and_offset(mut fields: Fields) -> Option<(u64, u16)>
 fn moment_offset_and_value(mut fields: Fields) -> Option<(u64, u16, u32)>
     ensures { result ≡ moment_offset_and_value (remaining_fields fields.entry.rest) }
 {
-    let moment = number64(fields.next_field()?)?;
-    let offset = number16(fields.next_field()?)?;
-    let value = number32(fields.next_field()?)?;
+    let moment = parse_u64(fields.next_field()?)?;
+    let offset = parse_u16(fields.next_field()?)?;
+    let value = parse_u32(fields.next_field()?)?;
     no_field(fields)?;
     Some((moment, offset, value))
 }
 
 /// What a line of the serial port with this name and these fields after it asks for.
-fn serial_line_of(name: &[u8], fields: Fields) -> Option<SerialLine>
-    ensures { result ≡ serial_line_of name.now (remaining_fields fields.entry.rest) }
+fn serial_command_of(name: &[u8], fields: Fields) -> Option<SerialCommand>
+    ensures { result ≡ serial_command_of name.now (remaining_fields fields.entry.rest) }
 {
     match name {
-        b"sr" => Some(SerialLine::Read {
+        b"sr" => Some(SerialCommand::Read {
             offset: one_byte(fields)?,
         }),
         b"sw" => {
             let (offset, value) = two_bytes(fields)?;
-            Some(SerialLine::Write { offset, value })
+            Some(SerialCommand::Write { offset, value })
         }
-        b"sq" => Some(SerialLine::Enqueue {
+        b"sq" => Some(SerialCommand::Enqueue {
             bytes: bytes_or_none(fields)?,
         }),
-        b"sl" => Some(SerialLine::Load {
+        b"sl" => Some(SerialCommand::Load {
             bytes: bytes_or_none(fields)?,
         }),
         _ => {
             no_field(fields)?;
-            line_of_name(name)
+            command_without_fields(name)
         }
     }
 }
 
 /// What a line of only this name asks of the serial port.
-fn line_of_name(name: &[u8]) -> Option<SerialLine>
-    ensures { result ≡ line_of_name name.now }
+fn command_without_fields(name: &[u8]) -> Option<SerialCommand>
+    ensures { result ≡ command_without_fields name.now }
 {
     match name {
-        b"sc" => Some(SerialLine::Capacity),
-        b"sd" => Some(SerialLine::Drain),
-        b"ss" => Some(SerialLine::Restore),
-        b"sb" => Some(SerialLine::Save),
-        b"so" => Some(SerialLine::Output),
-        b"st" => Some(SerialLine::Calls),
-        b"se" => Some(SerialLine::Events),
+        b"sc" => Some(SerialCommand::Capacity),
+        b"sd" => Some(SerialCommand::Drain),
+        b"ss" => Some(SerialCommand::Restore),
+        b"sb" => Some(SerialCommand::Save),
+        b"so" => Some(SerialCommand::Output),
+        b"st" => Some(SerialCommand::Calls),
+        b"se" => Some(SerialCommand::Events),
         _ => None,
     }
 }
 
 /// What a line of the clock with this name and these fields after it asks for.
-fn clock_line_of(name: &[u8], fields: Fields) -> Option<ClockLine>
-    ensures { result ≡ clock_line_of name.now (remaining_fields fields.entry.rest) }
+fn clock_command_of(name: &[u8], fields: Fields) -> Option<ClockCommand>
+    ensures { result ≡ clock_command_of name.now (remaining_fields fields.entry.rest) }
 {
     match name {
         b"cr" => {
             let (moment, offset) = moment_and_offset(fields)?;
-            Some(ClockLine::Read { moment, offset })
+            Some(ClockCommand::Read { moment, offset })
         }
         b"cw" => {
             let (moment, offset, value) = moment_offset_and_value(fields)?;
-            Some(ClockLine::Write {
+            Some(ClockCommand::Write {
                 moment,
                 offset,
                 value,
             })
         }
-        b"cl" => Some(ClockLine::Load {
+        b"cl" => Some(ClockCommand::Load {
             bytes: bytes_or_none(fields)?,
         }),
         b"cb" => {
             no_field(fields)?;
-            Some(ClockLine::Save)
+            Some(ClockCommand::Save)
         }
         _ => None,
     }
 }
 
 /// What a line of the controller with this name and these fields after it asks for.
-fn controller_line_of(name: &[u8], fields: Fields) -> Option<ControllerLine>
-    ensures { result ≡ controller_line_of name.now (remaining_fields fields.entry.rest) }
+fn controller_command_of(name: &[u8], fields: Fields) -> Option<ControllerCommand>
+    ensures { result ≡ controller_command_of name.now (remaining_fields fields.entry.rest) }
 {
     match name {
-        b"kr" => Some(ControllerLine::Read {
+        b"kr" => Some(ControllerCommand::Read {
             offset: one_byte(fields)?,
         }),
         b"kw" => {
             let (offset, value) = two_bytes(fields)?;
-            Some(ControllerLine::Write { offset, value })
+            Some(ControllerCommand::Write { offset, value })
         }
         _ => None,
     }
@@ -326,9 +326,9 @@ fn command_of_name(name: &[u8], fields: Fields) -> Option<Command>
     ensures { result ≡ command_of_name name.now (remaining_fields fields.entry.rest) }
 {
     Some(match name.first()? {
-        b's' => Command::Serial(serial_line_of(name, fields)?),
-        b'c' => Command::Clock(clock_line_of(name, fields)?),
-        b'k' => Command::Controller(controller_line_of(name, fields)?),
+        b's' => Command::Serial(serial_command_of(name, fields)?),
+        b'c' => Command::Clock(clock_command_of(name, fields)?),
+        b'k' => Command::Controller(controller_command_of(name, fields)?),
         _ => return None,
     })
 }
@@ -346,7 +346,7 @@ pub(crate) fn parse(line: &[u8]) -> Option<Command>
 fn one_number64(mut fields: Fields) -> Option<u64>
     ensures { result ≡ one_number64 (remaining_fields fields.entry.rest) }
 {
-    let number = number64(fields.next_field()?)?;
+    let number = parse_u64(fields.next_field()?)?;
     no_field(fields)?;
     Some(number)
 }

@@ -102,14 +102,14 @@ impl Counts {
 }
 
 impl SerialEvents for Counts {
-    ghost use Rattle.vm_superio.specs.Counting.{Folds, Folds-nil, Folds-append};
+    ghost use Rattle.vm_superio.specs.Links.FoldsEvents.{FoldsEvents, FoldsEvents-nil, FoldsEvents-append};
     ghost use Rattle.superio_script.specs.Counts.{counts_after_event};
 
-    ghost link = { Folds counts_after_event };
+    ghost link = { FoldsEvents counts_after_event };
 
-    ghost no_event = { Folds-nil };
+    ghost no_event = { FoldsEvents-nil };
 
-    ghost joined = { Folds-append };
+    ghost joined = { FoldsEvents-append };
 
     fn buffer_read(&mut self) {
         count(&mut self.buffer_reads);
@@ -129,14 +129,14 @@ impl SerialEvents for Counts {
 }
 
 impl RtcEvents for Counts {
-    ghost use Rattle.vm_superio.specs.Counting.{Folds, Folds-nil, Folds-append};
+    ghost use Rattle.vm_superio.specs.Links.FoldsEvents.{FoldsEvents, FoldsEvents-nil, FoldsEvents-append};
     ghost use Rattle.superio_script.specs.Counts.{counts_after_clock_event};
 
-    ghost link = { Folds counts_after_clock_event };
+    ghost link = { FoldsEvents counts_after_clock_event };
 
-    ghost no_event = { Folds-nil };
+    ghost no_event = { FoldsEvents-nil };
 
-    ghost joined = { Folds-append };
+    ghost joined = { FoldsEvents-append };
 
     fn invalid_read(&mut self) {
         count(&mut self.invalid_reads);

@@ -6,7 +6,7 @@ ghost use Rattle.superio_script.specs.Reply.{controller_reply};
 ghost use Rattle.superio_script.specs.declared.devices.LineFault.TheVariants.{Bad, Memory};
 
 use crate::clock_lines::clock_line;
-use crate::command::{Command, ControllerLine, parse};
+use crate::command::{Command, ControllerCommand, parse};
 use crate::counts::Counts;
 use crate::fault::ScriptFault;
 use crate::output::Output;
@@ -89,13 +89,13 @@ impl Board {
     }
 
     /// Executes a line on the controller, leaves it fresh, and returns the reply.
-    fn controller_line(&mut self, line: ControllerLine) -> Reply
+    fn controller_line(&mut self, line: ControllerCommand) -> Reply
         ensures reply { result.items ≡ controller_reply line }
         ensures same { self.new ≡ self.old }
     {
         let (offset, value) = match line {
-            ControllerLine::Read { offset } => return byte(self.controller.read(offset)),
-            ControllerLine::Write { offset, value } => (offset, value),
+            ControllerCommand::Read { offset } => return byte(self.controller.read(offset)),
+            ControllerCommand::Write { offset, value } => (offset, value),
         };
         // The reset line refuses no call, so its count shows what the result shows.
         let _ = self.controller.write(offset, value);

@@ -1,8 +1,9 @@
 //! A driver on the guest's side of a serial port.
 ghost use Rattle.std.specs.Prelude.{◌≡◌, ◌≤◌, [], ◌++◌, length, false, IsTrue};
-ghost use Rattle.vm_superio.specs.Port.Bits.{has_bits, lcr_dlab_bit, lsr_dr_bit};
-ghost use Rattle.vm_superio.specs.Port.Coherent.{Coherent};
-ghost use Rattle.vm_superio.specs.Port.Registers.{is_dlab};
+ghost use Rattle.vm_superio.specs.Bits.{has_bits};
+ghost use Rattle.vm_superio.specs.Serial.Port.Bits.{lcr_dlab_bit, lsr_dr_bit};
+ghost use Rattle.vm_superio.specs.Serial.Port.Coherent.{Coherent};
+ghost use Rattle.vm_superio.specs.Serial.Port.Registers.{is_dlab};
 ghost use Rattle.superio_script.specs.Driver.{ReadsWhileReady, TakesAll};
 
 use arrayvec::ArrayVec;
@@ -33,9 +34,9 @@ pub fn drain<T: Trigger, EV: SerialEvents, W: Write>(
 ) -> ArrayVec<u8, 64>
     // In any state.
     ensures reads { ReadsWhileReady T.link EV.link W.contents result.items serial.old serial.new }
-    ensures few { length result.items ≤ 64 }
-    ensures latch { IsTrue (is_dlab serial.old.state.line_control) → result.items ≡ [] }
-    ensures ends { is_dlab serial.old.state.line_control ≡ false
+    ensures at_most_64 { length result.items ≤ 64 }
+    ensures dlab_reads_nothing { IsTrue (is_dlab serial.old.state.line_control) → result.items ≡ [] }
+    ensures stops_when_not_ready { is_dlab serial.old.state.line_control ≡ false
         → has_bits serial.new.state.line_status lsr_dr_bit ≡ false }
     ensures trigger { serial.new.trigger ≡ serial.old.trigger }
     ensures out { serial.new.out ≡ serial.old.out }

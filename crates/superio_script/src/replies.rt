@@ -25,7 +25,7 @@ pub(crate) fn word(text: &[u8]) -> Reply
 
 /// Appends two digits for each byte.
 fn push_digits(reply: &mut Reply, bytes: &[u8])
-    requires few { length bytes.now ≤ 256 }
+    requires at_most_256 { length bytes.now ≤ 256 }
     requires room { length reply.old.items + 2 * length bytes.now ≤ 513 }
     ensures digits { reply.new.items ≡ reply.old.items ++ encode_lower bytes.now }
     ensures longer { length reply.new.items ≡ length reply.old.items + 2 * length bytes.now }

@@ -1,13 +1,13 @@
 //! The lines of the serial port.
 ghost use Rattle.std.specs.Prelude.{◌≡◌, ◌<◌, ◌≤◌, length, IfOk, IfErr, OnErr, IsTrue};
-ghost use Rattle.vm_superio.specs.Port.Model.{write_response, enqueue_response, failure_response};
-ghost use Rattle.vm_superio.specs.Port.SavedState.{state_of};
+ghost use Rattle.vm_superio.specs.Serial.Port.Model.{write_response, enqueue_response, failure_response};
+ghost use Rattle.vm_superio.specs.Serial.Port.SavedState.{state_of};
 ghost use Rattle.superio_script.specs.Reply.{response_reply};
 ghost use Rattle.superio_script.specs.Board.{IsSerialLineStep, IsRestore};
 ghost use Rattle.superio_script.specs.Command.{takes_memory};
-ghost use Rattle.superio_script.specs.declared.command.SerialLine.TheVariants.{Restore, Save, Load};
+ghost use Rattle.superio_script.specs.declared.command.SerialCommand.TheVariants.{Restore, Save, Load};
 
-use crate::command::SerialLine;
+use crate::command::SerialCommand;
 use crate::counts::Counts;
 use crate::devices::LineFault;
 use crate::driver::drain;
@@ -27,7 +27,7 @@ pub(crate) type Port = Serial<Line, Counts, Output>;
 pub(crate) fn serial_line(
     alloc: Global,
     serial: &mut Port,
-    line: SerialLine,
+    line: SerialCommand,
 ) -> Result<Reply, LineFault>
     ensures step { IfOk result (λ reply. IsSerialLineStep line reply.items serial.old serial.new) }
     ensures unchanged { OnErr result (serial.new ≡ serial.old) }
@@ -41,19 +41,19 @@ pub(crate) fn serial_line(
     laws::states_of_history();
     laws::coherence();
     match line {
-        SerialLine::Read { offset } => Ok(byte(serial.read(offset))),
-        SerialLine::Write { offset, value } => Ok(write_result_reply(serial.write(offset, value))),
-        SerialLine::Enqueue { bytes } => {
+        SerialCommand::Read { offset } => Ok(byte(serial.read(offset))),
+        SerialCommand::Write { offset, value } => Ok(write_result_reply(serial.write(offset, value))),
+        SerialCommand::Enqueue { bytes } => {
             Ok(enqueue_result_reply(serial.enqueue_raw_bytes(bytes.as_slice())))
         }
-        SerialLine::Capacity => Ok(byte(serial.fifo_capacity() as u8)),
-        SerialLine::Drain => Ok(digits(&drain(serial))),
-        SerialLine::Restore => restore(alloc, serial),
-        SerialLine::Save => save(alloc, serial),
-        SerialLine::Load { bytes } => load(alloc, serial, bytes.as_slice()),
-        SerialLine::Output => Ok(digits(serial.writer().bytes())),
-        SerialLine::Calls => Ok(number(serial.interrupt_evt().calls())),
-        SerialLine::Events => Ok(event_counts(serial.events())),
+        SerialCommand::Capacity => Ok(byte(serial.fifo_capacity() as u8)),
+        SerialCommand::Drain => Ok(digits(&drain(serial))),
+        SerialCommand::Restore => restore(alloc, serial),
+        SerialCommand::Save => save(alloc, serial),
+        SerialCommand::Load { bytes } => load(alloc, serial, bytes.as_slice()),
+        SerialCommand::Output => Ok(digits(serial.writer().bytes())),
+        SerialCommand::Calls => Ok(number(serial.interrupt_evt().calls())),
+        SerialCommand::Events => Ok(event_counts(serial.events())),
     }
 }
 

@@ -1,7 +1,7 @@
 //! The objects that the tests give to a device: a trigger, an events object and a writer, which share a log.
 //!
 //! All tests use this one type of object, since the prover takes ten seconds for each type of port.
-ghost use Rattle.vm_superio.specs.Silent.{Silent, Silent-nil, Silent-append};
+ghost use Rattle.vm_superio.specs.Links.Unspecified.{Unspecified, Unspecified-nil, Unspecified-append};
 
 use std::alloc::Global;
 use std::cell::Cell;
@@ -94,11 +94,11 @@ pub fn port(alloc: Global, log: &Log) -> Result<Port<'_>, Fail> {
 impl Trigger for Object<'_> {
     type E = LineRefused;
 
-    ghost link = { Silent };
+    ghost link = { Unspecified };
 
-    ghost no_call = { Silent-nil };
+    ghost no_call = { Unspecified-nil };
 
-    ghost joined = { Silent-append };
+    ghost joined = { Unspecified-append };
 
     fn trigger(&mut self) -> Result<(), LineRefused> {
         if counted(&self.log.triggers) == self.log.refused.get() {
@@ -110,11 +110,11 @@ impl Trigger for Object<'_> {
 }
 
 impl SerialEvents for Object<'_> {
-    ghost link = { Silent };
+    ghost link = { Unspecified };
 
-    ghost no_event = { Silent-nil };
+    ghost no_event = { Unspecified-nil };
 
-    ghost joined = { Silent-append };
+    ghost joined = { Unspecified-append };
 
     fn buffer_read(&mut self) {
         counted(&self.log.events);
@@ -134,11 +134,11 @@ impl SerialEvents for Object<'_> {
 }
 
 impl RtcEvents for Object<'_> {
-    ghost link = { Silent };
+    ghost link = { Unspecified };
 
-    ghost no_event = { Silent-nil };
+    ghost no_event = { Unspecified-nil };
 
-    ghost joined = { Silent-append };
+    ghost joined = { Unspecified-append };
 
     fn invalid_read(&mut self) {
         counted(&self.log.events);

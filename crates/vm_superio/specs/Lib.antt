@@ -1,10 +1,6 @@
-pub mod Port
-pub mod Step
-pub mod History
-pub mod Run
-pub mod Laws
-pub mod Clock
+pub mod Serial
+pub mod Rtc
 pub mod I8042
-pub mod Counting
-pub mod Silent
 pub mod Saved
+pub mod Links
+pub mod Bits

@@ -1,6 +1,6 @@
 //! The receive FIFO: at most 64 bytes, oldest first. A port with objects keeps it in a ring on the heap.
 ghost use Rattle.std.specs.Prelude.{◌≡◌, ◌-◌, ◌≤◌, ℕ, List, [], ◌∷◌, ◌++◌, length, take, drop, slice_get, not, IfOk};
-ghost use Rattle.vm_superio.specs.Port.State.{not_empty};
+ghost use Rattle.vm_superio.specs.Serial.Port.State.{not_empty};
 
 use circular_buffer::HeapCircularBuffer;
 use std::alloc::{AllocError, Global};

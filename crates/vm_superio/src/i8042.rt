@@ -74,7 +74,7 @@ impl<T: Trigger> I8042Device<T> {
     /// and has no effect.
     pub fn write(&mut self, offset: u8, value: u8) -> Result<(), T::E>
         ensures reset { OnTrue (is_reset_command offset value) (T.link self.old (result ∷ []) self.new) }
-        ensures other { OnFalse (is_reset_command offset value) (result ≡ Ok tt) }
+        ensures otherwise_ok { OnFalse (is_reset_command offset value) (result ≡ Ok tt) }
         ensures unchanged { OnFalse (is_reset_command offset value) (self.new ≡ self.old) }
     {
         if is_reset_command(offset, value) {

@@ -3,11 +3,11 @@
 //! A step states what one call does to a state, as a device would. The history keeps no state: it searches the start
 //! and the trace of the calls so far for the last write, the bytes not yet taken, and any condition raised and not
 //! acknowledged. The first laws state that both describe the same port. The others follow from one of the two alone.
-ghost use Rattle.vm_superio.specs.Laws.Agreement.{RegisterLaw, HeldBytesLaw, LineStatusLaw, InterruptLaw, CoherenceLaw, StateLaw, ResponseLaw, StepLaw, CallLaw, RetryLaw, WholeRunLaw};
-ghost use Rattle.vm_superio.specs.Laws.Consequences.{PendingByPrefixesLaw, TriggerBoundLaw, WaitingBytesLaw, SameReadsLaw, TakenThenHeldLaw, ReadsAreTakenLaw, ReadThenHeldLaw, OutputLaw};
-ghost use Rattle.vm_superio.specs.Laws.PollingDriver.{PollingDriverLaw, DriverGetsAllLaw, PollsBySightLaw};
-ghost use Rattle.vm_superio.specs.Laws.FieldsRun.{FieldsRunLaw};
-ghost use Rattle.vm_superio.specs.Laws.OneCall.{OneCallLaw, OneReadLaw, ReceivedLaw, RbrReadLaw, RbrDataReadyLaw, ThrWriteLaw, OutcomeEventsLaw, TurnedBitsLaw, AdmissibilityLaw};
+ghost use Rattle.vm_superio.specs.Serial.Laws.Agreement.{RegisterLaw, HeldBytesLaw, LineStatusLaw, InterruptLaw, CoherenceLaw, StateLaw, ResponseLaw, StepLaw, CallLaw, RetryLaw, WholeRunLaw};
+ghost use Rattle.vm_superio.specs.Serial.Laws.Consequences.{PendingByPrefixesLaw, TriggerBoundLaw, WaitingBytesLaw, SameReadsLaw, TakenThenHeldLaw, ReadsAreTakenLaw, ReadThenHeldLaw, OutputLaw};
+ghost use Rattle.vm_superio.specs.Serial.Laws.PollingDriver.{PollingDriverLaw, DriverGetsAllLaw, PollsAfterDataReadyLaw};
+ghost use Rattle.vm_superio.specs.Serial.Laws.FieldsRun.{FieldsRunLaw};
+ghost use Rattle.vm_superio.specs.Serial.Laws.OneCall.{OneCallLaw, OneReadLaw, ReceivedLaw, RbrReadLaw, RbrDataReadyLaw, ThrWriteLaw, OutcomeEventsLaw, TurnedBitsLaw, AdmissibilityLaw};
 
 mod clock;
 pub mod saved;
@@ -119,7 +119,7 @@ pub fn reads_are_taken()
 pub fn polling_driver()
     ensures bytes { PollingDriverLaw }
     ensures all { DriverGetsAllLaw }
-    ensures by_sight { PollsBySightLaw }
+    ensures after_data_ready { PollsAfterDataReadyLaw }
 {}
 
 /// From any start, if the newest entries of a well-formed trace lose no byte, the bytes that they record as taken are

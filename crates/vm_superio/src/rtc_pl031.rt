@@ -9,14 +9,14 @@
 ghost use Rattle.std.specs.Prelude.{◌≡◌, ◌↔◌, ◌<◌, ◌^◌, List, [], ◌∷◌, ◌++◌, false, IfSome};
 ghost use Rattle.std.specs.Bool.{OnTrue, OnFalse};
 ghost use Rattle.std.proofs.Common.{◌∙◌};
-ghost use Rattle.vm_superio.specs.Clock.Alarm.{is_line_up, IsAlarmDue};
-ghost use Rattle.vm_superio.specs.Clock.Events.{RtcEvent, invalid_read, invalid_write};
-ghost use Rattle.vm_superio.specs.Clock.Fields.{state_of_clock};
-ghost use Rattle.vm_superio.specs.Clock.Registers.{read, write, write_of, clock_register_at, is_readable, is_writable};
-ghost use Rattle.vm_superio.specs.Clock.Registers.{host_time, bytes_left};
-ghost use Rattle.vm_superio.specs.Clock.Step.{ClockDevice, after_alarm, clock_response, clock_step, clock_events};
-ghost use Rattle.vm_superio.specs.Clock.Registers.{fresh_clock};
-ghost use Rattle.vm_superio.specs.Clock.Laws.{ReadsByHistory, GoesOnByHistory};
+ghost use Rattle.vm_superio.specs.Rtc.Alarm.{is_line_up, IsAlarmDue};
+ghost use Rattle.vm_superio.specs.Rtc.Events.{RtcEvent, invalid_read, invalid_write};
+ghost use Rattle.vm_superio.specs.Rtc.Fields.{state_of_clock};
+ghost use Rattle.vm_superio.specs.Rtc.Registers.{read, write, write_of, clock_register_at, is_readable, is_writable};
+ghost use Rattle.vm_superio.specs.Rtc.Registers.{host_time, bytes_left};
+ghost use Rattle.vm_superio.specs.Rtc.Step.{ClockDevice, after_alarm, clock_response, clock_step, clock_events};
+ghost use Rattle.vm_superio.specs.Rtc.Registers.{fresh_clock};
+ghost use Rattle.vm_superio.specs.Rtc.Laws.{ReadsByHistory, GoesOnByHistory};
 
 mod alarm;
 pub mod fields;
@@ -178,7 +178,7 @@ impl Rtc<NoEvents> {
 impl<EV: RtcEvents> Rtc<EV> {
     ghost use Rattle.std.specs.Borrow.{Lends, sem};
     ghost use Rattle.vm_superio.specs.contracts.rtc_pl031.Rtc.{the_row};
-    ghost use Rattle.vm_superio.specs.Clock.Step.{with_clock_events};
+    ghost use Rattle.vm_superio.specs.Rtc.Step.{with_clock_events};
 
     /// Makes a clock from `state`, whatever its values, that owns the events object `rtc_events`. Does not call the
     /// object.

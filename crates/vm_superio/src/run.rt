@@ -1,15 +1,15 @@
 //! Runs: a list of calls to a serial port as one call, with a record of each.
 ghost use Rattle.std.specs.Prelude.{◌≡◌, IfOk, OnErr};
-ghost use Rattle.vm_superio.specs.Port.WriterLink.{port_links};
-ghost use Rattle.vm_superio.specs.Run.Segments.{first_segment};
-ghost use Rattle.vm_superio.specs.Run.Steps.{IsCallStep, IsRun};
-ghost use Rattle.vm_superio.specs.Run.Trace.{act_of};
-ghost use Rattle.vm_superio.specs.Port.Coherent.{Coherent};
-ghost use Rattle.vm_superio.specs.Run.HistoryTheorem.{HistoryTheorem};
+ghost use Rattle.vm_superio.specs.Links.Writer.{port_links};
+ghost use Rattle.vm_superio.specs.Serial.Run.Segments.{first_segment};
+ghost use Rattle.vm_superio.specs.Serial.Run.Steps.{IsCallStep, IsRun};
+ghost use Rattle.vm_superio.specs.Serial.Run.Trace.{act_of};
+ghost use Rattle.vm_superio.specs.Serial.Port.Coherent.{Coherent};
+ghost use Rattle.vm_superio.specs.Serial.Run.HistoryTheorem.{HistoryTheorem};
 
 use crate::Trigger;
 use crate::serial::{Error, Refused, Serial, SerialEvents};
-use crate::trace::Traced;
+use crate::trace::Recorded;
 pub use crate::trace::{Asked, Sent};
 use std::alloc::{AllocError, Global};
 use std::collections::VecDeque;
@@ -136,7 +136,7 @@ fn read<T: Trigger, EV: SerialEvents, W: Write>(
     ensures made { IsCallStep (port_links T.link EV.link W.contents) (Call.Read offset) result.asked result.sent
         result.reply serial.old serial.new }
 {
-    let Traced { reply, asked, sent } = serial.traced_read(offset);
+    let Recorded { reply, asked, sent } = serial.recorded_read(offset);
     Done {
         act: Act::Read(offset),
         asked,
@@ -155,7 +155,7 @@ fn write<T: Trigger, EV: SerialEvents, W: Write>(
     ensures made { IsCallStep (port_links T.link EV.link W.contents) (Call.Write offset value) result.asked result.sent
         result.reply serial.old serial.new }
 {
-    let Traced { reply, asked, sent } = serial.traced_write(offset, value);
+    let Recorded { reply, asked, sent } = serial.recorded_write(offset, value);
     Done {
         act: Act::Write(offset, value),
         asked,
@@ -173,7 +173,7 @@ fn enqueue<T: Trigger, EV: SerialEvents, W: Write>(
     ensures made { IsCallStep (port_links T.link EV.link W.contents) (Call.Enqueue bytes) result.asked result.sent
         result.reply serial.old serial.new }
 {
-    let Traced { reply, asked, sent } = serial.traced_enqueue(&bytes);
+    let Recorded { reply, asked, sent } = serial.recorded_enqueue(&bytes);
     Done {
         act: Act::Enqueue(bytes),
         asked,

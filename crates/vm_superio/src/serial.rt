@@ -1,22 +1,22 @@
 //! A serial port with the registers of a 16550.
 ghost use Rattle.std.specs.Prelude.{◌≡◌, ◌<◌, ◌≤◌, ◌+◌, ◌-◌, length, vec_len, IsErr, IfOk, OnOk, IfErr};
-ghost use Rattle.vm_superio.specs.Port.Coherent.{Coherent};
-ghost use Rattle.vm_superio.specs.Port.ObjectLinks.{all_ok, RefusesOwnState};
-ghost use Rattle.vm_superio.specs.Port.SavedState.{fresh_state, state_of};
-ghost use Rattle.vm_superio.specs.Step.Restore.{restore_calls, RefusesRestore};
+ghost use Rattle.vm_superio.specs.Serial.Port.Coherent.{Coherent};
+ghost use Rattle.vm_superio.specs.Links.Objects.{all_ok, RefusesOwnState};
+ghost use Rattle.vm_superio.specs.Serial.Port.SavedState.{fresh_state, state_of};
+ghost use Rattle.vm_superio.specs.Serial.Step.Restore.{restore_calls, RefusesRestore};
 
 mod bits;
 mod effects;
 mod errors;
 mod events;
 pub mod fields;
-mod places;
+mod recorded;
 mod registers;
 mod restoring;
+mod rx_ring;
 pub mod saved_form;
 mod state;
 mod steps;
-mod traced;
 
 use crate::Trigger;
 use crate::fifo::{FIFO_SIZE, Fifo, ReceiveFifo};
@@ -43,8 +43,8 @@ pub struct Serial<T: Trigger, EV: SerialEvents, W: Write> {
 }
 
 impl<T: Trigger, EV: SerialEvents, W: Write> Model for Serial<T, EV, W> {
-    ghost use Rattle.vm_superio.specs.Port.Model.{Port};
-    ghost use Rattle.vm_superio.specs.Port.SavedState.{state_with};
+    ghost use Rattle.vm_superio.specs.Serial.Port.Model.{Port};
+    ghost use Rattle.vm_superio.specs.Serial.Port.SavedState.{state_with};
 
     ghost Value = { Port T EV W };
 
@@ -87,11 +87,11 @@ impl<T: Trigger, W: Write> Serial<T, NoEvents, W> {
 impl<T: Trigger, EV: SerialEvents, W: Write> Serial<T, EV, W> {
     ghost use Rattle.std.specs.Borrow.{Lends, sem};
     ghost use Rattle.vm_superio.specs.contracts.serial.Serial.{the_row};
-    ghost use Rattle.vm_superio.specs.Step.PortStep.{with_trigger, with_events, with_writer};
-    ghost use Rattle.vm_superio.specs.Step.PortStep.{IsReadStep, IsWriteStep, IsEnqueueStep, IsRetryStep};
-    ghost use Rattle.vm_superio.specs.Step.Admissible.{kind_in_state};
-    ghost use Rattle.vm_superio.specs.Port.Operations.{Read};
-    ghost use Rattle.vm_superio.specs.Port.OpKinds.{Other};
+    ghost use Rattle.vm_superio.specs.Serial.Step.PortStep.{with_trigger, with_events, with_writer};
+    ghost use Rattle.vm_superio.specs.Serial.Step.PortStep.{IsReadStep, IsWriteStep, IsEnqueueStep, IsRetryStep};
+    ghost use Rattle.vm_superio.specs.Serial.Step.Admissible.{kind_in_state};
+    ghost use Rattle.vm_superio.specs.Serial.Port.Operations.{Read};
+    ghost use Rattle.vm_superio.specs.Serial.Port.OpKinds.{Other};
 
     /// Makes a serial port as `new` does, but reports events to `serial_evts`. Calls neither the trigger nor the events
     /// object.
@@ -188,7 +188,7 @@ impl<T: Trigger, EV: SerialEvents, W: Write> Serial<T, EV, W> {
     /// Returns `AllocError` if allocating the received bytes fails.
     pub fn state(&self, alloc: Global) -> Result<SerialState, AllocError>
         ensures saved { IfOk result (λ saved. state_of saved ≡ self.now.state) }
-        ensures few { length self.now.state.in_buffer ≤ 64 }
+        ensures at_most_64 { length self.now.state.in_buffer ≤ 64 }
         ensures coherent { IfOk result (λ saved. Coherent self.now.state → Coherent (state_of saved)) }
     {
         let in_buffer = self.in_buffer.to_vec(alloc)?;
@@ -267,20 +267,20 @@ impl<T: Trigger, EV: SerialEvents, W: Write> Serial<T, EV, W> {
         ensures step { IsWriteStep T.link EV.link W.contents offset value result self.old self.new }
         ensures coherent { Coherent self.old.state → Coherent self.new.state }
     {
-        self.traced_write(offset, value).reply
+        self.recorded_write(offset, value).reply
     }
 
     /// Reads the byte at `offset`, as a guest does. Neither calls the trigger nor uses the writer.
     pub fn read(&mut self, offset: u8) -> u8
         ensures step { IsReadStep T.link EV.link W.contents offset result self.old self.new }
         // A read of any register but RBR and IIR.
-        ensures other { kind_in_state self.old.state (Read offset) ≡ Other → self.new ≡ self.old }
-        ensures few { length self.new.state.in_buffer ≤ 64 }
+        ensures rest_unchanged { kind_in_state self.old.state (Read offset) ≡ Other → self.new ≡ self.old }
+        ensures at_most_64 { length self.new.state.in_buffer ≤ 64 }
         ensures trigger { self.new.trigger ≡ self.old.trigger }
         ensures out { self.new.out ≡ self.old.out }
         ensures coherent { Coherent self.old.state → Coherent self.new.state }
     {
-        let byte = self.traced_read(offset).reply;
+        let byte = self.recorded_read(offset).reply;
         prove!(self.fifo_capacity() <= FIFO_SIZE);
         byte
     }
@@ -300,18 +300,18 @@ impl<T: Trigger, EV: SerialEvents, W: Write> Serial<T, EV, W> {
             (T.link self.old.trigger (all_ok (restore_calls self.old.state)) self.new.trigger) }
         ensures refused { IfErr result (λ refusal. RefusesOwnState T.link (restore_calls self.old.state)
             (Error.Trigger refusal) self.old.trigger self.new.trigger) }
-        ensures others { self.new ≡ with_trigger self.old self.new.trigger }
+        ensures rest_unchanged { self.new ≡ with_trigger self.old self.new.trigger }
         ensures step { IsRetryStep T.link EV.link W.contents self.old self.new }
         ensures coherent { Coherent self.old.state → Coherent self.new.state }
     {
-        self.registers.assert_again(&mut self.interrupt_evt)
+        self.registers.reassert(&mut self.interrupt_evt)
     }
 
     /// How many bytes may still be enqueued: 64 minus the number of held bytes.
     pub fn fifo_capacity(&self) -> usize
         ensures value { result ≡ 64 - length self.now.state.in_buffer }
         ensures bound { length self.now.state.in_buffer ≤ 64 }
-        ensures whole { result + length self.now.state.in_buffer ≡ 64 }
+        ensures room_plus_held { result + length self.now.state.in_buffer ≡ 64 }
     {
         FIFO_SIZE - self.in_buffer.len()
     }
@@ -330,6 +330,6 @@ impl<T: Trigger, EV: SerialEvents, W: Write> Serial<T, EV, W> {
         ensures out { self.new.out ≡ self.old.out }
         ensures coherent { Coherent self.old.state → Coherent self.new.state }
     {
-        self.traced_enqueue(input).reply
+        self.recorded_enqueue(input).reply
     }
 }

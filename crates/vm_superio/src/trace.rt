@@ -28,7 +28,7 @@ pub enum Sent {
 
 /// A reply, with the trigger's answers and the outcome of the byte.
 #[derive(Drop)]
-pub(crate) struct Traced<R> {
+pub(crate) struct Recorded<R> {
     pub(crate) reply: R,
     pub(crate) asked: Asked,
     pub(crate) sent: Sent,

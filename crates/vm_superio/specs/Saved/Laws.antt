@@ -2,7 +2,7 @@
 use Rattle.std.specs.Prelude.{◌≡◌, ◌<◌, ◌≤◌, ◌^◌, length, None, FitsSigned}
 use Rattle.std.specs.Int.{w64}
 use Rattle.vm_superio.specs.declared.rtc_pl031.RtcState.{RtcState}
-use Rattle.vm_superio.specs.Port.State.{State}
+use Rattle.vm_superio.specs.Serial.Port.State.{State}
 use Rattle.vm_superio.specs.Saved.Form.{serial_form, clock_form}
 use Rattle.vm_superio.specs.Saved.Faults.{serial_fault, clock_fault}
 

@@ -1,7 +1,7 @@
 //! When guest time reaches a value.
 ghost use Rattle.std.specs.Prelude.{◌≡◌, pos, ◌+ℤ◌};
-ghost use Rattle.vm_superio.specs.Clock.Registers.{guest_time};
-ghost use Rattle.vm_superio.specs.Clock.Alarm.{FirstCome, SecondsUntil};
+ghost use Rattle.vm_superio.specs.Rtc.Registers.{guest_time};
+ghost use Rattle.vm_superio.specs.Rtc.Alarm.{FirstCome, SecondsUntil};
 
 /// Guest time at the host's time `time`.
 pub(super) fn guest_time(offset: i64, time: u32) -> u32

@@ -3,13 +3,13 @@
 //! A call changes the struct in place. A monitor in another language can keep the struct where it likes and save the
 //! clock by copying bytes. [`Rtc`](super::Rtc) is this struct and an events object.
 ghost use Rattle.std.specs.Prelude.{◌≡◌, ◌<◌, ◌^◌, IfSome};
-ghost use Rattle.vm_superio.specs.Port.Bits.{with_bits};
-ghost use Rattle.vm_superio.specs.Clock.Alarm.{is_line_up, IsAlarmDue};
-ghost use Rattle.vm_superio.specs.Clock.CodeNames.{clock_register_of};
-ghost use Rattle.vm_superio.specs.Clock.Fields.{state_of_clock};
-ghost use Rattle.vm_superio.specs.Clock.Registers.{read, write, fresh_clock, clock_register_at, is_writable};
-ghost use Rattle.vm_superio.specs.Clock.Registers.{host_time, clock_register_read};
-ghost use Rattle.vm_superio.specs.Clock.Step.{guest_time_in, after_alarm, match_write, clock_response, after_write, clock_step};
+ghost use Rattle.vm_superio.specs.Bits.{with_bits};
+ghost use Rattle.vm_superio.specs.Rtc.Alarm.{is_line_up, IsAlarmDue};
+ghost use Rattle.vm_superio.specs.Rtc.CodeNames.{clock_register_of};
+ghost use Rattle.vm_superio.specs.Rtc.Fields.{state_of_clock};
+ghost use Rattle.vm_superio.specs.Rtc.Registers.{read, write, fresh_clock, clock_register_at, is_writable};
+ghost use Rattle.vm_superio.specs.Rtc.Registers.{host_time, clock_register_read};
+ghost use Rattle.vm_superio.specs.Rtc.Step.{guest_time_in, after_alarm, match_write, clock_response, after_write, clock_step};
 
 use super::RtcState;
 use super::alarm::{guest_time, seconds_until};
@@ -78,7 +78,7 @@ impl RtcFields {
 
     /// Begins an access at the moment `now` and returns the host's time. Any access, even an invalid one, may fire the
     /// alarm before its own effect.
-    #[tactic(auto, unfolding(crate::specs::Port::Bits::with_bits))]
+    #[tactic(auto, unfolding(crate::specs::Bits::with_bits))]
     fn begin_access(&mut self, now: u64) -> u32
         ensures time { result ≡ host_time now }
         ensures state { state_of_clock self.new ≡ after_alarm (state_of_clock self.old) (host_time now) }
@@ -111,7 +111,7 @@ impl RtcFields {
 
     /// Stores a match. Sets the alarm if guest time has yet to reach it, and raises the interrupt at once if guest time
     /// equals it.
-    #[tactic(auto, unfolding(crate::specs::Port::Bits::with_bits))]
+    #[tactic(auto, unfolding(crate::specs::Bits::with_bits))]
     fn write_match(&mut self, value: u32, time: u32)
         ensures { state_of_clock self.new ≡ match_write (state_of_clock self.old) value time }
     {
@@ -125,7 +125,7 @@ impl RtcFields {
 
     /// Writes `value` to `register` at the host's time `time`, and returns whether the register takes a write. If not,
     /// nothing changes.
-    #[tactic(auto, using(crate::proofs::BitLemmas::and_not_is_without))]
+    #[tactic(auto, using(crate::proofs::Lemmas::Bits::and_not_is_without))]
     fn store(&mut self, register: ClockRegister, value: u32, time: u32) -> bool
         ensures state { state_of_clock self.new
             ≡ after_write (state_of_clock self.old) (clock_register_of register) value time }

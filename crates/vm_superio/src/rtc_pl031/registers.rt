@@ -1,7 +1,7 @@
 //! The PL031's register map.
 ghost use Rattle.std.specs.Prelude.{◌≡◌};
-ghost use Rattle.vm_superio.specs.Clock.CodeNames.{clock_register_of};
-ghost use Rattle.vm_superio.specs.Clock.Registers.{clock_register_at};
+ghost use Rattle.vm_superio.specs.Rtc.CodeNames.{clock_register_of};
+ghost use Rattle.vm_superio.specs.Rtc.Registers.{clock_register_at};
 
 /// The data register: guest time. Read only.
 pub(super) const RTCDR: u16 = 0x000;

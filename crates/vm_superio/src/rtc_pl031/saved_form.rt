@@ -45,7 +45,7 @@ impl RtcState {
     ///
     /// Returns the first check that fails, in the order of [`Error`]: any case but [`Error::TooManyBytes`] and
     /// [`Error::Memory`].
-    #[tactic(auto, using(crate::proofs::SavedForms::clock_form_read))]
+    #[tactic(auto, using(crate::proofs::Lemmas::Saved::Forms::clock_form_read))]
     pub fn from_bytes(bytes: &[u8]) -> Result<RtcState, Error>
         ensures form { IfOk result (λ state. bytes.now ≡ clock_form state) }
         ensures read { (state : RtcState) → IsClock state → bytes.now ≡ clock_form state → result ≡ Ok state }

@@ -1,6 +1,6 @@
 //! Bytes as sets of bits, and the bits and offsets of a 16550's registers by their standard names.
 ghost use Rattle.std.specs.Prelude.{◌≡◌};
-ghost use Rattle.vm_superio.specs.Port.Bits.{has_bits, only_bits, with_bits, without_bits};
+ghost use Rattle.vm_superio.specs.Bits.{has_bits, only_bits, with_bits, without_bits};
 
 // Offsets. DLL and DLM replace RBR, THR and IER while DLAB is set.
 pub(super) const DATA_OFFSET: u8 = 0;
@@ -76,7 +76,7 @@ pub(super) const DEFAULT_MODEM_CONTROL: u8 = 0x08;
 pub(super) const DEFAULT_MODEM_STATUS: u8 = 0xB0;
 
 /// Whether all these bits are set.
-#[tactic(auto, unfolding(crate::specs::Port::Bits::has_bits))]
+#[tactic(auto, unfolding(crate::specs::Bits::has_bits))]
 pub(super) fn has_bits(byte: u8, bits: u8) -> bool
     ensures { result ≡ has_bits byte bits }
 {
@@ -84,7 +84,7 @@ pub(super) fn has_bits(byte: u8, bits: u8) -> bool
 }
 
 /// The byte with these bits set.
-#[tactic(auto, unfolding(crate::specs::Port::Bits::with_bits))]
+#[tactic(auto, unfolding(crate::specs::Bits::with_bits))]
 pub(super) fn with_bits(byte: u8, bits: u8) -> u8
     ensures { result ≡ with_bits byte bits }
 {
@@ -92,7 +92,7 @@ pub(super) fn with_bits(byte: u8, bits: u8) -> u8
 }
 
 /// The byte with only these bits.
-#[tactic(auto, unfolding(crate::specs::Port::Bits::only_bits))]
+#[tactic(auto, unfolding(crate::specs::Bits::only_bits))]
 pub(super) fn only_bits(byte: u8, bits: u8) -> u8
     ensures { result ≡ only_bits byte bits }
 {
@@ -100,7 +100,7 @@ pub(super) fn only_bits(byte: u8, bits: u8) -> u8
 }
 
 /// The byte with these bits cleared.
-#[tactic(auto, using(crate::proofs::BitLemmas::and_not_is_without_byte))]
+#[tactic(auto, using(crate::proofs::Lemmas::Bits::and_not_is_without_byte))]
 pub(super) fn without_bits(byte: u8, bits: u8) -> u8
     ensures { result ≡ without_bits byte bits }
 {

@@ -4,16 +4,16 @@
 //! to send, an interrupt to ask for, an event to report. A monitor in another language can keep the struct where it
 //! likes and save the port by copying bytes.
 ghost use Rattle.std.specs.Prelude.{◌≡◌, ◌↔◌, ◌≤◌, ◌-◌, length, IsTrue};
-ghost use Rattle.vm_superio.specs.Port.SavedState.{fresh_state};
-ghost use Rattle.vm_superio.specs.Port.Fields.{state_of_fields, CoherentFields};
-ghost use Rattle.vm_superio.specs.Step.Restore.{restore_calls};
-ghost use Rattle.vm_superio.specs.Step.FieldsStep.{IsFieldsRead, IsFieldsWrite, IsFieldsEnqueue, IsFirstRefused, without_thre};
+ghost use Rattle.vm_superio.specs.Serial.Port.SavedState.{fresh_state};
+ghost use Rattle.vm_superio.specs.Serial.Port.Fields.{state_of_fields, CoherentFields};
+ghost use Rattle.vm_superio.specs.Serial.Step.Restore.{restore_calls};
+ghost use Rattle.vm_superio.specs.Serial.Step.FieldsStep.{IsFieldsRead, IsFieldsWrite, IsFieldsEnqueue, IsFirstRefused, without_thre};
 
 use super::bits::{LSR_DATA_READY_BIT, has_bits};
 pub use super::effects::{EnqueueEffects, ReadEffects, WriteEffects};
-pub use super::places::Places;
 use super::registers::Condition;
 pub use super::registers::Registers;
+pub use super::rx_ring::RxRing;
 use super::state::shows_conditions;
 use crate::fifo::{FIFO_SIZE, ReceiveFifo};
 
@@ -24,7 +24,7 @@ pub struct SerialFields {
     /// The nine registers.
     pub registers: Registers,
     /// The received bytes that no guest has read.
-    pub in_buffer: Places,
+    pub in_buffer: RxRing,
 }
 
 impl SerialFields {
@@ -35,7 +35,7 @@ impl SerialFields {
     {
         SerialFields {
             registers: Registers::new(),
-            in_buffer: Places::new(),
+            in_buffer: RxRing::new(),
         }
     }
 
@@ -115,13 +115,13 @@ impl SerialFields {
         self.registers.interrupts_due()
     }
 
-    /// Whether the port is coherent, as `new` makes it: `held` is at most 64, and `SerialState::is_coherent` holds for
+    /// Whether the port is coherent, as `new` makes it: `len` is at most 64, and `SerialState::is_coherent` holds for
     /// its state.
     pub fn is_coherent(&self) -> bool
         ensures { IsTrue result ↔ CoherentFields self.now }
     {
         let holds_bytes = !self.in_buffer.is_empty();
-        usize::from(self.in_buffer.held) <= FIFO_SIZE
+        usize::from(self.in_buffer.len) <= FIFO_SIZE
             && has_bits(self.registers.line_status, LSR_DATA_READY_BIT) == holds_bytes
             && shows_conditions(self.registers.interrupt_identification, holds_bytes)
     }

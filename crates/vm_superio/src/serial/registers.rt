@@ -1,8 +1,8 @@
 //! The registers of a 16550: which one an offset reaches, and the nine bytes that they hold.
 ghost use Rattle.std.specs.Prelude.{◌≡◌, if◌then◌else◌, []};
-ghost use Rattle.vm_superio.specs.Port.Bits.{has_bits};
-ghost use Rattle.vm_superio.specs.Port.SavedState.{fresh_state};
-ghost use Rattle.vm_superio.specs.Port.SavedState.{state_of, state_with};
+ghost use Rattle.vm_superio.specs.Bits.{has_bits};
+ghost use Rattle.vm_superio.specs.Serial.Port.SavedState.{fresh_state};
+ghost use Rattle.vm_superio.specs.Serial.Port.SavedState.{state_of, state_with};
 
 use super::SerialState;
 use super::bits::{
@@ -51,8 +51,8 @@ pub(super) enum Condition {
 }
 
 impl Condition {
-    ghost use Rattle.vm_superio.specs.Port.CodeNames.{condition_of};
-    ghost use Rattle.vm_superio.specs.Port.Registers.{ier_bit, iir_bit};
+    ghost use Rattle.vm_superio.specs.Serial.Port.CodeNames.{condition_of};
+    ghost use Rattle.vm_superio.specs.Serial.Port.Registers.{ier_bit, iir_bit};
 
     /// The bit of IER that enables it.
     pub(super) fn ier_bit(self) -> u8
@@ -100,8 +100,8 @@ pub struct Registers {
 }
 
 impl Registers {
-    ghost use Rattle.vm_superio.specs.Port.CodeNames.{register_of};
-    ghost use Rattle.vm_superio.specs.Port.Registers.{register_at, is_dlab, is_loopback, msr_read};
+    ghost use Rattle.vm_superio.specs.Serial.Port.CodeNames.{register_of};
+    ghost use Rattle.vm_superio.specs.Serial.Port.Registers.{register_at, is_dlab, is_loopback, msr_read};
 
     /// The registers of a fresh port.
     pub(super) fn new() -> Registers

@@ -1,13 +1,13 @@
 //! A restore: what a port takes from a saved state, and its trigger calls.
 ghost use Rattle.std.specs.Prelude.{◌≡◌, ◌≤◌, List, [], length, Result, OnOk, IfOk, IfErr};
-ghost use Rattle.vm_superio.specs.Port.CodeNames.{condition_of};
-ghost use Rattle.vm_superio.specs.Port.ObjectLinks.{all_ok, StopsAtRefusal};
-ghost use Rattle.vm_superio.specs.Port.SavedState.{state_of, state_with};
-ghost use Rattle.vm_superio.specs.Step.Restore.{is_asserted, restore_calls, RefusesRestore};
+ghost use Rattle.vm_superio.specs.Serial.Port.CodeNames.{condition_of};
+ghost use Rattle.vm_superio.specs.Links.Objects.{all_ok, StopsAtRefusal};
+ghost use Rattle.vm_superio.specs.Serial.Port.SavedState.{state_of, state_with};
+ghost use Rattle.vm_superio.specs.Serial.Step.Restore.{is_asserted, restore_calls, RefusesRestore};
 
 use super::bits::has_bits;
+use super::recorded::call_trigger;
 use super::registers::{Condition, Registers};
-use super::traced::call_trigger;
 use super::{Error, SerialState};
 use crate::Trigger;
 use crate::fifo::{FIFO_SIZE, Fifo};
@@ -25,13 +25,13 @@ impl Registers {
     /// How often a restore calls the trigger: once for each condition that is pending and enabled.
     pub(super) fn interrupts_due(&self) -> u8
         ensures calls { result ≡ length (restore_calls (state_with self.now [])) }
-        ensures few { result ≤ 2 }
+        ensures at_most_2 { result ≤ 2 }
     {
         u8::from(self.is_asserted(Condition::Thre)) + u8::from(self.is_asserted(Condition::Rda))
     }
 
     /// Calls the trigger once for each condition that is pending and enabled, up to the first refusal.
-    pub(super) fn assert_again<T: Trigger>(&self, trigger: &mut T) -> Result<(), T::E>
+    pub(super) fn reassert<T: Trigger>(&self, trigger: &mut T) -> Result<(), T::E>
         ensures accepted { OnOk result (T.link trigger.old (all_ok (restore_calls (state_with self.now []))) trigger.new) }
         ensures refused { IfErr result (λ refusal. (answers : List (Result (Unit {0}) T.E))
             × StopsAtRefusal (restore_calls (state_with self.now [])) refusal answers
@@ -59,7 +59,7 @@ pub(super) fn restored<T: Trigger>(
     }
     let in_buffer = Fifo::from_slice(alloc, &state.in_buffer)?;
     let registers = Registers::of(state);
-    match registers.assert_again(trigger) {
+    match registers.reassert(trigger) {
         Ok(()) => Ok((registers, in_buffer)),
         Err(refusal) => Err(Error::Trigger(refusal)),
     }

@@ -1,17 +1,17 @@
 //! The byte form of a serial port's state.
 ghost use Rattle.std.specs.Prelude.{◌≡◌, ◌↔◌, ◌≤◌, ◌+◌, length, List, ℕ, ◌++◌, IfOk, IfErr, IsOk, IfSome, MatchResult};
 ghost use Rattle.std.specs.Result.{result_err, IsOkAnd};
-ghost use Rattle.vm_superio.specs.Port.SavedState.{state_of, state_with};
-ghost use Rattle.vm_superio.specs.Port.State.{State};
-ghost use Rattle.vm_superio.specs.Port.Fields.{state_of_fields};
-ghost use Rattle.vm_superio.specs.Port.Places.{held_bytes};
+ghost use Rattle.vm_superio.specs.Serial.Port.SavedState.{state_of, state_with};
+ghost use Rattle.vm_superio.specs.Serial.Port.State.{State};
+ghost use Rattle.vm_superio.specs.Serial.Port.Fields.{state_of_fields};
+ghost use Rattle.vm_superio.specs.Serial.Port.RxRing.{held_bytes};
 ghost use Rattle.vm_superio.specs.Saved.Form.{serial_contents, serial_form};
 ghost use Rattle.vm_superio.specs.Saved.Faults.{serial_fault};
 
 use super::SerialState;
 use super::fields::SerialFields;
-use super::places::Places;
 use super::registers::Registers;
+use super::rx_ring::RxRing;
 use crate::fifo::{FIFO_SIZE, ReceiveFifo};
 use crate::saved::{Error, SERIAL_KIND, contents_of, header};
 use arrayvec::ArrayVec;
@@ -34,7 +34,7 @@ impl SerialState {
     /// Returns [`Error::TooManyBytes`] if the state has more than 64 received bytes, and so no form.
     pub fn to_bytes(&self) -> Result<ArrayVec<u8, SAVED_MAX>, Error>
         ensures form { IfOk result (λ bytes. bytes.items ≡ serial_form (state_of self.now)) }
-        ensures few { IsOk result ↔ (length self.now.in_buffer.items ≤ 64) }
+        ensures at_most_64 { IsOk result ↔ (length self.now.in_buffer.items ≤ 64) }
         ensures too_many { IfErr result (λ error. error ≡ Error.TooManyBytes) }
     {
         if self.in_buffer.len() > FIFO_SIZE {
@@ -56,7 +56,7 @@ impl SerialState {
         ensures form { IfOk result (λ state. bytes.now ≡ serial_form (state_of state)) }
         ensures read { (state : State) → length state.in_buffer ≤ 64 → bytes.now ≡ serial_form state →
             MatchResult result (λ saved. state_of saved ≡ state) (λ error. error ≡ Error.Memory) }
-        ensures few { IfOk result (λ state. length state.in_buffer.items ≤ 64) }
+        ensures at_most_64 { IfOk result (λ state. length state.in_buffer.items ≤ 64) }
         ensures fault { IfSome (serial_fault bytes.now) (λ fault. result ≡ Err fault) }
         ensures memory { serial_fault bytes.now ≡ None → IfErr result (λ error. error ≡ Error.Memory) }
     {
@@ -84,13 +84,13 @@ impl SerialFields {
     /// [`Error::Memory`].
     pub fn from_bytes(bytes: &[u8]) -> Result<SerialFields, Error>
         ensures form { IfOk result (λ port. bytes.now ≡ serial_form (state_of_fields port)) }
-        ensures few { IfOk result (λ port. port.in_buffer.held ≤ 64) }
+        ensures at_most_64 { IfOk result (λ port. port.in_buffer.len ≤ 64) }
         ensures read { (state : State) → length state.in_buffer ≤ 64 → bytes.now ≡ serial_form state →
             IsOkAnd result (λ port. state_of_fields port ≡ state) }
         ensures fault { result_err result ≡ serial_fault bytes.now }
     {
         let (registers, held) = registers_of(bytes)?;
-        let mut in_buffer = Places::new();
+        let mut in_buffer = RxRing::new();
         in_buffer.fill(held);
         Ok(SerialFields {
             registers,
@@ -100,7 +100,7 @@ impl SerialFields {
 }
 
 /// Adds the held bytes, oldest first.
-fn push_held(form: &mut ArrayVec<u8, SAVED_MAX>, mut held: Places)
+fn push_held(form: &mut ArrayVec<u8, SAVED_MAX>, mut held: RxRing)
     requires { length form.old.items + length (held_bytes held) ≤ 81 }
     ensures { form.new.items ≡ form.old.items ++ held_bytes held }
 {
@@ -143,7 +143,7 @@ impl Registers {
 /// As for [`SerialState::from_bytes`], except memory.
 pub(super) fn registers_of(bytes: &[u8]) -> Result<(Registers, &[u8]), Error>
     ensures form { IfOk result (λ found. bytes.now ≡ serial_form (state_with found.0 found.1.now)) }
-    ensures few { IfOk result (λ found. length found.1.now ≤ 64) }
+    ensures at_most_64 { IfOk result (λ found. length found.1.now ≤ 64) }
     ensures fault { result_err result ≡ serial_fault bytes.now }
 {
     let contents = contents_of(SERIAL_KIND, bytes)?;

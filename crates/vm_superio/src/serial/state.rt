@@ -1,8 +1,8 @@
 //! A saved serial port.
 ghost use Rattle.std.specs.Prelude.{◌≡◌, ◌↔◌, Bool, IfOk, IsTrue};
-ghost use Rattle.vm_superio.specs.Port.SavedState.{fresh_state};
-ghost use Rattle.vm_superio.specs.Port.Coherent.{Coherent};
-ghost use Rattle.vm_superio.specs.Port.Registers.{identification_of};
+ghost use Rattle.vm_superio.specs.Serial.Port.SavedState.{fresh_state};
+ghost use Rattle.vm_superio.specs.Serial.Port.Coherent.{Coherent};
+ghost use Rattle.vm_superio.specs.Serial.Port.Registers.{identification_of};
 
 use super::bits::{LSR_DATA_READY_BIT, has_bits};
 use super::registers::Registers;
@@ -37,7 +37,7 @@ pub struct SerialState {
 }
 
 impl SerialState {
-    ghost use Rattle.vm_superio.specs.Port.SavedState.{state_of};
+    ghost use Rattle.vm_superio.specs.Serial.Port.SavedState.{state_of};
 
     /// The state of a new port. Allocates no memory.
     pub fn default(alloc: Global) -> SerialState

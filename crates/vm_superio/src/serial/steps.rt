@@ -2,17 +2,18 @@
 //! with every receive FIFO, and call no object: a step returns what is left to do, which is a byte to send, an
 //! interrupt to ask for, or an event to report.
 ghost use Rattle.std.specs.Prelude.{◌≡◌, ◌≤◌, if◌then◌else◌, length, slice_index};
-ghost use Rattle.vm_superio.specs.Port.State.{not_empty};
-ghost use Rattle.vm_superio.specs.Port.Bits.{only_bits, with_bits, lsr_dr_bit};
-ghost use Rattle.vm_superio.specs.Port.CodeNames.{register_of, condition_of};
-ghost use Rattle.vm_superio.specs.Port.Registers.{Rda, Thre, RbrThr, is_loopback, register_read};
-ghost use Rattle.vm_superio.specs.Port.Operations.{one_if, is_first_of_two_refused};
-ghost use Rattle.vm_superio.specs.Port.OpKinds.{write_kind, sent_by};
-ghost use Rattle.vm_superio.specs.Port.SavedState.{state_with};
-ghost use Rattle.vm_superio.specs.Port.Effects.{events_of_read};
-ghost use Rattle.vm_superio.specs.Step.Raising.{becomes_pending, raise, lower, bytes_that_fit, receive_bytes};
-ghost use Rattle.vm_superio.specs.Step.Transition.{rbr_read, ier_write, read_step, write_step, read_events};
-ghost use Rattle.vm_superio.specs.Step.Admissible.{ier_write_calls, arrival_calls, kind_calls};
+ghost use Rattle.vm_superio.specs.Serial.Port.State.{not_empty};
+ghost use Rattle.vm_superio.specs.Bits.{only_bits, with_bits};
+ghost use Rattle.vm_superio.specs.Serial.Port.Bits.{lsr_dr_bit};
+ghost use Rattle.vm_superio.specs.Serial.Port.CodeNames.{register_of, condition_of};
+ghost use Rattle.vm_superio.specs.Serial.Port.Registers.{Rda, Thre, RbrThr, is_loopback, register_read};
+ghost use Rattle.vm_superio.specs.Serial.Port.Operations.{count_if, is_first_of_two_refused};
+ghost use Rattle.vm_superio.specs.Serial.Port.OpKinds.{write_kind, sent_by};
+ghost use Rattle.vm_superio.specs.Serial.Port.SavedState.{state_with};
+ghost use Rattle.vm_superio.specs.Serial.Port.Effects.{events_of_read};
+ghost use Rattle.vm_superio.specs.Serial.Step.Raising.{becomes_pending, raise, lower, bytes_that_fit, receive_bytes};
+ghost use Rattle.vm_superio.specs.Serial.Step.Transition.{rbr_read, ier_write, read_step, write_step, read_events};
+ghost use Rattle.vm_superio.specs.Serial.Step.Admissible.{ier_write_calls, arrival_calls, kind_calls};
 
 use super::bits::{
     IER_UART_VALID_BITS, IIR_FIFO_BITS, IIR_NONE_BIT, LSR_DATA_READY_BIT, has_bits, only_bits,
@@ -58,7 +59,7 @@ impl Registers {
     /// call the trigger.
     fn write_ier<F: ReceiveFifo>(&mut self, fifo: &F, value: u8) -> u8
         ensures due { result ≡ ier_write_calls (only_bits value 0x0F) (state_with self.old (F.held fifo.now)) }
-        ensures few { result ≤ 2 }
+        ensures at_most_2 { result ≤ 2 }
         ensures state { state_with self.new (F.held fifo.now)
             ≡ ier_write (only_bits value 0x0F) Asked.Nothing (state_with self.old (F.held fifo.now)) }
     {
@@ -102,7 +103,7 @@ impl Registers {
     /// to call the trigger.
     pub(super) fn receive<F: ReceiveFifo>(&mut self, fifo: &mut F, bytes: &[u8]) -> (usize, bool)
         ensures count { result.0 ≡ length (bytes_that_fit (F.held fifo.old) bytes.now) }
-        ensures due { one_if result.1
+        ensures due { count_if result.1
             ≡ arrival_calls (bytes_that_fit (F.held fifo.old) bytes.now) (state_with self.old (F.held fifo.old)) }
         ensures state { state_with self.new (F.held fifo.new)
             ≡ receive_bytes (bytes_that_fit (F.held fifo.old) bytes.now) (state_with self.old (F.held fifo.old)) }
@@ -180,7 +181,7 @@ impl Registers {
             result.sends ≡ not_empty (sent_by kind) }
         ensures interrupts { let kind = write_kind (register_of register) (is_loopback self.old.modem_control) value in
             result.interrupts ≡ kind_calls kind (state_with self.old (F.held fifo.old)) }
-        ensures few { result.interrupts ≤ 2 }
+        ensures at_most_2 { result.interrupts ≤ 2 }
         ensures state { state_with self.new (F.held fifo.new)
             ≡ write_step (register_of register) value Asked.Nothing (state_with self.old (F.held fifo.old)) }
         ensures canonical { F.canonical fifo.old → F.canonical fifo.new }

@@ -1,12 +1,12 @@
 -- By the laws of one call: the input went behind no byte, and each read gives the oldest byte and leaves the others.
 use Rattle.std.proofs.Common.{rules, ◌≡◌, ◌-◌, ◌<◌, [], ◌∷◌, ◌++◌, length, take, sym, ap, ◌∙◌, append-nil, append_assoc, arith}
 use Rattle.std.proofs.lemmas.List.{nil_from_length}
-use Rattle.vm_superio.specs.Port.Bits.{has_bits}
-use Rattle.vm_superio.specs.Port.State.{State}
-use Rattle.vm_superio.specs.Port.SavedState.{fresh_state}
-use Rattle.vm_superio.specs.Port.Registers.{is_dlab}
-use Rattle.vm_superio.specs.Port.Operations.{Enqueue}
-use Rattle.vm_superio.specs.Step.Transition.{step}
+use Rattle.vm_superio.specs.Bits.{has_bits}
+use Rattle.vm_superio.specs.Serial.Port.State.{State}
+use Rattle.vm_superio.specs.Serial.Port.SavedState.{fresh_state}
+use Rattle.vm_superio.specs.Serial.Port.Registers.{is_dlab}
+use Rattle.vm_superio.specs.Serial.Port.Operations.{Enqueue}
+use Rattle.vm_superio.specs.Serial.Step.Transition.{step}
 use Rattle.superio_examples.proofs.first_claim.read_back.Goals as goal
 
 pub loop-init : goal.loop-init
@@ -20,7 +20,7 @@ loop-init g c =
     rw nothing_read record {
       latch_hidden = ap (λ (s : State). is_dlab s.line_control) after;
       in_order = ap (λ (s : State). s.in_buffer) after;
-      to_come = omega (arith, c.fifo_capacity-held.ensures.whole);
+      to_come = omega (arith, c.fifo_capacity-held.ensures.room_plus_held);
     }
 
 pub loop-preserved : goal.loop-preserved

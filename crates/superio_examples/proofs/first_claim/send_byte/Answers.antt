@@ -1,8 +1,8 @@
 -- By the law of a THR write: `Ok` says that the writer took the byte.
 use Rattle.std.proofs.Common.{◌≡◌, Result, Ok, Err, OnOk}
 use Rattle.vm_superio.specs.declared.serial.errors.Error.{Error}
-use Rattle.vm_superio.specs.Port.Operations.{Response, WriteOk}
-use Rattle.vm_superio.specs.Port.Model.{write_response}
+use Rattle.vm_superio.specs.Serial.Port.Operations.{Response, WriteOk}
+use Rattle.vm_superio.specs.Serial.Port.Model.{write_response}
 use Rattle.superio_examples.proofs.first_claim.send_byte.Goals as goal
 
 -- what follows from the response `Ok` holds where the result is `Ok`

@@ -2,9 +2,9 @@
 use Rattle.std.proofs.Common.{◌≡◌, Option, Some, None, Result, Err, IfSome, refl, sym, ap, subst, ◌∙◌}
 use Rattle.vm_superio.specs.declared.saved.Error.{Error}
 use Rattle.vm_superio.specs.declared.saved.Error.TheVariants.{Memory}
-use Rattle.vm_superio.specs.Port.ObjectLinks.{all_ok}
+use Rattle.vm_superio.specs.Links.Objects.{all_ok}
 use Rattle.vm_superio.specs.Saved.Form.{serial_form, clock_form}
-use Rattle.vm_superio.specs.Step.Restore.{restore_calls}
+use Rattle.vm_superio.specs.Serial.Step.Restore.{restore_calls}
 use Rattle.superio_examples.specs.Migration.{IsFaultOf, first_fault}
 use Rattle.superio_examples.proofs.migration.restore.Goals as goal
 

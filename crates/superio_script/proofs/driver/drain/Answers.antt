@@ -1,10 +1,10 @@
 -- A read of LCR or LSR changes nothing, and a read of RBR is the next one of those that take all bytes.
 use Rattle.std.proofs.Common.{[], ◌∷◌, ◌++◌, sym, ap, ◌∙◌, subst, append_assoc, append-nil, refl, arith}
 use Rattle.std.proofs.lemmas.Bool.{false≢true}
-use Rattle.vm_superio.specs.Port.Bits.{has_bits}
-use Rattle.vm_superio.specs.Port.State.{State}
-use Rattle.vm_superio.specs.Port.Model.{Port}
-use Rattle.vm_superio.specs.Port.Registers.{is_dlab}
+use Rattle.vm_superio.specs.Bits.{has_bits}
+use Rattle.vm_superio.specs.Serial.Port.State.{State}
+use Rattle.vm_superio.specs.Serial.Port.Model.{Port}
+use Rattle.vm_superio.specs.Serial.Port.Registers.{is_dlab}
 use Rattle.superio_script.specs.Driver.{ReadsWhileReady}
 use Rattle.superio_script.proofs.DriverLemmas.{reads_left-few, lcr_read, lsr_read, pass, coherent_after, takes_all}
 use Rattle.superio_script.proofs.driver.drain.Goals as goal
@@ -14,12 +14,12 @@ loop-bytes-init g c =
     let T = g.row.T.Denot in
     let EV = g.row.EV.Denot in
     let W = g.row.W.Denot in
-    let same = c.read.ensures.other refl in
+    let same = c.read.ensures.rest_unchanged refl in
     let value = lcr_read g.T.Trigger.link g.EV.SerialEvents.link g.W.Write.contents c.read.result c.args.serial.now c.read.new.self c.read.ensures.step in
     record {
       hidden = ap (λ (port : Port T EV W). is_dlab port.state.line_control) same
           ∙ ap (λ byte. has_bits byte 0x80) (sym value) ∙ sym c.shows_latch.ensures ∙ c.if-shows_latch.false;
-      room = rw c.new-bytes.ensures (omega (arith, reads_left-few c.read.new.self.state c.read.ensures.few));
+      room = rw c.new-bytes.ensures (omega (arith, reads_left-few c.read.new.self.state c.read.ensures.at_most_64));
       whole = λ later end h. rw c.new-bytes.ensures
           (subst (λ (port : Port T EV W). ReadsWhileReady g.T.Trigger.link g.EV.SerialEvents.link g.W.Write.contents later port end) same h);
       trigger = c.read.ensures.trigger;
@@ -30,7 +30,7 @@ pub push-requires : goal.push-requires
 push-requires g c =
     let one = pass g.T.Trigger.link g.EV.SerialEvents.link g.W.Write.contents c.one_call.ensures.data_ready c.read-in-loop-bytes.result
     c.read-in-loop-bytes-2.result c.loop-bytes.serial c.read-in-loop-bytes.new.self c.read-in-loop-bytes-2.new.self
-    c.loop-bytes.invariant.hidden c.read-in-loop-bytes.ensures.step (c.read-in-loop-bytes.ensures.other refl)
+    c.loop-bytes.invariant.hidden c.read-in-loop-bytes.ensures.step (c.read-in-loop-bytes.ensures.rest_unchanged refl)
     (sym c.shows_data.ensures ∙ c.loop-bytes-test.true) c.read-in-loop-bytes-2.ensures.step in
     (omega arith, omega (arith, c.loop-bytes.invariant.room, one.less))
 
@@ -38,7 +38,7 @@ pub loop-bytes-smaller : goal.loop-bytes-smaller
 loop-bytes-smaller g c =
     let one = pass g.T.Trigger.link g.EV.SerialEvents.link g.W.Write.contents c.one_call.ensures.data_ready c.read-in-loop-bytes.result
     c.read-in-loop-bytes-2.result c.loop-bytes.serial c.read-in-loop-bytes.new.self c.read-in-loop-bytes-2.new.self
-    c.loop-bytes.invariant.hidden c.read-in-loop-bytes.ensures.step (c.read-in-loop-bytes.ensures.other refl)
+    c.loop-bytes.invariant.hidden c.read-in-loop-bytes.ensures.step (c.read-in-loop-bytes.ensures.rest_unchanged refl)
     (sym c.shows_data.ensures ∙ c.loop-bytes-test.true) c.read-in-loop-bytes-2.ensures.step in
     omega (arith, one.less)
 
@@ -47,7 +47,7 @@ loop-bytes-preserved g c =
     let before = c.loop-bytes.invariant in
     let one = pass g.T.Trigger.link g.EV.SerialEvents.link g.W.Write.contents c.one_call.ensures.data_ready c.read-in-loop-bytes.result
     c.read-in-loop-bytes-2.result c.loop-bytes.serial c.read-in-loop-bytes.new.self c.read-in-loop-bytes-2.new.self
-    c.loop-bytes.invariant.hidden c.read-in-loop-bytes.ensures.step (c.read-in-loop-bytes.ensures.other refl)
+    c.loop-bytes.invariant.hidden c.read-in-loop-bytes.ensures.step (c.read-in-loop-bytes.ensures.rest_unchanged refl)
     (sym c.shows_data.ensures ∙ c.loop-bytes-test.true) c.read-in-loop-bytes-2.ensures.step in
     record {
       hidden = one.hidden;
@@ -60,22 +60,22 @@ loop-bytes-preserved g c =
 
 pub returns-clause-reads : goal.returns-clause-reads
 returns-clause-reads g c = rw (← append-nil c.loop-bytes.bytes.items)
-    (c.loop-bytes.invariant.whole [] c.read-in-loop-bytes.new.self (c.read-in-loop-bytes.ensures.other refl))
+    (c.loop-bytes.invariant.whole [] c.read-in-loop-bytes.new.self (c.read-in-loop-bytes.ensures.rest_unchanged refl))
 
-pub returns-clause-few : goal.returns-clause-few
-returns-clause-few g c = omega (arith, c.loop-bytes.invariant.room)
+pub returns-clause-at_most_64 : goal.returns-clause-at_most_64
+returns-clause-at_most_64 g c = omega (arith, c.loop-bytes.invariant.room)
 
-pub returns-clause-latch : goal.returns-clause-latch
-returns-clause-latch g c = λ set.
+pub returns-clause-dlab_reads_nothing : goal.returns-clause-dlab_reads_nothing
+returns-clause-dlab_reads_nothing g c = λ set.
     let value = lcr_read g.T.Trigger.link g.EV.SerialEvents.link g.W.Write.contents c.read.result c.args.serial.now c.read.new.self c.read.ensures.step in
     let clear = ap (λ byte. has_bits byte 0x80) (sym value) ∙ sym c.shows_latch.ensures ∙ c.if-shows_latch.false in
     absurd (false≢true (sym clear ∙ set))
 
-pub returns-clause-ends : goal.returns-clause-ends
-returns-clause-ends g c = λ hidden.
+pub returns-clause-stops_when_not_ready : goal.returns-clause-stops_when_not_ready
+returns-clause-stops_when_not_ready g c = λ hidden.
     let value = lsr_read g.T.Trigger.link g.EV.SerialEvents.link g.W.Write.contents c.read-in-loop-bytes.result c.loop-bytes.serial c.read-in-loop-bytes.new.self
     c.read-in-loop-bytes.ensures.step in
-    ap (λ (port : Port g.row.T.Denot g.row.EV.Denot g.row.W.Denot). has_bits port.state.line_status 0x01) (c.read-in-loop-bytes.ensures.other refl)
+    ap (λ (port : Port g.row.T.Denot g.row.EV.Denot g.row.W.Denot). has_bits port.state.line_status 0x01) (c.read-in-loop-bytes.ensures.rest_unchanged refl)
     ∙ ap (λ byte. has_bits byte 0x01) (sym value) ∙ sym c.shows_data.ensures ∙ c.loop-bytes-test.false
 
 pub returns-clause-trigger : goal.returns-clause-trigger
@@ -88,7 +88,7 @@ pub returns-clause-all : goal.returns-clause-all
 returns-clause-all g c = λ is hidden.
     takes_all g.T.Trigger.link g.EV.SerialEvents.link g.W.Write.contents g.met.EV.SerialEvents.no_event g.met.EV.SerialEvents.joined
     c.coherence.ensures c.loop-bytes.bytes.items c.args.serial.now c.read-in-loop-bytes.new.self is hidden (returns-clause-reads g c)
-    (returns-clause-ends g c hidden)
+    (returns-clause-stops_when_not_ready g c hidden)
 
 pub returns-clause-no_loss : goal.returns-clause-no_loss
 returns-clause-no_loss g c = λ is.

@@ -1,7 +1,7 @@
 -- What was read so far, and that the reads that are to come make it whole.
 use Rattle.std.proofs.Common.{◌≡◌, ◌≤◌, ◌+◌, ◌++◌, length, false, List, ℕ}
-use Rattle.vm_superio.specs.Port.Model.{Port}
-use Rattle.vm_superio.specs.Port.Registers.{is_dlab}
+use Rattle.vm_superio.specs.Serial.Port.Model.{Port}
+use Rattle.vm_superio.specs.Serial.Port.Registers.{is_dlab}
 use Rattle.superio_script.specs.Driver.{ReadsWhileReady}
 use Rattle.superio_script.proofs.DriverLemmas.{reads_left}
 use Rattle.superio_script.proofs.driver.drain.Given as goal

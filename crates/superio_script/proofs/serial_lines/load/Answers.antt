@@ -1,6 +1,6 @@
 -- Bytes that are a state restore the port, and other bytes change nothing.
 use Rattle.std.proofs.Common.{Err, refl}
-use Rattle.vm_superio.specs.Port.SavedState.{state_of}
+use Rattle.vm_superio.specs.Serial.Port.SavedState.{state_of}
 use Rattle.vm_superio.specs.Saved.Faults.{serial_fault}
 use Rattle.superio_script.specs.Loading.{port_in}
 use Rattle.superio_script.proofs.LoadingLemmas.{port-loaded, port-refused}
@@ -12,7 +12,7 @@ returns-in-Ok-clause-step c =
     let old = c.args.serial.now in
     let new = c.restore_from.new.serial in
     let state = state_of c.in-Ok.state in
-    let loads = port-loaded c.args.bytes.now state c.in-Ok.ensures.few c.in-Ok.ensures.form in
+    let loads = port-loaded c.args.bytes.now state c.in-Ok.ensures.at_most_64 c.in-Ok.ensures.form in
     reply-weaker c.restore_from.result
     (λ reply restores. load-step old new reply.items c.states_of_history.ensures.state c.args.bytes.now state loads restores)
     c.restore_from.ensures.restore

@@ -3,7 +3,7 @@ use Rattle.std.proofs.Common.{ℕ, List, ap, sym, ◌∙◌, subst}
 use Rattle.vm_superio.specs.Saved.Form.{serial_form}
 use Rattle.superio_script.specs.Board.{IsSerialLineStep}
 use Rattle.superio_script.specs.Reply.{digits_reply}
-use Rattle.superio_script.specs.declared.command.SerialLine.TheVariants.{Save}
+use Rattle.superio_script.specs.declared.command.SerialCommand.TheVariants.{Save}
 use Rattle.superio_script.proofs.SerialScriptLemmas.{save-step}
 use Rattle.superio_script.proofs.serial_lines.save.Goals as goal
 

@@ -1,7 +1,7 @@
 -- Each line is a step of the session.
 use Rattle.std.proofs.Common.{None}
-use Rattle.vm_superio.specs.Port.Model.{write_response, enqueue_response, refusal_in_result}
-use Rattle.vm_superio.specs.Port.Operations.{ByteRead}
+use Rattle.vm_superio.specs.Serial.Port.Model.{write_response, enqueue_response, refusal_in_result}
+use Rattle.vm_superio.specs.Serial.Port.Operations.{ByteRead}
 use Rattle.superio_script.proofs.SerialScriptLemmas.{read-step, drain-step, write-step, enqueue-step, capacity-step, output-step, calls-step, events-step}
 use Rattle.superio_script.proofs.serial_lines.serial_line.Goals as goal
 
@@ -39,4 +39,4 @@ returns-in-Drain-clause-step c =
     let made = c.drain.ensures in
     rw (c.in-Drain.is, c.digits.ensures, c.deref.ensures.0)
     (drain-step (record { registers = c.registers.ensures; held = c.held_bytes.ensures.bytes; states = c.states_of_history.ensures.state; responses = c.states_of_history.ensures.response; steps = c.steps_of_history.ensures; coherence = c.coherence.ensures }) c.drain.result.items c.args.serial.now c.drain.new.serial
-    made.reads made.few made.latch made.ends made.all)
+    made.reads made.at_most_64 made.dlab_reads_nothing made.stops_when_not_ready made.all)

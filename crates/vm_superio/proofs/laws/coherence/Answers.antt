@@ -1,4 +1,4 @@
-use Rattle.vm_superio.proofs.WholeRuns.{coherence_law}
+use Rattle.vm_superio.proofs.Lemmas.Serial.Laws.WholeRuns.{coherence_law}
 use Rattle.vm_superio.proofs.laws.coherence.Goals as goal
 
 pub returns : goal.returns

@@ -1,4 +1,4 @@
-use Rattle.vm_superio.proofs.Interrupts.{interrupt_law}
+use Rattle.vm_superio.proofs.Lemmas.Serial.Laws.Interrupts.{interrupt_law}
 use Rattle.vm_superio.proofs.laws.interrupts.Goals as goal
 
 pub returns : goal.returns

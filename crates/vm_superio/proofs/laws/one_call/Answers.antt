@@ -1,6 +1,6 @@
-use Rattle.vm_superio.proofs.HeldBytes.{one_call, received}
-use Rattle.vm_superio.proofs.BytesRead.{one_read, rbr_read, rbr_data_ready}
-use Rattle.vm_superio.proofs.BytesSent.{thr_write}
+use Rattle.vm_superio.proofs.Lemmas.Serial.Laws.HeldBytes.{one_call, received}
+use Rattle.vm_superio.proofs.Lemmas.Serial.Laws.ReadsAreTaken.{one_read, rbr_read, rbr_data_ready}
+use Rattle.vm_superio.proofs.Lemmas.Serial.Laws.OneCall.{thr_write}
 use Rattle.vm_superio.proofs.laws.one_call.Goals as goal
 
 pub returns-clause-taken : goal.returns-clause-taken

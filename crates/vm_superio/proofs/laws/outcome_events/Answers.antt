@@ -1,4 +1,4 @@
-use Rattle.vm_superio.proofs.OneCall.{events_law}
+use Rattle.vm_superio.proofs.Lemmas.Serial.Laws.Admissibility.{events_law}
 use Rattle.vm_superio.proofs.laws.outcome_events.Goals as goal
 
 pub returns : goal.returns

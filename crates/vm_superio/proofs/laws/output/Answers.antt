@@ -1,4 +1,4 @@
-use Rattle.vm_superio.proofs.Output.{output_law}
+use Rattle.vm_superio.proofs.Lemmas.Serial.Laws.Output.{output_law}
 use Rattle.vm_superio.proofs.laws.output.Goals as goal
 
 pub returns : goal.returns

@@ -1,4 +1,4 @@
-use Rattle.vm_superio.proofs.BytesRead.{reads_are_taken, read_then_held}
+use Rattle.vm_superio.proofs.Lemmas.Serial.Laws.ReadsAreTaken.{reads_are_taken, read_then_held}
 use Rattle.vm_superio.proofs.laws.reads_are_taken.Goals as goal
 
 pub returns-clause-taken : goal.returns-clause-taken

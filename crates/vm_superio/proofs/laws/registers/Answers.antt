@@ -1,4 +1,4 @@
-use Rattle.vm_superio.proofs.RegisterSteps.{register_law}
+use Rattle.vm_superio.proofs.Lemmas.Serial.Laws.Registers.{register_law}
 use Rattle.vm_superio.proofs.laws.registers.Goals as goal
 
 pub returns : goal.returns

@@ -1,4 +1,4 @@
-use Rattle.vm_superio.proofs.StepLaw.{retry_law}
+use Rattle.vm_superio.proofs.Lemmas.Serial.Laws.StepsOfHistory.{retry_law}
 use Rattle.vm_superio.proofs.laws.retries_of_history.Goals as goal
 
 pub returns : goal.returns

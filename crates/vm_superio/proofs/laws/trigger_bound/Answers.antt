@@ -1,4 +1,4 @@
-use Rattle.vm_superio.proofs.Bounds.{trigger_bound_law}
+use Rattle.vm_superio.proofs.Lemmas.Serial.Laws.TriggerBound.{trigger_bound_law}
 use Rattle.vm_superio.proofs.laws.trigger_bound.Goals as goal
 
 pub returns : goal.returns

@@ -1,8 +1,8 @@
 -- A port's own state is never refused for too many bytes.
 use Rattle.std.proofs.Common.{refl, subst}
-use Rattle.vm_superio.specs.Port.State.{State}
-use Rattle.vm_superio.specs.Step.Restore.{RefusesRestore}
-use Rattle.vm_superio.proofs.PublicLemmas.{RefusesOwnState-few}
+use Rattle.vm_superio.specs.Serial.Port.State.{State}
+use Rattle.vm_superio.specs.Serial.Step.Restore.{RefusesRestore}
+use Rattle.vm_superio.proofs.Lemmas.Public.{RefusesOwnState-few}
 use Rattle.vm_superio.proofs.run.restore.Goals as goal
 
 pub returns : goal.returns
@@ -13,7 +13,7 @@ returns g c =
     c.in-Err.ensures.refused in (
       refl,
       refl,
-      RefusesOwnState-few link c.args.serial.now.state refused.error c.args.trigger refused.trigger c.state.ensures.few here,
+      RefusesOwnState-few link c.args.serial.now.state refused.error c.args.trigger refused.trigger c.state.ensures.at_most_64 here,
       c.in-Err.ensures.events_back,
       c.in-Err.ensures.out_back,
       refl,

@@ -1,11 +1,11 @@
 -- A call that was made goes from the run that is left to the run so far.
 use Rattle.std.proofs.Common.{append_assoc, append-nil, ◌∷◌, [], arith}
 use Rattle.std.proofs.lemmas.List.{nil_from_length}
-use Rattle.vm_superio.specs.Port.WriterLink.{port_links}
-use Rattle.vm_superio.specs.Run.Segments.{first_segment}
-use Rattle.vm_superio.specs.Run.Steps.{next_segment}
-use Rattle.vm_superio.proofs.RunHistory.{HistoryTheorem-run}
-use Rattle.vm_superio.proofs.RunSteps.{LawfulLinks, IsAfter-first, GoesOn-made, IsRun-step}
+use Rattle.vm_superio.specs.Links.Writer.{port_links}
+use Rattle.vm_superio.specs.Serial.Run.Segments.{first_segment}
+use Rattle.vm_superio.specs.Serial.Run.Steps.{next_segment}
+use Rattle.vm_superio.proofs.Lemmas.Serial.Run.HistoryTheorem.{HistoryTheorem-run}
+use Rattle.vm_superio.proofs.Lemmas.Serial.Run.Steps.{LawfulLinks, IsAfter-first, GoesOn-made, IsRun-step}
 use Rattle.vm_superio.proofs.run.run.Goals as goal
 
 pub loop-call-init : goal.loop-call-init

@@ -2,10 +2,10 @@
 use Rattle.std.proofs.Common.{◌≤◌, ◌+◌, List, ◌++◌, vec_len}
 use Rattle.std.specs.Prelude.{vec_capacity}
 use Rattle.std.specs.VecDeque.{deque_len}
-use Rattle.vm_superio.specs.Port.WriterLink.{port_links}
-use Rattle.vm_superio.specs.Port.Model.{Port}
-use Rattle.vm_superio.specs.Run.Segments.{Segment, first_segment, IsAfter}
-use Rattle.vm_superio.specs.Run.Steps.{IsRun}
+use Rattle.vm_superio.specs.Links.Writer.{port_links}
+use Rattle.vm_superio.specs.Serial.Port.Model.{Port}
+use Rattle.vm_superio.specs.Serial.Run.Segments.{Segment, first_segment, IsAfter}
+use Rattle.vm_superio.specs.Serial.Run.Steps.{IsRun}
 use Rattle.vm_superio.specs.declared.run.Done.{Done}
 use Rattle.vm_superio.proofs.run.run.Given as goal
 

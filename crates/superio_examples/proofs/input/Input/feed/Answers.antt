@@ -3,9 +3,9 @@ use Rattle.std.proofs.Common.{◌≡◌, ℕ, ◌-◌, ◌≤◌, length, drop, 
 use Rattle.std.specs.List.{refill}
 use Rattle.circular_buffer.specs.Buffer.{Buffer, buffer}
 use Rattle.vm_superio.specs.declared.serial.errors.Error.{Error}
-use Rattle.vm_superio.specs.Step.PortStep.{IsEnqueueStep}
-use Rattle.vm_superio.specs.Port.Model.{refusal_in_result, refusal_in_error}
-use Rattle.vm_superio.specs.Step.Raising.{enqueued_bytes, receive_bytes}
+use Rattle.vm_superio.specs.Serial.Step.PortStep.{IsEnqueueStep}
+use Rattle.vm_superio.specs.Serial.Port.Model.{refusal_in_result, refusal_in_error}
+use Rattle.vm_superio.specs.Serial.Step.Raising.{enqueued_bytes, receive_bytes}
 use Rattle.superio_examples.proofs.InputLemmas.{room-taken, held-waiting, length-accepted, drop-accepted, keep-drop, refusal_in-other}
 use Rattle.superio_examples.proofs.input.Input.feed.Given.{Over}
 use Rattle.superio_examples.proofs.input.Input.feed.Goals as goal

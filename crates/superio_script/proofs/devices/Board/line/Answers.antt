@@ -1,19 +1,19 @@
 -- After a line of the serial port or of the clock, its session goes on.
 use Rattle.std.proofs.Common.{◌≡◌, ℕ, List, Result, Ok, Err, sym, subst}
 use Rattle.std.specs.Prelude.{IfOk, OnErr}
-use Rattle.vm_superio.specs.Clock.Step.{ClockDevice}
-use Rattle.vm_superio.specs.Port.Model.{Port}
+use Rattle.vm_superio.specs.Rtc.Step.{ClockDevice}
+use Rattle.vm_superio.specs.Serial.Port.Model.{Port}
 use Rattle.superio_script.specs.Board.{IsBetweenLines, IsSerialLineStep}
 use Rattle.superio_script.specs.ClockScript.{clock_session_after_line}
 use Rattle.superio_script.specs.Counts.{EventCounts}
 use Rattle.superio_script.specs.InterruptLine.{InterruptLine}
 use Rattle.superio_script.specs.SerialScript.{session_after_line}
-use Rattle.superio_script.specs.declared.command.SerialLine.{SerialLine}
+use Rattle.superio_script.specs.declared.command.SerialCommand.{SerialCommand}
 use Rattle.superio_script.specs.declared.output.Output.{Output}
 use Rattle.superio_script.proofs.devices.Board.line.Goals as goal
 
 after-serial_line :
-    {Reply Failure : Type 0} (items : Reply → List ℕ) (line : SerialLine) (result : Result Reply Failure) (old new : Port InterruptLine EventCounts Output) (rtc : ClockDevice EventCounts) (reset_line : InterruptLine) →
+    {Reply Failure : Type 0} (items : Reply → List ℕ) (line : SerialCommand) (result : Result Reply Failure) (old new : Port InterruptLine EventCounts Output) (rtc : ClockDevice EventCounts) (reset_line : InterruptLine) →
     IfOk result (λ reply. IsSerialLineStep line (items reply) old new) → OnErr result (new ≡ old) → IsBetweenLines old rtc reset_line → IsBetweenLines new rtc reset_line
 after-serial_line items line (Ok reply) old new rtc reset_line step unchanged before =
     let taken = step before.session before.serial in record {

@@ -1,4 +1,4 @@
-use Rattle.vm_superio.proofs.SavedForms.{serial_form-fault, clock_form-fault}
+use Rattle.vm_superio.proofs.Lemmas.Saved.Forms.{serial_form-fault, clock_form-fault}
 use Rattle.vm_superio.proofs.laws.saved.forms_are_read.Goals as goal
 
 pub returns-clause-serial : goal.returns-clause-serial

@@ -1,9 +1,9 @@
 -- A write continues each history, since it leaves the state of its step.
 use Rattle.std.proofs.Common.{◌∙◌, ap}
-use Rattle.vm_superio.specs.Clock.Fields.{state_of_clock}
-use Rattle.vm_superio.specs.Clock.Registers.{write, write_of}
-use Rattle.vm_superio.specs.Clock.Step.{ClockDevice, clock_step}
-use Rattle.vm_superio.proofs.ClockLemmas.{GoesOnByHistory-step}
+use Rattle.vm_superio.specs.Rtc.Fields.{state_of_clock}
+use Rattle.vm_superio.specs.Rtc.Registers.{write, write_of}
+use Rattle.vm_superio.specs.Rtc.Step.{ClockDevice, clock_step}
+use Rattle.vm_superio.proofs.Lemmas.Rtc.History.{GoesOnByHistory-step}
 use Rattle.vm_superio.proofs.rtc_pl031.Rtc.write.Goals as goal
 
 pub returns-then-not-write-clause-history : goal.returns-then-not-write-clause-history

@@ -1,8 +1,8 @@
 -- A step keeps a coherent state coherent.
-use Rattle.vm_superio.specs.Port.Operations.{Read}
-use Rattle.vm_superio.proofs.WholeRuns.{coherence_law}
+use Rattle.vm_superio.specs.Serial.Port.Operations.{Read}
+use Rattle.vm_superio.proofs.Lemmas.Serial.Laws.WholeRuns.{coherence_law}
 use Rattle.vm_superio.proofs.serial.Serial.read.Goals as goal
 
 pub returns-clause-coherent : goal.returns-clause-coherent
 returns-clause-coherent g c = λ before.
-    rw c.traced_read-byte.ensures.state (coherence_law c.args.self.now.state (Read c.args.offset) c.traced_read-byte.result.asked before)
+    rw c.recorded_read-byte.ensures.state (coherence_law c.args.self.now.state (Read c.args.offset) c.recorded_read-byte.result.asked before)

@@ -1,13 +1,13 @@
 -- A step calls the trigger once for each bit that it turns on, and keeps a coherent state coherent.
-use Rattle.vm_superio.specs.Port.Operations.{Write}
-use Rattle.vm_superio.specs.Port.WriterLink.{port_links}
-use Rattle.vm_superio.proofs.PortLemmas.{length-answers_of-step}
-use Rattle.vm_superio.proofs.WholeRuns.{coherence_law}
+use Rattle.vm_superio.specs.Serial.Port.Operations.{Write}
+use Rattle.vm_superio.specs.Links.Writer.{port_links}
+use Rattle.vm_superio.proofs.Lemmas.Serial.Step.PortStep.{length-answers_of-step}
+use Rattle.vm_superio.proofs.Lemmas.Serial.Laws.WholeRuns.{coherence_law}
 use Rattle.vm_superio.proofs.serial.Serial.write.Goals as goal
 
 pub returns-clause-step : goal.returns-clause-step
 returns-clause-step g c =
-    let call = c.traced_write in
+    let call = c.recorded_write in
     let links = port_links g.T.Trigger.link g.EV.SerialEvents.link g.W.Write.contents in
     record {
       asked = call.result.asked;
@@ -18,4 +18,4 @@ returns-clause-step g c =
 
 pub returns-clause-coherent : goal.returns-clause-coherent
 returns-clause-coherent g c = λ before.
-    rw c.traced_write.ensures.state (coherence_law c.args.self.now.state (Write c.args.offset c.args.value) c.traced_write.result.asked before)
+    rw c.recorded_write.ensures.state (coherence_law c.args.self.now.state (Write c.args.offset c.args.value) c.recorded_write.result.asked before)

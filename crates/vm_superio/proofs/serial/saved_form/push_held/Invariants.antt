@@ -1,5 +1,5 @@
 use Rattle.std.proofs.Common.{◌≡◌, ◌+◌, ◌≤◌, ◌++◌, length}
-use Rattle.vm_superio.specs.Port.Places.{held_bytes}
+use Rattle.vm_superio.specs.Serial.Port.RxRing.{held_bytes}
 use Rattle.vm_superio.proofs.serial.saved_form.push_held.Given as goal
 
 -- what was added and what is still held are what was held

@@ -1,8 +1,8 @@
 -- A step keeps a coherent state coherent.
 use Rattle.std.proofs.Common.{sym, ◌∙◌, subst}
-use Rattle.vm_superio.specs.Port.Coherent.{Coherent}
-use Rattle.vm_superio.specs.Port.Fields.{state_of_fields}
-use Rattle.vm_superio.proofs.FieldsLemmas.{receive-coherent}
+use Rattle.vm_superio.specs.Serial.Port.Coherent.{Coherent}
+use Rattle.vm_superio.specs.Serial.Port.Fields.{state_of_fields}
+use Rattle.vm_superio.proofs.Lemmas.Serial.Laws.WholeRunsOfFields.{receive-coherent}
 use Rattle.vm_superio.proofs.serial.fields.SerialFields.enqueue_raw_bytes.Goals as goal
 
 pub returns-clause-coherent : goal.returns-clause-coherent

@@ -1,11 +1,11 @@
 -- A fresh port is coherent.
 use Rattle.std.proofs.Common.{sym, ap, ◌∙◌, subst}
-use Rattle.vm_superio.specs.Port.Coherent.{Coherent}
-use Rattle.vm_superio.specs.Port.SavedState.{state_with}
-use Rattle.vm_superio.proofs.PublicLemmas.{fresh_coherent}
+use Rattle.vm_superio.specs.Serial.Port.Coherent.{Coherent}
+use Rattle.vm_superio.specs.Serial.Port.SavedState.{state_with}
+use Rattle.vm_superio.proofs.Lemmas.Public.{fresh_coherent}
 use Rattle.vm_superio.proofs.serial.fields.SerialFields.new.Goals as goal
 
 pub returns-clause-coherent : goal.returns-clause-coherent
 returns-clause-coherent c =
     let fresh = ap (λ bytes. state_with c.new.result bytes) c.new-2.ensures.bytes ∙ c.new.ensures in
-    (c.new-2.ensures.few, subst Coherent (sym fresh) fresh_coherent)
+    (c.new-2.ensures.at_most_64, subst Coherent (sym fresh) fresh_coherent)

@@ -1,11 +1,11 @@
 -- A step keeps a coherent state coherent.
 use Rattle.std.proofs.Common.{sym, ap, ◌∙◌, subst}
 use Rattle.vm_superio.specs.declared.trace.Asked.{Asked}
-use Rattle.vm_superio.specs.Port.Coherent.{Coherent}
-use Rattle.vm_superio.specs.Port.Fields.{state_of_fields}
-use Rattle.vm_superio.specs.Port.Operations.{Read}
-use Rattle.vm_superio.specs.Step.Transition.{read_step}
-use Rattle.vm_superio.proofs.WholeRuns.{coherence_law}
+use Rattle.vm_superio.specs.Serial.Port.Coherent.{Coherent}
+use Rattle.vm_superio.specs.Serial.Port.Fields.{state_of_fields}
+use Rattle.vm_superio.specs.Serial.Port.Operations.{Read}
+use Rattle.vm_superio.specs.Serial.Step.Transition.{read_step}
+use Rattle.vm_superio.proofs.Lemmas.Serial.Laws.WholeRuns.{coherence_law}
 use Rattle.vm_superio.proofs.serial.fields.SerialFields.read.Goals as goal
 
 pub returns-clause-coherent : goal.returns-clause-coherent

@@ -1,0 +1,5 @@
+pub mod Bits
+pub mod Public
+pub mod Rtc
+pub mod Saved
+pub mod Serial

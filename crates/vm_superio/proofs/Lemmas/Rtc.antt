@@ -1,0 +1,3 @@
+pub mod AlarmDue
+pub mod Examples
+pub mod History

@@ -1,0 +1,5 @@
+pub mod Examples
+pub mod Laws
+pub mod Port
+pub mod Run
+pub mod Step

@@ -1,0 +1,100 @@
+-- Worked examples from other states.
+use Rattle.std.proofs.Common.{◌≡◌, [], ◌∷◌, refl}
+use Rattle.vm_superio.specs.declared.trace.Asked.TheVariants.{Took}
+use Rattle.vm_superio.specs.declared.trace.Sent.TheVariants as sent
+use Rattle.vm_superio.specs.Serial.Port.State.{State}
+use Rattle.vm_superio.specs.Serial.Port.SavedState.{fresh_state}
+use Rattle.vm_superio.specs.Bits.{has_bits, only_bits, with_bits}
+use Rattle.vm_superio.specs.Serial.Port.Registers.{Rda, Thre}
+use Rattle.vm_superio.specs.Serial.Port.Operations.{buffer_read, in_buffer_empty}
+use Rattle.vm_superio.specs.Serial.Step.Restore.{restore_calls}
+use Rattle.vm_superio.proofs.Lemmas.Serial.Examples.Calls.{read, write, store, restore, reported_events, GivenByCases, GivenByBoth, RestoresWith}
+
+-- both conditions are pending and enabled, and a byte is held
+both_pending : State
+both_pending =
+    record fresh_state { interrupt_identification = 0x06; interrupt_enable = 0x03; line_status = 0x61; in_buffer = 0x61 ∷ [] }
+
+both_called_for : RestoresWith both_pending [] (Thre ∷ Rda ∷ [])
+unfolding has_bits both_pending
+both_called_for = (refl, refl)
+
+both_still_pending : GivenByBoth both_pending (restore ∷ read 2 0xC6 ∷ [])
+unfolding has_bits only_bits with_bits both_pending
+both_still_pending = (refl, refl)
+
+-- a state may have any bits of IER; the next write keeps four
+all_enabled : State
+all_enabled = record fresh_state { interrupt_identification = 0x02; interrupt_enable = 0xFF }
+
+enabled_bits_are_cut : GivenByBoth all_enabled (read 1 0xFF ∷ store 1 0xFF ∷ read 1 0x0F ∷ [])
+unfolding has_bits only_bits with_bits all_enabled
+enabled_bits_are_cut = (refl, refl)
+
+thre_called_for : RestoresWith all_enabled [] (Thre ∷ [])
+unfolding has_bits all_enabled
+thre_called_for = (refl, refl)
+
+-- ---- states that are not coherent, by the steps alone
+
+identification_zero : State
+identification_zero = record fresh_state { interrupt_identification = 0x00 }
+
+zero_is_shown_once : GivenByCases identification_zero (read 2 0xC0 ∷ read 2 0xC1 ∷ [])
+unfolding has_bits only_bits with_bits identification_zero
+zero_is_shown_once = refl
+
+zero_calls_for_none : restore_calls identification_zero ≡ []
+unfolding has_bits identification_zero
+zero_calls_for_none = refl
+
+zero_becomes_pending : GivenByCases identification_zero (write 1 0x02 Took sent.Nothing ∷ read 2 0xC2 ∷ [])
+unfolding has_bits only_bits with_bits identification_zero
+zero_becomes_pending = refl
+
+-- data ready with no byte
+ready_for_nothing : State
+ready_for_nothing = record fresh_state { line_status = 0x61 }
+
+nothing_is_read : GivenByCases ready_for_nothing (read 5 0x61 ∷ read 0 0x00 ∷ read 5 0x60 ∷ [])
+unfolding has_bits only_bits with_bits ready_for_nothing
+nothing_is_read = refl
+
+nothing_is_reported : reported_events ready_for_nothing (read 0 0x00 ∷ []) ≡ in_buffer_empty ∷ buffer_read ∷ []
+unfolding has_bits only_bits with_bits ready_for_nothing
+nothing_is_reported = refl
+
+-- every bit of IIR
+all_bits : State
+all_bits = record fresh_state { interrupt_identification = 0xFF; interrupt_enable = 0x03; line_status = 0x00 }
+
+all_bits_are_shown_once : GivenByCases all_bits (read 2 0xFF ∷ read 2 0xC1 ∷ [])
+unfolding has_bits only_bits with_bits all_bits
+all_bits_are_shown_once = refl
+
+all_bits_call_for_both : restore_calls all_bits ≡ Thre ∷ Rda ∷ []
+unfolding has_bits all_bits
+all_bits_call_for_both = refl
+
+rbr_read_clears_one_bit : GivenByCases all_bits (read 0 0x00 ∷ read 2 0xFB ∷ [])
+unfolding has_bits only_bits with_bits all_bits
+rbr_read_clears_one_bit = refl
+
+-- RDA with no byte, and a bit that means nothing
+rda_alone : State
+rda_alone = record fresh_state { interrupt_identification = 0x04 }
+
+rbr_read_leaves_none : GivenByCases rda_alone (read 0 0x00 ∷ read 2 0xC1 ∷ [])
+unfolding has_bits only_bits with_bits rda_alone
+rbr_read_leaves_none = refl
+
+rbr_read_tells_both : reported_events rda_alone (read 0 0x00 ∷ []) ≡ in_buffer_empty ∷ buffer_read ∷ []
+unfolding has_bits only_bits with_bits rda_alone
+rbr_read_tells_both = refl
+
+other_bit : State
+other_bit = record fresh_state { interrupt_identification = 0x08 }
+
+rbr_read_keeps_it : GivenByCases other_bit (read 0 0x00 ∷ read 2 0xC8 ∷ [])
+unfolding has_bits only_bits with_bits other_bit
+rbr_read_keeps_it = refl

@@ -1,0 +1,15 @@
+pub mod Admissibility
+pub mod HeldBytes
+pub mod Interrupts
+pub mod OneCall
+pub mod Output
+pub mod PendingByPrefixes
+pub mod PollingDriver
+pub mod ReadsAreTaken
+pub mod Registers
+pub mod SameReads
+pub mod StepsOfHistory
+pub mod TriggerBound
+pub mod TurnedBits
+pub mod WholeRuns
+pub mod WholeRunsOfFields

@@ -1,0 +1,213 @@
+-- The interrupt law: IIR shows the pending conditions, and an entry is admissible exactly if it is well-formed.
+use Rattle.std.proofs.Common.{◌≡◌, ℕ, ◌+◌, zero-add, add-zero, Bool, true, false, not, ◌==◌, ◌&&◌, ◌||◌, List, [], ◌∷◌, refl, ap, sym, ◌∙◌}
+use Rattle.std.specs.Prelude.{if◌then◌else◌}
+use Rattle.std.specs.Bool.{beq}
+use Rattle.std.proofs.Math.Bool.{and-true}
+use Rattle.vm_superio.specs.declared.trace.Asked.{Asked}
+use Rattle.vm_superio.specs.Serial.Port.State.{State, not_empty}
+use Rattle.vm_superio.specs.Bits.{has_bits, only_bits, without_bits}
+use Rattle.vm_superio.specs.Serial.Port.Registers.{Thre, Rda, identification_of, pending_in_order}
+use Rattle.vm_superio.specs.Serial.Port.Operations.{TraceEntry, is_first_refused, is_sent, count_if, answer_count}
+use Rattle.vm_superio.specs.Serial.Step.Raising.{raise, raise_rda_while_held, becomes_pending, rda_becomes_pending, receive_bytes, bytes_that_fit}
+use Rattle.vm_superio.specs.Serial.Port.OpKinds.{OpKind, RbrRead, IirRead, IerWrite, ThrWrite, Arrival, Other, sent_by, is_iir_read}
+use Rattle.vm_superio.specs.Serial.Step.Admissible.{arrival_calls, kind_calls, answers_all, step_calls, is_admissible}
+use Rattle.vm_superio.specs.Serial.History.Registers.{kind_at, held_bytes}
+use Rattle.vm_superio.specs.Serial.History.Interrupts.{raises_rda, acknowledges, is_pending, raises_thre, is_well_formed_entry, restore_calls_due}
+use Rattle.vm_superio.specs.Serial.History.Reads.{interrupt_identification}
+use Rattle.vm_superio.specs.Serial.Step.Restore.{restore_calls}
+use Rattle.vm_superio.specs.Serial.Laws.Agreement.{state_after, InterruptLaw}
+use Rattle.vm_superio.proofs.Lemmas.Serial.Step.Raising.{rda_bit, thre_bit, read_clears, raise_rda, raise_thre, rda_new, thre_new, ier_write_raises_rda, ier_write_leaves, ier_write_raises_thre, answers_counted}
+use Rattle.vm_superio.proofs.Lemmas.Serial.Step.ByKind.{by_kind, next_at_point, same_kind}
+use Rattle.vm_superio.proofs.Lemmas.Serial.Laws.Registers.{register_law}
+use Rattle.vm_superio.proofs.Lemmas.Serial.Laws.HeldBytes.{held_bytes_law}
+
+-- ---- one operation
+
+-- a trigger call is due for RDA
+abbrev rda_called : OpKind → List ℕ → ℕ → Bool → Bool
+rda_called k held_bytes enable rda = raises_rda k held_bytes enable && not rda
+
+-- the conditions that are pending afterwards
+abbrev pub thre_next : OpKind → List ℕ → ℕ → Asked → Bool → Bool → Bool
+thre_next k held_bytes enable asked thre rda =
+    raises_thre k enable (rda_called k held_bytes enable rda && is_first_refused asked) ||
+    (not (is_iir_read k) && thre)
+
+abbrev pub rda_next : OpKind → List ℕ → ℕ → Bool → Bool
+rda_next k held_bytes enable rda = raises_rda k held_bytes enable || (not (acknowledges Rda k) && rda)
+
+received_pending : (new : List ℕ) (s : State) (thre receive_before : Bool)
+    → s.interrupt_identification ≡ identification_of thre receive_before
+    → (receive_bytes new s).interrupt_identification
+    ≡ identification_of thre ((not_empty new && has_bits s.interrupt_enable 0x01) || receive_before)
+received_pending [] s thre before e = e
+received_pending (byte ∷ bytes) s thre before e =
+    ap (raise Rda s.interrupt_enable) e ∙ raise_rda s.interrupt_enable thre before
+
+-- what an IER write leaves of an IIR, if the trigger refuses for RDA or not
+abbrev enabled_if : Bool → List ℕ → ℕ → ℕ → ℕ
+enabled_if refused held_bytes value old =
+    let new = raise_rda_while_held held_bytes (only_bits value 0x0F) old in
+    if refused then new else raise Thre (only_bits value 0x0F) new
+
+abbrev enabled : List ℕ → ℕ → Asked → ℕ → ℕ
+enabled held_bytes value asked old =
+    enabled_if (rda_becomes_pending held_bytes (only_bits value 0x0F) old && is_first_refused asked) held_bytes value old
+
+-- from IIR of two conditions to that of the next two
+pub pending_by_kind : (k : OpKind) (asked : Asked) (s : State) (thre rda : Bool)
+    → s.interrupt_identification ≡ identification_of thre rda
+    → (by_kind k asked s).interrupt_identification
+    ≡ identification_of (thre_next k s.in_buffer s.interrupt_enable asked thre rda)
+    (rda_next k s.in_buffer s.interrupt_enable rda)
+pending_by_kind RbrRead asked s thre rda e =
+    ap (λ old. let new = without_bits old 0x04 in if new == 0 then 1 else new) e ∙ read_clears thre rda
+pending_by_kind IirRead asked s thre rda e = refl
+pending_by_kind (IerWrite value) asked s thre rda e =
+    ap (λ old. enabled s.in_buffer value asked old) e
+    ∙ ap (λ new. enabled_if (new && is_first_refused asked) s.in_buffer value (identification_of thre rda))
+    (ier_write_raises_rda s.in_buffer value thre rda)
+    ∙ ier_write_leaves
+    (rda_called (IerWrite value) s.in_buffer s.interrupt_enable rda
+    && is_first_refused asked) s.in_buffer value thre rda
+pending_by_kind (ThrWrite value) asked s thre rda e =
+    ap (raise Thre s.interrupt_enable) e ∙ raise_thre s.interrupt_enable thre rda
+pending_by_kind (Arrival bytes) asked s thre rda e =
+    received_pending (bytes_that_fit s.in_buffer bytes) s thre rda e
+pending_by_kind Other asked s thre rda e = e
+
+received_due : (new : List ℕ) (s : State) (thre rda : Bool)
+    → s.interrupt_identification ≡ identification_of thre rda
+    → arrival_calls new s ≡ count_if ((not_empty new && has_bits s.interrupt_enable 0x01) && not rda) + 0
+received_due [] s thre rda e = refl
+received_due (byte ∷ bytes) s thre rda e =
+    ap (λ old. count_if (becomes_pending Rda s.interrupt_enable old)) e
+    ∙ ap count_if (rda_new s.interrupt_enable thre rda) ∙ sym (add-zero _)
+
+-- the calls that are due are those of the conditions that become pending, the second if the first is not refused
+pub due_is : (k : OpKind) (s : State) (thre rda : Bool)
+    → s.interrupt_identification ≡ identification_of thre rda
+    → kind_calls k s
+    ≡ count_if (rda_called k s.in_buffer s.interrupt_enable rda)
+    + count_if (raises_thre k s.interrupt_enable false && not thre)
+due_is (IerWrite value) s thre rda e =
+    let enable = only_bits value 0x0F in
+    ap (λ old. count_if (rda_becomes_pending s.in_buffer enable old)
+    + count_if (becomes_pending Thre enable (raise_rda_while_held s.in_buffer enable old))) e
+    ∙ ap (λ new. count_if new
+    + count_if (becomes_pending Thre enable
+    (raise_rda_while_held s.in_buffer enable (identification_of thre rda))))
+    (ier_write_raises_rda s.in_buffer value thre rda)
+    ∙ ap (λ new. count_if (rda_called (IerWrite value) s.in_buffer s.interrupt_enable rda) + count_if new)
+    (ier_write_raises_thre s.in_buffer value thre rda
+    ∙ ap (λ bit. bit && not thre) (sym (and-true (has_bits value 0x02))))
+due_is (ThrWrite value) s thre rda e =
+    ap (λ old. count_if (becomes_pending Thre s.interrupt_enable old)) e
+    ∙ ap count_if (thre_new s.interrupt_enable thre rda) ∙ sym (zero-add _)
+due_is (Arrival bytes) s thre rda e = received_due (bytes_that_fit s.in_buffer bytes) s thre rda e
+due_is RbrRead s thre rda e = refl
+due_is _ s thre rda e = refl
+
+-- only an IER write may end before THRE
+ends_early : (k : OpKind) (held_bytes : List ℕ) (enable : ℕ) (rda refused : Bool)
+    → (raises_thre k enable false && not (rda_called k held_bytes enable rda && refused))
+    ≡ raises_thre k enable (rda_called k held_bytes enable rda && refused)
+ends_early (IerWrite value) held_bytes enable rda refused =
+    ap (λ raised. raised && not (rda_called (IerWrite value) held_bytes enable rda && refused))
+    (and-true (has_bits value 0x02))
+ends_early (ThrWrite value) held_bytes enable rda refused = and-true (has_bits enable 0x02)
+ends_early _ held_bytes enable rda refused = refl
+
+and_swap : (a b c : Bool) → ((a && b) && c) ≡ ((a && c) && b)
+and_swap true true true = refl
+and_swap true true false = refl
+and_swap true false true = refl
+and_swap true false false = refl
+and_swap false _ _ = refl
+
+-- as many answers as the conditions that become pending
+test_by_kind : (k : OpKind) (asked : Asked) (s : State) (thre rda : Bool)
+    → s.interrupt_identification ≡ identification_of thre rda
+    → let first = rda_called k s.in_buffer s.interrupt_enable rda in
+    answers_all (kind_calls k s) asked
+    ≡ (answer_count asked == count_if first
+    + count_if (raises_thre k s.interrupt_enable (first && is_first_refused asked) && not thre))
+test_by_kind k asked s thre rda e =
+    let first = rda_called k s.in_buffer s.interrupt_enable rda in
+    let second = raises_thre k s.interrupt_enable false in
+    ap (λ calls. answers_all calls asked) (due_is k s thre rda e)
+    ∙ answers_counted first (second && not thre) asked
+    ∙ ap (λ new. answer_count asked == count_if first + count_if new)
+    (and_swap second (not thre) (not (first && is_first_refused asked))
+    ∙ ap (λ raised. raised && not thre) (ends_early k s.in_buffer s.interrupt_enable rda (is_first_refused asked)))
+
+-- ---- any trace
+
+-- IIR shows what is pending
+pending_law : (start : State) (trace : List TraceEntry) (thre rda : Bool)
+    → start.interrupt_identification ≡ identification_of thre rda
+    → (state_after start trace).interrupt_identification ≡ interrupt_identification start trace
+pending_law start [] thre rda e =
+    e ∙ ap (λ bit. identification_of bit rda)
+    (sym (thre_bit thre rda) ∙ ap (λ byte. has_bits byte 0x02) (sym e))
+    ∙ ap (identification_of (has_bits start.interrupt_identification 0x02))
+    (sym (rda_bit thre rda) ∙ ap (λ byte. has_bits byte 0x04) (sym e))
+pending_law start (entry ∷ trace) thre rda e =
+    let s = state_after start trace in
+    let k = kind_at start trace entry.op in
+    let registers = register_law start trace in
+    let t = is_pending Thre start trace in
+    let r = is_pending Rda start trace in
+    let next_of =
+    λ (bytes : List ℕ) (enable : ℕ). identification_of (thre_next k bytes enable entry.asked t r)
+    (rda_next k bytes enable r) in
+    (next_at_point start trace entry).interrupt_identification
+    ∙ pending_by_kind k entry.asked s t r (pending_law start trace thre rda e)
+    ∙ ap (λ bytes. next_of bytes s.interrupt_enable) (held_bytes_law start trace)
+    ∙ ap (next_of (held_bytes start trace)) registers.interrupt_enable
+
+-- an entry is admissible exactly if it is well-formed
+well_formed_law : (start : State) (trace : List TraceEntry) (thre rda : Bool) (entry : TraceEntry)
+    → start.interrupt_identification ≡ identification_of thre rda
+    → is_admissible (state_after start trace) entry.op entry.asked entry.sent ≡ is_well_formed_entry start trace entry
+well_formed_law start trace thre rda entry e =
+    let s = state_after start trace in
+    let k = kind_at start trace entry.op in
+    let registers = register_law start trace in
+    let same = same_kind start trace entry.op in
+    let t = is_pending Thre start trace in
+    let r = is_pending Rda start trace in
+    let outcome_fits = beq (is_sent entry.sent) (not_empty (sent_by k)) in
+    let calls_of = λ (bytes : List ℕ) (enable : ℕ).
+    count_if (rda_called k bytes enable r)
+    + count_if (raises_thre k enable (rda_called k bytes enable r && is_first_refused entry.asked) && not t) in
+    ap (λ test. answers_all (step_calls s entry.op) entry.asked && test)
+    (ap (λ (k : OpKind). beq (is_sent entry.sent) (not_empty (sent_by k))) same)
+    ∙ ap (λ calls. answers_all calls entry.asked && outcome_fits) (ap (λ (k : OpKind). kind_calls k s) same)
+    ∙ ap (λ test. test && outcome_fits)
+    (test_by_kind k entry.asked s t r (pending_law start trace thre rda e)
+    ∙ ap (λ bytes. answer_count entry.asked == calls_of bytes s.interrupt_enable) (held_bytes_law start trace)
+    ∙ ap (λ enable. answer_count entry.asked == calls_of (held_bytes start trace) enable) registers.interrupt_enable)
+
+-- a restore calls the trigger for what is pending and enabled
+restoring_law : (start : State) (trace : List TraceEntry) (thre rda : Bool)
+    → start.interrupt_identification ≡ identification_of thre rda
+    → restore_calls (state_after start trace) ≡ restore_calls_due start trace
+restoring_law start trace thre rda e =
+    let t = is_pending Thre start trace in
+    let r = is_pending Rda start trace in
+    let calls_of =
+    λ (t r : Bool) (enable : ℕ). pending_in_order (t && has_bits enable 0x02) (r && has_bits enable 0x01) in
+    let s = state_after start trace in
+    ap (λ old. calls_of (has_bits old 0x02) (has_bits old 0x04) s.interrupt_enable)
+    (pending_law start trace thre rda e)
+    ∙ ap (λ bit. calls_of bit (has_bits (identification_of t r) 0x04) s.interrupt_enable) (thre_bit t r)
+    ∙ ap (λ bit. calls_of t bit s.interrupt_enable) (rda_bit t r)
+    ∙ ap (calls_of t r) (register_law start trace).interrupt_enable
+
+pub interrupt_law : InterruptLaw
+interrupt_law start trace thre rda e = record {
+  pending = pending_law start trace thre rda e;
+  calls = λ entry. well_formed_law start trace thre rda entry e;
+  restoring = restoring_law start trace thre rda e;
+}

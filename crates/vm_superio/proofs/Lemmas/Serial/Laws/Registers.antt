@@ -1,0 +1,203 @@
+-- The register law: one call leaves in each register what it wrote there, and otherwise what was there.
+use Rattle.std.proofs.Common.{rules, ◌≡◌, ℕ, zero, suc, Bool, true, false, eqb, List, [], ◌∷◌, Option, Some, None, refl, ap, sym, ◌∙◌, ⊎_elim, ◌<◌, lit<, arith}
+use Rattle.std.proofs.lemmas.Bool.Decides.{eqb_tells}
+use Rattle.std.specs.Prelude.{if◌then◌else◌, unwrap_or}
+use Rattle.std.specs.Option.{option_or, option_map_or}
+use Rattle.vm_superio.specs.declared.trace.Asked.{Asked}
+use Rattle.vm_superio.specs.Serial.Port.State.{State}
+use Rattle.vm_superio.specs.Bits.{only_bits}
+use Rattle.vm_superio.specs.Serial.Port.Registers.{Register, RbrThr, Iir, Unassigned, register_at, is_dlab, is_loopback}
+use Rattle.vm_superio.specs.Serial.Port.Operations.{Op, Read, Write, Enqueue, Restore, TraceEntry}
+use Rattle.vm_superio.specs.Serial.Step.Raising.{receive_bytes, enqueued_bytes, bytes_that_fit}
+use Rattle.vm_superio.specs.Serial.Step.Transition.{step, read_step, write_step, thr_write}
+use Rattle.vm_superio.specs.Serial.History.Registers.{value_written_at, last_found, dlab}
+use Rattle.vm_superio.specs.Serial.Laws.Agreement.{RegisterLaw, state_after}
+
+-- ---- one call
+
+-- the call leaves in each register what the operation wrote there, under this DLAB
+pub record Steps (dlab : Bool) (op : Op) (s new : State) : Type 0 where
+  pub divisor_low : new.baud_divisor_low ≡ unwrap_or (if dlab then value_written_at 0 op else None) s.baud_divisor_low
+  pub divisor_high : new.baud_divisor_high ≡ unwrap_or (if dlab then value_written_at 1 op else None) s.baud_divisor_high
+  pub interrupt_enable : new.interrupt_enable
+      ≡ option_map_or (λ value. only_bits value 0x0F) (if dlab then None else value_written_at 1 op) s.interrupt_enable
+  pub line_control : new.line_control ≡ unwrap_or (value_written_at 3 op) s.line_control
+  pub modem_control : new.modem_control ≡ unwrap_or (value_written_at 4 op) s.modem_control
+  pub modem_status : new.modem_status ≡ s.modem_status
+  pub scratch : new.scratch ≡ unwrap_or (value_written_at 7 op) s.scratch
+
+-- the new state has the old one's registers
+SameRegisters : State → State → Type 0
+SameRegisters s new = new ≡ record s {
+  interrupt_identification = new.interrupt_identification;
+  line_status = new.line_status;
+  in_buffer = new.in_buffer;
+}
+
+-- the operation writes nothing that a register keeps
+WritesNothing : Bool → Op → Type 0
+WritesNothing dlab op =
+    ((if dlab then value_written_at 0 op else None) ≡ None)
+    × ((if dlab then value_written_at 1 op else None) ≡ None)
+    × ((if dlab then None else value_written_at 1 op) ≡ None)
+    × (value_written_at 3 op ≡ None)
+    × (value_written_at 4 op ≡ None)
+    × (value_written_at 7 op ≡ None)
+
+kept : (dlab : Bool) (op : Op) (s new : State) → WritesNothing dlab op → SameRegisters s new → Steps dlab op s new
+unfolding WritesNothing SameRegisters
+kept dlab op s new nothing same = record {
+  divisor_low = rw nothing.0 (ap (λ (t : State). t.baud_divisor_low) same);
+  divisor_high = rw nothing.1 (ap (λ (t : State). t.baud_divisor_high) same);
+  interrupt_enable = rw nothing.2 (ap (λ (t : State). t.interrupt_enable) same);
+  line_control = rw nothing.3 (ap (λ (t : State). t.line_control) same);
+  modem_control = rw nothing.4 (ap (λ (t : State). t.modem_control) same);
+  modem_status = ap (λ (t : State). t.modem_status) same;
+  scratch = rw nothing.5 (ap (λ (t : State). t.scratch) same);
+}
+
+received : (bytes : List ℕ) (s : State) → SameRegisters s (receive_bytes bytes s)
+unfolding SameRegisters
+received [] s = refl
+received (byte ∷ bytes) s = refl
+
+read_done : (r : Register) (s : State) → SameRegisters s (read_step r s)
+unfolding SameRegisters
+read_done RbrThr s = refl
+read_done Iir s = refl
+read_done _ s = refl
+
+data_written : (value : ℕ) (loopback : Bool) (s : State) → is_loopback s.modem_control ≡ loopback
+    → SameRegisters s (thr_write value s)
+unfolding SameRegisters
+data_written value true s e = rw e (received (bytes_that_fit s.in_buffer (value ∷ [])) s)
+data_written value false s e = rw e refl
+
+none_either : (b : Bool) → ◌≡◌ {A = Option ℕ} (if b then None else None) None
+none_either true = refl
+none_either false = refl
+
+reads_nothing : (dlab : Bool) (offset : ℕ) → WritesNothing dlab (Read offset)
+unfolding WritesNothing
+reads_nothing dlab offset = (none_either dlab, none_either dlab, none_either dlab, refl, refl, refl)
+
+enqueues_nothing : (dlab : Bool) (bytes : List ℕ) → WritesNothing dlab (Enqueue bytes)
+unfolding WritesNothing
+enqueues_nothing dlab bytes = (none_either dlab, none_either dlab, none_either dlab, refl, refl, refl)
+
+restores_nothing : (dlab : Bool) → WritesNothing dlab Restore
+unfolding WritesNothing
+restores_nothing dlab = (none_either dlab, none_either dlab, none_either dlab, refl, refl, refl)
+
+all_kept : (s : State) → SameRegisters s s
+unfolding SameRegisters
+all_kept s = refl
+
+-- there is no register from offset 8 on
+apart : (n k : ℕ) → k < 8 → eqb (suc (suc (suc (suc (suc (suc (suc (suc n)))))))) k ≡ false
+apart n k below =
+    ⊎_elim (λ same. let e : suc (suc (suc (suc (suc (suc (suc (suc n))))))) ≡ k =
+    same.1 in absurd (omega arith)) (λ other. other.0)
+    (eqb_tells (suc (suc (suc (suc (suc (suc (suc (suc n)))))))) k)
+
+unknown : (dlab : Bool) (n : ℕ) → register_at dlab (suc (suc (suc (suc (suc (suc (suc (suc n)))))))) ≡ Unassigned
+unknown dlab n =
+    simp (
+      apart n 0 (lit< tt),
+      apart n 1 (lit< tt),
+      apart n 2 (lit< tt),
+      apart n 3 (lit< tt),
+      apart n 4
+          (lit< tt),
+      apart n 5 (lit< tt),
+      apart n 6 (lit< tt),
+      apart n 7 (lit< tt),
+    )
+
+nothing_there : (dlab : Bool) (n value : ℕ)
+    → WritesNothing dlab (Write (suc (suc (suc (suc (suc (suc (suc (suc n)))))))) value)
+unfolding WritesNothing
+nothing_there true n value =
+    simp (apart n 0 (lit< tt), apart n 1 (lit< tt), apart n 3 (lit< tt), apart n 4 (lit< tt), apart n 7 (lit< tt))
+    (refl, refl, refl, refl, refl, refl)
+nothing_there false n value =
+    simp (apart n 1 (lit< tt), apart n 3 (lit< tt), apart n 4 (lit< tt), apart n 7 (lit< tt))
+    (refl, refl, refl, refl, refl, refl)
+
+-- a write, offset by offset
+write_done : (dlab : Bool) (offset value : ℕ) (asked : Asked) (s : State)
+    → Steps dlab (Write offset value) s (write_step (register_at dlab offset) value asked s)
+unfolding WritesNothing SameRegisters
+write_done true zero value asked s = search rules
+write_done false zero value asked s =
+    kept false (Write 0 value) s (thr_write value s) (refl, refl, refl, refl, refl, refl)
+    (data_written value _ s refl)
+write_done true (suc zero) value asked s = search rules
+write_done false (suc zero) value asked s = search rules
+write_done true (suc (suc zero)) value asked s = search rules
+write_done false (suc (suc zero)) value asked s = search rules
+write_done true (suc (suc (suc zero))) value asked s = search rules
+write_done false (suc (suc (suc zero))) value asked s = search rules
+write_done true (suc (suc (suc (suc zero)))) value asked s = search rules
+write_done false (suc (suc (suc (suc zero)))) value asked s = search rules
+write_done true (suc (suc (suc (suc (suc zero))))) value asked s = search rules
+write_done false (suc (suc (suc (suc (suc zero))))) value asked s = search rules
+write_done true (suc (suc (suc (suc (suc (suc zero)))))) value asked s = search rules
+write_done false (suc (suc (suc (suc (suc (suc zero)))))) value asked s = search rules
+write_done true (suc (suc (suc (suc (suc (suc (suc zero))))))) value asked s = search rules
+write_done false (suc (suc (suc (suc (suc (suc (suc zero))))))) value asked s = search rules
+write_done dlab (suc (suc (suc (suc (suc (suc (suc (suc n)))))))) value asked s =
+    rw (unknown dlab n)
+    (kept dlab (Write (suc (suc (suc (suc (suc (suc (suc (suc n)))))))) value) s s (nothing_there dlab n value) refl)
+
+pub call_done : (s : State) (op : Op) (asked : Asked) → Steps (is_dlab s.line_control) op s (step s op asked)
+call_done s (Read offset) asked =
+    kept _ (Read offset) s _ (reads_nothing _ offset) (read_done (register_at (is_dlab s.line_control) offset) s)
+call_done s (Write offset value) asked = write_done _ offset value asked s
+call_done s (Enqueue bytes) asked =
+    kept _ (Enqueue bytes) s _ (enqueues_nothing _ bytes) (received (enqueued_bytes s bytes) s)
+call_done s Restore asked = kept _ Restore s s (restores_nothing _) (all_kept s)
+
+-- ---- any trace
+
+unwrap_or-or : (one other : Option ℕ) (byte : ℕ)
+    → unwrap_or (option_or one other) byte ≡ unwrap_or one (unwrap_or other byte)
+unwrap_or-or None other byte = refl
+unwrap_or-or (Some value) other byte = refl
+
+option_map_or-or : (f : ℕ → ℕ) (one other : Option ℕ) (byte : ℕ)
+    → option_map_or f (option_or one other) byte ≡ option_map_or f one (option_map_or f other byte)
+option_map_or-or f None other byte = refl
+option_map_or-or f (Some value) other byte = refl
+
+-- what the newest entry left of what the others left is what the whole trace says
+more : (found : List TraceEntry → Op → Option ℕ) (entry : TraceEntry) (trace : List TraceEntry) (byte old new : ℕ)
+    → old ≡ unwrap_or (last_found found trace) byte → new ≡ unwrap_or (found trace entry.op) old
+    → new ≡ unwrap_or (last_found found (entry ∷ trace)) byte
+more found entry trace byte old new before step =
+    step ∙ ap (unwrap_or (found trace entry.op)) before
+    ∙ sym (unwrap_or-or (found trace entry.op) (last_found found trace) byte)
+
+more_masked : (found : List TraceEntry → Op → Option ℕ) (entry : TraceEntry) (trace : List TraceEntry) (byte old new : ℕ)
+    → old ≡ option_map_or (λ value. only_bits value 0x0F) (last_found found trace) byte
+    → new ≡ option_map_or (λ value. only_bits value 0x0F) (found trace entry.op) old
+    → new ≡ option_map_or (λ value. only_bits value 0x0F) (last_found found (entry ∷ trace)) byte
+more_masked found entry trace byte old new before step =
+    step ∙ ap (option_map_or (λ value. only_bits value 0x0F) (found trace entry.op)) before
+    ∙ sym (option_map_or-or (λ value. only_bits value 0x0F) (found trace entry.op) (last_found found trace) byte)
+
+pub register_law : RegisterLaw
+register_law start [] = search rules
+register_law start (entry ∷ trace) =
+    let before = register_law start trace in
+    let step = call_done (state_after start trace) entry.op entry.asked in
+    let same : is_dlab (state_after start trace).line_control ≡ dlab start trace = ap is_dlab before.line_control in
+    record {
+      divisor_low = more _ entry trace _ _ _ before.divisor_low (rw same at step.divisor_low);
+      divisor_high = more _ entry trace _ _ _ before.divisor_high (rw same at step.divisor_high);
+      interrupt_enable = more_masked _ entry trace _ _ _ before.interrupt_enable (rw same at step.interrupt_enable);
+      line_control = more (λ _ op. value_written_at 3 op) entry trace _ _ _ before.line_control step.line_control;
+      modem_control = more (λ _ op. value_written_at 4 op) entry trace _ _ _ before.modem_control step.modem_control;
+      modem_status = step.modem_status ∙ before.modem_status;
+      scratch = more (λ _ op. value_written_at 7 op) entry trace _ _ _ before.scratch step.scratch;
+    }

@@ -1,0 +1,165 @@
+-- A call in the state that a trace describes is a step of the history.
+use Rattle.std.proofs.Common.{◌≡◌, ℕ, ◌+◌, Bool, true, false, not, ◌&&◌, List, [], ◌∷◌, refl, ap, sym, ◌∙◌, subst}
+use Rattle.std.proofs.Math.Bool.{and-false}
+use Rattle.std.proofs.lemmas.Bool.{and_parts, false≢true}
+use Rattle.std.specs.Prelude.{IsTrue}
+use Rattle.std.specs.Bool.{beq}
+use Rattle.vm_superio.specs.declared.trace.Asked.{Asked}
+use Rattle.vm_superio.specs.declared.trace.Sent.{Sent}
+use Rattle.vm_superio.specs.declared.trace.Sent.TheVariants as sent
+use Rattle.vm_superio.specs.Serial.Port.State.{State, not_empty}
+use Rattle.vm_superio.specs.Serial.Port.Registers.{Register, RbrThr, Ier, Iir, register_at, Rda, Thre}
+use Rattle.vm_superio.specs.Serial.Port.Operations.{Op, Read, Write, Enqueue, Restore, TraceEntry, NoResponse, is_sent, count_if}
+use Rattle.vm_superio.specs.Serial.Step.Admissible.{answers_all, step_calls, sends_byte, is_admissible}
+use Rattle.vm_superio.specs.Serial.Step.Transition.{step_response, step, read_step, read_events, sent_events, step_events}
+use Rattle.vm_superio.specs.Serial.Step.Restore.{restore_calls}
+use Rattle.vm_superio.specs.Serial.Port.OpKinds.{OpKind, IerWrite, ThrWrite, Arrival, Other, read_kind, write_kind, kind_of, sent_by}
+use Rattle.vm_superio.specs.Serial.History.Registers.{kind_at, dlab, loopback, interrupt_enable, held_bytes}
+use Rattle.vm_superio.specs.Serial.History.Interrupts.{raises_rda, is_pending, raises_thre}
+use Rattle.vm_superio.specs.Serial.History.Calls.{calls_due, kind_events, history_events}
+use Rattle.vm_superio.specs.Serial.History.Reads.{state_of_history}
+use Rattle.vm_superio.specs.Serial.Laws.Agreement.{StepLaw, CallLaw, RetryLaw}
+use Rattle.vm_superio.proofs.Lemmas.Serial.Laws.Interrupts.{due_is, interrupt_law}
+use Rattle.vm_superio.proofs.Lemmas.Serial.Laws.WholeRuns.{state_law, answer_law}
+use Rattle.vm_superio.proofs.Lemmas.Serial.Laws.Output.{call_written}
+
+-- ---- events
+
+-- if nothing is sent, no outcome is reported
+not_sent : (outcome : Sent) → IsTrue (beq (is_sent outcome) false) → outcome ≡ sent.Nothing
+not_sent sent.Nothing outcome_fits = refl
+not_sent sent.Out outcome_fits = absurd (false≢true outcome_fits)
+not_sent sent.Lost outcome_fits = absurd (false≢true outcome_fits)
+
+read_reported : (r : Register) (s : State) (after : List ℕ) → (read_step r s).in_buffer ≡ after
+    → read_events r s.in_buffer ≡ kind_events (read_kind r) after sent.Nothing
+read_reported RbrThr s after same = ap (λ bytes. kind_events (read_kind RbrThr) bytes sent.Nothing) same
+read_reported Iir s after same = refl
+read_reported _ s after same = refl
+
+-- no write is an RBR read
+abbrev TellsFate : OpKind → Type 0
+TellsFate k = (after : List ℕ) (outcome : Sent) → sent_events outcome ≡ kind_events k after outcome
+
+other_reported : TellsFate Other
+other_reported after sent.Nothing = refl
+other_reported after sent.Out = refl
+other_reported after sent.Lost = refl
+
+arrival_reported : (bytes : List ℕ) → TellsFate (Arrival bytes)
+arrival_reported bytes after sent.Nothing = refl
+arrival_reported bytes after sent.Out = refl
+arrival_reported bytes after sent.Lost = refl
+
+data_reported : (value : ℕ) → TellsFate (ThrWrite value)
+data_reported value after sent.Nothing = refl
+data_reported value after sent.Out = refl
+data_reported value after sent.Lost = refl
+
+ier_write_reported : (value : ℕ) → TellsFate (IerWrite value)
+ier_write_reported value after sent.Nothing = refl
+ier_write_reported value after sent.Out = refl
+ier_write_reported value after sent.Lost = refl
+
+write_reported : (r : Register) (loopback : Bool) (value : ℕ) → TellsFate (write_kind r loopback value)
+write_reported RbrThr true value = arrival_reported (value ∷ [])
+write_reported RbrThr false value = data_reported value
+write_reported Ier loopback value = ier_write_reported value
+write_reported _ loopback value = other_reported
+
+enqueue_reported : (loopback dlab : Bool) (bytes after : List ℕ) (outcome : Sent)
+    → IsTrue (beq (is_sent outcome) (not_empty (sent_by (kind_of dlab loopback (Enqueue bytes)))))
+    → [] ≡ kind_events (kind_of dlab loopback (Enqueue bytes)) after outcome
+enqueue_reported true dlab bytes after outcome outcome_fits =
+    ap (λ (outcome : Sent). kind_events Other after outcome) (sym (not_sent outcome outcome_fits))
+enqueue_reported false dlab bytes after outcome outcome_fits =
+    ap (λ (outcome : Sent). kind_events (Arrival bytes) after outcome) (sym (not_sent outcome outcome_fits))
+
+read_sends : (r : Register) → not_empty (sent_by (read_kind r)) ≡ false
+read_sends RbrThr = refl
+read_sends Iir = refl
+read_sends _ = refl
+
+-- the events of a call are those of its point
+reported_at_point : (start : State) (trace : List TraceEntry) (op : Op) (asked : Asked) (outcome : Sent)
+    → (let entry : TraceEntry = record { op = op; asked = asked; sent = outcome } in
+    step (state_of_history start trace) op asked ≡ state_of_history start (entry ∷ trace)
+    → IsTrue (beq (is_sent outcome) (sends_byte (state_of_history start trace) op))
+    → step_events (state_of_history start trace) op outcome ≡ history_events start trace entry)
+reported_at_point start trace (Read offset) asked outcome goes_on outcome_fits =
+    let entry : TraceEntry = record { op = Read offset; asked = asked; sent = outcome } in
+    let after = held_bytes start (entry ∷ trace) in
+    let r = register_at (dlab start trace) offset in
+    let none = not_sent outcome (subst (λ (b : Bool). IsTrue (beq (is_sent outcome) b)) (read_sends r) outcome_fits) in
+    read_reported r (state_of_history start trace) after (ap (λ (s : State). s.in_buffer) goes_on)
+    ∙ ap (λ (outcome_fits : Sent). kind_events (read_kind r) after outcome_fits) (sym none)
+reported_at_point start trace (Write offset value) asked outcome goes_on outcome_fits =
+    write_reported (register_at (dlab start trace) offset) (loopback start trace) value _ outcome
+reported_at_point start trace (Enqueue bytes) asked outcome goes_on outcome_fits =
+    enqueue_reported (loopback start trace) (dlab start trace) bytes _ outcome outcome_fits
+reported_at_point start trace Restore asked outcome goes_on outcome_fits =
+    ap (λ (outcome_fits : Sent). kind_events Other [] outcome_fits) (sym (not_sent outcome outcome_fits))
+
+-- ---- trigger calls
+
+-- as long as none is refused, THRE is raised as if no call were made for the other condition
+none_refused : (k : OpKind) (enable : ℕ) (called pending : Bool)
+    → (raises_thre k enable false && not pending)
+    ≡ (raises_thre k enable (called && false) && not pending)
+none_refused k enable called pending =
+    ap (λ refused. raises_thre k enable refused && not pending) (sym (and-false called))
+
+calls_at_point : (start : State) (trace : List TraceEntry) (op : Op)
+    → step_calls (state_of_history start trace) op ≡ calls_due start trace op
+calls_at_point start trace op =
+    let k = kind_at start trace op in
+    let raised = raises_rda k (held_bytes start trace) (interrupt_enable start trace) in
+    let called = raised && not (is_pending Rda start trace) in
+    due_is k (state_of_history start trace) (is_pending Thre start trace) (is_pending Rda start trace) refl
+    ∙ ap (λ second. count_if called + count_if second)
+    (none_refused k (interrupt_enable start trace) called (is_pending Thre start trace))
+
+-- ---- the laws
+
+pub step_law : StepLaw
+step_law start trace coherent =
+    let interrupts = interrupt_law start trace coherent.thre coherent.rda coherent.identification in
+    let here = state_law start trace coherent in
+    record {
+      calls = calls_at_point start trace;
+      restoring = ap restore_calls (sym here) ∙ interrupts.restoring;
+      steps = λ entry admissible.
+          let outcome_fits = (and_parts (answers_all (step_calls (state_of_history start trace) entry.op) entry.asked)
+          (beq (is_sent entry.sent) (sends_byte (state_of_history start trace) entry.op)) admissible).1 in
+          let goes_on = ap (λ (s : State). step s entry.op entry.asked) (sym here)
+          ∙ state_law start (entry ∷ trace) coherent in
+          record {
+            response = ap (λ (s : State). step_response s entry.op entry.asked entry.sent) (sym here)
+                ∙ answer_law start trace entry coherent;
+            state = goes_on;
+            events = reported_at_point start trace entry.op entry.asked entry.sent goes_on outcome_fits;
+            output = λ kept.
+                call_written (dlab start trace) (loopback start trace) entry.op entry.sent kept outcome_fits;
+          };
+    }
+
+pub call_law : CallLaw
+call_law start trace entry reply old new coherent is admissible replied stepped =
+    let interrupts = interrupt_law start trace coherent.thre coherent.rda coherent.identification in
+    let after = state_law start trace coherent in
+    let here = subst (λ (s : State). IsTrue (is_admissible s entry.op entry.asked entry.sent)) is admissible in
+    let agrees = (step_law start trace coherent).steps entry here in
+    record {
+      well_formed = sym (interrupts.calls entry)
+          ∙ subst (λ (s : State). IsTrue (is_admissible s entry.op entry.asked entry.sent)) (sym after) here;
+      response = replied ∙ ap (λ (s : State). step_response s entry.op entry.asked entry.sent) is ∙ agrees.response;
+      state = stepped ∙ ap (λ (s : State). step s entry.op entry.asked) is ∙ agrees.state;
+    }
+
+pub retry_law : RetryLaw
+retry_law start trace s coherent here = record {
+  calls = ap restore_calls here ∙ (step_law start trace coherent).restoring;
+  counted =
+      call_law start trace (record { op = Restore; asked = Asked.Nothing; sent = sent.Nothing }) NoResponse s s coherent here
+      refl refl refl;
+}

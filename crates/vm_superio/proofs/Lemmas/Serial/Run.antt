@@ -1,0 +1,2 @@
+pub mod HistoryTheorem
+pub mod Steps

@@ -1,0 +1,4 @@
+pub mod ByKind
+pub mod FirstRefused
+pub mod PortStep
+pub mod Raising

@@ -1,0 +1,10 @@
+-- Two calls of the trigger in a row are linked by the list of both answers.
+use Rattle.vm_superio.proofs.serial.recorded.call_trigger.Goals as goal
+
+pub returns-in-Err-trigger-clause-trigger : goal.returns-in-Err-trigger-clause-trigger
+returns-in-Err-trigger-clause-trigger g c =
+    g.met.T.Trigger.joined _ _ _ _ _ c.in-Ok-2.ensures c.in-Err-trigger.ensures
+
+pub returns-in-Ok-trigger-clause-trigger : goal.returns-in-Ok-trigger-clause-trigger
+returns-in-Ok-trigger-clause-trigger g c =
+    g.met.T.Trigger.joined _ _ _ _ _ c.in-Ok-2.ensures c.in-Ok-trigger.ensures

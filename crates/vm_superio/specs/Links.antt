@@ -1,0 +1,5 @@
+-- What the types of a device's objects state: its trigger, its events object and its writer.
+pub mod Objects
+pub mod Writer
+pub mod FoldsEvents
+pub mod Unspecified

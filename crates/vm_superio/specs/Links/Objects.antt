@@ -1,0 +1,53 @@
+-- The relations that trigger and events types state, and how the trigger calls of a restore are answered.
+use Rattle.std.specs.Prelude.{◌≡◌, ◌⊎◌, ℕ, List, [], ◌∷◌, Option, Result, Ok, Err}
+use Rattle.std.specs.Option.{option_map, option_to_list}
+use Rattle.vm_superio.specs.declared.trace.Asked.{Asked}
+use Rattle.vm_superio.specs.declared.serial.errors.Error.{Error}
+use Rattle.vm_superio.specs.declared.serial.errors.Error.TheVariants.{Trigger, Memory}
+use Rattle.vm_superio.specs.Serial.Port.Registers.{Condition}
+
+-- the relation that the type of a trigger, or of an events object, states: its value before some calls, what the calls
+-- answered (a trigger) or reported (an events object), in order, and its value after them
+abbrev pub Link : (Object Call : Type 0) → Type 1
+Link Object Call = Object → List Call → Object → Type 0
+
+-- the answer to one trigger call
+abbrev pub TriggerAnswer : (E : Type 0) → Type 0
+TriggerAnswer E = Result (Unit {0}) E
+
+-- the bytes that a writer holds, if its type makes them known
+abbrev pub Contents : (W : Type 0) → Type 0
+Contents W = W → Option (List ℕ)
+
+-- the answers that a record stands for. A refusal among them is the one in the reply, which has one exactly in that
+-- case
+abbrev pub answers_of : {E : Type 0} → (asked : Asked) (refusal : Option E) → List (TriggerAnswer E)
+answers_of Asked.Nothing refusal = []
+answers_of Asked.Took refusal = Ok tt ∷ []
+answers_of Asked.Refused refusal = option_to_list (option_map Err refusal)
+answers_of Asked.TookTook refusal = Ok tt ∷ Ok tt ∷ []
+answers_of Asked.TookRefused refusal = Ok tt ∷ option_to_list (option_map Err refusal)
+
+module _ {E : Type 0} where
+  -- a restore calls the trigger once for each condition that is due, and none of these calls is refused
+  abbrev pub all_ok : (due : List Condition) → List (TriggerAnswer E)
+  all_ok [] = []
+  all_ok (condition ∷ due) = Ok tt ∷ all_ok due
+
+  -- or once for each of the first conditions; only the last of these calls is refused, and ends the restore
+  abbrev pub StopsAtRefusal : (due : List Condition) (refusal : E) (answers : List (TriggerAnswer E)) → Type 0
+  StopsAtRefusal [] refusal answers = ⊥
+  StopsAtRefusal (condition ∷ due) refusal [] = ⊥
+  StopsAtRefusal (condition ∷ due) refusal (answer ∷ answers) =
+      ((answer ≡ Err refusal) × (answers ≡ []))
+      ⊎ ((answer ≡ Ok tt) × StopsAtRefusal due refusal answers)
+
+-- a port that was not made from another port's state: why, and what became of the trigger. Either the trigger refused
+-- one of the calls that are due, or memory was refused and the trigger not called. It is never for too many bytes,
+-- since a port holds at most 64
+abbrev pub RefusesOwnState :
+    {T E : Type 0} → (link : Link T (TriggerAnswer E)) (due : List Condition) (error : Error E) (old new : T) → Type 0
+RefusesOwnState {T} {E} link due (Trigger refusal) old new =
+    (answers : List (TriggerAnswer E)) × StopsAtRefusal due refusal answers × link old answers new
+RefusesOwnState link due Memory old new = new ≡ old
+RefusesOwnState link due _ old new = ⊥

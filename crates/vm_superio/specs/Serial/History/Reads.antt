@@ -1,0 +1,89 @@
+-- What the history says about a port: its state, what a guest reads, what the other calls respond, the bytes read from
+-- the FIFO, and the output.
+use Rattle.std.specs.Prelude.{◌≡◌, ⊤, ℕ, Bool, not, ◌==◌, ◌||◌, nat_le, if◌then◌else◌, List, [], ◌∷◌, ◌++◌, length}
+use Rattle.std.specs.List.{list_all}
+use Rattle.vm_superio.specs.Bits.{with_bits, without_bits}
+use Rattle.vm_superio.specs.Serial.Port.Bits.{lsr_dr_bit}
+use Rattle.vm_superio.specs.Serial.Port.State.{State, not_empty}
+use Rattle.vm_superio.specs.Serial.Port.Registers.{Rda, Thre, register_at, identification_of, register_read}
+use Rattle.vm_superio.specs.Serial.Port.Operations.{Asked, Sent, Op, Read, Write, Enqueue, Restore, TraceEntry, Response, ByteRead, EnqueueOk, TriggerRefused, FifoFull, NoResponse, is_first_refused, is_lost, recorded_write_response, Trace}
+use Rattle.vm_superio.specs.Serial.Port.OpKinds.{OpKind, RbrRead, sent_by}
+use Rattle.vm_superio.specs.Serial.History.Registers.{kind_at, line_control, modem_control, scratch, dlab, loopback, divisor_low, divisor_high, interrupt_enable, accepted_by, held_bytes}
+use Rattle.vm_superio.specs.Serial.History.Interrupts.{is_pending}
+
+abbrev pub interrupt_identification : (start : State) (trace : Trace) → ℕ
+interrupt_identification start trace = identification_of (is_pending Thre start trace) (is_pending Rda start trace)
+
+-- LSR with data ready set or cleared
+abbrev pub with_data_ready : (line_status : ℕ) (ready : Bool) → ℕ
+with_data_ready line_status ready =
+    if ready then with_bits line_status lsr_dr_bit else without_bits line_status lsr_dr_bit
+
+-- the start's LSR, in which data ready says whether bytes are held
+abbrev pub line_status : (start : State) (trace : Trace) → ℕ
+line_status start trace = with_data_ready start.line_status (not_empty (held_bytes start trace))
+
+-- the state that the history of a trace describes
+abbrev pub state_of_history : (start : State) (trace : Trace) → State
+state_of_history start trace = record {
+  baud_divisor_low = divisor_low start trace;
+  baud_divisor_high = divisor_high start trace;
+  interrupt_enable = interrupt_enable start trace;
+  interrupt_identification = interrupt_identification start trace;
+  line_control = line_control start trace;
+  line_status = line_status start trace;
+  modem_control = modem_control start trace;
+  modem_status = start.modem_status;
+  scratch = scratch start trace;
+  in_buffer = held_bytes start trace;
+}
+
+-- what a guest reads at an offset
+abbrev pub guest_read : (start : State) (trace : Trace) (offset : ℕ) → ℕ
+guest_read start trace offset = register_read (register_at (dlab start trace) offset) (state_of_history start trace)
+
+-- an enqueue responds 0 in loopback or for no bytes; otherwise that the FIFO is full, if 64 are held; otherwise the
+-- trigger's refusal; otherwise how many bytes it accepted
+abbrev pub enqueue_history_response :
+    (start : State) (trace : Trace) (bytes : List ℕ) (asked : Asked) → Response
+enqueue_history_response start trace bytes asked =
+    if loopback start trace || (length bytes == 0) then EnqueueOk 0
+    else (if nat_le 64 (length (held_bytes start trace)) then FifoFull
+    else (if is_first_refused asked then TriggerRefused
+    else EnqueueOk (length (accepted_by (kind_at start trace (Enqueue bytes)) (held_bytes start trace)))))
+
+-- what any call responds: a write by the trigger's answers and the outcome of its byte
+abbrev pub history_response :
+    (start : State) (trace : Trace) (op : Op) (asked : Asked) (sent : Sent) → Response
+history_response start trace (Read offset) asked sent = ByteRead (guest_read start trace offset)
+history_response start trace (Write offset value) asked sent = recorded_write_response asked sent
+history_response start trace (Enqueue bytes) asked sent = enqueue_history_response start trace bytes asked
+history_response start trace Restore asked sent = NoResponse
+
+-- each call of some entries, oldest first, responded as the history says
+abbrev pub ResponsesAre : (start : State) (trace : Trace) (calls : List (TraceEntry × Response)) → Type 0
+ResponsesAre start trace [] = ⊤
+ResponsesAre start trace (call ∷ later) =
+    (call.1 ≡ history_response start trace call.0.op call.0.asked call.0.sent)
+    × ResponsesAre start (call.0 ∷ trace) later
+
+-- the byte that a call gives a guest from the FIFO: the reply to an RBR read that is made while bytes are held
+abbrev pub byte_read : (kind : OpKind) (held : List ℕ) (reply : Response) → List ℕ
+byte_read RbrRead (oldest ∷ held) (ByteRead byte) = byte ∷ []
+byte_read _ held reply = []
+
+-- the bytes that some calls give a guest from the FIFO, oldest first
+abbrev pub bytes_read : (start : State) (trace : Trace) (calls : List (TraceEntry × Response)) → List ℕ
+bytes_read start trace [] = []
+bytes_read start trace (call ∷ later) =
+    byte_read (kind_at start trace call.0.op) (held_bytes start trace) call.1 ++ bytes_read start (call.0 ∷ trace) later
+
+-- the output of the newest entries, those before `trace` in the list: the values of their THR writes, in order
+abbrev pub output : (start : State) (trace newest : Trace) → List ℕ
+output start trace [] = []
+output start trace (entry ∷ newest) =
+    output start trace newest ++ sent_by (kind_at start (newest ++ trace) entry.op)
+
+-- no byte is lost in these entries
+abbrev pub none_lost : (newest : Trace) → Bool
+none_lost newest = list_all (λ (entry : TraceEntry). not (is_lost entry.sent)) newest

@@ -1,0 +1,83 @@
+-- The laws that follow from the history alone, from any start.
+use Rattle.std.specs.Prelude.{◌≡◌, ◌↔◌, ◌⊎◌, ℕ, List, [], ◌∷◌, ◌++◌, IsTrue}
+use Rattle.vm_superio.specs.declared.trace.Asked.{Asked}
+use Rattle.vm_superio.specs.Bits.{has_bits}
+use Rattle.vm_superio.specs.Serial.Port.State.{State}
+use Rattle.vm_superio.specs.Serial.Port.Registers.{Condition, iir_bit}
+use Rattle.vm_superio.specs.Serial.Port.Operations.{Op, Restore, TraceEntry, Response, Trace}
+use Rattle.vm_superio.specs.Links.Writer.{bytes_written}
+use Rattle.vm_superio.specs.Serial.History.Registers.{accepted_bytes, taken_bytes, held_bytes}
+use Rattle.vm_superio.specs.Serial.History.Interrupts.{acknowledges, is_raised, is_pending, is_well_formed, NoneAcknowledges, IsWithinBound, WaitingBytesShow}
+use Rattle.vm_superio.specs.Serial.History.Reads.{guest_read, ResponsesAre, bytes_read, output, none_lost}
+use Rattle.vm_superio.specs.Serial.Run.Trace.{trace_after}
+
+-- ---- pending
+
+-- raised at some point, or pending at the start, and acknowledged at no later point
+abbrev pub PendingByPrefixes : (condition : Condition) (start : State) (trace : Trace) → Type 0
+PendingByPrefixes condition start trace =
+    ((after before : Trace) × (entry : TraceEntry) × (trace ≡ after ++ entry ∷ before)
+    × IsTrue (is_raised condition start before entry)
+    × NoneAcknowledges start (acknowledges condition) after (entry ∷ before))
+    ⊎ (IsTrue (has_bits start.interrupt_identification (iir_bit condition))
+    × NoneAcknowledges start (acknowledges condition) trace [])
+
+-- `is_pending`, a search from the newest entry back, decides it
+abbrev pub PendingByPrefixesLaw : Type 0
+PendingByPrefixesLaw = (condition : Condition) (start : State) (trace : Trace)
+    → IsTrue (is_pending condition start trace) ↔ PendingByPrefixes condition start trace
+
+-- ---- trigger calls
+
+abbrev pub TriggerBoundLaw : Type 0
+TriggerBoundLaw =
+    (start : State) (trace : Trace) → IsTrue (is_well_formed start trace) → IsWithinBound start trace
+
+abbrev pub WaitingBytesLaw : Type 0
+WaitingBytesLaw = (start : State) (trace : Trace) → WaitingBytesShow start trace
+
+-- ---- reads
+
+-- an operation with the trigger's answers, unless it is a restore
+abbrev pub op_and_asked : (op : Op) (asked : Asked) → List (Op × Asked)
+op_and_asked Restore asked = []
+op_and_asked op asked = (op, asked) ∷ []
+
+abbrev pub ops_and_asked : (trace : Trace) → List (Op × Asked)
+ops_and_asked [] = []
+ops_and_asked (entry ∷ trace) = op_and_asked entry.op entry.asked ++ ops_and_asked trace
+
+-- neither the writer nor a restore changes a read: it depends only on the operations and the trigger's answers
+abbrev pub SameReadsLaw : Type 0
+SameReadsLaw = (start : State) (one other : Trace) → ops_and_asked one ≡ ops_and_asked other
+    → (offset : ℕ) → guest_read start one offset ≡ guest_read start other offset
+
+-- ---- bytes
+
+-- no byte is lost or made up: those taken, then those held, are those held at the start, then those accepted
+abbrev pub TakenThenHeldLaw : Type 0
+TakenThenHeldLaw = (start : State) (trace : Trace)
+    → taken_bytes start trace ++ held_bytes start trace ≡ start.in_buffer ++ accepted_bytes start trace
+
+-- the bytes that calls give a guest from the FIFO are those that they take
+abbrev pub ReadsAreTakenLaw : Type 0
+ReadsAreTakenLaw = (start : State) (trace : Trace) (calls : List (TraceEntry × Response))
+    → ResponsesAre start trace calls
+    → taken_bytes start trace ++ bytes_read start trace calls ≡ taken_bytes start (trace_after trace calls)
+
+-- so the bytes read, then those held, are those held at the start, then those accepted
+abbrev pub ReadThenHeldLaw : Type 0
+ReadThenHeldLaw = (start : State) (calls : List (TraceEntry × Response)) → ResponsesAre start [] calls
+    → bytes_read start [] calls ++ held_bytes start (trace_after [] calls)
+    ≡ start.in_buffer ++ accepted_bytes start (trace_after [] calls)
+
+-- the bytes that are recorded as taken by the writer, in order
+abbrev pub recorded_output : (newest : Trace) → List ℕ
+recorded_output [] = []
+recorded_output (entry ∷ newest) = recorded_output newest ++ bytes_written entry.op entry.sent
+
+-- if the newest entries of a well-formed trace lose no byte, the bytes recorded as taken are the output
+abbrev pub OutputLaw : Type 0
+OutputLaw = (start : State) (trace newest : Trace) → IsTrue (is_well_formed start (newest ++ trace))
+    → IsTrue (none_lost newest)
+    → recorded_output newest ≡ output start trace newest

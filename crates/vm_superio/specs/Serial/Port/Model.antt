@@ -1,0 +1,36 @@
+-- What a contract sees of a serial port, and of what its calls return.
+use Rattle.std.specs.Prelude.{ℕ, Option, Some, None, Result, Ok, Err}
+use Rattle.vm_superio.specs.declared.serial.errors.Error.{Error}
+use Rattle.vm_superio.specs.declared.serial.errors.Error.TheVariants.{Trigger, IOError, FullFifo, Memory}
+use Rattle.vm_superio.specs.Serial.Port.State.{State}
+use Rattle.vm_superio.specs.Serial.Port.Operations.{Response, WriteOk, EnqueueOk, TriggerRefused, WriterFailed, FifoFull, OutOfMemory}
+
+-- the state, and the objects that the port owns
+pub record Port (T EV W : Type 0) : Type 0 where
+  pub state : State
+  pub trigger : T
+  pub events : EV
+  pub out : W
+
+-- what a write or an enqueue returns, as a response, and the refusal in it. Neither takes memory
+abbrev pub failure_response : {E : Type 0} → (error : Error E) → Response
+failure_response (Trigger refusal) = TriggerRefused
+failure_response (IOError fault) = WriterFailed
+failure_response FullFifo = FifoFull
+failure_response Memory = OutOfMemory
+
+abbrev pub write_response : {E : Type 0} → (answer : Result (Unit {0}) (Error E)) → Response
+write_response (Ok done) = WriteOk
+write_response (Err error) = failure_response error
+
+abbrev pub enqueue_response : {E : Type 0} → (answer : Result ℕ (Error E)) → Response
+enqueue_response (Ok count) = EnqueueOk count
+enqueue_response (Err error) = failure_response error
+
+abbrev pub refusal_in_error : {E : Type 0} → (error : Error E) → Option E
+refusal_in_error (Trigger refusal) = Some refusal
+refusal_in_error _ = None
+
+abbrev pub refusal_in_result : {R E : Type 0} → (answer : Result R (Error E)) → Option E
+refusal_in_result (Ok done) = None
+refusal_in_result (Err error) = refusal_in_error error

@@ -1,0 +1,46 @@
+-- The history theorem: what a run from a coherent start shows, by the history alone.
+use Rattle.std.specs.Prelude.{◌≡◌, List, [], ◌++◌, IsTrue}
+use Rattle.vm_superio.specs.Serial.Port.Coherent.{Coherent}
+use Rattle.vm_superio.specs.Links.Objects.{Link, TriggerAnswer, Contents}
+use Rattle.vm_superio.specs.Serial.Port.Model.{Port}
+use Rattle.vm_superio.specs.Serial.History.Registers.{taken_bytes, accepted_bytes}
+use Rattle.vm_superio.specs.Serial.History.Interrupts.{is_well_formed, IsWithinBound, WaitingBytesShow}
+use Rattle.vm_superio.specs.Serial.History.Reads.{ResponsesAre, bytes_read, state_of_history}
+use Rattle.vm_superio.specs.Serial.Run.Trace.{Call, Done, RecordsOf, entries_of, trace_of, without_restores}
+use Rattle.vm_superio.specs.Serial.Run.Observations.{ReadsAre, OutputsAre, TriggersAre}
+
+-- a run of these calls with these records, from a port to a port
+pub record HistoryTheorem
+    {T E EV W : Type 0} (trigger_link : Link T (TriggerAnswer E)) (contents : Contents W) (start : Port T EV W)
+    (calls : List (Call T EV W)) (records : List (Done T EV W E)) (end : Port T EV W) : Type 0 where
+  -- there is a record of each call
+  pub records_of_calls : RecordsOf calls records
+  -- every byte that a guest reads is a function of the start, the earlier calls and the trigger's answers
+  pub reads : ReadsAre start.state [] records
+  -- so is every other response: that of a write and of an enqueue, given the outcome of the byte that a write sends
+  pub responses : ResponsesAre start.state [] (entries_of records)
+  -- the bytes that a guest reads from the FIFO, then those held, are those held at the start, then those accepted
+  pub read_bytes :
+      bytes_read start.state [] (entries_of records) ++ end.state.in_buffer
+      ≡ start.state.in_buffer ++ accepted_bytes start.state (trace_of records)
+  -- the bytes taken, then those held, are that list too
+  pub received_bytes :
+      taken_bytes start.state (trace_of records) ++ end.state.in_buffer
+      ≡ start.state.in_buffer ++ accepted_bytes start.state (trace_of records)
+  -- each trigger call outside restores is one condition that becomes pending; their number is bounded; and RDA is
+  -- pending while bytes are held and enabled, from an accepted byte or an IER write until IIR or RBR is read
+  pub trigger_calls : IsTrue (is_well_formed start.state (trace_of records))
+  pub bound : IsWithinBound start.state (trace_of records)
+  pub waiting : WaitingBytesShow start.state (trace_of records)
+  -- output reaches each writer byte for byte, from its start to its end, while no byte is recorded lost
+  pub output :
+      OutputsAre contents start.state (record { before = []; newest = []; initial = start.out }) calls records end.out
+  -- each trigger gave the answers that are recorded: the first from the run's start, each later one from its restore,
+  -- which makes the calls that are due
+  pub restores :
+      TriggersAre trigger_link start.state [] (record { initial = start.trigger; answers = [] })
+      calls records end.trigger
+  pub reads_alone : ReadsAre start.state [] (without_restores records)
+  -- the end is the state that the trace leads to, and it is coherent
+  pub end_state : end.state ≡ state_of_history start.state (trace_of records)
+  pub end_coherent : Coherent end.state

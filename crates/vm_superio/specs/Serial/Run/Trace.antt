@@ -1,0 +1,75 @@
+-- The records of a run as a trace.
+use Rattle.std.specs.Prelude.{◌≡◌, ⊤, List, [], ◌∷◌, Bool, true, false, not, Option, None}
+use Rattle.std.specs.List.{filter}
+pub use Rattle.vm_superio.specs.declared.run.Act.{Act}
+pub use Rattle.vm_superio.specs.declared.run.Reply.{Reply}
+pub use Rattle.vm_superio.specs.declared.run.Reply.TheVariants.{Byte, Wrote, Enqueued, Restored, NotRestored}
+pub use Rattle.vm_superio.specs.declared.run.Call.{Call}
+pub use Rattle.vm_superio.specs.declared.run.Done.{Done}
+use Rattle.vm_superio.specs.Serial.Port.Operations.{Op, Read, Write, Enqueue, Restore, TraceEntry, Response, ByteRead, NoResponse, Trace}
+use Rattle.vm_superio.specs.Serial.Port.Model.{write_response, enqueue_response, refusal_in_result}
+
+abbrev pub op_of : (act : Act) → Op
+op_of (Act.Read offset) = Read offset
+op_of (Act.Write offset value) = Write offset value
+op_of (Act.Enqueue bytes) = Enqueue bytes.items
+op_of Act.Restore = Restore
+
+abbrev pub is_restore : (act : Act) → Bool
+is_restore Act.Restore = true
+is_restore _ = false
+
+-- the call without its objects
+abbrev pub act_of : {T EV W : Type 0} → (call : Call T EV W) → Act
+act_of (Call.Read offset) = Act.Read offset
+act_of (Call.Write offset value) = Act.Write offset value
+act_of (Call.Enqueue bytes) = Act.Enqueue bytes
+act_of (Call.Restore trigger events out) = Act.Restore
+
+-- the trace with further entries, oldest first, each with its response
+abbrev pub trace_after : (trace : Trace) (later : List (TraceEntry × Response)) → Trace
+trace_after trace [] = trace
+trace_after trace (next ∷ later) = trace_after (next.0 ∷ trace) later
+
+module _ {T E EV W : Type 0} where
+  -- a reply is of the kind that belongs to the act
+  abbrev pub IsReplyTo : (act : Act) (reply : Reply T EV W E) → Type 0
+  IsReplyTo (Act.Read offset) (Byte byte) = ⊤
+  IsReplyTo (Act.Write offset value) (Wrote answer) = ⊤
+  IsReplyTo (Act.Enqueue bytes) (Enqueued answer) = ⊤
+  IsReplyTo Act.Restore (Restored old) = ⊤
+  IsReplyTo Act.Restore (NotRestored refused) = ⊤
+  IsReplyTo _ _ = ⊥
+
+  -- there is one record for each call, in order
+  abbrev pub RecordsOf : (calls : List (Call T EV W)) (records : List (Done T EV W E)) → Type 0
+  RecordsOf [] [] = ⊤
+  RecordsOf (call ∷ calls) (done ∷ later) =
+      (done.act ≡ act_of call) × IsReplyTo (act_of call) done.reply × RecordsOf calls later
+  RecordsOf _ _ = ⊥
+
+  abbrev pub entry_of : (done : Done T EV W E) → TraceEntry
+  entry_of done = record { op = op_of done.act; asked = done.asked; sent = done.sent }
+
+  abbrev pub response_of : (reply : Reply T EV W E) → Response
+  response_of (Byte byte) = ByteRead byte
+  response_of (Wrote answer) = write_response answer
+  response_of (Enqueued answer) = enqueue_response answer
+  response_of _ = NoResponse
+
+  -- the refusal of the port's own trigger that a reply carries
+  abbrev pub refusal_in_reply : (reply : Reply T EV W E) → Option E
+  refusal_in_reply (Wrote answer) = refusal_in_result answer
+  refusal_in_reply (Enqueued answer) = refusal_in_result answer
+  refusal_in_reply _ = None
+
+  abbrev pub entries_of : (records : List (Done T EV W E)) → List (TraceEntry × Response)
+  entries_of [] = []
+  entries_of (done ∷ later) = (entry_of done, response_of done.reply) ∷ entries_of later
+
+  -- the trace at the end of a run
+  abbrev pub trace_of : (records : List (Done T EV W E)) → Trace
+  trace_of records = trace_after [] (entries_of records)
+
+  abbrev pub without_restores : (records : List (Done T EV W E)) → List (Done T EV W E)
+  without_restores records = filter (λ (done : Done T EV W E). not (is_restore done.act)) records

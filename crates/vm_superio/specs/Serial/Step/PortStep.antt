@@ -1,0 +1,87 @@
+-- One call of a port, as its contract states it.
+use Rattle.std.specs.Prelude.{◌≡◌, ℕ, ◌+◌, Bool, not, ◌&&◌, length, List, [], ◌∷◌, IsTrue, Option, None, Result, is_some}
+use Rattle.vm_superio.specs.declared.trace.Asked.{Asked}
+use Rattle.vm_superio.specs.declared.trace.Sent.{Sent}
+use Rattle.vm_superio.specs.declared.serial.errors.Error.{Error}
+use Rattle.vm_superio.specs.Bits.{has_bits}
+use Rattle.vm_superio.specs.Serial.Port.State.{State}
+use Rattle.vm_superio.specs.Serial.Port.Registers.{Rda, Thre, iir_bit}
+use Rattle.vm_superio.specs.Serial.Port.Operations.{Op, Read, Write, Enqueue, Restore, Response, ByteRead, NoResponse, Event, ends_in_refusal, count_if}
+use Rattle.vm_superio.specs.Links.Objects.{Link, TriggerAnswer, Contents, answers_of}
+use Rattle.vm_superio.specs.Links.Writer.{PortLinks, port_links, bytes_written, WriterLink}
+use Rattle.vm_superio.specs.Serial.Port.Model.{Port, write_response, enqueue_response, refusal_in_result}
+use Rattle.vm_superio.specs.Serial.Step.Transition.{step, step_response, step_events}
+use Rattle.vm_superio.specs.Serial.Step.Admissible.{is_admissible}
+
+-- a call takes a port from `old` to `new` by one step, with these answers of the trigger and this outcome of a byte. A
+-- refusal is that of the trigger's last call
+pub record IsPortStep
+    {T E EV W : Type 0} (links : PortLinks T E EV W) (op : Op) (asked : Asked) (sent : Sent) (reply : Response)
+    (refusal : Option E) (old new : Port T EV W) : Type 0 where
+  pub admissible : IsTrue (is_admissible old.state op asked sent)
+  pub response : reply ≡ step_response old.state op asked sent
+  pub refused : is_some refusal ≡ ends_in_refusal asked
+  pub state : new.state ≡ step old.state op asked
+  pub trigger : links.trigger old.trigger (answers_of asked refusal) new.trigger
+  pub events : links.events old.events (step_events old.state op sent) new.events
+  pub out : WriterLink links.contents (sent ∷ []) (bytes_written op sent) old.out new.out
+
+-- the port with another writer, and nothing else changed
+abbrev pub with_writer : {T EV W : Type 0} → (port : Port T EV W) (writer : W) → Port T EV W
+with_writer port writer = record port { out = writer }
+
+-- the port with another trigger, and nothing else changed
+abbrev pub with_trigger : {T EV W : Type 0} → (port : Port T EV W) (trigger : T) → Port T EV W
+with_trigger port trigger = record port { trigger = trigger }
+
+-- the port with another events object, likewise
+abbrev pub with_events : {T EV W : Type 0} → (port : Port T EV W) (object : EV) → Port T EV W
+with_events port object = record port { events = object }
+
+-- ---- trigger calls, by the bits of IIR
+
+-- the bit goes from clear to set
+abbrev pub turns_on : (bit old new : ℕ) → Bool
+turns_on bit old new = not (has_bits old bit) && has_bits new bit
+
+-- how many of the two pending bits turn on
+abbrev pub turned_on_count : (old new : State) → ℕ
+turned_on_count old new =
+    count_if (turns_on (iir_bit Rda) old.interrupt_identification new.interrupt_identification)
+    + count_if (turns_on (iir_bit Thre) old.interrupt_identification new.interrupt_identification)
+
+-- ---- the calls
+
+module _ {T E EV W : Type 0} (trigger : Link T (TriggerAnswer E)) (events : Link EV Event) (contents : Contents W) where
+  -- a read calls no trigger and sends no byte
+  abbrev pub IsReadStep : (offset byte : ℕ) (old new : Port T EV W) → Type 0
+  IsReadStep offset byte old new =
+      IsPortStep (port_links trigger events contents) (Read offset) Asked.Nothing Sent.Nothing
+      (ByteRead byte) None old new
+
+  -- a write, with the trigger's answers and the outcome of its byte. There is one answer for each pending bit of IIR
+  -- that the write turns on
+  pub record IsWriteStep
+      (offset value : ℕ) (result : Result (Unit {0}) (Error E)) (old new : Port T EV W) : Type 0 where
+    pub asked : Asked
+    pub sent : Sent
+    pub step :
+        IsPortStep (port_links trigger events contents) (Write offset value) asked sent
+        (write_response result) (refusal_in_result result) old new
+    pub calls : length (answers_of asked (refusal_in_result result)) ≡ turned_on_count old.state new.state
+
+  -- an enqueue, likewise
+  pub record IsEnqueueStep
+      (bytes : List ℕ) (result : Result ℕ (Error E)) (old new : Port T EV W) : Type 0 where
+    pub asked : Asked
+    pub sent : Sent
+    pub step :
+        IsPortStep (port_links trigger events contents) (Enqueue bytes) asked sent
+        (enqueue_response result) (refusal_in_result result) old new
+    pub calls : length (answers_of asked (refusal_in_result result)) ≡ turned_on_count old.state new.state
+
+  -- a retry of refused interrupts: except for its trigger, the port makes the step of a restore without answers
+  abbrev pub IsRetryStep : (old new : Port T EV W) → Type 0
+  IsRetryStep old new =
+      IsPortStep (port_links trigger events contents) Restore Asked.Nothing Sent.Nothing
+      NoResponse None (with_trigger old new.trigger) new
