@@ -8,17 +8,17 @@ use Rattle.vm_superio.specs.declared.saved.Error.TheVariants.{Memory}
 use Rattle.vm_superio.specs.Serial.Port.State.{State}
 use Rattle.vm_superio.specs.Saved.Form.{serial_form, clock_form}
 use Rattle.vm_superio.specs.Saved.Laws.{IsClock}
-use Rattle.vm_superio.proofs.Lemmas.Saved.Forms.{numbers_in-form, serial_form-fault, clock_form-fault}
+use Rattle.vm_superio.proofs.Lemmas.Saved.Forms.{numbers_in-form, serial_form_has_no_fault, clock_form_has_no_fault}
 use Rattle.superio_script.specs.Loading.{unless_fault, port_in, loaded_port, clock_in, loaded_clock, PortFormLoads, ClockFormLoads}
 
 -- ---- the laws
 
 pub port_form-loads : PortFormLoads
-port_form-loads state few = ap (λ (fault : Option Error). unless_fault fault (port_in (serial_form state))) (serial_form-fault state few)
+port_form-loads state few = ap (λ (fault : Option Error). unless_fault fault (port_in (serial_form state))) (serial_form_has_no_fault state few)
 
 pub clock_form-loads : ClockFormLoads
 clock_form-loads state numbers =
-    ap (λ (fault : Option Error). unless_fault fault (clock_in (clock_form state))) (clock_form-fault state)
+    ap (λ (fault : Option Error). unless_fault fault (clock_in (clock_form state))) (clock_form_has_no_fault state)
     ∙ ap Ok (numbers_in-form state numbers)
 
 -- ---- what is read

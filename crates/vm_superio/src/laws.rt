@@ -15,12 +15,14 @@ pub mod saved;
 pub use clock::{alarm_due_by_history, clock_is_history, raw_bits_by_history};
 
 /// From any start, each register that stores writes holds its last effective one, and MSR never changes.
+#[tactic(auto, using(crate::proofs::Lemmas::Serial::Laws::Registers::register_law))]
 pub fn registers()
     ensures { RegisterLaw }
 {}
 
 /// The held-bytes law, from any start: the bytes in the FIFO are those of the history. LSR shows whether there are any
 /// if the start's LSR did.
+#[tactic(auto, using(crate::proofs::Lemmas::Serial::Laws::HeldBytes::held_bytes_law, crate::proofs::Lemmas::Serial::Laws::HeldBytes::line_status_law))]
 pub fn held_bytes()
     ensures bytes { HeldBytesLaw }
     ensures line_status { LineStatusLaw }
@@ -34,12 +36,14 @@ pub fn interrupts()
 {}
 
 /// Every step, even a refused call, keeps a coherent state coherent.
+#[tactic(auto, using(crate::proofs::Lemmas::Serial::Laws::WholeRuns::coherence_law))]
 pub fn coherence()
     ensures { CoherenceLaw }
 {}
 
 /// From a coherent start, the state after any trace is that of the history, and a call responds as the history says: a
 /// read with the guest read.
+#[tactic(auto, using(crate::proofs::Lemmas::Serial::Laws::WholeRuns::state_law, crate::proofs::Lemmas::Serial::Laws::WholeRuns::answer_law))]
 pub fn states_of_history()
     ensures state { StateLaw }
     ensures response { ResponseLaw }
@@ -66,47 +70,55 @@ pub fn retries_of_history()
 
 /// From a coherent start, entries connected by steps form a well-formed trace with these responses. They end in the
 /// state that it leads to, which is coherent.
+#[tactic(auto, using(crate::proofs::Lemmas::Serial::Laws::WholeRuns::whole_run_law))]
 pub fn whole_runs()
     ensures { WholeRunLaw }
 {}
 
 /// Calls of a coherent port in a plain struct, each with what the caller found when it carried out the effects, form a
 /// well-formed trace with these responses. They end in the state that it leads to, which is coherent.
+#[tactic(auto, using(crate::proofs::Lemmas::Serial::Laws::WholeRunsOfFields::fields_run_law))]
 pub fn whole_runs_of_fields()
     ensures { FieldsRunLaw }
 {}
 
 /// From any start, a condition is pending exactly if it was raised at some point or pending at the start, and no later
 /// point acknowledged it.
+#[tactic(auto, using(crate::proofs::Lemmas::Serial::Laws::PendingByPrefixes::pending_by_prefixes_law))]
 pub fn pending_by_prefixes()
     ensures { PendingByPrefixesLaw }
 {}
 
 /// From any start, a well-formed trace calls the trigger at most twice, plus twice for each IIR read and once for each
 /// RBR read. Calls of restores do not count.
+#[tactic(auto, using(crate::proofs::Lemmas::Serial::Laws::TriggerBound::trigger_bound_law))]
 pub fn trigger_bound()
     ensures { TriggerBoundLaw }
 {}
 
 /// From any start, after a byte is accepted or IER is written, and until IIR or RBR is read, RDA is pending whenever
 /// bytes are held and IER enables it.
+#[tactic(auto, using(crate::proofs::Lemmas::Serial::Laws::PendingByPrefixes::waiting_bytes_law))]
 pub fn waiting_bytes()
     ensures { WaitingBytesLaw }
 {}
 
 /// From any start, two traces with the same operations and trigger answers, restores left out, give the same guest
 /// reads, whatever the writer did.
+#[tactic(auto, using(crate::proofs::Lemmas::Serial::Laws::SameReads::same_reads_law))]
 pub fn same_reads()
     ensures { SameReadsLaw }
 {}
 
 /// From any start, the bytes taken, then those held, are those held at the start, then those accepted.
+#[tactic(auto, using(crate::proofs::Lemmas::Serial::Laws::HeldBytes::taken_then_held))]
 pub fn taken_then_held()
     ensures { TakenThenHeldLaw }
 {}
 
 /// From any start, if calls respond as the history says, the bytes that they give a guest from the FIFO are those that
 /// they take. So the bytes read, then those held, are those held at the start, then those accepted.
+#[tactic(auto, using(crate::proofs::Lemmas::Serial::Laws::ReadsAreTaken::reads_are_taken, crate::proofs::Lemmas::Serial::Laws::ReadsAreTaken::read_then_held))]
 pub fn reads_are_taken()
     ensures taken { ReadsAreTakenLaw }
     ensures held { ReadThenHeldLaw }
@@ -116,6 +128,7 @@ pub fn reads_are_taken()
 /// the start, then those accepted. If LSR does not show data ready in the end, it got all of these bytes. A driver
 /// polls if it reads RBR only after a read of LSR has shown data ready since its previous RBR read. Other calls in
 /// between do not matter.
+#[tactic(auto, using(crate::proofs::Lemmas::Serial::Laws::PollingDriver::polling_driver, crate::proofs::Lemmas::Serial::Laws::PollingDriver::driver_gets_all, crate::proofs::Lemmas::Serial::Laws::PollingDriver::polls_after_data_ready_law))]
 pub fn polling_driver()
     ensures bytes { PollingDriverLaw }
     ensures all { DriverGetsAllLaw }
@@ -124,6 +137,7 @@ pub fn polling_driver()
 
 /// From any start, if the newest entries of a well-formed trace lose no byte, the bytes that they record as taken are
 /// the output.
+#[tactic(auto, using(crate::proofs::Lemmas::Serial::Laws::Output::output_law))]
 pub fn output()
     ensures { OutputLaw }
 {}
@@ -132,6 +146,7 @@ pub fn output()
 /// It gives a guest the byte that it takes. Received bytes, and an RBR read of a held byte, change only the FIFO, LSR
 /// and IIR. After an RBR read, LSR shows data ready if it did before and a byte is left. A THR write outside loopback
 /// sends its byte and changes only IIR. If it returns `Ok`, a writer of known contents has grown by the byte.
+#[tactic(auto, using(crate::proofs::Lemmas::Serial::Laws::HeldBytes::one_call, crate::proofs::Lemmas::Serial::Laws::HeldBytes::received, crate::proofs::Lemmas::Serial::Laws::ReadsAreTaken::one_read, crate::proofs::Lemmas::Serial::Laws::ReadsAreTaken::rbr_read, crate::proofs::Lemmas::Serial::Laws::ReadsAreTaken::rbr_data_ready, crate::proofs::Lemmas::Serial::Laws::OneCall::thr_write))]
 pub fn one_call()
     ensures taken { OneCallLaw }
     ensures read { OneReadLaw }
@@ -143,18 +158,21 @@ pub fn one_call()
 
 /// In any state, a THR write outside loopback reports either `out_byte` or `tx_lost_byte`, exactly once. No other call
 /// does.
+#[tactic(auto, using(crate::proofs::Lemmas::Serial::Laws::Admissibility::events_law))]
 pub fn outcome_events()
     ensures { OutcomeEventsLaw }
 {}
 
 /// One call in any state: it calls the trigger once for each of the two pending bits of IIR that it turns from clear to
 /// set.
+#[tactic(auto, using(crate::proofs::Lemmas::Serial::Laws::TurnedBits::turned_bits_law))]
 pub fn turned_bits()
     ensures { TurnedBitsLaw }
 {}
 
 /// One call in any state: answers and an outcome are admissible exactly if some answers to the due trigger calls, and
 /// the writer's success or failure, produce them.
+#[tactic(auto, using(crate::proofs::Lemmas::Serial::Laws::Admissibility::exact_test_law))]
 pub fn admissibility()
     ensures { AdmissibilityLaw }
 {}

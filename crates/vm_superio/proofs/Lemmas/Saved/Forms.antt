@@ -74,15 +74,15 @@ state_in bytes = record {
 pub one_serial_state : OneSerialStateLaw
 one_serial_state a b same = ap state_in same
 
-pub serial_form-fault : SerialFormLaw
-serial_form-fault state few = grind arith
+pub serial_form_has_no_fault : SerialFormLaw
+serial_form_has_no_fault state few = grind arith
 
-clock_form-fault-by : (set : Bool) (state : RtcState) → state.armed ≡ set → clock_fault (clock_form state) ≡ None
-clock_form-fault-by true state is = rw is refl
-clock_form-fault-by false state is = rw is refl
+clock_form_has_no_fault-by : (set : Bool) (state : RtcState) → state.armed ≡ set → clock_fault (clock_form state) ≡ None
+clock_form_has_no_fault-by true state is = rw is refl
+clock_form_has_no_fault-by false state is = rw is refl
 
-pub clock_form-fault : ClockFormLaw
-clock_form-fault state = clock_form-fault-by state.armed state refl
+pub clock_form_has_no_fault : ClockFormLaw
+clock_form_has_no_fault state = clock_form_has_no_fault-by state.armed state refl
 
 -- what is read of the form of a state is this state
 pub clock_form_read : (bytes : List ℕ) (result : Result RtcState Error) → IfOk result IsClock →
@@ -90,4 +90,4 @@ pub clock_form_read : (bytes : List ℕ) (result : Result RtcState Error) → If
     (state : RtcState) → IsClock state → bytes ≡ clock_form state → result ≡ Ok state
 clock_form_read bytes (Ok found) numbers form fault state fits is = ap Ok (one_clock_state found state numbers fits (sym form ∙ is))
 clock_form_read bytes (Err error) numbers form fault state fits is =
-    let none : Some error ≡ None = fault ∙ ap clock_fault is ∙ clock_form-fault state in cc
+    let none : Some error ≡ None = fault ∙ ap clock_fault is ∙ clock_form_has_no_fault state in cc
