@@ -13,7 +13,8 @@ use Rattle.vm_superio.specs.Serial.Port.Operations.{Op, Read, Write, Enqueue, is
 use Rattle.vm_superio.specs.Serial.Port.OpKinds.{OpKind, ThrWrite, sent_by}
 use Rattle.vm_superio.specs.Rtc.Step.{ClockDevice}
 use Rattle.vm_superio.specs.Serial.Port.Model.{Port}
-use Rattle.vm_superio.proofs.Lemmas.Public.{Appends-nothing, Appends-append, fresh_clock-history}
+use Rattle.vm_superio.proofs.Lemmas.Links.Writer.{Appends-nothing, Appends-append}
+use Rattle.vm_superio.proofs.Lemmas.Rtc.FreshClock.{fresh_clock-history}
 use Rattle.superio_script.specs.InterruptLine.{InterruptLine}
 use Rattle.superio_script.specs.Counts.{EventCounts}
 use Rattle.superio_script.specs.Output.{written_bytes}

@@ -1,5 +1,5 @@
 pub mod Bits
-pub mod Public
+pub mod Links
 pub mod Rtc
 pub mod Saved
 pub mod Serial

@@ -36,14 +36,14 @@ pub fn interrupts()
 {}
 
 /// Every step, even a refused call, keeps a coherent state coherent.
-#[tactic(auto, using(crate::proofs::Lemmas::Serial::Laws::WholeRuns::coherence_law))]
+#[tactic(auto, using(crate::proofs::Lemmas::Serial::Laws::Coherence::coherence_law))]
 pub fn coherence()
     ensures { CoherenceLaw }
 {}
 
 /// From a coherent start, the state after any trace is that of the history, and a call responds as the history says: a
 /// read with the guest read.
-#[tactic(auto, using(crate::proofs::Lemmas::Serial::Laws::WholeRuns::state_law, crate::proofs::Lemmas::Serial::Laws::WholeRuns::answer_law))]
+#[tactic(auto, using(crate::proofs::Lemmas::Serial::Laws::StatesOfHistory::state_law, crate::proofs::Lemmas::Serial::Laws::StatesOfHistory::response_law))]
 pub fn states_of_history()
     ensures state { StateLaw }
     ensures response { ResponseLaw }
@@ -98,7 +98,7 @@ pub fn trigger_bound()
 
 /// From any start, after a byte is accepted or IER is written, and until IIR or RBR is read, RDA is pending whenever
 /// bytes are held and IER enables it.
-#[tactic(auto, using(crate::proofs::Lemmas::Serial::Laws::PendingByPrefixes::waiting_bytes_law))]
+#[tactic(auto, using(crate::proofs::Lemmas::Serial::Laws::WaitingBytes::waiting_bytes_law))]
 pub fn waiting_bytes()
     ensures { WaitingBytesLaw }
 {}
@@ -146,7 +146,7 @@ pub fn output()
 /// It gives a guest the byte that it takes. Received bytes, and an RBR read of a held byte, change only the FIFO, LSR
 /// and IIR. After an RBR read, LSR shows data ready if it did before and a byte is left. A THR write outside loopback
 /// sends its byte and changes only IIR. If it returns `Ok`, a writer of known contents has grown by the byte.
-#[tactic(auto, using(crate::proofs::Lemmas::Serial::Laws::HeldBytes::one_call, crate::proofs::Lemmas::Serial::Laws::HeldBytes::received, crate::proofs::Lemmas::Serial::Laws::ReadsAreTaken::one_read, crate::proofs::Lemmas::Serial::Laws::ReadsAreTaken::rbr_read, crate::proofs::Lemmas::Serial::Laws::ReadsAreTaken::rbr_data_ready, crate::proofs::Lemmas::Serial::Laws::OneCall::thr_write))]
+#[tactic(auto, using(crate::proofs::Lemmas::Serial::Laws::OneCall::one_call, crate::proofs::Lemmas::Serial::Laws::OneCall::received, crate::proofs::Lemmas::Serial::Laws::OneCall::one_read, crate::proofs::Lemmas::Serial::Laws::OneCall::rbr_read, crate::proofs::Lemmas::Serial::Laws::OneCall::rbr_data_ready, crate::proofs::Lemmas::Serial::Laws::OneCall::thr_write))]
 pub fn one_call()
     ensures taken { OneCallLaw }
     ensures read { OneReadLaw }

@@ -1,3 +1,4 @@
-pub mod AlarmDue
+pub mod AlarmDueByHistory
 pub mod Examples
+pub mod FreshClock
 pub mod History

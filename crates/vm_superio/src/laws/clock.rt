@@ -16,7 +16,7 @@ pub fn raw_bits_by_history()
 
 /// By the history, an alarm due in some seconds raises the interrupt at any access at that moment. No earlier access
 /// does, unless it writes a match itself. An earlier read changes nothing.
-#[tactic(auto, using(crate::proofs::Lemmas::Rtc::AlarmDue::alarm_due_law))]
+#[tactic(auto, using(crate::proofs::Lemmas::Rtc::AlarmDueByHistory::alarm_due_law))]
 pub fn alarm_due_by_history()
     ensures { AlarmDueByHistory }
 {}

@@ -1,4 +1,5 @@
 pub mod Admissibility
+pub mod Coherence
 pub mod HeldBytes
 pub mod Interrupts
 pub mod OneCall
@@ -8,8 +9,10 @@ pub mod PollingDriver
 pub mod ReadsAreTaken
 pub mod Registers
 pub mod SameReads
+pub mod StatesOfHistory
 pub mod StepsOfHistory
 pub mod TriggerBound
 pub mod TurnedBits
+pub mod WaitingBytes
 pub mod WholeRuns
 pub mod WholeRunsOfFields

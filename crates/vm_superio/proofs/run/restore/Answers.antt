@@ -2,7 +2,7 @@
 use Rattle.std.proofs.Common.{refl, subst}
 use Rattle.vm_superio.specs.Serial.Port.State.{State}
 use Rattle.vm_superio.specs.Serial.Step.Restore.{RefusesRestore}
-use Rattle.vm_superio.proofs.Lemmas.Public.{RefusesOwnState-few}
+use Rattle.vm_superio.proofs.Lemmas.Serial.Step.Restore.{RefusesOwnState-few}
 use Rattle.vm_superio.proofs.run.restore.Goals as goal
 
 pub returns : goal.returns

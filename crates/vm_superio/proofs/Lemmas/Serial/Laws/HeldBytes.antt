@@ -17,41 +17,7 @@ use Rattle.vm_superio.specs.Serial.Laws.Consequences.{TakenThenHeldLaw}
 use Rattle.vm_superio.specs.Serial.Laws.OneCall.{OneCallLaw, ReceivedLaw}
 use Rattle.vm_superio.proofs.Lemmas.Serial.Port.Bits.{data_ready_right, data_ready_twice}
 use Rattle.vm_superio.proofs.Lemmas.Serial.Step.ByKind.{by_kind, next_by_kind, next_at_point}
-
--- ---- one operation
-
--- what is taken is the front of what is there
-taken_first : (k : OpKind) (bytes new : List ℕ)
-    → taken_by k bytes ++ drop (length (taken_by k bytes)) (bytes ++ new) ≡ bytes ++ new
-taken_first RbrRead [] new = refl
-taken_first RbrRead (byte ∷ bytes) new = refl
-taken_first IirRead bytes new = refl
-taken_first _ bytes new = refl
-
-pub received : ReceivedLaw
-received s [] = ap (λ bytes. record s { in_buffer = bytes }) (sym (append-nil s.in_buffer))
-received s (byte ∷ bytes) = refl
-
-received_bytes : (new : List ℕ) (s : State) → (receive_bytes new s).in_buffer ≡ s.in_buffer ++ new
-received_bytes new s = ap (λ (left : State). left.in_buffer) (received s new)
-
-first_gone : (bytes : List ℕ) → drop 1 bytes ≡ drop (length (taken_by RbrRead bytes)) (bytes ++ [])
-first_gone [] = refl
-first_gone (byte ∷ bytes) = sym (append-nil bytes)
-
--- the steps take and accept what the history says
-left_by_kind : (k : OpKind) (asked : Asked) (s : State)
-    → (by_kind k asked s).in_buffer ≡ drop (length (taken_by k s.in_buffer)) (s.in_buffer ++ accepted_by k s.in_buffer)
-left_by_kind RbrRead asked s = first_gone s.in_buffer
-left_by_kind (Arrival bytes) asked s = received_bytes (bytes_that_fit s.in_buffer bytes) s
-left_by_kind IirRead asked s = sym (append-nil s.in_buffer)
-left_by_kind _ asked s = sym (append-nil s.in_buffer)
-
-pub one_call : OneCallLaw
-one_call s op asked =
-    ap (λ bytes. taken_by (kind_in_state s op) s.in_buffer ++ bytes)
-    ((next_by_kind s op asked).in_buffer ∙ left_by_kind (kind_in_state s op) asked s)
-    ∙ taken_first (kind_in_state s op) s.in_buffer (accepted_by (kind_in_state s op) s.in_buffer)
+use Rattle.vm_superio.proofs.Lemmas.Serial.Laws.OneCall.{taken_first, left_by_kind}
 
 -- ---- any trace
 

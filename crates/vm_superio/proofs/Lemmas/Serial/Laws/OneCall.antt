@@ -1,20 +1,152 @@
--- What a THR write outside loopback does.
-use Rattle.std.proofs.Common.{◌≡◌, ℕ, Bool, true, false, List, [], ◌∷◌, Option, IsTrue, refl, sym, subst}
-use Rattle.std.specs.Prelude.{not, ◌&&◌, if◌then◌else◌}
+-- One call: the bytes that it takes, accepts and gives, and the byte that a THR write sends.
+use Rattle.std.proofs.Common.{◌≡◌, ℕ, Bool, true, List, [], ◌∷◌, ◌++◌, length, drop, refl, ap, sym, ◌∙◌, append_assoc, append-nil, length-append, ◌<◌, false, subst, arith, Option, IsTrue}
+use Rattle.std.proofs.Math.Seq.{drop-append-add}
+use Rattle.std.specs.Prelude.{if◌then◌else◌, slice_index, drop, ◌&&◌, not}
+use Rattle.vm_superio.specs.declared.trace.Asked.{Asked}
+use Rattle.vm_superio.specs.Serial.Port.State.{State, not_empty}
+use Rattle.vm_superio.specs.Bits.{has_bits, without_bits}
+use Rattle.vm_superio.specs.Serial.History.Reads.{with_data_ready, line_status, state_of_history, history_response, byte_read, bytes_read}
+use Rattle.vm_superio.specs.Serial.Port.Operations.{Op, TraceEntry, Read, Write, Enqueue, Restore, Response, ByteRead, WriteOk, WriterFailed, TriggerRefused, is_sent, is_lost, ends_in_refusal}
+use Rattle.vm_superio.specs.Serial.Step.Raising.{receive_bytes, bytes_that_fit, raise}
+use Rattle.vm_superio.specs.Serial.Step.Admissible.{kind_in_state, answers_all, step_calls, sends_byte}
+use Rattle.vm_superio.specs.Serial.Port.OpKinds.{OpKind, RbrRead, IirRead, Arrival, read_kind, write_kind, kind_of, sent_by}
+use Rattle.vm_superio.specs.Serial.History.Registers.{accepted_by, taken_by, kind_at, remaining_bytes, accepted_bytes, taken_bytes, held_bytes, dlab, loopback}
+use Rattle.vm_superio.specs.Serial.Step.Transition.{step, read_step, step_response, write_step}
+use Rattle.vm_superio.specs.Serial.Laws.Agreement.{state_after, HeldBytesLaw, LineStatusLaw}
+use Rattle.vm_superio.specs.Serial.Laws.Consequences.{TakenThenHeldLaw, ReadsAreTakenLaw, ReadThenHeldLaw}
+use Rattle.vm_superio.specs.Serial.Laws.OneCall.{OneCallLaw, ReceivedLaw, OneReadLaw, RbrReadLaw, RbrDataReadyLaw, ThrWriteLaw}
+use Rattle.vm_superio.proofs.Lemmas.Serial.Port.Bits.{data_ready_right, data_ready_twice, data_ready_cleared}
+use Rattle.vm_superio.proofs.Lemmas.Serial.Step.ByKind.{by_kind, next_by_kind, next_at_point}
+use Rattle.std.proofs.Math.Bool.{and-true, and-false}
+use Rattle.vm_superio.specs.declared.trace.Asked.TheVariants.{Nothing}
+use Rattle.vm_superio.specs.declared.trace.Sent.{Sent}
+use Rattle.vm_superio.specs.declared.trace.Sent.TheVariants as sent
+use Rattle.vm_superio.specs.Serial.Port.Registers.{Register, RbrThr, Ier, Iir, register_at, is_dlab, is_loopback, register_read, Thre}
+use Rattle.vm_superio.specs.Serial.Run.Trace.{trace_after}
 use Rattle.std.specs.List.{list_all}
 use Rattle.std.specs.Bool.{beq}
 use Rattle.std.specs.Io.KnownBytes.{Appends}
-use Rattle.vm_superio.specs.declared.trace.Sent.{Sent}
 use Rattle.vm_superio.specs.declared.trace.Sent.TheVariants.{Nothing, Out, Lost}
-use Rattle.vm_superio.specs.Serial.Port.State.{not_empty}
-use Rattle.vm_superio.specs.Serial.Port.Registers.{RbrThr, is_loopback, register_at, Thre}
-use Rattle.vm_superio.specs.Serial.Port.Operations.{Write, WriteOk, WriterFailed, TriggerRefused, is_sent, is_lost, ends_in_refusal}
 use Rattle.vm_superio.specs.Links.Writer.{bytes_written}
-use Rattle.vm_superio.specs.Serial.Port.OpKinds.{write_kind, sent_by}
-use Rattle.vm_superio.specs.Serial.Step.Raising.{raise, receive_bytes, bytes_that_fit}
-use Rattle.vm_superio.specs.Serial.Step.Transition.{write_step}
-use Rattle.vm_superio.specs.Serial.Step.Admissible.{answers_all, step_calls, sends_byte}
-use Rattle.vm_superio.specs.Serial.Laws.OneCall.{ThrWriteLaw}
+
+-- ---- bytes taken and accepted
+
+-- what is taken is the front of what is there
+pub taken_first : (k : OpKind) (bytes new : List ℕ)
+    → taken_by k bytes ++ drop (length (taken_by k bytes)) (bytes ++ new) ≡ bytes ++ new
+taken_first RbrRead [] new = refl
+taken_first RbrRead (byte ∷ bytes) new = refl
+taken_first IirRead bytes new = refl
+taken_first _ bytes new = refl
+
+pub received : ReceivedLaw
+received s [] = ap (λ bytes. record s { in_buffer = bytes }) (sym (append-nil s.in_buffer))
+received s (byte ∷ bytes) = refl
+
+received_bytes : (new : List ℕ) (s : State) → (receive_bytes new s).in_buffer ≡ s.in_buffer ++ new
+received_bytes new s = ap (λ (left : State). left.in_buffer) (received s new)
+
+first_gone : (bytes : List ℕ) → drop 1 bytes ≡ drop (length (taken_by RbrRead bytes)) (bytes ++ [])
+first_gone [] = refl
+first_gone (byte ∷ bytes) = sym (append-nil bytes)
+
+-- the steps take and accept what the history says
+pub left_by_kind : (k : OpKind) (asked : Asked) (s : State)
+    → (by_kind k asked s).in_buffer ≡ drop (length (taken_by k s.in_buffer)) (s.in_buffer ++ accepted_by k s.in_buffer)
+left_by_kind RbrRead asked s = first_gone s.in_buffer
+left_by_kind (Arrival bytes) asked s = received_bytes (bytes_that_fit s.in_buffer bytes) s
+left_by_kind IirRead asked s = sym (append-nil s.in_buffer)
+left_by_kind _ asked s = sym (append-nil s.in_buffer)
+
+pub one_call : OneCallLaw
+one_call s op asked =
+    ap (λ bytes. taken_by (kind_in_state s op) s.in_buffer ++ bytes)
+    ((next_by_kind s op asked).in_buffer ∙ left_by_kind (kind_in_state s op) asked s)
+    ∙ taken_first (kind_in_state s op) s.in_buffer (accepted_by (kind_in_state s op) s.in_buffer)
+
+-- ---- bytes read
+
+-- an RBR read replies with the byte that it takes
+first_byte : (held : List ℕ) → byte_read RbrRead held (ByteRead (slice_index held 0)) ≡ taken_by RbrRead held
+first_byte [] = refl
+first_byte (byte ∷ held) = refl
+
+-- of a read of any register
+pub of_read : (register : Register) (s : State)
+    → byte_read (read_kind register) s.in_buffer (ByteRead (register_read register s))
+    ≡ taken_by (read_kind register) s.in_buffer
+of_read RbrThr s = first_byte s.in_buffer
+of_read Iir s = refl
+of_read _ s = refl
+
+-- a write takes no byte, and gives none
+pub of_write : (register : Register) (in_loopback : Bool) (value : ℕ) (held : List ℕ) (reply : Response)
+    → byte_read (write_kind register in_loopback value) held reply
+    ≡ taken_by (write_kind register in_loopback value) held
+of_write RbrThr false value held reply = refl
+of_write RbrThr true value held reply = refl
+of_write Ier in_loopback value held reply = refl
+of_write _ in_loopback value held reply = refl
+
+pub of_enqueue : (latch in_loopback : Bool) (bytes held : List ℕ) (reply : Response)
+    → byte_read (kind_of latch in_loopback (Enqueue bytes)) held reply
+    ≡ taken_by (kind_of latch in_loopback (Enqueue bytes)) held
+of_enqueue latch true bytes held reply = refl
+of_enqueue latch false bytes held reply = refl
+
+of_step : (s : State) (op : Op) (asked : Asked) (sent : Sent)
+    → byte_read (kind_in_state s op) s.in_buffer (step_response s op asked sent)
+    ≡ taken_by (kind_in_state s op) s.in_buffer
+of_step s (Read offset) asked sent = of_read (register_at (is_dlab s.line_control) offset) s
+of_step s (Write offset value) asked sent =
+    of_write (register_at (is_dlab s.line_control) offset) (is_loopback s.modem_control) value s.in_buffer _
+of_step s (Enqueue bytes) asked sent =
+    of_enqueue (is_dlab s.line_control) (is_loopback s.modem_control) bytes s.in_buffer _
+of_step s Restore asked sent = refl
+
+pub one_read : OneReadLaw
+one_read s op asked sent =
+    ap (λ byte. byte ++ (step s op asked).in_buffer) (of_step s op asked sent) ∙ one_call s op asked
+
+-- while the latch is hidden
+is_oldest : (held left : List ℕ) (byte : ℕ) → 0 < length held
+    → byte_read RbrRead held (ByteRead byte) ++ left ≡ held ++ [] → byte ∷ left ≡ held
+is_oldest [] left byte some is = absurd (omega (arith, some))
+is_oldest (oldest ∷ held) left byte some is = is ∙ append-nil (oldest ∷ held)
+
+-- a read changes no register but LSR and IIR
+kept : (register : Register) (s : State) → read_step register s ≡ record s {
+  in_buffer = (read_step register s).in_buffer;
+  line_status = (read_step register s).line_status;
+  interrupt_identification = (read_step register s).interrupt_identification;
+}
+kept RbrThr s = refl
+kept Iir s = refl
+kept _ s = refl
+
+pub rbr_read : RbrReadLaw
+rbr_read s byte hidden some response = record {
+  bytes = is_oldest s.in_buffer _ byte some
+      (subst (λ kind. byte_read kind s.in_buffer (ByteRead byte) ++ (step s (Read 0) Nothing).in_buffer
+      ≡ s.in_buffer ++ accepted_by kind s.in_buffer) (ap (λ latch. read_kind (register_at latch 0)) hidden)
+      (rw response (one_read s (Read 0) Nothing sent.Nothing)));
+  others = kept (register_at (is_dlab s.line_control) 0) s;
+}
+
+-- LSR after a read that leaves these bytes
+ready_where : (left : List ℕ) (line_status : ℕ)
+    → has_bits (if not_empty left then line_status else without_bits line_status 0x01) 0x01
+    ≡ (has_bits line_status 0x01 && not_empty left)
+ready_where [] line_status = data_ready_cleared line_status ∙ sym (and-false (has_bits line_status 0x01))
+ready_where (byte ∷ left) line_status = sym (and-true (has_bits line_status 0x01))
+
+pub rbr_data_ready : RbrDataReadyLaw
+rbr_data_ready s hidden = subst
+    (λ latch. let new = read_step (register_at latch 0) s in
+    has_bits new.line_status 0x01 ≡ (has_bits s.line_status 0x01 && not_empty new.in_buffer))
+    (sym hidden) (ready_where (drop 1 s.in_buffer) s.line_status)
+
+-- ---- a THR write outside loopback
 
 -- `Ok` is no failure of the writer
 taken : (value : ℕ) (is_refused : Bool) (sent : Sent) → IsTrue (is_sent sent)

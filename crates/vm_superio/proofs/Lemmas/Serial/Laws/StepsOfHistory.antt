@@ -20,7 +20,7 @@ use Rattle.vm_superio.specs.Serial.History.Calls.{calls_due, kind_events, histor
 use Rattle.vm_superio.specs.Serial.History.Reads.{state_of_history}
 use Rattle.vm_superio.specs.Serial.Laws.Agreement.{StepLaw, CallLaw, RetryLaw}
 use Rattle.vm_superio.proofs.Lemmas.Serial.Laws.Interrupts.{due_is, interrupt_law}
-use Rattle.vm_superio.proofs.Lemmas.Serial.Laws.WholeRuns.{state_law, answer_law}
+use Rattle.vm_superio.proofs.Lemmas.Serial.Laws.StatesOfHistory.{state_law, response_law}
 use Rattle.vm_superio.proofs.Lemmas.Serial.Laws.Output.{call_written}
 
 -- ---- events
@@ -135,7 +135,7 @@ step_law start trace coherent =
           ∙ state_law start (entry ∷ trace) coherent in
           record {
             response = ap (λ (s : State). step_response s entry.op entry.asked entry.sent) (sym here)
-                ∙ answer_law start trace entry coherent;
+                ∙ response_law start trace entry coherent;
             state = goes_on;
             events = reported_at_point start trace entry.op entry.asked entry.sent goes_on outcome_fits;
             output = λ kept.

@@ -1,5 +1,4 @@
--- A coherent state stays coherent, is the one that the trace describes, and responds as the history says; so whole
--- runs by the steps are well-formed traces.
+-- Entries that follow each other by steps form a well-formed trace.
 use Rattle.std.proofs.Common.{◌≡◌, ℕ, ◌+◌, ◌≤◌, Bool, true, false, ◌==◌, ◌&&◌, ◌||◌, List, [], ◌∷◌, length, drop, refl, ap, sym, ◌∙◌, subst, length-append, length-take, length-drop, arith}
 use Rattle.std.specs.Cmp.Derive.{both_true}
 use Rattle.std.proofs.lemmas.Bool.{false≢true}
@@ -23,132 +22,8 @@ use Rattle.vm_superio.proofs.Lemmas.Serial.Step.ByKind.{by_kind, next_by_kind}
 use Rattle.vm_superio.proofs.Lemmas.Serial.Laws.Registers.{register_law}
 use Rattle.vm_superio.proofs.Lemmas.Serial.Laws.HeldBytes.{held_bytes_law, line_status_law, not_empty-append}
 use Rattle.vm_superio.proofs.Lemmas.Serial.Laws.Interrupts.{interrupt_law, pending_by_kind, thre_next, rda_next}
-
--- ---- a new port is coherent: nothing is pending, and no byte is held
-
--- ---- a coherent state stays coherent
-
--- RDA is pending only while a byte is held
-received_kept : (new : List ℕ) (s : State) (bit before : Bool) → (IsTrue before → IsTrue (not_empty s.in_buffer))
-    → IsTrue ((not_empty new && bit) || before) → IsTrue (not_empty (receive_bytes new s).in_buffer)
-received_kept [] s bit before kept now = kept now
-received_kept (byte ∷ bytes) s bit before kept now = not_empty-append s.in_buffer byte bytes
-
-enabled_held : (bit held_bytes before : Bool) → (IsTrue before → IsTrue held_bytes) → IsTrue ((bit && held_bytes) || before) → IsTrue held_bytes
-enabled_held bit true before kept now = refl
-enabled_held true false before kept now = kept now
-enabled_held false false before kept now = kept now
-
-received_by_kind : (k : OpKind) (asked : Asked) (s : State) (before : Bool)
-    → (IsTrue before → IsTrue (not_empty s.in_buffer))
-    → IsTrue (rda_next k s.in_buffer s.interrupt_enable before) → IsTrue (not_empty (by_kind k asked s).in_buffer)
-received_by_kind RbrRead asked s before kept now = absurd (false≢true now)
-received_by_kind IirRead asked s before kept now = absurd (false≢true now)
-received_by_kind (IerWrite value) asked s before kept now =
-    enabled_held (has_bits value 0x01) (not_empty s.in_buffer) before kept now
-received_by_kind (ThrWrite value) asked s before kept now = kept now
-received_by_kind (Arrival bytes) asked s before kept now =
-    received_kept (bytes_that_fit s.in_buffer bytes) s (has_bits s.interrupt_enable 0x01) before kept now
-received_by_kind Other asked s before kept now = kept now
-
--- data ready is set exactly while a byte is held
-read_shows : (bytes : List ℕ) (line_status : ℕ) → has_bits line_status 0x01 ≡ not_empty bytes
-    → has_bits (if not_empty (drop 1 bytes) then line_status else without_bits line_status 0x01) 0x01
-    ≡ not_empty (drop 1 bytes)
-read_shows [] line_status shows = data_ready_cleared line_status
-read_shows (byte ∷ []) line_status shows = data_ready_cleared line_status
-read_shows (byte ∷ other ∷ bytes) line_status shows = shows
-
-received_shows : (new : List ℕ) (s : State) → has_bits s.line_status 0x01 ≡ not_empty s.in_buffer
-    → has_bits (receive_bytes new s).line_status 0x01 ≡ not_empty (receive_bytes new s).in_buffer
-received_shows [] s shows = shows
-received_shows (byte ∷ bytes) s shows = data_ready_set s.line_status ∙ sym (not_empty-append s.in_buffer byte bytes)
-
-shown_by_kind : (k : OpKind) (asked : Asked) (s : State) → has_bits s.line_status 0x01 ≡ not_empty s.in_buffer
-    → has_bits (by_kind k asked s).line_status 0x01 ≡ not_empty (by_kind k asked s).in_buffer
-shown_by_kind RbrRead asked s shows = read_shows s.in_buffer s.line_status shows
-shown_by_kind (Arrival bytes) asked s shows = received_shows (bytes_that_fit s.in_buffer bytes) s shows
-shown_by_kind IirRead asked s shows = shows
-shown_by_kind _ asked s shows = shows
-
--- at most 64 bytes are held
-received_length : (new : List ℕ) (s : State) → length (receive_bytes new s).in_buffer ≡ length s.in_buffer + length new
-received_length [] s = omega arith
-received_length (byte ∷ bytes) s = length-append s.in_buffer (byte ∷ bytes)
-
-few_by_kind : (k : OpKind) (asked : Asked) (s : State) → length s.in_buffer ≤ 64
-    → length (by_kind k asked s).in_buffer ≤ 64
-few_by_kind RbrRead asked s few = simp length-drop (omega arith)
-few_by_kind (Arrival bytes) asked s few = rw received_length (simp length-take (omega arith))
-few_by_kind IirRead asked s few = few
-few_by_kind _ asked s few = few
-
-pub coherence_law : CoherenceLaw
-coherence_law s op asked coherent =
-    let k = kind_in_state s op in
-    let same = next_by_kind s op asked in
-    record {
-      thre = thre_next k s.in_buffer s.interrupt_enable asked coherent.thre coherent.rda;
-      rda = rda_next k s.in_buffer s.interrupt_enable coherent.rda;
-      identification =
-          same.interrupt_identification
-          ∙ pending_by_kind k asked s coherent.thre coherent.rda coherent.identification;
-      received = λ now. ap not_empty same.in_buffer ∙ received_by_kind k asked s coherent.rda coherent.received now;
-      data_ready =
-          ap (λ byte. has_bits byte 0x01) same.line_status ∙ shown_by_kind k asked s coherent.data_ready
-          ∙ ap not_empty (sym same.in_buffer);
-      at_most_64 = rw same.in_buffer (few_by_kind k asked s coherent.at_most_64);
-    }
-
-coherent_after : (start : State) (trace : List TraceEntry) → Coherent start → Coherent (state_after start trace)
-coherent_after start [] coherent = coherent
-coherent_after start (entry ∷ trace) coherent =
-    coherence_law (state_after start trace) entry.op entry.asked (coherent_after start trace coherent)
-
--- ---- the state is described, and the answers are the replies
-
-pub state_law : StateLaw
-state_law start trace coherent =
-    let registers = register_law start trace in
-    let interrupts = interrupt_law start trace coherent.thre coherent.rda coherent.identification in
-    λ i. record {
-      baud_divisor_low = registers.divisor_low i;
-      baud_divisor_high = registers.divisor_high i;
-      interrupt_enable = registers.interrupt_enable i;
-      interrupt_identification = interrupts.pending i;
-      line_control = registers.line_control i;
-      line_status = line_status_law start trace coherent.data_ready i;
-      modem_control = registers.modem_control i;
-      modem_status = registers.modem_status i;
-      scratch = registers.scratch i;
-      in_buffer = held_bytes_law start trace i;
-    }
-
-enqueue_reported : (loopback : Bool) (bytes held_bytes : List ℕ) (asked : Asked)
-    → (if loopback || (length bytes == 0) then EnqueueOk 0
-    else (if nat_le 64 (length held_bytes) then FifoFull
-    else (if is_first_refused asked then TriggerRefused
-    else EnqueueOk (length (if loopback then [] else bytes_that_fit held_bytes bytes)))))
-    ≡ (if loopback || (length bytes == 0) then EnqueueOk 0
-    else (if nat_le 64 (length held_bytes) then FifoFull
-    else (if is_first_refused asked then TriggerRefused
-    else EnqueueOk (length (accepted_by (if loopback then Other else Arrival bytes) held_bytes)))))
-enqueue_reported true bytes held_bytes asked = refl
-enqueue_reported false bytes held_bytes asked = refl
-
-answer_reported : (start : State) (trace : List TraceEntry) (op : Op) (asked : Asked) (outcome : Sent)
-    → step_response (state_of_history start trace) op asked outcome ≡ history_response start trace op asked outcome
-answer_reported start trace (Read offset) asked outcome = refl
-answer_reported start trace (Write offset value) asked outcome = refl
-answer_reported start trace (Enqueue bytes) asked outcome = enqueue_reported (loopback start trace) bytes (held_bytes start trace) asked
-answer_reported start trace Restore asked outcome = refl
-
-pub answer_law : ResponseLaw
-answer_law start trace entry coherent =
-    ap (λ (s : State). step_response s entry.op entry.asked entry.sent) (state_law start trace coherent)
-    ∙ answer_reported start trace entry.op entry.asked entry.sent
-
--- ---- a whole run
+use Rattle.vm_superio.proofs.Lemmas.Serial.Laws.Coherence.{coherent_after}
+use Rattle.vm_superio.proofs.Lemmas.Serial.Laws.StatesOfHistory.{state_law, response_law}
 
 run_from : (start : State) (trace : List TraceEntry) (calls : List (TraceEntry × Response)) (end : State) → Coherent start
     → IsTrue (is_well_formed start trace) → StepsFollow (state_after start trace) calls end
@@ -166,7 +41,7 @@ run_from start trace (call ∷ later) end coherent well_formed follow =
     let rest = run_from start (call.0 ∷ trace) later end coherent all follow.2 in
     record {
       well_formed = rest.well_formed;
-      responses = (follow.1 ∙ answer_law start trace call.0 coherent, rest.responses);
+      responses = (follow.1 ∙ response_law start trace call.0 coherent, rest.responses);
       state = rest.state;
       coherent = rest.coherent;
     }

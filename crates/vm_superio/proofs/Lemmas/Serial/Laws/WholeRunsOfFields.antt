@@ -23,7 +23,8 @@ use Rattle.vm_superio.specs.Serial.Step.FieldsStep.{IsFieldsWrite, IsFieldsEnque
 use Rattle.vm_superio.specs.Serial.Laws.Agreement.{StepsFollow}
 use Rattle.vm_superio.specs.Serial.Laws.FieldsRun.{FieldsCall, FieldsRead, FieldsWrite, FieldsEnqueue, FieldsRestore, IsSettled, IsFieldsCall, FieldsCallsFollow, entry_of_call, response_of_call, recorded_calls, FieldsRunLaw}
 use Rattle.vm_superio.proofs.Lemmas.Serial.Step.FirstRefused.{is_refused}
-use Rattle.vm_superio.proofs.Lemmas.Serial.Laws.WholeRuns.{coherence_law, whole_run_law}
+use Rattle.vm_superio.proofs.Lemmas.Serial.Laws.Coherence.{coherence_law}
+use Rattle.vm_superio.proofs.Lemmas.Serial.Laws.WholeRuns.{whole_run_law}
 
 -- bytes that are received outside loopback keep a coherent state coherent
 pub receive-coherent :

@@ -42,7 +42,7 @@ use Rattle.vm_superio.proofs.Lemmas.Serial.Laws.TriggerBound.{trigger_bound_law}
 use Rattle.vm_superio.proofs.Lemmas.Serial.Laws.HeldBytes.{taken_then_held}
 use Rattle.vm_superio.proofs.Lemmas.Serial.Laws.ReadsAreTaken.{read_then_held}
 use Rattle.vm_superio.proofs.Lemmas.Serial.Laws.Interrupts.{interrupt_law}
-use Rattle.vm_superio.proofs.Lemmas.Serial.Laws.PendingByPrefixes.{waiting_bytes_law}
+use Rattle.vm_superio.proofs.Lemmas.Serial.Laws.WaitingBytes.{waiting_bytes_law}
 use Rattle.vm_superio.proofs.Lemmas.Serial.Laws.SameReads.{same_reads_law}
 use Rattle.vm_superio.proofs.Lemmas.Serial.Laws.Output.{output_law}
 

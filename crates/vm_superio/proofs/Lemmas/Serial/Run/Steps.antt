@@ -20,7 +20,7 @@ use Rattle.vm_superio.specs.Serial.Step.PortStep.{IsPortStep}
 use Rattle.vm_superio.specs.Serial.Run.Segments.{Segment, first_segment, extend, IsAfter}
 use Rattle.vm_superio.specs.Serial.Run.Steps.{IsCallStep, CallFollows, next_segment, IsRun}
 use Rattle.vm_superio.specs.Serial.Run.Trace.{op_of, act_of}
-use Rattle.vm_superio.proofs.Lemmas.Public.{Appends-nothing, Appends-append}
+use Rattle.vm_superio.proofs.Lemmas.Links.Writer.{Appends-nothing, Appends-append}
 
 WriterLink-nothing : {W : Type 0} (contents : Contents W) (old new : W) → new ≡ old → WriterLink contents [] [] old new
 WriterLink-nothing contents old new same = record {

@@ -1,6 +1,6 @@
 -- A step keeps a coherent state coherent.
 use Rattle.vm_superio.specs.Serial.Port.Operations.{Read}
-use Rattle.vm_superio.proofs.Lemmas.Serial.Laws.WholeRuns.{coherence_law}
+use Rattle.vm_superio.proofs.Lemmas.Serial.Laws.Coherence.{coherence_law}
 use Rattle.vm_superio.proofs.serial.Serial.read.Goals as goal
 
 pub returns-clause-coherent : goal.returns-clause-coherent

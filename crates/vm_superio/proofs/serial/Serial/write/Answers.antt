@@ -2,7 +2,7 @@
 use Rattle.vm_superio.specs.Serial.Port.Operations.{Write}
 use Rattle.vm_superio.specs.Links.Writer.{port_links}
 use Rattle.vm_superio.proofs.Lemmas.Serial.Step.PortStep.{length-answers_of-step}
-use Rattle.vm_superio.proofs.Lemmas.Serial.Laws.WholeRuns.{coherence_law}
+use Rattle.vm_superio.proofs.Lemmas.Serial.Laws.Coherence.{coherence_law}
 use Rattle.vm_superio.proofs.serial.Serial.write.Goals as goal
 
 pub returns-clause-step : goal.returns-clause-step

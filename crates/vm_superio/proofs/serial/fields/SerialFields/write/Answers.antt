@@ -5,7 +5,7 @@ use Rattle.vm_superio.specs.Serial.Port.Coherent.{Coherent}
 use Rattle.vm_superio.specs.Serial.Port.Fields.{state_of_fields}
 use Rattle.vm_superio.specs.Serial.Port.Operations.{Write}
 use Rattle.vm_superio.specs.Serial.Step.Transition.{write_step}
-use Rattle.vm_superio.proofs.Lemmas.Serial.Laws.WholeRuns.{coherence_law}
+use Rattle.vm_superio.proofs.Lemmas.Serial.Laws.Coherence.{coherence_law}
 use Rattle.vm_superio.proofs.serial.fields.SerialFields.write.Goals as goal
 
 pub returns-clause-coherent : goal.returns-clause-coherent

@@ -1,0 +1,65 @@
+-- The state after a trace is that of the history, and a call responds as the history says.
+use Rattle.std.proofs.Common.{◌≡◌, ℕ, ◌+◌, ◌≤◌, Bool, true, false, ◌==◌, ◌&&◌, ◌||◌, List, [], ◌∷◌, length, drop, refl, ap, sym, ◌∙◌, subst, length-append, length-take, length-drop, arith}
+use Rattle.std.specs.Cmp.Derive.{both_true}
+use Rattle.std.proofs.lemmas.Bool.{false≢true}
+use Rattle.std.specs.Prelude.{if◌then◌else◌, nat_le, IsTrue}
+use Rattle.vm_superio.specs.declared.trace.Asked.{Asked}
+use Rattle.vm_superio.specs.declared.trace.Sent.{Sent}
+use Rattle.vm_superio.specs.Serial.Port.State.{State, not_empty}
+use Rattle.vm_superio.specs.Bits.{has_bits, without_bits}
+use Rattle.vm_superio.specs.Serial.Port.Operations.{Op, Read, Write, Enqueue, Restore, TraceEntry, Response, EnqueueOk, FifoFull, TriggerRefused, is_first_refused}
+use Rattle.vm_superio.specs.Serial.Step.Raising.{receive_bytes, bytes_that_fit}
+use Rattle.vm_superio.specs.Serial.Step.Admissible.{kind_in_state}
+use Rattle.vm_superio.specs.Serial.Port.OpKinds.{OpKind, RbrRead, IirRead, IerWrite, ThrWrite, Arrival, Other}
+use Rattle.vm_superio.specs.Serial.History.Registers.{accepted_by, loopback, held_bytes}
+use Rattle.vm_superio.specs.Serial.Step.Transition.{step_response}
+use Rattle.vm_superio.specs.Serial.Port.Coherent.{Coherent}
+use Rattle.vm_superio.specs.Serial.History.Reads.{history_response, state_of_history}
+use Rattle.vm_superio.specs.Serial.History.Interrupts.{is_well_formed}
+use Rattle.vm_superio.specs.Serial.Laws.Agreement.{state_after, CoherenceLaw, StateLaw, ResponseLaw, StepsFollow, RunAgrees, WholeRunLaw}
+use Rattle.vm_superio.proofs.Lemmas.Serial.Port.Bits.{data_ready_set, data_ready_cleared}
+use Rattle.vm_superio.proofs.Lemmas.Serial.Step.ByKind.{by_kind, next_by_kind}
+use Rattle.vm_superio.proofs.Lemmas.Serial.Laws.Registers.{register_law}
+use Rattle.vm_superio.proofs.Lemmas.Serial.Laws.HeldBytes.{held_bytes_law, line_status_law, not_empty-append}
+use Rattle.vm_superio.proofs.Lemmas.Serial.Laws.Interrupts.{interrupt_law, pending_by_kind, thre_next, rda_next}
+
+pub state_law : StateLaw
+state_law start trace coherent =
+    let registers = register_law start trace in
+    let interrupts = interrupt_law start trace coherent.thre coherent.rda coherent.identification in
+    λ i. record {
+      baud_divisor_low = registers.divisor_low i;
+      baud_divisor_high = registers.divisor_high i;
+      interrupt_enable = registers.interrupt_enable i;
+      interrupt_identification = interrupts.pending i;
+      line_control = registers.line_control i;
+      line_status = line_status_law start trace coherent.data_ready i;
+      modem_control = registers.modem_control i;
+      modem_status = registers.modem_status i;
+      scratch = registers.scratch i;
+      in_buffer = held_bytes_law start trace i;
+    }
+
+enqueue_reported : (loopback : Bool) (bytes held_bytes : List ℕ) (asked : Asked)
+    → (if loopback || (length bytes == 0) then EnqueueOk 0
+    else (if nat_le 64 (length held_bytes) then FifoFull
+    else (if is_first_refused asked then TriggerRefused
+    else EnqueueOk (length (if loopback then [] else bytes_that_fit held_bytes bytes)))))
+    ≡ (if loopback || (length bytes == 0) then EnqueueOk 0
+    else (if nat_le 64 (length held_bytes) then FifoFull
+    else (if is_first_refused asked then TriggerRefused
+    else EnqueueOk (length (accepted_by (if loopback then Other else Arrival bytes) held_bytes)))))
+enqueue_reported true bytes held_bytes asked = refl
+enqueue_reported false bytes held_bytes asked = refl
+
+answer_reported : (start : State) (trace : List TraceEntry) (op : Op) (asked : Asked) (outcome : Sent)
+    → step_response (state_of_history start trace) op asked outcome ≡ history_response start trace op asked outcome
+answer_reported start trace (Read offset) asked outcome = refl
+answer_reported start trace (Write offset value) asked outcome = refl
+answer_reported start trace (Enqueue bytes) asked outcome = enqueue_reported (loopback start trace) bytes (held_bytes start trace) asked
+answer_reported start trace Restore asked outcome = refl
+
+pub response_law : ResponseLaw
+response_law start trace entry coherent =
+    ap (λ (s : State). step_response s entry.op entry.asked entry.sent) (state_law start trace coherent)
+    ∙ answer_reported start trace entry.op entry.asked entry.sent
