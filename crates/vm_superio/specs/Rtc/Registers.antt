@@ -3,6 +3,8 @@
 use Rattle.std.specs.Prelude.{ℕ, ◌-◌, ◌/◌, ◌%◌, ◌^◌, ℤ, pos, negsuc, Bool, true, false, ◌==◌, ◌&&◌, nat_lt, nat_le, if◌then◌else◌, List, [], ◌∷◌, slice_index, Option, Some, None, bit_and}
 use Rattle.std.specs.Int.{w32, to_le_bytes, from_le_bytes}
 use Rattle.vm_superio.specs.declared.rtc_pl031.RtcState.{RtcState}
+pub use Rattle.vm_superio.specs.declared.rtc_pl031.registers.ClockRegister.{ClockRegister}
+pub use Rattle.vm_superio.specs.declared.rtc_pl031.registers.ClockRegister.TheVariants.{Dr, Mr, Lr, Cr, Imsc, Ris, Mis, Icr, Id, Reserved}
 
 -- the state of a fresh clock
 abbrev pub fresh_clock : RtcState
@@ -25,21 +27,6 @@ write_of offset bytes now = write offset (from_le_bytes w32 bytes) now
 -- the bytes of the peripheral and PrimeCell identification
 abbrev pub identification_bytes : List ℕ
 identification_bytes = 0x31 ∷ 0x10 ∷ 0x04 ∷ 0x00 ∷ 0x0D ∷ 0xF0 ∷ 0x05 ∷ 0xB1 ∷ []
-
--- a register, by its name in the datasheet without `RTC`
-pub data ClockRegister : Type 0 where
-  Dr : ClockRegister
-  Mr : ClockRegister
-  Lr : ClockRegister
-  Cr : ClockRegister
-  Imsc : ClockRegister
-  Ris : ClockRegister
-  Mis : ClockRegister
-  Icr : ClockRegister
-  -- an identification register, which shows this byte
-  Id : (byte : ℕ) → ClockRegister
-  -- none
-  Reserved : ClockRegister
 
 -- the register at an offset: RTCDR, RTCMR, RTCLR, RTCCR, RTCIMSC, RTCRIS, RTCMIS, RTCICR and the identification, of
 -- which each byte is at four offsets

@@ -2,7 +2,6 @@
 pub mod Bits
 pub mod State
 pub mod Registers
-pub mod CodeNames
 pub mod Coherent
 pub mod Operations
 pub mod OpKinds

@@ -5,7 +5,6 @@
 ghost use Rattle.std.specs.Prelude.{◌≡◌, ◌<◌, ◌^◌, IfSome};
 ghost use Rattle.vm_superio.specs.Bits.{with_bits};
 ghost use Rattle.vm_superio.specs.Rtc.Alarm.{is_line_up, IsAlarmDue};
-ghost use Rattle.vm_superio.specs.Rtc.CodeNames.{clock_register_of};
 ghost use Rattle.vm_superio.specs.Rtc.Fields.{state_of_clock};
 ghost use Rattle.vm_superio.specs.Rtc.Registers.{read, write, fresh_clock, clock_register_at, is_writable};
 ghost use Rattle.vm_superio.specs.Rtc.Registers.{host_time, clock_register_read};
@@ -94,7 +93,7 @@ impl RtcFields {
     /// The value read from `register` at the host's time `time`, or `None` if it is not readable.
     fn read_register(&self, register: ClockRegister, time: u32) -> Option<u32>
         ensures { let state = state_of_clock self.now in
-            result ≡ clock_register_read (clock_register_of register) (guest_time_in state time) state }
+            result ≡ clock_register_read register (guest_time_in state time) state }
     {
         match register {
             ClockRegister::Dr => Some(guest_time(self.offset, time)),
@@ -128,8 +127,8 @@ impl RtcFields {
     #[tactic(auto, using(crate::proofs::Lemmas::Bits::and_not_is_without))]
     fn store(&mut self, register: ClockRegister, value: u32, time: u32) -> bool
         ensures state { state_of_clock self.new
-            ≡ after_write (state_of_clock self.old) (clock_register_of register) value time }
-        ensures taken { result ≡ is_writable (clock_register_of register) }
+            ≡ after_write (state_of_clock self.old) register value time }
+        ensures taken { result ≡ is_writable register }
     {
         match register {
             ClockRegister::Mr => self.write_match(value, time),

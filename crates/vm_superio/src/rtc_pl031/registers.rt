@@ -1,6 +1,5 @@
 //! The PL031's register map.
 ghost use Rattle.std.specs.Prelude.{◌≡◌};
-ghost use Rattle.vm_superio.specs.Rtc.CodeNames.{clock_register_of};
 ghost use Rattle.vm_superio.specs.Rtc.Registers.{clock_register_at};
 
 /// The data register: guest time. Read only.
@@ -64,7 +63,7 @@ pub(super) enum ClockRegister {
 impl ClockRegister {
     /// The register at `offset`.
     pub(super) fn at(offset: u16) -> ClockRegister
-        ensures { clock_register_of result ≡ clock_register_at offset }
+        ensures { result ≡ clock_register_at offset }
     {
         match offset {
             RTCDR => ClockRegister::Dr,

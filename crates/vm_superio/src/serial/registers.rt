@@ -51,12 +51,11 @@ pub(super) enum Condition {
 }
 
 impl Condition {
-    ghost use Rattle.vm_superio.specs.Serial.Port.CodeNames.{condition_of};
     ghost use Rattle.vm_superio.specs.Serial.Port.Registers.{ier_bit, iir_bit};
 
     /// The bit of IER that enables it.
     pub(super) fn ier_bit(self) -> u8
-        ensures { result ≡ ier_bit (condition_of self) }
+        ensures { result ≡ ier_bit self }
     {
         match self {
             Condition::Rda => IER_RDA_BIT,
@@ -66,7 +65,7 @@ impl Condition {
 
     /// The bit of IIR that shows it pending.
     pub(super) fn iir_bit(self) -> u8
-        ensures { result ≡ iir_bit (condition_of self) }
+        ensures { result ≡ iir_bit self }
     {
         match self {
             Condition::Rda => IIR_RDA_BIT,
@@ -100,7 +99,6 @@ pub struct Registers {
 }
 
 impl Registers {
-    ghost use Rattle.vm_superio.specs.Serial.Port.CodeNames.{register_of};
     ghost use Rattle.vm_superio.specs.Serial.Port.Registers.{register_at, is_dlab, is_loopback, msr_read};
 
     /// The registers of a fresh port.
@@ -157,7 +155,7 @@ impl Registers {
 
     /// The register that an offset reaches.
     pub(super) fn at(&self, offset: u8) -> Register
-        ensures { register_of result ≡ register_at (is_dlab self.now.line_control) offset }
+        ensures { result ≡ register_at (is_dlab self.now.line_control) offset }
     {
         let dlab = has_bits(self.line_control, LCR_DLAB_BIT);
         match offset {

@@ -1,6 +1,5 @@
 //! A restore: what a port takes from a saved state, and its trigger calls.
 ghost use Rattle.std.specs.Prelude.{◌≡◌, ◌≤◌, List, [], length, Result, OnOk, IfOk, IfErr};
-ghost use Rattle.vm_superio.specs.Serial.Port.CodeNames.{condition_of};
 ghost use Rattle.vm_superio.specs.Links.Objects.{all_ok, StopsAtRefusal};
 ghost use Rattle.vm_superio.specs.Serial.Port.SavedState.{state_of, state_with};
 ghost use Rattle.vm_superio.specs.Serial.Step.Restore.{is_asserted, restore_calls, RefusesRestore};
@@ -16,7 +15,7 @@ use std::alloc::Global;
 impl Registers {
     /// Whether a condition is pending and enabled.
     fn is_asserted(&self, condition: Condition) -> bool
-        ensures { result ≡ is_asserted (condition_of condition) (state_with self.now []) }
+        ensures { result ≡ is_asserted condition (state_with self.now []) }
     {
         has_bits(self.interrupt_identification, condition.iir_bit())
             && has_bits(self.interrupt_enable, condition.ier_bit())

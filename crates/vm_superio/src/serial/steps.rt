@@ -5,7 +5,6 @@ ghost use Rattle.std.specs.Prelude.{◌≡◌, ◌≤◌, if◌then◌else◌, l
 ghost use Rattle.vm_superio.specs.Serial.Port.State.{not_empty};
 ghost use Rattle.vm_superio.specs.Bits.{only_bits, with_bits};
 ghost use Rattle.vm_superio.specs.Serial.Port.Bits.{lsr_dr_bit};
-ghost use Rattle.vm_superio.specs.Serial.Port.CodeNames.{register_of, condition_of};
 ghost use Rattle.vm_superio.specs.Serial.Port.Registers.{Rda, Thre, RbrThr, is_loopback, register_read};
 ghost use Rattle.vm_superio.specs.Serial.Port.Operations.{count_if, is_first_of_two_refused};
 ghost use Rattle.vm_superio.specs.Serial.Port.OpKinds.{write_kind, sent_by};
@@ -29,10 +28,10 @@ impl Registers {
     /// once.
     fn raise(&mut self, condition: Condition) -> bool
         ensures due { result
-            ≡ becomes_pending (condition_of condition) self.old.interrupt_enable self.old.interrupt_identification }
+            ≡ becomes_pending condition self.old.interrupt_enable self.old.interrupt_identification }
         ensures registers { self.new ≡ record self.old {
           interrupt_identification =
-              raise (condition_of condition) self.old.interrupt_enable self.old.interrupt_identification;
+              raise condition self.old.interrupt_enable self.old.interrupt_identification;
         } }
     {
         if !has_bits(self.interrupt_enable, condition.ier_bit())
@@ -48,7 +47,7 @@ impl Registers {
     /// Lowers a condition: it is no longer pending.
     pub(super) fn lower(&mut self, condition: Condition)
         ensures registers { self.new ≡ record self.old {
-          interrupt_identification = lower (condition_of condition) self.old.interrupt_identification;
+          interrupt_identification = lower condition self.old.interrupt_identification;
         } }
     {
         let others = without_bits(self.interrupt_identification, condition.iir_bit());
@@ -139,10 +138,10 @@ impl Registers {
     /// Reads a register.
     pub(super) fn read<F: ReceiveFifo>(&mut self, fifo: &mut F, register: Register) -> ReadEffects
         ensures value { result.byte
-            ≡ register_read (register_of register) (state_with self.old (F.held fifo.old)) }
+            ≡ register_read register (state_with self.old (F.held fifo.old)) }
         ensures state { state_with self.new (F.held fifo.new)
-            ≡ read_step (register_of register) (state_with self.old (F.held fifo.old)) }
-        ensures events { events_of_read result ≡ read_events (register_of register) (F.held fifo.old) }
+            ≡ read_step register (state_with self.old (F.held fifo.old)) }
+        ensures events { events_of_read result ≡ read_events register (F.held fifo.old) }
         ensures canonical { F.canonical fifo.old → F.canonical fifo.new }
     {
         let byte = match register {
@@ -177,13 +176,13 @@ impl Registers {
         register: Register,
         value: u8,
     ) -> WriteEffects
-        ensures sends { let kind = write_kind (register_of register) (is_loopback self.old.modem_control) value in
+        ensures sends { let kind = write_kind register (is_loopback self.old.modem_control) value in
             result.sends ≡ not_empty (sent_by kind) }
-        ensures interrupts { let kind = write_kind (register_of register) (is_loopback self.old.modem_control) value in
+        ensures interrupts { let kind = write_kind register (is_loopback self.old.modem_control) value in
             result.interrupts ≡ kind_calls kind (state_with self.old (F.held fifo.old)) }
         ensures at_most_2 { result.interrupts ≤ 2 }
         ensures state { state_with self.new (F.held fifo.new)
-            ≡ write_step (register_of register) value Asked.Nothing (state_with self.old (F.held fifo.old)) }
+            ≡ write_step register value Asked.Nothing (state_with self.old (F.held fifo.old)) }
         ensures canonical { F.canonical fifo.old → F.canonical fifo.new }
     {
         let mut sends = false;

@@ -3,28 +3,10 @@ use Rattle.std.specs.Prelude.{ℕ, Bool, true, false, ◌==◌, if◌then◌else
 use Rattle.vm_superio.specs.Bits.{has_bits, only_bits, with_bits}
 use Rattle.vm_superio.specs.Serial.Port.Bits.{lcr_dlab_bit, mcr_dtr_bit, mcr_rts_bit, mcr_out1_bit, mcr_out2_bit, mcr_loop_bit, msr_cts_bit, msr_dsr_bit, msr_ri_bit, msr_dcd_bit, iir_fifo_bits}
 use Rattle.vm_superio.specs.Serial.Port.State.{State}
-
--- a register, by its name in the datasheet
-pub data Register : Type 0 where
-  -- the two bytes of the divisor latch
-  Dll : Register
-  Dlm : Register
-  -- the receiver buffer for a read, the transmitter holding register for a write
-  RbrThr : Register
-  Ier : Register
-  Iir : Register
-  Lcr : Register
-  Mcr : Register
-  Lsr : Register
-  Msr : Register
-  Scr : Register
-  -- none
-  Unassigned : Register
-
--- a condition that may interrupt: received data available, and the transmitter holding register empty
-pub data Condition : Type 0 where
-  Rda : Condition
-  Thre : Condition
+pub use Rattle.vm_superio.specs.declared.serial.registers.Register.{Register}
+pub use Rattle.vm_superio.specs.declared.serial.registers.Register.TheVariants.{Dll, Dlm, RbrThr, Ier, Iir, Lcr, Mcr, Lsr, Msr, Scr, Unassigned}
+pub use Rattle.vm_superio.specs.declared.serial.registers.Condition.{Condition}
+pub use Rattle.vm_superio.specs.declared.serial.registers.Condition.TheVariants.{Rda, Thre}
 
 -- the register at an offset: DLAB matters only at offsets 0 and 1, and offsets from 8 on reach none
 abbrev pub register_at : (dlab : Bool) (offset : ℕ) → Register

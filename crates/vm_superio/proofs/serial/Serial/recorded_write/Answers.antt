@@ -1,6 +1,5 @@
 -- The step of the registers, with THRE taken back if the first of two calls was refused.
 use Rattle.std.proofs.Common.{rules, refl, ap, ◌∙◌}
-use Rattle.vm_superio.specs.Serial.Port.CodeNames.{register_of}
 use Rattle.vm_superio.specs.Serial.Port.SavedState.{state_with}
 use Rattle.vm_superio.specs.Serial.Step.Transition.{write_step}
 use Rattle.vm_superio.proofs.Lemmas.Serial.Step.FirstRefused.{write_step-settled}
@@ -19,7 +18,7 @@ returns g c =
       refused = search rules;
       state =
           ap (λ registers. state_with registers effects.new.fifo) c.take_back.ensures.registers
-          ∙ write_step-settled (register_of c.at-register.result) value effects.result.interrupts asked before effects.new.self
+          ∙ write_step-settled c.at-register.result value effects.result.interrupts asked before effects.new.self
           effects.new.fifo _ refl effects.ensures.interrupts effects.ensures.state
           ∙ ap (λ register. write_step register value asked before) c.at-register.ensures;
       trigger = search rules;
