@@ -5,7 +5,7 @@ use Rattle.circular_buffer.specs.Buffer.{buffer}
 use Rattle.vm_superio.specs.declared.serial.errors.Error.{Error}
 use Rattle.vm_superio.specs.declared.serial.errors.Error.TheVariants.{Trigger}
 use Rattle.vm_superio.specs.Serial.Port.Operations.{Event}
-use Rattle.vm_superio.specs.Serial.Port.Registers.{Condition}
+use Rattle.vm_superio.specs.declared.serial.registers.Condition.{Condition}
 use Rattle.vm_superio.specs.Links.Objects.{Link, TriggerAnswer, Contents, RefusesOwnState}
 use Rattle.vm_superio.specs.Serial.Port.Model.{refusal_in_result}
 use Rattle.vm_superio.specs.Serial.Step.PortStep.{IsReadStep, IsWriteStep}

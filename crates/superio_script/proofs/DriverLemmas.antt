@@ -8,7 +8,8 @@ use Rattle.vm_superio.specs.declared.trace.Asked.TheVariants.{Nothing}
 use Rattle.vm_superio.specs.Bits.{has_bits, without_bits}
 use Rattle.vm_superio.specs.Serial.Port.State.{State, not_empty}
 use Rattle.vm_superio.specs.Serial.Port.Coherent.{Coherent}
-use Rattle.vm_superio.specs.Serial.Port.Registers.{RbrThr, register_at, is_dlab, register_read, identification_of}
+use Rattle.vm_superio.specs.declared.serial.registers.Register.TheVariants.{RbrThr}
+use Rattle.vm_superio.specs.Serial.Port.Registers.{register_at, is_dlab, register_read, identification_of}
 use Rattle.vm_superio.specs.Serial.Port.Operations.{Read, Response, ByteRead, Event, buffer_read, in_buffer_empty}
 use Rattle.vm_superio.specs.Links.Objects.{Link, TriggerAnswer, Contents}
 use Rattle.vm_superio.specs.Serial.Port.Model.{Port}

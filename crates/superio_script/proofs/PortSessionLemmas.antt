@@ -11,7 +11,9 @@ use Rattle.vm_superio.specs.declared.trace.Sent.{Sent}
 use Rattle.vm_superio.specs.declared.trace.Sent.TheVariants as sent
 use Rattle.vm_superio.specs.Bits.{has_bits}
 use Rattle.vm_superio.specs.Serial.Port.Coherent.{Coherent}
-use Rattle.vm_superio.specs.Serial.Port.Registers.{Register, RbrThr, Ier, Iir, register_at, is_dlab, is_loopback, identification_of}
+use Rattle.vm_superio.specs.declared.serial.registers.Register.{Register}
+use Rattle.vm_superio.specs.declared.serial.registers.Register.TheVariants.{RbrThr, Ier, Iir}
+use Rattle.vm_superio.specs.Serial.Port.Registers.{register_at, is_dlab, is_loopback, identification_of}
 use Rattle.vm_superio.specs.Serial.Port.State.{State, not_empty}
 use Rattle.vm_superio.specs.Serial.Port.Operations.{Op, Read, Write, Enqueue, Restore, TraceEntry, Trace, is_sent, is_lost}
 use Rattle.vm_superio.specs.Serial.Port.OpKinds.{read_kind, write_kind, kind_of, sent_by}

@@ -15,7 +15,8 @@ use Rattle.vm_superio.specs.Serial.Port.State.{State, not_empty}
 use Rattle.vm_superio.specs.Serial.Port.SavedState.{fresh_state}
 use Rattle.vm_superio.specs.Bits.{has_bits, only_bits}
 use Rattle.vm_superio.specs.Serial.Port.Coherent.{Coherent}
-use Rattle.vm_superio.specs.Serial.Port.Registers.{Condition, is_dlab, pending_in_order}
+use Rattle.vm_superio.specs.declared.serial.registers.Condition.{Condition}
+use Rattle.vm_superio.specs.Serial.Port.Registers.{is_dlab, pending_in_order}
 use Rattle.vm_superio.specs.Serial.Port.Operations.{Op, Read, Write, Enqueue, TraceEntry, Response, ByteRead, is_sent, is_lost, ends_in_refusal}
 use Rattle.vm_superio.specs.Serial.Port.OpKinds.{OpKind, Arrival, Other, sent_by}
 use Rattle.vm_superio.specs.Serial.Step.Admissible.{answers_all, step_calls, sends_byte, is_admissible}

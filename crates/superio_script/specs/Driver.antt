@@ -4,7 +4,9 @@ use Rattle.std.specs.List.{repeat}
 use Rattle.vm_superio.specs.Bits.{has_bits, without_bits}
 use Rattle.vm_superio.specs.Serial.Port.Bits.{lsr_dr_bit}
 use Rattle.vm_superio.specs.Serial.Port.State.{State}
-use Rattle.vm_superio.specs.Serial.Port.Registers.{RbrThr, register_read, Thre, iir_bit, identification_of}
+use Rattle.vm_superio.specs.declared.serial.registers.Register.TheVariants.{RbrThr}
+use Rattle.vm_superio.specs.Serial.Port.Registers.{register_read, iir_bit, identification_of}
+use Rattle.vm_superio.specs.declared.serial.registers.Condition.TheVariants.{Thre}
 use Rattle.vm_superio.specs.Serial.Port.Operations.{Event, buffer_read, in_buffer_empty}
 use Rattle.vm_superio.specs.Links.Objects.{Link, TriggerAnswer, Contents}
 use Rattle.vm_superio.specs.Serial.Port.Model.{Port}

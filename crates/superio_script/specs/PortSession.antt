@@ -9,7 +9,7 @@ use Rattle.vm_superio.specs.Serial.Port.Bits.{lsr_dr_bit}
 use Rattle.vm_superio.specs.Serial.Port.Coherent.{Coherent}
 use Rattle.vm_superio.specs.Serial.Port.SavedState.{fresh_state}
 use Rattle.vm_superio.specs.Serial.Port.State.{State, not_empty}
-use Rattle.vm_superio.specs.Serial.Port.Registers.{Condition}
+use Rattle.vm_superio.specs.declared.serial.registers.Condition.{Condition}
 use Rattle.vm_superio.specs.Serial.Port.Operations.{Op, TraceEntry, Trace, Response, Event}
 use Rattle.vm_superio.specs.Serial.Port.OpKinds.{OpKind}
 use Rattle.vm_superio.specs.Serial.Step.Transition.{step_response, step_events}

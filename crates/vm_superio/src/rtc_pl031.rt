@@ -24,6 +24,7 @@ mod registers;
 pub mod saved_form;
 
 use fields::RtcFields;
+pub use registers::ClockRegister;
 use std::marker::Model;
 
 /// Receives a clock's invalid accesses.

@@ -23,6 +23,7 @@ use crate::fifo::{FIFO_SIZE, Fifo, ReceiveFifo};
 pub use errors::{Error, Refused};
 pub use events::{NoEvents, SerialEvents};
 use registers::Registers;
+pub use registers::{Condition, Register};
 use restoring::restored;
 pub use state::SerialState;
 use std::alloc::{AllocError, Global};
@@ -192,7 +193,7 @@ impl<T: Trigger, EV: SerialEvents, W: Write> Serial<T, EV, W> {
         ensures coherent { IfOk result (λ saved. Coherent self.now.state → Coherent (state_of saved)) }
     {
         let in_buffer = self.in_buffer.to_vec(alloc)?;
-        Ok(self.registers.saved(in_buffer))
+        Ok(SerialState::of(&self.registers, in_buffer))
     }
 
     /// The writer.

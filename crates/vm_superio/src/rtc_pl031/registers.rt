@@ -35,9 +35,9 @@ pub(super) const AMBA_ID_HIGH: u16 = 0xFFF;
 /// The identification bytes, each at four offsets.
 const AMBA_IDS: [u8; 8] = [0x31, 0x10, 0x04, 0x00, 0x0D, 0xF0, 0x05, 0xB1];
 
-/// What an offset from the base address selects.
+/// The register that an offset selects, by its name in the datasheet. Contracts name it.
 #[derive(Clone, Copy)]
-pub(super) enum ClockRegister {
+pub enum ClockRegister {
     /// RTCDR.
     Dr,
     /// RTCMR.

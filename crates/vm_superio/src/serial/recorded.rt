@@ -10,8 +10,10 @@ ghost use Rattle.vm_superio.specs.Links.Objects.{answers_of};
 ghost use Rattle.vm_superio.specs.Serial.Step.Transition.{sent_events};
 ghost use Rattle.vm_superio.specs.Serial.Step.Admissible.{answers_all};
 
+use super::Serial;
 use super::effects::ReadEffects;
-use super::{Error, Serial, SerialEvents};
+use super::errors::Error;
+use super::events::SerialEvents;
 use crate::Trigger;
 use crate::trace::{Asked, Recorded, Sent};
 use std::io;

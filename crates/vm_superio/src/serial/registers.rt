@@ -1,10 +1,8 @@
 //! The registers of a 16550: which one an offset reaches, and the nine bytes that they hold.
 ghost use Rattle.std.specs.Prelude.{◌≡◌, if◌then◌else◌, []};
 ghost use Rattle.vm_superio.specs.Bits.{has_bits};
-ghost use Rattle.vm_superio.specs.Serial.Port.SavedState.{fresh_state};
-ghost use Rattle.vm_superio.specs.Serial.Port.SavedState.{state_of, state_with};
+ghost use Rattle.vm_superio.specs.Serial.Port.SavedState.{fresh_state, state_with};
 
-use super::SerialState;
 use super::bits::{
     DATA_OFFSET, DEFAULT_BAUD_DIVISOR_LOW, DEFAULT_LINE_CONTROL, DEFAULT_LINE_STATUS,
     DEFAULT_MODEM_CONTROL, DEFAULT_MODEM_STATUS, IER_OFFSET, IER_RDA_BIT, IER_THR_EMPTY_BIT,
@@ -14,9 +12,9 @@ use super::bits::{
     only_bits, with_bits,
 };
 
-/// The register that an access reaches.
+/// The register that an access reaches, by its name in the datasheet. Contracts name it.
 #[derive(Clone, Copy)]
-pub(super) enum Register {
+pub enum Register {
     /// The low byte of the divisor latch.
     Dll,
     /// The high byte of the divisor latch.
@@ -41,9 +39,9 @@ pub(super) enum Register {
     Unassigned,
 }
 
-/// A condition that may interrupt.
+/// A condition that may interrupt. Contracts name it.
 #[derive(Clone, Copy)]
-pub(super) enum Condition {
+pub enum Condition {
     /// Received data available.
     Rda,
     /// Transmitter holding register empty.
@@ -115,41 +113,6 @@ impl Registers {
             modem_control: DEFAULT_MODEM_CONTROL,
             modem_status: DEFAULT_MODEM_STATUS,
             scratch: 0,
-        }
-    }
-
-    /// The registers of a saved state.
-    pub(super) fn of(state: &SerialState) -> Registers
-        ensures { state_with result state.now.in_buffer.items ≡ state_of state.now }
-    {
-        Registers {
-            baud_divisor_low: state.baud_divisor_low,
-            baud_divisor_high: state.baud_divisor_high,
-            interrupt_enable: state.interrupt_enable,
-            interrupt_identification: state.interrupt_identification,
-            line_control: state.line_control,
-            line_status: state.line_status,
-            modem_control: state.modem_control,
-            modem_status: state.modem_status,
-            scratch: state.scratch,
-        }
-    }
-
-    /// The state of a port with these registers and these received bytes.
-    pub(super) fn saved(&self, in_buffer: Vec<u8>) -> SerialState
-        ensures { state_of result ≡ state_with self.now in_buffer.items }
-    {
-        SerialState {
-            baud_divisor_low: self.baud_divisor_low,
-            baud_divisor_high: self.baud_divisor_high,
-            interrupt_enable: self.interrupt_enable,
-            interrupt_identification: self.interrupt_identification,
-            line_control: self.line_control,
-            line_status: self.line_status,
-            modem_control: self.modem_control,
-            modem_status: self.modem_status,
-            scratch: self.scratch,
-            in_buffer,
         }
     }
 

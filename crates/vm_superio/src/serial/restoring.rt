@@ -5,9 +5,10 @@ ghost use Rattle.vm_superio.specs.Serial.Port.SavedState.{state_of, state_with};
 ghost use Rattle.vm_superio.specs.Serial.Step.Restore.{is_asserted, restore_calls, RefusesRestore};
 
 use super::bits::has_bits;
+use super::errors::Error;
 use super::recorded::call_trigger;
 use super::registers::{Condition, Registers};
-use super::{Error, SerialState};
+use super::state::SerialState;
 use crate::Trigger;
 use crate::fifo::{FIFO_SIZE, Fifo};
 use std::alloc::Global;
@@ -57,7 +58,7 @@ pub(super) fn restored<T: Trigger>(
         return Err(Error::FullFifo);
     }
     let in_buffer = Fifo::from_slice(alloc, &state.in_buffer)?;
-    let registers = Registers::of(state);
+    let registers = state.registers();
     match registers.reassert(trigger) {
         Ok(()) => Ok((registers, in_buffer)),
         Err(refusal) => Err(Error::Trigger(refusal)),

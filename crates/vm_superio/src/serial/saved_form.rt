@@ -8,10 +8,10 @@ ghost use Rattle.vm_superio.specs.Serial.Port.RxRing.{held_bytes};
 ghost use Rattle.vm_superio.specs.Saved.Form.{serial_contents, serial_form};
 ghost use Rattle.vm_superio.specs.Saved.Faults.{serial_fault};
 
-use super::SerialState;
 use super::fields::SerialFields;
 use super::registers::Registers;
 use super::rx_ring::RxRing;
+use super::state::SerialState;
 use crate::fifo::{FIFO_SIZE, ReceiveFifo};
 use crate::saved::{Error, SERIAL_KIND, contents_of, header};
 use arrayvec::ArrayVec;
@@ -40,7 +40,7 @@ impl SerialState {
         if self.in_buffer.len() > FIFO_SIZE {
             return Err(Error::TooManyBytes);
         }
-        let mut form = Registers::of(self).begin_form(self.in_buffer.len());
+        let mut form = self.registers().begin_form(self.in_buffer.len());
         form.try_extend_from_slice(&self.in_buffer).unwrap();
         Ok(form)
     }
@@ -61,7 +61,7 @@ impl SerialState {
         ensures memory { serial_fault bytes.now ≡ None → IfErr result (λ error. error ≡ Error.Memory) }
     {
         let (registers, in_buffer) = registers_of(bytes)?;
-        Ok(registers.saved(in_buffer.to_vec(alloc)?))
+        Ok(SerialState::of(&registers, in_buffer.to_vec(alloc)?))
     }
 }
 

@@ -37,13 +37,13 @@ pub struct SerialState {
 }
 
 impl SerialState {
-    ghost use Rattle.vm_superio.specs.Serial.Port.SavedState.{state_of};
+    ghost use Rattle.vm_superio.specs.Serial.Port.SavedState.{state_of, state_with};
 
     /// The state of a new port. Allocates no memory.
     pub fn default(alloc: Global) -> SerialState
         ensures { state_of result ≡ fresh_state }
     {
-        Registers::new().saved(Vec::new(alloc))
+        SerialState::of(&Registers::new(), Vec::new(alloc))
     }
 
     /// An equal state.
@@ -72,6 +72,41 @@ impl SerialState {
         self.in_buffer.len() <= FIFO_SIZE
             && has_bits(self.line_status, LSR_DATA_READY_BIT) == holds_bytes
             && shows_conditions(self.interrupt_identification, holds_bytes)
+    }
+
+    /// The state of a port with these registers and received bytes.
+    pub(super) fn of(registers: &Registers, in_buffer: Vec<u8>) -> SerialState
+        ensures { state_of result ≡ state_with registers.now in_buffer.items }
+    {
+        SerialState {
+            baud_divisor_low: registers.baud_divisor_low,
+            baud_divisor_high: registers.baud_divisor_high,
+            interrupt_enable: registers.interrupt_enable,
+            interrupt_identification: registers.interrupt_identification,
+            line_control: registers.line_control,
+            line_status: registers.line_status,
+            modem_control: registers.modem_control,
+            modem_status: registers.modem_status,
+            scratch: registers.scratch,
+            in_buffer,
+        }
+    }
+
+    /// The registers.
+    pub(super) fn registers(&self) -> Registers
+        ensures { state_with result self.now.in_buffer.items ≡ state_of self.now }
+    {
+        Registers {
+            baud_divisor_low: self.baud_divisor_low,
+            baud_divisor_high: self.baud_divisor_high,
+            interrupt_enable: self.interrupt_enable,
+            interrupt_identification: self.interrupt_identification,
+            line_control: self.line_control,
+            line_status: self.line_status,
+            modem_control: self.modem_control,
+            modem_status: self.modem_status,
+            scratch: self.scratch,
+        }
     }
 }
 
