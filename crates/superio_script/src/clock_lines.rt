@@ -6,7 +6,7 @@ ghost use Rattle.superio_script.specs.declared.command.ClockCommand.TheVariants.
 
 use crate::command::ClockCommand;
 use crate::counts::Counts;
-use crate::replies::{Reply, digits, fault, word};
+use crate::replies::{Reply, reply_digits, reply_fault, reply_text};
 use vm_superio::{Rtc, RtcState, laws};
 
 /// Executes a line on the clock and returns the reply.
@@ -33,10 +33,10 @@ fn read(clock: &mut Rtc<Counts>, moment: u64, offset: u16) -> Reply
     let mut bytes = [0; 4];
     clock.read(offset, &mut bytes, moment);
     if clock.events().invalid_read_count() == 1 {
-        return word(b"invalid");
+        return reply_text(b"invalid");
     }
     bytes.reverse();
-    digits(&bytes)
+    reply_digits(&bytes)
 }
 
 /// Writes as the guest does.
@@ -46,16 +46,16 @@ fn write(clock: &mut Rtc<Counts>, moment: u64, offset: u16, value: u32) -> Reply
     clear_counts(clock);
     clock.write(offset, &value.to_le_bytes(), moment);
     if clock.events().invalid_write_count() == 1 {
-        return word(b"invalid");
+        return reply_text(b"invalid");
     }
-    word(b"ok")
+    reply_text(b"ok")
 }
 
 /// The clock's saved form.
 fn save(clock: &Rtc<Counts>) -> Reply
     ensures step { IsClockLineStep Save result.items clock.now.state clock.now.state }
 {
-    digits(&clock.state().to_bytes())
+    reply_digits(&clock.state().to_bytes())
 }
 
 /// Restores the clock from the state that these bytes are. Other bytes change nothing.
@@ -66,9 +66,9 @@ fn load(clock: &mut Rtc<Counts>, bytes: &[u8]) -> Reply
     match RtcState::from_bytes(bytes) {
         Ok(state) => {
             *clock = Rtc::from_state(&state, Counts::new());
-            word(b"ok")
+            reply_text(b"ok")
         }
-        Err(error) => fault(error),
+        Err(error) => reply_fault(error),
     }
 }
 

@@ -125,7 +125,7 @@ impl FieldBytes {
 }
 
 /// The bytes of a field of exactly two hexadecimal digits per byte.
-fn bytes<const N: usize>(field: &[u8]) -> Option<[u8; N]>
+fn parse_bytes<const N: usize>(field: &[u8]) -> Option<[u8; N]>
     ensures { result ≡ bytes_of N field.now }
 {
     let mut bytes = [0; N];
@@ -134,31 +134,31 @@ fn bytes<const N: usize>(field: &[u8]) -> Option<[u8; N]>
 }
 
 /// The byte of a field of two digits.
-fn byte(field: &[u8]) -> Option<u8>
+fn parse_u8(field: &[u8]) -> Option<u8>
     ensures { result ≡ number_of w8 field.now }
 {
-    Some(u8::from_be_bytes(bytes(field)?))
+    Some(u8::from_be_bytes(parse_bytes(field)?))
 }
 
 /// The number of a field of sixteen digits.
 fn parse_u64(field: &[u8]) -> Option<u64>
     ensures { result ≡ number_of w64 field.now }
 {
-    Some(u64::from_be_bytes(bytes(field)?))
+    Some(u64::from_be_bytes(parse_bytes(field)?))
 }
 
 /// The number of a field of four digits.
 fn parse_u16(field: &[u8]) -> Option<u16>
     ensures { result ≡ number_of w16 field.now }
 {
-    Some(u16::from_be_bytes(bytes(field)?))
+    Some(u16::from_be_bytes(parse_bytes(field)?))
 }
 
 /// The number of a field of eight digits.
 fn parse_u32(field: &[u8]) -> Option<u32>
     ensures { result ≡ number_of w32 field.now }
 {
-    Some(u32::from_be_bytes(bytes(field)?))
+    Some(u32::from_be_bytes(parse_bytes(field)?))
 }
 
 /// The 1 to 128 bytes of a field of two digits per byte.
@@ -189,7 +189,7 @@ fn no_field(mut fields: Fields) -> Option<()>
 fn one_byte(mut fields: Fields) -> Option<u8>
     ensures { result ≡ one_byte (remaining_fields fields.entry.rest) }
 {
-    let first = byte(fields.next_field()?)?;
+    let first = parse_u8(fields.next_field()?)?;
     no_field(fields)?;
     Some(first)
 }
@@ -198,7 +198,7 @@ fn one_byte(mut fields: Fields) -> Option<u8>
 fn two_bytes(mut fields: Fields) -> Option<(u8, u8)>
     ensures { result ≡ two_bytes (remaining_fields fields.entry.rest) }
 {
-    let first = byte(fields.next_field()?)?;
+    let first = parse_u8(fields.next_field()?)?;
     let second = one_byte(fields)?;
     Some((first, second))
 }

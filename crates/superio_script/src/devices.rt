@@ -3,28 +3,19 @@ ghost use Rattle.std.specs.Prelude.{◌≡◌, ◌↔◌, IfOk, IfErr, IsSomeAnd
 ghost use Rattle.superio_script.specs.InterruptLine.{fresh_interrupt_line};
 ghost use Rattle.superio_script.specs.Command.{command_of, TakesMemory};
 ghost use Rattle.superio_script.specs.Reply.{controller_reply};
-ghost use Rattle.superio_script.specs.declared.devices.LineFault.TheVariants.{Bad, Memory};
+ghost use Rattle.superio_script.specs.declared.fault.LineFault.TheVariants.{Bad, Memory};
 
 use crate::clock_lines::clock_line;
 use crate::command::{Command, ControllerCommand, parse};
 use crate::counts::Counts;
-use crate::fault::ScriptFault;
+use crate::fault::{LineFault, ScriptFault};
 use crate::output::Output;
-use crate::replies::{Reply, byte, word};
+use crate::replies::{Reply, reply_byte, reply_text};
 use crate::serial_lines::{Port, serial_line};
 use crate::trigger::Line;
 use std::alloc::Global;
 use std::marker::Model;
 use vm_superio::{I8042Device, Rtc, Serial};
-
-/// Why a line was not executed.
-#[derive(Clone, Copy, Debug, PartialEq, Eq)]
-pub enum LineFault {
-    /// The line has no form. `refuse` is a form only of a script's first line.
-    Bad,
-    /// The allocator refused memory for an `ss`, `sb` or `sl`.
-    Memory,
-}
 
 /// The devices that a script drives: a serial port, a clock and an i8042 controller.
 ///
@@ -94,15 +85,15 @@ impl Board {
         ensures same { self.new ≡ self.old }
     {
         let (offset, value) = match line {
-            ControllerCommand::Read { offset } => return byte(self.controller.read(offset)),
+            ControllerCommand::Read { offset } => return reply_byte(self.controller.read(offset)),
             ControllerCommand::Write { offset, value } => (offset, value),
         };
         // The reset line refuses no call, so its count shows what the result shows.
         let _ = self.controller.write(offset, value);
         if self.controller.reset_evt().calls() == 0 {
-            return word(b"ok");
+            return reply_text(b"ok");
         }
         self.controller = I8042Device::new(Line::new(0));
-        word(b"reset")
+        reply_text(b"reset")
     }
 }

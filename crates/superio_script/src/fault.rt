@@ -1,8 +1,17 @@
-//! Why a run of a script ended early.
+//! Why a line was not executed, and why a run of a script ended early.
 ghost use Rattle.std.specs.Prelude.{◌≡◌};
 
 use std::error::Error;
 use std::fmt;
+
+/// Why a line was not executed.
+#[derive(Clone, Copy, Debug, PartialEq, Eq)]
+pub enum LineFault {
+    /// The line has no form. `refuse` is a form only of a script's first line.
+    Bad,
+    /// The allocator refused memory for an `ss`, `sb` or `sl`.
+    Memory,
+}
 
 /// Why a run of a script ended early.
 #[derive(Clone, Copy, Debug, PartialEq, Eq)]

@@ -16,9 +16,9 @@ mod splitting;
 mod trigger;
 
 pub use counts::Counts;
-pub use devices::{Board, LineFault};
+pub use devices::Board;
 pub use driver::drain;
-pub use fault::ScriptFault;
+pub use fault::{LineFault, ScriptFault};
 pub use output::Output;
 pub use replies::Reply;
 pub use script::run_script;

@@ -13,7 +13,7 @@ use vm_superio::saved;
 pub type Reply = ArrayVec<u8, 513>;
 
 /// The text, and LF.
-pub(crate) fn word(text: &[u8]) -> Reply
+pub(crate) fn reply_text(text: &[u8]) -> Reply
     requires { length text.now < 513 }
     ensures { result.items ≡ with_lf text.now }
 {
@@ -37,7 +37,7 @@ fn push_digits(reply: &mut Reply, bytes: &[u8])
 }
 
 /// Two digits for each byte, and LF.
-pub(crate) fn digits(bytes: &[u8]) -> Reply
+pub(crate) fn reply_digits(bytes: &[u8]) -> Reply
     requires { length bytes.now ≤ 256 }
     ensures { result.items ≡ digits_reply bytes.now }
 {
@@ -48,31 +48,31 @@ pub(crate) fn digits(bytes: &[u8]) -> Reply
 }
 
 /// The byte as two digits, and LF.
-pub(crate) fn byte(value: u8) -> Reply
+pub(crate) fn reply_byte(value: u8) -> Reply
     ensures { result.items ≡ digits_reply (value ∷ []) }
 {
-    digits(&[value])
+    reply_digits(&[value])
 }
 
 /// The name of a saved state's error in words, and LF.
-pub(crate) fn fault(error: saved::Error) -> Reply
+pub(crate) fn reply_fault(error: saved::Error) -> Reply
     ensures { result.items ≡ with_lf (fault_words error) }
 {
     match error {
-        saved::Error::TooShort => word(b"too short"),
-        saved::Error::NotASavedState => word(b"not a saved state"),
-        saved::Error::OtherDevice => word(b"other device"),
-        saved::Error::UnknownVersion(version) => unknown_version(version),
-        saved::Error::WrongLength => word(b"wrong length"),
-        saved::Error::TooManyBytes => word(b"too many bytes"),
-        saved::Error::InvalidArmed => word(b"invalid armed"),
+        saved::Error::TooShort => reply_text(b"too short"),
+        saved::Error::NotASavedState => reply_text(b"not a saved state"),
+        saved::Error::OtherDevice => reply_text(b"other device"),
+        saved::Error::UnknownVersion(version) => reply_unknown_version(version),
+        saved::Error::WrongLength => reply_text(b"wrong length"),
+        saved::Error::TooManyBytes => reply_text(b"too many bytes"),
+        saved::Error::InvalidArmed => reply_text(b"invalid armed"),
         // A line for which memory is refused has no reply.
-        saved::Error::Memory => word(b""),
+        saved::Error::Memory => reply_text(b""),
     }
 }
 
 /// The error's name with the version as two digits, and LF.
-fn unknown_version(version: u8) -> Reply
+fn reply_unknown_version(version: u8) -> Reply
     ensures { result.items ≡ with_lf (fault_words (UnknownVersion version)) }
 {
     let mut reply = Reply::new();
@@ -83,14 +83,14 @@ fn unknown_version(version: u8) -> Reply
 }
 
 /// The count as sixteen digits, and LF.
-pub(crate) fn number(count: u64) -> Reply
+pub(crate) fn reply_count(count: u64) -> Reply
     ensures { result.items ≡ with_lf (count_digits count) }
 {
-    digits(&count.to_be_bytes())
+    reply_digits(&count.to_be_bytes())
 }
 
 /// The counts of a serial port's events, and LF.
-pub(crate) fn event_counts(counts: &Counts) -> Reply
+pub(crate) fn reply_events(counts: &Counts) -> Reply
     ensures { result.items ≡ counts_reply counts.now }
 {
     let mut reply = Reply::new();

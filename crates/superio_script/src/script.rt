@@ -5,8 +5,8 @@ ghost use Rattle.superio_script.specs.Splitting.{lines_of};
 ghost use Rattle.superio_script.specs.Script.{body_of, first_bad_line, PrintsLines, StopsWithoutMemory, RunsUpTo, EndsWithoutMemory, ReadsBytes};
 
 use crate::command::refused_mask;
-use crate::devices::{Board, LineFault};
-use crate::fault::ScriptFault;
+use crate::devices::Board;
+use crate::fault::{LineFault, ScriptFault};
 use crate::replies::Reply;
 use crate::splitting::Lines;
 use std::alloc::Global;

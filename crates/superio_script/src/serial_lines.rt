@@ -9,10 +9,12 @@ ghost use Rattle.superio_script.specs.declared.command.SerialCommand.TheVariants
 
 use crate::command::SerialCommand;
 use crate::counts::Counts;
-use crate::devices::LineFault;
 use crate::driver::drain;
+use crate::fault::LineFault;
 use crate::output::Output;
-use crate::replies::{Reply, byte, digits, event_counts, fault, number, word};
+use crate::replies::{
+    Reply, reply_byte, reply_count, reply_digits, reply_events, reply_fault, reply_text,
+};
 use crate::trigger::{Line, LineRefused};
 use std::alloc::Global;
 use std::mem;
@@ -41,19 +43,21 @@ pub(crate) fn serial_line(
     laws::states_of_history();
     laws::coherence();
     match line {
-        SerialCommand::Read { offset } => Ok(byte(serial.read(offset))),
-        SerialCommand::Write { offset, value } => Ok(write_result_reply(serial.write(offset, value))),
+        SerialCommand::Read { offset } => Ok(reply_byte(serial.read(offset))),
+        SerialCommand::Write { offset, value } => Ok(write_result_reply(serial.write(
+            offset, value,
+        ))),
         SerialCommand::Enqueue { bytes } => {
             Ok(enqueue_result_reply(serial.enqueue_raw_bytes(bytes.as_slice())))
         }
-        SerialCommand::Capacity => Ok(byte(serial.fifo_capacity() as u8)),
-        SerialCommand::Drain => Ok(digits(&drain(serial))),
+        SerialCommand::Capacity => Ok(reply_byte(serial.fifo_capacity() as u8)),
+        SerialCommand::Drain => Ok(reply_digits(&drain(serial))),
         SerialCommand::Restore => restore(alloc, serial),
         SerialCommand::Save => save(alloc, serial),
         SerialCommand::Load { bytes } => load(alloc, serial, bytes.as_slice()),
-        SerialCommand::Output => Ok(digits(serial.writer().bytes())),
-        SerialCommand::Calls => Ok(number(serial.interrupt_evt().calls())),
-        SerialCommand::Events => Ok(event_counts(serial.events())),
+        SerialCommand::Output => Ok(reply_digits(serial.writer().bytes())),
+        SerialCommand::Calls => Ok(reply_count(serial.interrupt_evt().calls())),
+        SerialCommand::Events => Ok(reply_events(serial.events())),
     }
 }
 
@@ -77,7 +81,7 @@ fn save(alloc: Global, serial: &Port) -> Result<Reply, LineFault>
     let Ok(state) = serial.state(alloc) else {
         return Err(LineFault::Memory);
     };
-    Ok(digits(&state.to_bytes().unwrap()))
+    Ok(reply_digits(&state.to_bytes().unwrap()))
 }
 
 /// Restores the port from the state that these bytes are. Other bytes change nothing.
@@ -91,7 +95,7 @@ fn load(alloc: Global, serial: &mut Port, bytes: &[u8]) -> Result<Reply, LineFau
         Ok(state) => restore_from(alloc, serial, &state),
         Err(error) => match error {
             saved::Error::Memory => Err(LineFault::Memory),
-            error => Ok(fault(error)),
+            error => Ok(reply_fault(error)),
         },
     }
 }
@@ -111,7 +115,7 @@ fn restore_from(alloc: Global, serial: &mut Port, state: &SerialState) -> Result
         Ok(restored) => {
             let old = mem::replace(serial, restored);
             *serial.writer_mut() = old.into_writer();
-            Ok(word(b"ok"))
+            Ok(reply_text(b"ok"))
         }
         Err(refused) => match refused.into_error() {
             Error::Memory => Err(LineFault::Memory),
@@ -125,7 +129,7 @@ fn write_result_reply(written: Result<(), Error<LineRefused>>) -> Reply
     ensures { result.items ≡ response_reply (write_response written) }
 {
     match written {
-        Ok(()) => word(b"ok"),
+        Ok(()) => reply_text(b"ok"),
         Err(error) => error_reply(error),
     }
 }
@@ -136,7 +140,7 @@ fn enqueue_result_reply(enqueued: Result<usize, Error<LineRefused>>) -> Reply
     ensures { result.items ≡ response_reply (enqueue_response enqueued) }
 {
     match enqueued {
-        Ok(count) => byte(count as u8),
+        Ok(count) => reply_byte(count as u8),
         Err(error) => error_reply(error),
     }
 }
@@ -146,9 +150,9 @@ fn error_reply(error: Error<LineRefused>) -> Reply
     ensures { result.items ≡ response_reply (failure_response error) }
 {
     match error {
-        Error::Trigger(LineRefused) => word(b"trigger"),
-        Error::IOError(_) => word(b"io"),
-        Error::FullFifo => word(b"full"),
+        Error::Trigger(LineRefused) => reply_text(b"trigger"),
+        Error::IOError(_) => reply_text(b"io"),
+        Error::FullFifo => reply_text(b"full"),
         // Only a restore allocates memory. If that fails, it has no reply.
         Error::Memory => Reply::new(),
     }

@@ -15,7 +15,7 @@ returns-in-Ok c =
     let now = c.from_state.ensures.state ∙ c.clock_is_history.ensures.all_states state [] in
     record {
       step = λ session at. (
-        c.word.ensures ∙ ap clock_load_reply (sym loads),
+        c.reply_text.ensures ∙ ap clock_load_reply (sym loads),
         subst (λ (loaded : Result RtcState Error). c.from_state.result.state ≡ clock_session_state (clock_session_after_load session loaded)) (sym loads) now,
       );
     }

@@ -6,5 +6,5 @@ use Rattle.superio_script.proofs.clock_lines.save.Goals as goal
 
 pub returns : goal.returns
 returns c = record {
-  step = λ session at. (c.digits.ensures ∙ ap digits_reply (c.to_bytes.ensures ∙ ap clock_form (c.state.ensures ∙ at)), at);
+  step = λ session at. (c.reply_digits.ensures ∙ ap digits_reply (c.to_bytes.ensures ∙ ap clock_form (c.state.ensures ∙ at)), at);
 }

@@ -21,4 +21,4 @@ pub returns-in_default-clause-step : goal.returns-in_default-clause-step
 returns-in_default-clause-step c =
     let fails = port-refused (serial_fault c.args.bytes.now) (port_in c.args.bytes.now) (Err c.in-Err.error) c.in-Err.error refl c.in-Err.ensures.fault c.in-Err.ensures.memory
     (λ is. c.in_default.not-Memory is) in
-    rw c.fault.ensures (refused-load-step c.args.bytes.now c.args.serial.now c.in-Err.error fails)
+    rw c.reply_fault.ensures (refused-load-step c.args.bytes.now c.args.serial.now c.in-Err.error fails)

@@ -19,7 +19,7 @@ returns-in-Ok-clause-restore c =
     let after = c.replace-old.ensures.after in
     let link = subst (λ (new : InterruptLine). InterruptLineLink old.trigger (all_ok (restore_calls state)) new) (ap (λ (port : Port InterruptLine EventCounts Output). port.trigger) (sym after))
     (subst (λ (l : InterruptLine). InterruptLineLink l (all_ok (restore_calls state)) c.in-Ok.restored.trigger) c.interrupt_evt-line.ensures made.called) in
-    rw c.word.ensures (restore-accepts c.states_of_history.ensures.state c.steps_of_history.ensures old _ state
+    rw c.reply_text.ensures (restore-accepts c.states_of_history.ensures.state c.steps_of_history.ensures old _ state
     (ap (λ (port : Port InterruptLine EventCounts Output). port.state) after ∙ made.state)
     link
     (ap (λ (port : Port InterruptLine EventCounts Output). port.events) after ∙ made.events ∙ c.events-counts.ensures)

@@ -11,5 +11,5 @@ pub returns-clause-step : goal.returns-clause-step
 returns-clause-step c =
     let port = c.args.serial.now in
     let form = rw c.unwrap.ensures at c.to_bytes.ensures.form in
-    let same = c.digits.ensures ∙ ap digits_reply (c.deref.ensures.0 ∙ form ∙ ap serial_form c.in-Ok.ensures.saved) in
+    let same = c.reply_digits.ensures ∙ ap digits_reply (c.deref.ensures.0 ∙ form ∙ ap serial_form c.in-Ok.ensures.saved) in
     subst (λ (reply : List ℕ). IsSerialLineStep Save reply port port) (sym same) (save-step port)
