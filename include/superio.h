@@ -167,9 +167,9 @@ uint32_t superio_abi(void);
  * offsets 0 to 7 from the port's base. Any other offset reads as 0, and a
  * write there has no effect.
  *
- * The received bytes form a ring: the oldest is at places[first % 64], the
- * others follow it, and places[0] follows places[63]. At most 64 are held: a
- * larger `held` counts as 64.
+ * The received bytes form a ring: the oldest is at bytes[head % 64], the
+ * others follow it, and bytes[0] follows bytes[63]. At most 64 are held: a
+ * larger `len` counts as 64.
  */
 typedef struct superio_serial {
     uint8_t baud_divisor_low;  /* DLL, the low byte of the divisor latch */
@@ -184,10 +184,10 @@ typedef struct superio_serial {
     uint8_t modem_control;     /* MCR. 0x10 is loopback */
     uint8_t modem_status;      /* MSR */
     uint8_t scratch;           /* SCR */
-    uint8_t first;             /* the place of the oldest received byte */
-    uint8_t held;              /* how many received bytes are held */
-    uint8_t places[SUPERIO_SERIAL_FIFO_SIZE]; /* the received bytes. Those that
-                                                 are not held mean nothing */
+    uint8_t head;              /* the place of the oldest received byte */
+    uint8_t len;               /* how many received bytes are held */
+    uint8_t bytes[SUPERIO_SERIAL_FIFO_SIZE]; /* the received bytes. Those that
+                                                are not held mean nothing */
 } superio_serial;
 
 /*

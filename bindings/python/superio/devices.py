@@ -178,8 +178,8 @@ class Serial:
         device = port._struct
         for name in _REGISTERS:
             setattr(device, name, getattr(state, name))
-        device.first, device.held = 0, len(state.in_buffer)
-        device.places[:] = state.in_buffer.ljust(FIFO_SIZE, b"\0")
+        device.head, device.len = 0, len(state.in_buffer)
+        device.bytes[:] = state.in_buffer.ljust(FIFO_SIZE, b"\0")
         return port
 
     def __copy__(self) -> "Serial":
@@ -301,9 +301,9 @@ class Rtc:
 
 
 def _serial_state(device: SerialStruct) -> SerialState:
-    ring = bytes(device.places) * 2
-    first = device.first % FIFO_SIZE
-    held = ring[first:first + min(device.held, FIFO_SIZE)]
+    ring = bytes(device.bytes) * 2
+    head = device.head % FIFO_SIZE
+    held = ring[head:head + min(device.len, FIFO_SIZE)]
     return SerialState(*[getattr(device, name) for name in _REGISTERS], in_buffer=held)
 
 

@@ -21,9 +21,9 @@ class SerialStruct(Structure):
         ("modem_control", c_uint8),
         ("modem_status", c_uint8),
         ("scratch", c_uint8),
-        ("first", c_uint8),
-        ("held", c_uint8),
-        ("places", c_uint8 * FIFO_SIZE),
+        ("head", c_uint8),
+        ("len", c_uint8),
+        ("bytes", c_uint8 * FIFO_SIZE),
     ]
 
 

@@ -30,9 +30,9 @@ pub(crate) struct SerialPort {
     pub(crate) modem_control: u8,
     pub(crate) modem_status: u8,
     pub(crate) scratch: u8,
-    pub(crate) first: u8,
-    pub(crate) held: u8,
-    pub(crate) places: [u8; FIFO_SIZE],
+    pub(crate) head: u8,
+    pub(crate) len: u8,
+    pub(crate) bytes: [u8; FIFO_SIZE],
 }
 
 /// `superio_serial_read_effects`.
@@ -177,9 +177,9 @@ impl SerialPort {
 
     /// The received bytes, oldest first.
     pub(crate) fn in_buffer(&self) -> impl Iterator<Item = u8> + '_ {
-        let oldest = usize::from(self.first);
-        let held = usize::from(self.held).min(FIFO_SIZE);
-        (oldest..oldest + held).map(|place| self.places[place % FIFO_SIZE])
+        let oldest = usize::from(self.head);
+        let held = usize::from(self.len).min(FIFO_SIZE);
+        (oldest..oldest + held).map(|place| self.bytes[place % FIFO_SIZE])
     }
 }
 
@@ -316,9 +316,9 @@ mod tests {
                 modem_control,
                 modem_status,
                 scratch,
-                first,
-                held,
-                places
+                head,
+                len,
+                bytes
             }
         );
         assert_layout!("superio_serial_read_effects", ReadEffects { byte, buffer_read, in_buffer_empty });

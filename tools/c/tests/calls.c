@@ -39,7 +39,7 @@ static void fresh_port(void) {
     CHECK(port.baud_divisor_low == 0x0C && port.baud_divisor_high == 0x00 && port.interrupt_enable == 0x00);
     CHECK(port.interrupt_identification == 0x01 && port.line_control == 0x03 && port.line_status == 0x60);
     CHECK(port.modem_control == 0x08 && port.modem_status == 0xB0 && port.scratch == 0x00);
-    CHECK(port.first == 0 && port.held == 0);
+    CHECK(port.head == 0 && port.len == 0);
     CHECK(superio_serial_is_coherent(&port) && superio_serial_fifo_capacity(&port) == SUPERIO_SERIAL_FIFO_SIZE);
 }
 
@@ -96,7 +96,7 @@ static void loopback(void) {
         superio_serial port = superio_serial_new();
         CHECK(!write_at(&port, 4, 0x10 | ROWS[i][0]).sends);
         CHECK(read_at(&port, 6) == ROWS[i][1] && port.modem_status == 0xB0);
-        CHECK(!write_at(&port, 0, 0x41).sends && port.held == 1 && read_at(&port, 0) == 0x41);
+        CHECK(!write_at(&port, 0, 0x41).sends && port.len == 1 && read_at(&port, 0) == 0x41);
         CHECK(superio_serial_enqueue(&port, ROWS[i], 2).taken == 0);
     }
 }
@@ -108,11 +108,11 @@ static void received_bytes(void) {
     CHECK(write_at(&port, 1, 0x01).interrupts == 0);
     superio_serial_enqueue_effects done = superio_serial_enqueue(&port, BYTES, BYTE_COUNT);
     CHECK(done.taken == BYTE_COUNT && !done.full && done.interrupts == 1);
-    CHECK(port.first == 0 && port.held == BYTE_COUNT && memcmp(port.places, BYTES, BYTE_COUNT) == 0);
+    CHECK(port.head == 0 && port.len == BYTE_COUNT && memcmp(port.bytes, BYTES, BYTE_COUNT) == 0);
     CHECK(port.line_status == 0x61 && port.interrupt_identification == 0x04);
     CHECK(superio_serial_fifo_capacity(&port) == 59);
     superio_serial_read_effects read = superio_serial_read(&port, 0);
-    CHECK(read.byte == 0x11 && read.buffer_read && !read.in_buffer_empty && port.first == 1 && port.held == 4);
+    CHECK(read.byte == 0x11 && read.buffer_read && !read.in_buffer_empty && port.head == 1 && port.len == 4);
     CHECK(port.interrupt_identification == 0x01);
     for (int i = 1; i < BYTE_COUNT; i++)
         read = superio_serial_read(&port, 0);
@@ -121,8 +121,8 @@ static void received_bytes(void) {
     CHECK(done.taken == 0 && !done.full && done.interrupts == 0);
     uint8_t many[70] = {0};
     done = superio_serial_enqueue(&port, many, sizeof many);
-    CHECK(done.taken == 64 && !done.full && superio_serial_enqueue(&port, many, 1).full && port.held == 64);
-    CHECK(!read_at(&port, 0) && port.held == 63 && superio_serial_is_coherent(&port));
+    CHECK(done.taken == 64 && !done.full && superio_serial_enqueue(&port, many, 1).full && port.len == 64);
+    CHECK(!read_at(&port, 0) && port.len == 63 && superio_serial_is_coherent(&port));
 }
 
 /* Bytes go round the 64 places in order, however often: 30 come in and go out at a time, until all are read. */
@@ -145,9 +145,9 @@ static void ring(void) {
 /* Any bytes are a port: 255 stands for 64 held bytes, and the place of the oldest counts from 0 again after each 64. */
 static void any_bytes(void) {
     superio_serial port = superio_serial_new();
-    port.first = port.held = 255;
+    port.head = port.len = 255;
     for (uint8_t i = 0; i < 64; i++)
-        port.places[i] = i;
+        port.bytes[i] = i;
     CHECK(!superio_serial_is_coherent(&port) && superio_serial_fifo_capacity(&port) == 0);
     CHECK(read_at(&port, 0) == 63);
     for (uint8_t byte = 0; byte < 63; byte++) {
@@ -178,7 +178,7 @@ static void interrupts(void) {
     CHECK(!write_at(&port, 4, 0x10).sends);
     done = write_at(&port, 0, 'b');
     CHECK(!done.sends && done.interrupts == 1 && read_at(&port, 0) == 'x' && read_at(&port, 0) == 'b');
-    port.held = 65;
+    port.len = 65;
     CHECK(!superio_serial_is_coherent(&port) && superio_serial_fifo_capacity(&port) == 0);
     CHECK(read_at(&port, 0x80) == 0 && read_at(&port, 0xFF) == 0);
 }
@@ -311,7 +311,7 @@ static void saved_port(void) {
     for (int i = 0; i < 5; i++)
         CHECK(superio_serial_read(&port, 0).buffer_read);
     CHECK(superio_serial_save(&port, bytes) == 18 && memcmp(bytes, "SIOS\1\1\12\0\14\0\0\1\3\141\10\260\0t", 18) == 0);
-    CHECK(superio_serial_load(&other, bytes, 18) == SUPERIO_LOAD_OK && other.held == 1 && read_at(&other, 0) == 't');
+    CHECK(superio_serial_load(&other, bytes, 18) == SUPERIO_LOAD_OK && other.len == 1 && read_at(&other, 0) == 't');
     CHECK(superio_serial_enqueue(&port, many, 64).taken == 63);
     CHECK(superio_serial_save(&port, bytes) == SUPERIO_SERIAL_SAVED_MAX && memchr(bytes, 'e', sizeof bytes) == NULL);
     superio_serial before = other;

@@ -74,7 +74,7 @@ static void new_port(void) {
     if (one_in(2))
         port->interrupt_identification = (uint8_t)(1 + below(8));
     if (one_in(2))
-        port->held = (uint8_t)below(66);
+        port->len = (uint8_t)below(66);
     if (one_in(2))
         port->line_control &= 0x7F;
     model = model_port_of(port);
@@ -110,7 +110,7 @@ static void enqueue(void) {
 static void ask_port(void) {
     must(superio_serial_fifo_capacity(port) == 64 - model.held, "superio_serial_fifo_capacity");
     must(superio_serial_interrupts_due(port) == model_interrupts_due(&model), "superio_serial_interrupts_due");
-    must(superio_serial_is_coherent(port) == (port->held <= 64 && model_is_coherent(&model)),
+    must(superio_serial_is_coherent(port) == (port->len <= 64 && model_is_coherent(&model)),
          "superio_serial_is_coherent");
 }
 

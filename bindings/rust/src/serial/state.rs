@@ -104,8 +104,8 @@ impl SerialState {
     pub(crate) fn port(&self) -> Option<SerialPort> {
         check_library();
         let count = self.in_buffer.len();
-        let mut places = [0; FIFO_SIZE];
-        places.get_mut(..count)?.copy_from_slice(&self.in_buffer);
+        let mut bytes = [0; FIFO_SIZE];
+        bytes.get_mut(..count)?.copy_from_slice(&self.in_buffer);
         Some(SerialPort {
             baud_divisor_low: self.baud_divisor_low,
             baud_divisor_high: self.baud_divisor_high,
@@ -116,9 +116,9 @@ impl SerialState {
             modem_control: self.modem_control,
             modem_status: self.modem_status,
             scratch: self.scratch,
-            first: 0,
-            held: count as u8, // at most FIFO_SIZE
-            places,
+            head: 0,
+            len: count as u8, // at most FIFO_SIZE
+            bytes,
         })
     }
 }
