@@ -14,7 +14,6 @@ use Rattle.vm_superio.specs.Serial.History.Registers.{accepted_by, taken_by, kin
 use Rattle.vm_superio.specs.Serial.Step.Transition.{step}
 use Rattle.vm_superio.specs.Serial.Laws.Agreement.{state_after, HeldBytesLaw, LineStatusLaw}
 use Rattle.vm_superio.specs.Serial.Laws.Consequences.{TakenThenHeldLaw}
-use Rattle.vm_superio.specs.Serial.Laws.OneCall.{OneCallLaw, ReceivedLaw}
 use Rattle.vm_superio.proofs.Lemmas.Serial.Port.Bits.{data_ready_right, data_ready_twice}
 use Rattle.vm_superio.proofs.Lemmas.Serial.Step.ByKind.{by_kind, next_by_kind, next_at_point}
 use Rattle.vm_superio.proofs.Lemmas.Serial.Laws.OneCall.{taken_first, left_by_kind}

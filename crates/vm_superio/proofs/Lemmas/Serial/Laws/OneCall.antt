@@ -1,28 +1,24 @@
 -- One call: the bytes that it takes, accepts and gives, and the byte that a THR write sends.
-use Rattle.std.proofs.Common.{◌≡◌, ℕ, Bool, true, List, [], ◌∷◌, ◌++◌, length, drop, refl, ap, sym, ◌∙◌, append_assoc, append-nil, length-append, ◌<◌, false, subst, arith, Option, IsTrue}
-use Rattle.std.proofs.Math.Seq.{drop-append-add}
+use Rattle.std.proofs.Common.{◌≡◌, ℕ, Bool, true, List, [], ◌∷◌, ◌++◌, length, drop, refl, ap, sym, ◌∙◌, append-nil, ◌<◌, false, subst, arith, Option, IsTrue}
 use Rattle.std.specs.Prelude.{if◌then◌else◌, slice_index, drop, ◌&&◌, not}
 use Rattle.vm_superio.specs.declared.trace.Asked.{Asked}
 use Rattle.vm_superio.specs.Serial.Port.State.{State, not_empty}
 use Rattle.vm_superio.specs.Bits.{has_bits, without_bits}
-use Rattle.vm_superio.specs.Serial.History.Reads.{with_data_ready, line_status, state_of_history, history_response, byte_read, bytes_read}
-use Rattle.vm_superio.specs.Serial.Port.Operations.{Op, TraceEntry, Read, Write, Enqueue, Restore, Response, ByteRead, WriteOk, WriterFailed, TriggerRefused, is_sent, is_lost, ends_in_refusal}
+use Rattle.vm_superio.specs.Serial.History.Reads.{line_status, byte_read}
+use Rattle.vm_superio.specs.Serial.Port.Operations.{Op, Read, Write, Enqueue, Restore, Response, ByteRead, WriteOk, WriterFailed, TriggerRefused, is_sent, is_lost, ends_in_refusal}
 use Rattle.vm_superio.specs.Serial.Step.Raising.{receive_bytes, bytes_that_fit, raise}
 use Rattle.vm_superio.specs.Serial.Step.Admissible.{kind_in_state, answers_all, step_calls, sends_byte}
 use Rattle.vm_superio.specs.Serial.Port.OpKinds.{OpKind, RbrRead, IirRead, Arrival, read_kind, write_kind, kind_of, sent_by}
-use Rattle.vm_superio.specs.Serial.History.Registers.{accepted_by, taken_by, kind_at, remaining_bytes, accepted_bytes, taken_bytes, held_bytes, dlab, loopback}
+use Rattle.vm_superio.specs.Serial.History.Registers.{accepted_by, taken_by}
 use Rattle.vm_superio.specs.Serial.Step.Transition.{step, read_step, step_response, write_step}
-use Rattle.vm_superio.specs.Serial.Laws.Agreement.{state_after, HeldBytesLaw, LineStatusLaw}
-use Rattle.vm_superio.specs.Serial.Laws.Consequences.{TakenThenHeldLaw, ReadsAreTakenLaw, ReadThenHeldLaw}
 use Rattle.vm_superio.specs.Serial.Laws.OneCall.{OneCallLaw, ReceivedLaw, OneReadLaw, RbrReadLaw, RbrDataReadyLaw, ThrWriteLaw}
-use Rattle.vm_superio.proofs.Lemmas.Serial.Port.Bits.{data_ready_right, data_ready_twice, data_ready_cleared}
-use Rattle.vm_superio.proofs.Lemmas.Serial.Step.ByKind.{by_kind, next_by_kind, next_at_point}
+use Rattle.vm_superio.proofs.Lemmas.Serial.Port.Bits.{data_ready_cleared}
+use Rattle.vm_superio.proofs.Lemmas.Serial.Step.ByKind.{by_kind, next_by_kind}
 use Rattle.std.proofs.Math.Bool.{and-true, and-false}
 use Rattle.vm_superio.specs.declared.trace.Asked.TheVariants.{Nothing}
 use Rattle.vm_superio.specs.declared.trace.Sent.{Sent}
 use Rattle.vm_superio.specs.declared.trace.Sent.TheVariants as sent
 use Rattle.vm_superio.specs.Serial.Port.Registers.{Register, RbrThr, Ier, Iir, register_at, is_dlab, is_loopback, register_read, Thre}
-use Rattle.vm_superio.specs.Serial.Run.Trace.{trace_after}
 use Rattle.std.specs.List.{list_all}
 use Rattle.std.specs.Bool.{beq}
 use Rattle.std.specs.Io.KnownBytes.{Appends}

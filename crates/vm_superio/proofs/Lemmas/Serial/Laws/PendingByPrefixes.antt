@@ -1,25 +1,16 @@
 -- A condition is pending by the entries that raised and acknowledged it.
-use Rattle.std.proofs.Common.{◌≡◌, inl, inr, ℕ, Bool, true, false, not, ◌&&◌, ◌||◌, List, [], ◌∷◌, ◌++◌, refl, ap, sym, ◌∙◌, subst, append-nil}
-use Rattle.std.specs.Cmp.Derive.{both_true}
+use Rattle.std.proofs.Common.{◌≡◌, inl, inr, Bool, true, false, not, ◌&&◌, ◌||◌, List, [], ◌∷◌, ◌++◌, refl, ap, sym, subst, append-nil}
 use Rattle.std.proofs.lemmas.Bool.{and_parts, false≢true}
 use Rattle.std.specs.Prelude.{IsTrue, ◌⊎◌}
 use Rattle.std.specs.Bool.{IsFalse}
-use Rattle.vm_superio.specs.declared.trace.Asked.{Asked}
-use Rattle.vm_superio.specs.Serial.Port.State.{State, not_empty}
+use Rattle.vm_superio.specs.Serial.Port.State.{State}
 use Rattle.vm_superio.specs.Bits.{has_bits}
 use Rattle.vm_superio.specs.Serial.Port.Operations.{TraceEntry}
-use Rattle.vm_superio.specs.Serial.Step.Raising.{receive_bytes, bytes_that_fit}
-use Rattle.vm_superio.specs.Serial.Port.OpKinds.{OpKind, RbrRead, IirRead, IerWrite, ThrWrite, Arrival, Other}
-use Rattle.vm_superio.specs.Serial.History.Registers.{kind_at, held_bytes, interrupt_enable}
-use Rattle.vm_superio.specs.Serial.Port.Registers.{Condition, Rda, iir_bit}
-use Rattle.vm_superio.specs.Serial.History.Interrupts.{pending_since, is_raised, acknowledges, is_pending, NoneAcknowledges, shows_waiting_bytes}
-use Rattle.vm_superio.specs.Serial.Laws.Consequences.{PendingByPrefixesLaw, WaitingBytesLaw}
-use Rattle.vm_superio.specs.Serial.Laws.Agreement.{state_after}
-use Rattle.vm_superio.proofs.Lemmas.Serial.Port.Bits.{enables_rda}
-use Rattle.vm_superio.proofs.Lemmas.Serial.Step.ByKind.{by_kind, next_at_point}
-use Rattle.vm_superio.proofs.Lemmas.Serial.Laws.Registers.{register_law}
-use Rattle.vm_superio.proofs.Lemmas.Serial.Laws.HeldBytes.{held_bytes_law}
-use Rattle.vm_superio.proofs.Lemmas.Serial.Laws.Interrupts.{rda_next}
+use Rattle.vm_superio.specs.Serial.Port.OpKinds.{OpKind}
+use Rattle.vm_superio.specs.Serial.History.Registers.{kind_at}
+use Rattle.vm_superio.specs.Serial.Port.Registers.{Condition, iir_bit}
+use Rattle.vm_superio.specs.Serial.History.Interrupts.{pending_since, is_raised, acknowledges, NoneAcknowledges}
+use Rattle.vm_superio.specs.Serial.Laws.Consequences.{PendingByPrefixesLaw}
 
 -- ---- the newest entry, and the others
 

@@ -1,25 +1,14 @@
 -- The bytes that a guest reads from the FIFO are the bytes taken.
-use Rattle.std.proofs.Common.{◌≡◌, ℕ, ◌<◌, Bool, true, false, List, [], ◌∷◌, ◌++◌, length, refl, ap, sym, subst, ◌∙◌, append_assoc, append-nil, arith}
-use Rattle.std.proofs.Math.Bool.{and-true, and-false}
-use Rattle.std.specs.Prelude.{slice_index, drop, if◌then◌else◌, ◌&&◌}
-use Rattle.vm_superio.specs.Bits.{has_bits, without_bits}
+use Rattle.std.proofs.Common.{◌≡◌, List, [], ◌∷◌, ◌++◌, refl, ap, sym, ◌∙◌, append_assoc, append-nil}
 use Rattle.vm_superio.specs.declared.trace.Asked.{Asked}
-use Rattle.vm_superio.specs.declared.trace.Asked.TheVariants.{Nothing}
 use Rattle.vm_superio.specs.declared.trace.Sent.{Sent}
-use Rattle.vm_superio.specs.declared.trace.Sent.TheVariants as sent
-use Rattle.vm_superio.specs.Serial.Port.State.{State, not_empty}
-use Rattle.vm_superio.specs.Serial.Port.Registers.{Register, RbrThr, Ier, Iir, register_at, is_dlab, is_loopback, register_read}
-use Rattle.vm_superio.specs.Serial.Port.Operations.{Op, Read, Write, Enqueue, Restore, TraceEntry, Response, ByteRead}
-use Rattle.vm_superio.specs.Serial.Port.OpKinds.{RbrRead, read_kind, write_kind, kind_of}
-use Rattle.vm_superio.specs.Serial.Step.Admissible.{kind_in_state}
-use Rattle.vm_superio.specs.Serial.Step.Transition.{read_step, step, step_response}
-use Rattle.vm_superio.specs.Serial.History.Registers.{kind_at, dlab, loopback, accepted_by, taken_by, taken_bytes, held_bytes}
+use Rattle.vm_superio.specs.Serial.Port.State.{State}
+use Rattle.vm_superio.specs.Serial.Port.Registers.{register_at}
+use Rattle.vm_superio.specs.Serial.Port.Operations.{Op, Read, Write, Enqueue, Restore, TraceEntry, Response}
+use Rattle.vm_superio.specs.Serial.History.Registers.{kind_at, dlab, loopback, taken_by, taken_bytes, held_bytes}
 use Rattle.vm_superio.specs.Serial.History.Reads.{state_of_history, history_response, byte_read, bytes_read}
 use Rattle.vm_superio.specs.Serial.Run.Trace.{trace_after}
 use Rattle.vm_superio.specs.Serial.Laws.Consequences.{ReadsAreTakenLaw, ReadThenHeldLaw}
-use Rattle.vm_superio.specs.Serial.Laws.OneCall.{OneReadLaw, RbrReadLaw, RbrDataReadyLaw}
-use Rattle.vm_superio.proofs.Lemmas.Serial.Port.Bits.{data_ready_cleared}
-use Rattle.vm_superio.proofs.Lemmas.Serial.Laws.OneCall.{one_call}
 use Rattle.vm_superio.proofs.Lemmas.Serial.Laws.HeldBytes.{taken_then_held}
 use Rattle.vm_superio.proofs.Lemmas.Serial.Laws.OneCall.{of_read, of_write, of_enqueue}
 

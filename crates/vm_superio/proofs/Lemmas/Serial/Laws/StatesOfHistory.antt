@@ -1,27 +1,19 @@
 -- The state after a trace is that of the history, and a call responds as the history says.
-use Rattle.std.proofs.Common.{◌≡◌, ℕ, ◌+◌, ◌≤◌, Bool, true, false, ◌==◌, ◌&&◌, ◌||◌, List, [], ◌∷◌, length, drop, refl, ap, sym, ◌∙◌, subst, length-append, length-take, length-drop, arith}
-use Rattle.std.specs.Cmp.Derive.{both_true}
-use Rattle.std.proofs.lemmas.Bool.{false≢true}
-use Rattle.std.specs.Prelude.{if◌then◌else◌, nat_le, IsTrue}
+use Rattle.std.proofs.Common.{◌≡◌, ℕ, Bool, true, false, ◌==◌, ◌||◌, List, [], length, refl, ap, ◌∙◌}
+use Rattle.std.specs.Prelude.{if◌then◌else◌, nat_le}
 use Rattle.vm_superio.specs.declared.trace.Asked.{Asked}
 use Rattle.vm_superio.specs.declared.trace.Sent.{Sent}
-use Rattle.vm_superio.specs.Serial.Port.State.{State, not_empty}
-use Rattle.vm_superio.specs.Bits.{has_bits, without_bits}
-use Rattle.vm_superio.specs.Serial.Port.Operations.{Op, Read, Write, Enqueue, Restore, TraceEntry, Response, EnqueueOk, FifoFull, TriggerRefused, is_first_refused}
-use Rattle.vm_superio.specs.Serial.Step.Raising.{receive_bytes, bytes_that_fit}
-use Rattle.vm_superio.specs.Serial.Step.Admissible.{kind_in_state}
-use Rattle.vm_superio.specs.Serial.Port.OpKinds.{OpKind, RbrRead, IirRead, IerWrite, ThrWrite, Arrival, Other}
+use Rattle.vm_superio.specs.Serial.Port.State.{State}
+use Rattle.vm_superio.specs.Serial.Port.Operations.{Op, Read, Write, Enqueue, Restore, TraceEntry, EnqueueOk, FifoFull, TriggerRefused, is_first_refused}
+use Rattle.vm_superio.specs.Serial.Step.Raising.{bytes_that_fit}
+use Rattle.vm_superio.specs.Serial.Port.OpKinds.{Arrival, Other}
 use Rattle.vm_superio.specs.Serial.History.Registers.{accepted_by, loopback, held_bytes}
 use Rattle.vm_superio.specs.Serial.Step.Transition.{step_response}
-use Rattle.vm_superio.specs.Serial.Port.Coherent.{Coherent}
 use Rattle.vm_superio.specs.Serial.History.Reads.{history_response, state_of_history}
-use Rattle.vm_superio.specs.Serial.History.Interrupts.{is_well_formed}
-use Rattle.vm_superio.specs.Serial.Laws.Agreement.{state_after, CoherenceLaw, StateLaw, ResponseLaw, StepsFollow, RunAgrees, WholeRunLaw}
-use Rattle.vm_superio.proofs.Lemmas.Serial.Port.Bits.{data_ready_set, data_ready_cleared}
-use Rattle.vm_superio.proofs.Lemmas.Serial.Step.ByKind.{by_kind, next_by_kind}
+use Rattle.vm_superio.specs.Serial.Laws.Agreement.{StateLaw, ResponseLaw}
 use Rattle.vm_superio.proofs.Lemmas.Serial.Laws.Registers.{register_law}
-use Rattle.vm_superio.proofs.Lemmas.Serial.Laws.HeldBytes.{held_bytes_law, line_status_law, not_empty-append}
-use Rattle.vm_superio.proofs.Lemmas.Serial.Laws.Interrupts.{interrupt_law, pending_by_kind, thre_next, rda_next}
+use Rattle.vm_superio.proofs.Lemmas.Serial.Laws.HeldBytes.{held_bytes_law, line_status_law}
+use Rattle.vm_superio.proofs.Lemmas.Serial.Laws.Interrupts.{interrupt_law}
 
 pub state_law : StateLaw
 state_law start trace coherent =

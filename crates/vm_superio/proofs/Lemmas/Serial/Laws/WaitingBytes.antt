@@ -1,8 +1,8 @@
 -- While bytes are held and enabled, RDA is pending.
-use Rattle.std.proofs.Common.{◌≡◌, inl, inr, ℕ, Bool, true, false, not, ◌&&◌, ◌||◌, List, [], ◌∷◌, ◌++◌, refl, ap, sym, ◌∙◌, subst, append-nil}
+use Rattle.std.proofs.Common.{ℕ, Bool, true, false, ◌&&◌, ◌||◌, List, [], ◌∷◌, ◌++◌, refl, ap, sym, ◌∙◌, subst}
 use Rattle.std.specs.Cmp.Derive.{both_true}
-use Rattle.std.proofs.lemmas.Bool.{and_parts, false≢true}
-use Rattle.std.specs.Prelude.{IsTrue, ◌⊎◌}
+use Rattle.std.proofs.lemmas.Bool.{false≢true}
+use Rattle.std.specs.Prelude.{IsTrue}
 use Rattle.std.specs.Bool.{IsFalse}
 use Rattle.vm_superio.specs.declared.trace.Asked.{Asked}
 use Rattle.vm_superio.specs.Serial.Port.State.{State, not_empty}
@@ -11,9 +11,9 @@ use Rattle.vm_superio.specs.Serial.Port.Operations.{TraceEntry}
 use Rattle.vm_superio.specs.Serial.Step.Raising.{receive_bytes, bytes_that_fit}
 use Rattle.vm_superio.specs.Serial.Port.OpKinds.{OpKind, RbrRead, IirRead, IerWrite, ThrWrite, Arrival, Other}
 use Rattle.vm_superio.specs.Serial.History.Registers.{kind_at, held_bytes, interrupt_enable}
-use Rattle.vm_superio.specs.Serial.Port.Registers.{Condition, Rda, iir_bit}
-use Rattle.vm_superio.specs.Serial.History.Interrupts.{pending_since, is_raised, acknowledges, is_pending, NoneAcknowledges, shows_waiting_bytes}
-use Rattle.vm_superio.specs.Serial.Laws.Consequences.{PendingByPrefixesLaw, WaitingBytesLaw}
+use Rattle.vm_superio.specs.Serial.Port.Registers.{Rda}
+use Rattle.vm_superio.specs.Serial.History.Interrupts.{acknowledges, is_pending, NoneAcknowledges, shows_waiting_bytes}
+use Rattle.vm_superio.specs.Serial.Laws.Consequences.{WaitingBytesLaw}
 use Rattle.vm_superio.specs.Serial.Laws.Agreement.{state_after}
 use Rattle.vm_superio.proofs.Lemmas.Serial.Port.Bits.{enables_rda}
 use Rattle.vm_superio.proofs.Lemmas.Serial.Step.ByKind.{by_kind, next_at_point}

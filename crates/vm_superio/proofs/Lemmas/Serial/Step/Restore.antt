@@ -1,11 +1,5 @@
 -- A port's own state is refused only for a refusal of the trigger or of memory.
-use Rattle.std.proofs.Common.{◌≡◌, ℕ, ◌≤◌, List, [], ◌++◌, length, Option, Some, None, false, refl, sym, ap, ◌∙◌, append_assoc, append-nil, arith}
-use Rattle.std.specs.Io.KnownBytes.{Appends}
-use Rattle.vm_superio.specs.Rtc.Registers.{fresh_clock}
-use Rattle.vm_superio.specs.Rtc.History.{clock_of_history}
-use Rattle.vm_superio.specs.Bits.{has_bits, with_bits}
-use Rattle.vm_superio.specs.Serial.Port.Coherent.{Coherent}
-use Rattle.vm_superio.specs.Serial.Port.SavedState.{fresh_state}
+use Rattle.std.proofs.Common.{◌≤◌, length, arith}
 use Rattle.vm_superio.specs.Serial.Port.State.{State}
 use Rattle.vm_superio.specs.Links.Objects.{Link, TriggerAnswer, RefusesOwnState}
 use Rattle.vm_superio.specs.Serial.Step.Restore.{restore_calls, RefusesRestore}
