@@ -1,7 +1,7 @@
 //! The serial port. Its struct is `superio_serial` in the header: nine registers, then the received bytes.
 ghost use Rattle.std.specs.Prelude.{◌≡◌, ◌↔◌, ◌≤◌, ◌-◌, length, IsTrue};
 ghost use Rattle.vm_superio.specs.Serial.Port.Fields.{state_of_fields, CoherentFields};
-ghost use Rattle.vm_superio.specs.Serial.Port.SavedState.{fresh_state};
+ghost use Rattle.vm_superio.specs.Serial.Port.State.{fresh_state};
 ghost use Rattle.vm_superio.specs.Serial.Step.FieldsStep.{IsFieldsRead, IsFieldsWrite, IsFieldsEnqueue, IsFirstRefused, without_thre};
 ghost use Rattle.vm_superio.specs.Serial.Step.Restore.{restore_calls};
 

@@ -2,7 +2,7 @@
 ghost use Rattle.std.specs.Prelude.{◌≡◌, [], ◌∷◌, take, false, IfOk, OnOk};
 ghost use Rattle.std.specs.Io.KnownBytes.{Appends};
 ghost use Rattle.vm_superio.specs.Serial.Port.Registers.{is_dlab, is_loopback};
-ghost use Rattle.vm_superio.specs.Serial.Port.SavedState.{fresh_state};
+ghost use Rattle.vm_superio.specs.Serial.Port.State.{fresh_state};
 
 use std::alloc::Global;
 use std::io::Write;

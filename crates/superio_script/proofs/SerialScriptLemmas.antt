@@ -11,8 +11,7 @@ use Rattle.vm_superio.specs.declared.trace.Asked.{Asked}
 use Rattle.vm_superio.specs.declared.trace.Asked.TheVariants.{Nothing, Took, Refused, TookTook, TookRefused}
 use Rattle.vm_superio.specs.declared.trace.Sent.{Sent}
 use Rattle.vm_superio.specs.declared.trace.Sent.TheVariants as sent
-use Rattle.vm_superio.specs.Serial.Port.State.{State, not_empty}
-use Rattle.vm_superio.specs.Serial.Port.SavedState.{fresh_state}
+use Rattle.vm_superio.specs.Serial.Port.State.{State, not_empty, fresh_state}
 use Rattle.vm_superio.specs.Bits.{has_bits, only_bits}
 use Rattle.vm_superio.specs.Serial.Port.Coherent.{Coherent}
 use Rattle.vm_superio.specs.declared.serial.registers.Condition.{Condition}

@@ -7,8 +7,7 @@ use Rattle.vm_superio.specs.declared.trace.Sent.{Sent}
 use Rattle.vm_superio.specs.Bits.{has_bits}
 use Rattle.vm_superio.specs.Serial.Port.Bits.{lsr_dr_bit}
 use Rattle.vm_superio.specs.Serial.Port.Coherent.{Coherent}
-use Rattle.vm_superio.specs.Serial.Port.SavedState.{fresh_state}
-use Rattle.vm_superio.specs.Serial.Port.State.{State, not_empty}
+use Rattle.vm_superio.specs.Serial.Port.State.{fresh_state, State, not_empty}
 use Rattle.vm_superio.specs.declared.serial.registers.Condition.{Condition}
 use Rattle.vm_superio.specs.Serial.Port.Operations.{Op, TraceEntry, Trace, Response, Event}
 use Rattle.vm_superio.specs.Serial.Port.OpKinds.{OpKind}

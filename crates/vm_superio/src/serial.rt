@@ -2,7 +2,7 @@
 ghost use Rattle.std.specs.Prelude.{◌≡◌, ◌<◌, ◌≤◌, ◌+◌, ◌-◌, length, vec_len, IsErr, IfOk, OnOk, IfErr};
 ghost use Rattle.vm_superio.specs.Serial.Port.Coherent.{Coherent};
 ghost use Rattle.vm_superio.specs.Links.Objects.{all_ok, RefusesOwnState};
-ghost use Rattle.vm_superio.specs.Serial.Port.SavedState.{fresh_state, state_of};
+ghost use Rattle.vm_superio.specs.Serial.Port.State.{fresh_state, state_of};
 ghost use Rattle.vm_superio.specs.Serial.Step.Restore.{restore_calls, RefusesRestore};
 
 mod bits;
@@ -45,7 +45,7 @@ pub struct Serial<T: Trigger, EV: SerialEvents, W: Write> {
 
 impl<T: Trigger, EV: SerialEvents, W: Write> Model for Serial<T, EV, W> {
     ghost use Rattle.vm_superio.specs.Serial.Port.Model.{Port};
-    ghost use Rattle.vm_superio.specs.Serial.Port.SavedState.{state_with};
+    ghost use Rattle.vm_superio.specs.Serial.Port.State.{state_with};
 
     ghost Value = { Port T EV W };
 

@@ -6,7 +6,6 @@ pub mod Coherent
 pub mod Operations
 pub mod OpKinds
 pub mod Model
-pub mod SavedState
 pub mod ErrorText
 pub mod Effects
 pub mod RxRing

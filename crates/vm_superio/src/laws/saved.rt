@@ -1,6 +1,6 @@
 //! The laws of the byte form of a saved state. The round trips are calls whose contracts are the laws.
 ghost use Rattle.std.specs.Prelude.{◌≡◌, ◌≤◌, length, IfOk, MatchResult};
-ghost use Rattle.vm_superio.specs.Serial.Port.SavedState.{state_of};
+ghost use Rattle.vm_superio.specs.Serial.Port.State.{state_of};
 ghost use Rattle.vm_superio.specs.Saved.Laws.{SerialFormLaw, OneSerialStateLaw, ClockFormLaw, OneClockStateLaw};
 
 use crate::rtc_pl031::saved_form::SAVED_SIZE;

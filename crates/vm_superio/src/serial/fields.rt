@@ -4,7 +4,7 @@
 //! to send, an interrupt to ask for, an event to report. A monitor in another language can keep the struct where it
 //! likes and save the port by copying bytes.
 ghost use Rattle.std.specs.Prelude.{◌≡◌, ◌↔◌, ◌≤◌, ◌-◌, length, IsTrue};
-ghost use Rattle.vm_superio.specs.Serial.Port.SavedState.{fresh_state};
+ghost use Rattle.vm_superio.specs.Serial.Port.State.{fresh_state};
 ghost use Rattle.vm_superio.specs.Serial.Port.Fields.{state_of_fields, CoherentFields};
 ghost use Rattle.vm_superio.specs.Serial.Step.Restore.{restore_calls};
 ghost use Rattle.vm_superio.specs.Serial.Step.FieldsStep.{IsFieldsRead, IsFieldsWrite, IsFieldsEnqueue, IsFirstRefused, without_thre};

@@ -1,7 +1,7 @@
 //! The registers of a 16550: which one an offset reaches, and the nine bytes that they hold.
 ghost use Rattle.std.specs.Prelude.{◌≡◌, if◌then◌else◌, []};
 ghost use Rattle.vm_superio.specs.Bits.{has_bits};
-ghost use Rattle.vm_superio.specs.Serial.Port.SavedState.{fresh_state, state_with};
+ghost use Rattle.vm_superio.specs.Serial.Port.State.{fresh_state, state_with};
 
 use super::bits::{
     DATA_OFFSET, DEFAULT_BAUD_DIVISOR_LOW, DEFAULT_LINE_CONTROL, DEFAULT_LINE_STATUS,

@@ -1,7 +1,7 @@
 //! A restore: what a port takes from a saved state, and its trigger calls.
 ghost use Rattle.std.specs.Prelude.{◌≡◌, ◌≤◌, List, [], length, Result, OnOk, IfOk, IfErr};
 ghost use Rattle.vm_superio.specs.Links.Objects.{all_ok, StopsAtRefusal};
-ghost use Rattle.vm_superio.specs.Serial.Port.SavedState.{state_of, state_with};
+ghost use Rattle.vm_superio.specs.Serial.Port.State.{state_of, state_with};
 ghost use Rattle.vm_superio.specs.Serial.Step.Restore.{is_asserted, restore_calls, RefusesRestore};
 
 use super::bits::has_bits;

@@ -1,8 +1,7 @@
 //! The byte form of a serial port's state.
 ghost use Rattle.std.specs.Prelude.{◌≡◌, ◌↔◌, ◌≤◌, ◌+◌, length, List, ℕ, ◌++◌, IfOk, IfErr, IsOk, IfSome, MatchResult};
 ghost use Rattle.std.specs.Result.{result_err, IsOkAnd};
-ghost use Rattle.vm_superio.specs.Serial.Port.SavedState.{state_of, state_with};
-ghost use Rattle.vm_superio.specs.Serial.Port.State.{State};
+ghost use Rattle.vm_superio.specs.Serial.Port.State.{state_of, state_with, State};
 ghost use Rattle.vm_superio.specs.Serial.Port.Fields.{state_of_fields};
 ghost use Rattle.vm_superio.specs.Serial.Port.RxRing.{held_bytes};
 ghost use Rattle.vm_superio.specs.Saved.Form.{serial_contents, serial_form};

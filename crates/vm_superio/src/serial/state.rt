@@ -1,6 +1,6 @@
 //! A saved serial port.
 ghost use Rattle.std.specs.Prelude.{◌≡◌, ◌↔◌, Bool, IfOk, IsTrue};
-ghost use Rattle.vm_superio.specs.Serial.Port.SavedState.{fresh_state};
+ghost use Rattle.vm_superio.specs.Serial.Port.State.{fresh_state};
 ghost use Rattle.vm_superio.specs.Serial.Port.Coherent.{Coherent};
 ghost use Rattle.vm_superio.specs.Serial.Port.Registers.{identification_of};
 
@@ -37,7 +37,7 @@ pub struct SerialState {
 }
 
 impl SerialState {
-    ghost use Rattle.vm_superio.specs.Serial.Port.SavedState.{state_of, state_with};
+    ghost use Rattle.vm_superio.specs.Serial.Port.State.{state_of, state_with};
 
     /// The state of a new port. Allocates no memory.
     pub fn default(alloc: Global) -> SerialState

@@ -2,13 +2,12 @@
 //! with every receive FIFO, and call no object: a step returns what is left to do, which is a byte to send, an
 //! interrupt to ask for, or an event to report.
 ghost use Rattle.std.specs.Prelude.{◌≡◌, ◌≤◌, if◌then◌else◌, length, slice_index};
-ghost use Rattle.vm_superio.specs.Serial.Port.State.{not_empty};
+ghost use Rattle.vm_superio.specs.Serial.Port.State.{not_empty, state_with};
 ghost use Rattle.vm_superio.specs.Bits.{only_bits, with_bits};
 ghost use Rattle.vm_superio.specs.Serial.Port.Bits.{lsr_dr_bit};
 ghost use Rattle.vm_superio.specs.Serial.Port.Registers.{Rda, Thre, RbrThr, is_loopback, register_read};
 ghost use Rattle.vm_superio.specs.Serial.Port.Operations.{count_if, is_first_of_two_refused};
 ghost use Rattle.vm_superio.specs.Serial.Port.OpKinds.{write_kind, sent_by};
-ghost use Rattle.vm_superio.specs.Serial.Port.SavedState.{state_with};
 ghost use Rattle.vm_superio.specs.Serial.Port.Effects.{events_of_read};
 ghost use Rattle.vm_superio.specs.Serial.Step.Raising.{becomes_pending, raise, lower, bytes_that_fit, receive_bytes};
 ghost use Rattle.vm_superio.specs.Serial.Step.Transition.{rbr_read, ier_write, read_step, write_step, read_events};

@@ -3,8 +3,7 @@ use Rattle.std.proofs.Common.{rules, ◌≡◌, ◌≤◌, ◌-◌, [], ◌++◌
 use Rattle.std.proofs.lemmas.List.{take-append-drop, take_all}
 use Rattle.std.specs.Prelude.{if◌then◌else◌}
 use Rattle.vm_superio.specs.Bits.{has_bits}
-use Rattle.vm_superio.specs.Serial.Port.SavedState.{fresh_state}
-use Rattle.vm_superio.specs.Serial.Port.State.{State}
+use Rattle.vm_superio.specs.Serial.Port.State.{fresh_state, State}
 use Rattle.vm_superio.specs.Serial.Port.Registers.{is_dlab, is_loopback}
 use Rattle.vm_superio.specs.Serial.Step.Raising.{receive_bytes}
 use Rattle.superio_examples.proofs.driver.receive_all.Goals as goal

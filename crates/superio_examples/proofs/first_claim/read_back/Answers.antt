@@ -2,8 +2,7 @@
 use Rattle.std.proofs.Common.{rules, ◌≡◌, ◌-◌, ◌<◌, [], ◌∷◌, ◌++◌, length, take, sym, ap, ◌∙◌, append-nil, append_assoc, arith}
 use Rattle.std.proofs.lemmas.List.{nil_from_length}
 use Rattle.vm_superio.specs.Bits.{has_bits}
-use Rattle.vm_superio.specs.Serial.Port.State.{State}
-use Rattle.vm_superio.specs.Serial.Port.SavedState.{fresh_state}
+use Rattle.vm_superio.specs.Serial.Port.State.{State, fresh_state}
 use Rattle.vm_superio.specs.Serial.Port.Registers.{is_dlab}
 use Rattle.vm_superio.specs.Serial.Port.Operations.{Enqueue}
 use Rattle.vm_superio.specs.Serial.Step.Transition.{step}

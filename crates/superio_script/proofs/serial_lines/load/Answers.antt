@@ -1,6 +1,6 @@
 -- Bytes that are a state restore the port, and other bytes change nothing.
 use Rattle.std.proofs.Common.{Err, refl}
-use Rattle.vm_superio.specs.Serial.Port.SavedState.{state_of}
+use Rattle.vm_superio.specs.Serial.Port.State.{state_of}
 use Rattle.vm_superio.specs.Saved.Faults.{serial_fault}
 use Rattle.superio_script.specs.Loading.{port_in}
 use Rattle.superio_script.proofs.LoadingLemmas.{port-loaded, port-refused}

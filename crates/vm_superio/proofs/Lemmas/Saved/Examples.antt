@@ -2,8 +2,7 @@
 use Rattle.std.specs.Prelude.{◌≡◌, true, negsuc, [], ◌∷◌, Some, None, refl, drop, take, ◌++◌, replicate}
 use Rattle.vm_superio.specs.declared.rtc_pl031.RtcState.{RtcState}
 use Rattle.vm_superio.specs.declared.saved.Error.TheVariants.{TooShort, NotASavedState, OtherDevice, UnknownVersion, WrongLength, TooManyBytes, InvalidArmed}
-use Rattle.vm_superio.specs.Serial.Port.SavedState.{fresh_state}
-use Rattle.vm_superio.specs.Serial.Port.State.{State}
+use Rattle.vm_superio.specs.Serial.Port.State.{fresh_state, State}
 use Rattle.vm_superio.specs.Saved.Form.{serial_form, clock_form}
 use Rattle.vm_superio.specs.Saved.Faults.{serial_fault, clock_fault}
 

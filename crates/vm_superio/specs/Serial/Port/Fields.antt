@@ -1,9 +1,8 @@
 -- The state of a port in a plain struct.
 use Rattle.std.specs.Prelude.{◌≤◌}
 use Rattle.vm_superio.specs.declared.serial.fields.SerialFields.{SerialFields}
-use Rattle.vm_superio.specs.Serial.Port.State.{State}
+use Rattle.vm_superio.specs.Serial.Port.State.{State, state_with}
 use Rattle.vm_superio.specs.Serial.Port.Coherent.{Coherent}
-use Rattle.vm_superio.specs.Serial.Port.SavedState.{state_with}
 use Rattle.vm_superio.specs.Serial.Port.RxRing.{held_bytes}
 
 -- the registers and the bytes in the places; any struct has one

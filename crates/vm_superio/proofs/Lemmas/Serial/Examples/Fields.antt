@@ -7,8 +7,7 @@ use Rattle.vm_superio.specs.Serial.Port.Effects.{events_of_read}
 use Rattle.vm_superio.specs.Bits.{has_bits, only_bits, with_bits}
 use Rattle.vm_superio.specs.Serial.Port.Operations.{Write, buffer_read, in_buffer_empty, is_first_of_two_refused}
 use Rattle.vm_superio.specs.Serial.Port.RxRing.{held_bytes}
-use Rattle.vm_superio.specs.Serial.Port.SavedState.{fresh_state}
-use Rattle.vm_superio.specs.Serial.Port.State.{State}
+use Rattle.vm_superio.specs.Serial.Port.State.{fresh_state, State}
 use Rattle.vm_superio.specs.Serial.Step.Transition.{step}
 use Rattle.vm_superio.specs.Serial.Step.Admissible.{step_calls}
 use Rattle.vm_superio.specs.Serial.Step.FieldsStep.{without_thre}

@@ -2,7 +2,7 @@
 use Rattle.std.proofs.Common.{◌≡◌, ℕ, zero, suc, List, [], ◌∷◌, refl}
 use Rattle.vm_superio.specs.declared.trace.Asked.TheVariants.{Nothing, Took, Refused}
 use Rattle.vm_superio.specs.declared.trace.Sent.TheVariants as sent
-use Rattle.vm_superio.specs.Serial.Port.SavedState.{fresh_state}
+use Rattle.vm_superio.specs.Serial.Port.State.{fresh_state}
 use Rattle.vm_superio.specs.Bits.{has_bits, only_bits, with_bits}
 use Rattle.vm_superio.specs.Serial.Port.Registers.{Rda, Thre}
 use Rattle.vm_superio.specs.Serial.Port.Operations.{buffer_read, TraceEntry, Response, EnqueueOk, TriggerRefused, WriterFailed}

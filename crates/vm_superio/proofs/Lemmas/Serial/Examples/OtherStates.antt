@@ -2,8 +2,7 @@
 use Rattle.std.proofs.Common.{◌≡◌, [], ◌∷◌, refl}
 use Rattle.vm_superio.specs.declared.trace.Asked.TheVariants.{Took}
 use Rattle.vm_superio.specs.declared.trace.Sent.TheVariants as sent
-use Rattle.vm_superio.specs.Serial.Port.State.{State}
-use Rattle.vm_superio.specs.Serial.Port.SavedState.{fresh_state}
+use Rattle.vm_superio.specs.Serial.Port.State.{State, fresh_state}
 use Rattle.vm_superio.specs.Bits.{has_bits, only_bits, with_bits}
 use Rattle.vm_superio.specs.Serial.Port.Registers.{Rda, Thre}
 use Rattle.vm_superio.specs.Serial.Port.Operations.{buffer_read, in_buffer_empty}

@@ -11,6 +11,7 @@ use Rattle.vm_superio.specs.Serial.Port.Operations.{Op, Read, Write, Enqueue, Re
 use Rattle.vm_superio.specs.Serial.Step.Raising.{receive_bytes, enqueued_bytes, bytes_that_fit}
 use Rattle.vm_superio.specs.Serial.Step.Transition.{step, read_step, write_step, thr_write}
 use Rattle.vm_superio.specs.Serial.History.Registers.{value_written_at, last_found, dlab}
+use Rattle.vm_superio.specs.Serial.History.Reads.{state_of_history}
 use Rattle.vm_superio.specs.Serial.Laws.Agreement.{RegisterLaw, state_after}
 
 -- ---- one call
@@ -200,4 +201,32 @@ register_law start (entry ∷ trace) =
       modem_control = more (λ _ op. value_written_at 4 op) entry trace _ _ _ before.modem_control step.modem_control;
       modem_status = step.modem_status ∙ before.modem_status;
       scratch = more (λ _ op. value_written_at 7 op) entry trace _ _ _ before.scratch step.scratch;
+    }
+
+-- but for IIR, LSR and the bytes, the state of the history is the state after the trace
+pub state_of_history-by_state :
+    (start : State) (trace : List TraceEntry) (identification line_status : ℕ) (bytes : List ℕ) →
+    record (state_of_history start trace) {
+      interrupt_identification = identification;
+      line_status = line_status;
+      in_buffer = bytes;
+    }
+    ≡ record (state_after start trace) {
+      interrupt_identification = identification;
+      line_status = line_status;
+      in_buffer = bytes;
+    }
+state_of_history-by_state start trace identification line_status bytes =
+    let registers = register_law start trace in
+    λ i. record {
+      baud_divisor_low = sym registers.divisor_low i;
+      baud_divisor_high = sym registers.divisor_high i;
+      interrupt_enable = sym registers.interrupt_enable i;
+      interrupt_identification = identification;
+      line_control = sym registers.line_control i;
+      line_status = line_status;
+      modem_control = sym registers.modem_control i;
+      modem_status = sym registers.modem_status i;
+      scratch = sym registers.scratch i;
+      in_buffer = bytes;
     }

@@ -15,7 +15,7 @@ use Rattle.vm_superio.specs.Serial.History.Interrupts.{is_pending}
 use Rattle.vm_superio.specs.Serial.Laws.Agreement.{state_after}
 use Rattle.vm_superio.specs.Serial.Laws.Consequences.{SameReadsLaw, op_and_asked, ops_and_asked}
 use Rattle.vm_superio.proofs.Lemmas.Serial.Step.ByKind.{same_kind}
-use Rattle.vm_superio.proofs.Lemmas.Serial.Laws.Registers.{register_law}
+use Rattle.vm_superio.proofs.Lemmas.Serial.Laws.Registers.{register_law, state_of_history-by_state}
 use Rattle.vm_superio.proofs.Lemmas.Serial.Laws.HeldBytes.{held_bytes_law}
 use Rattle.vm_superio.proofs.Lemmas.Serial.Laws.Interrupts.{thre_next, rda_next}
 
@@ -122,20 +122,12 @@ described_by_state : (start : State) (trace : List TraceEntry)
     ≡ view_of start (state_after start trace) (is_pending Thre start trace) (is_pending Rda start trace)
 unfolding view_of
 described_by_state start trace =
-    let registers = register_law start trace in
-    let bytes = held_bytes_law start trace in
-    λ i. record {
-      baud_divisor_low = sym registers.divisor_low i;
-      baud_divisor_high = sym registers.divisor_high i;
-      interrupt_enable = sym registers.interrupt_enable i;
+    state_of_history-by_state start trace _ _ _
+    ∙ ap (λ bytes. record (state_after start trace) {
       interrupt_identification = identification_of (is_pending Thre start trace) (is_pending Rda start trace);
-      line_control = sym registers.line_control i;
-      line_status = with_data_ready start.line_status (not_empty (sym bytes i));
-      modem_control = sym registers.modem_control i;
-      modem_status = sym registers.modem_status i;
-      scratch = sym registers.scratch i;
-      in_buffer = sym bytes i;
-    }
+      line_status = with_data_ready start.line_status (not_empty bytes);
+      in_buffer = bytes;
+    }) (sym (held_bytes_law start trace))
 
 same_described : (start : State) (one other : List TraceEntry) → SameView start one other
     → state_of_history start one ≡ state_of_history start other

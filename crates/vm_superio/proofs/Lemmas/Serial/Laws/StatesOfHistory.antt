@@ -1,5 +1,5 @@
 -- The state after a trace is that of the history, and a call responds as the history says.
-use Rattle.std.proofs.Common.{◌≡◌, ℕ, Bool, true, false, ◌==◌, ◌||◌, List, [], length, refl, ap, ◌∙◌}
+use Rattle.std.proofs.Common.{sym, ◌≡◌, ℕ, Bool, true, false, ◌==◌, ◌||◌, List, [], length, refl, ap, ◌∙◌}
 use Rattle.std.specs.Prelude.{if◌then◌else◌, nat_le}
 use Rattle.vm_superio.specs.declared.trace.Asked.{Asked}
 use Rattle.vm_superio.specs.declared.trace.Sent.{Sent}
@@ -10,27 +10,20 @@ use Rattle.vm_superio.specs.Serial.Port.OpKinds.{Arrival, Other}
 use Rattle.vm_superio.specs.Serial.History.Registers.{accepted_by, loopback, held_bytes}
 use Rattle.vm_superio.specs.Serial.Step.Transition.{step_response}
 use Rattle.vm_superio.specs.Serial.History.Reads.{history_response, state_of_history}
-use Rattle.vm_superio.specs.Serial.Laws.Agreement.{StateLaw, ResponseLaw}
-use Rattle.vm_superio.proofs.Lemmas.Serial.Laws.Registers.{register_law}
+use Rattle.vm_superio.specs.Serial.Laws.Agreement.{state_after, StateLaw, ResponseLaw}
+use Rattle.vm_superio.proofs.Lemmas.Serial.Laws.Registers.{state_of_history-by_state}
 use Rattle.vm_superio.proofs.Lemmas.Serial.Laws.HeldBytes.{held_bytes_law, line_status_law}
 use Rattle.vm_superio.proofs.Lemmas.Serial.Laws.Interrupts.{interrupt_law}
 
 pub state_law : StateLaw
 state_law start trace coherent =
-    let registers = register_law start trace in
     let interrupts = interrupt_law start trace coherent.thre coherent.rda coherent.identification in
-    λ i. record {
-      baud_divisor_low = registers.divisor_low i;
-      baud_divisor_high = registers.divisor_high i;
-      interrupt_enable = registers.interrupt_enable i;
+    (λ i. record (state_after start trace) {
       interrupt_identification = interrupts.pending i;
-      line_control = registers.line_control i;
       line_status = line_status_law start trace coherent.data_ready i;
-      modem_control = registers.modem_control i;
-      modem_status = registers.modem_status i;
-      scratch = registers.scratch i;
       in_buffer = held_bytes_law start trace i;
-    }
+    })
+    ∙ sym (state_of_history-by_state start trace _ _ _)
 
 enqueue_reported : (loopback : Bool) (bytes held_bytes : List ℕ) (asked : Asked)
     → (if loopback || (length bytes == 0) then EnqueueOk 0

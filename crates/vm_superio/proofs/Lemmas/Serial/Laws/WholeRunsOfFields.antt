@@ -12,7 +12,7 @@ use Rattle.vm_superio.specs.declared.trace.Sent.{Sent}
 use Rattle.vm_superio.specs.declared.serial.effects.WriteEffects.{WriteEffects}
 use Rattle.vm_superio.specs.declared.serial.effects.EnqueueEffects.{EnqueueEffects}
 use Rattle.vm_superio.specs.Serial.Port.State.{State, not_empty}
-use Rattle.vm_superio.specs.Serial.Port.Registers.{Register, Dll, Dlm, RbrThr, Ier, Iir, Lcr, Mcr, Lsr, Msr, Scr, Unassigned, is_dlab, is_loopback, register_at}
+use Rattle.vm_superio.specs.Serial.Port.Registers.{Register, RbrThr, Iir, is_dlab, is_loopback, register_at}
 use Rattle.vm_superio.specs.Serial.Port.OpKinds.{Other, Arrival, read_kind, sent_by}
 use Rattle.vm_superio.specs.Serial.Port.Coherent.{Coherent}
 use Rattle.vm_superio.specs.Serial.Port.Operations.{Write, Enqueue, TraceEntry, Response, EnqueueOk, TriggerRefused, FifoFull, is_first_refused, is_first_of_two_refused, is_sent}
@@ -45,17 +45,9 @@ read-possible :
     (register : Register) (s : State)
     → IsTrue (answers_all (kind_calls (read_kind register) s) Nothing
     && beq (is_sent Sent.Nothing) (not_empty (sent_by (read_kind register))))
-read-possible Dll s = refl
-read-possible Dlm s = refl
 read-possible RbrThr s = refl
-read-possible Ier s = refl
 read-possible Iir s = refl
-read-possible Lcr s = refl
-read-possible Mcr s = refl
-read-possible Lsr s = refl
-read-possible Msr s = refl
-read-possible Scr s = refl
-read-possible Unassigned s = refl
+read-possible _ s = refl
 
 beq-same : (b : Bool) → beq b b ≡ true
 beq-same true = refl

@@ -2,7 +2,7 @@
 use Rattle.std.proofs.Common.{false, refl, arith}
 use Rattle.vm_superio.specs.Bits.{has_bits}
 use Rattle.vm_superio.specs.Serial.Port.Coherent.{Coherent}
-use Rattle.vm_superio.specs.Serial.Port.SavedState.{fresh_state}
+use Rattle.vm_superio.specs.Serial.Port.State.{fresh_state}
 
 pub fresh_coherent : Coherent fresh_state
 unfolding has_bits

@@ -10,9 +10,8 @@ use Rattle.vm_superio.specs.declared.serial.registers.Registers.{Registers}
 use Rattle.vm_superio.specs.declared.trace.Asked.{Asked}
 use Rattle.vm_superio.specs.declared.trace.Asked.TheVariants.{Nothing, Refused, TookTook}
 use Rattle.vm_superio.specs.Bits.{has_bits, only_bits, with_bits, without_bits}
-use Rattle.vm_superio.specs.Serial.Port.State.{State, not_empty}
+use Rattle.vm_superio.specs.Serial.Port.State.{State, not_empty, state_with}
 use Rattle.vm_superio.specs.Serial.Port.Registers.{Register, RbrThr, Ier, Thre, Rda, identification_of, register_at, is_dlab, is_loopback}
-use Rattle.vm_superio.specs.Serial.Port.SavedState.{state_with}
 use Rattle.vm_superio.specs.Serial.Port.Coherent.{Coherent}
 use Rattle.vm_superio.specs.Serial.Port.Operations.{count_if, is_first_refused, is_first_of_two_refused}
 use Rattle.vm_superio.specs.Serial.Port.OpKinds.{write_kind}

@@ -1,6 +1,6 @@
 -- The step of the registers, with THRE taken back if the first of two calls was refused.
 use Rattle.std.proofs.Common.{rules, refl, ap, ◌∙◌}
-use Rattle.vm_superio.specs.Serial.Port.SavedState.{state_with}
+use Rattle.vm_superio.specs.Serial.Port.State.{state_with}
 use Rattle.vm_superio.specs.Serial.Step.Transition.{write_step}
 use Rattle.vm_superio.proofs.Lemmas.Serial.Step.FirstRefused.{write_step-settled}
 use Rattle.vm_superio.proofs.serial.Serial.recorded_write.Goals as goal

@@ -3,7 +3,7 @@ use Rattle.std.proofs.Common.{sym, ap, subst}
 use Rattle.vm_superio.specs.Serial.Port.Coherent.{Coherent}
 use Rattle.vm_superio.specs.Serial.Port.Fields.{state_of_fields}
 use Rattle.vm_superio.specs.Serial.Port.RxRing.{held_bytes}
-use Rattle.vm_superio.specs.Serial.Port.SavedState.{state_with}
+use Rattle.vm_superio.specs.Serial.Port.State.{state_with}
 use Rattle.vm_superio.specs.Serial.Step.FieldsStep.{IsFirstRefused}
 use Rattle.vm_superio.proofs.Lemmas.Serial.Step.FirstRefused.{IsFirstRefused-without_thre, without_thre-coherent}
 use Rattle.vm_superio.proofs.serial.fields.SerialFields.first_refused.Goals as goal

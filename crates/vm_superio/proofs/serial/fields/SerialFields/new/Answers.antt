@@ -1,7 +1,7 @@
 -- A fresh port is coherent.
 use Rattle.std.proofs.Common.{sym, ap, ◌∙◌, subst}
 use Rattle.vm_superio.specs.Serial.Port.Coherent.{Coherent}
-use Rattle.vm_superio.specs.Serial.Port.SavedState.{state_with}
+use Rattle.vm_superio.specs.Serial.Port.State.{state_with}
 use Rattle.vm_superio.proofs.Lemmas.Serial.Port.Coherent.{fresh_coherent}
 use Rattle.vm_superio.proofs.serial.fields.SerialFields.new.Goals as goal
 
