@@ -22,7 +22,7 @@ use Rattle.superio_script.specs.Command.{command_of, TakesMemory}
 use Rattle.superio_script.specs.Reply.{digits_reply}
 use Rattle.superio_script.specs.Loading.{loaded_port}
 use Rattle.superio_script.specs.PortSession.{Session, fresh_session, known_output, session_from, session_kind, drained_bytes}
-use Rattle.superio_script.specs.SerialScript.{Environment, IsPossible, first_outcome, first_output, bytes_before_loss, is_short, session_entry, session_sends, outcome_if_sent, choice_after_write, output_or_chosen, choice_after_output, call_reply, session_after_call, session_after_reads, is_restore_refused, restored_session, session_after_load, serial_reply, session_after_line, choice_after_line}
+use Rattle.superio_script.specs.SerialScript.{Environment, IsPossible, first_outcome, first_output, bytes_before_loss, is_short, session_entry, session_sends, outcome_if_sent, environment_after_write, output_or_chosen, environment_after_output, call_reply, session_after_call, session_after_reads, is_restore_refused, restored_session, session_after_load, serial_reply, session_after_line, environment_after_line}
 use Rattle.superio_script.specs.ClockScript.{ClockSession, fresh_clock_session, clock_session_state, clock_session_after_line}
 use Rattle.superio_script.specs.Board.{Devices, IsAt, IsFresh, IsSerialLineStep, IsLineStep}
 use Rattle.superio_script.specs.Script.{has_form, until_bad, good_commands, first_bad_line, text_from, PrintsLines, StopsWithoutMemory}
@@ -91,7 +91,7 @@ module _ (environment later : Environment) (possible : IsPossible environment) w
   write-joins :
       (sending : Bool) (output : Option (List ℕ)) (bytes : List ℕ) → (sending ≡ true → length bytes ≡ 1) → IfSome output (λ all. length all ≤ 256) →
       IsPossibleFrom (output_after output (outcome_if_sent sending environment) bytes) later →
-      (whole : Environment) × IsPossibleFrom output whole × (outcome_if_sent sending whole ≡ outcome_if_sent sending environment) × (choice_after_write sending whole ≡ later)
+      (whole : Environment) × IsPossibleFrom output whole × (outcome_if_sent sending whole ≡ outcome_if_sent sending environment) × (environment_after_write sending whole ≡ later)
   write-joins true output bytes one few rest_possible =
       let outcome = first_outcome environment.outcomes in
       let is = first-sent environment.outcomes possible.sent in (
@@ -110,7 +110,7 @@ module _ (environment later : Environment) (possible : IsPossible environment) w
   -- a environment for a line that prints the output, and for what follows it
   output-joins :
       (output : Option (List ℕ)) → IsPossibleFrom output later →
-      (whole : Environment) × IsPossibleFrom output whole × (output_or_chosen output whole ≡ output_or_chosen output environment) × (choice_after_output output whole ≡ later)
+      (whole : Environment) × IsPossibleFrom output whole × (output_or_chosen output whole ≡ output_or_chosen output environment) × (environment_after_output output whole ≡ later)
   output-joins (Some all) rest_possible = (later, rest_possible, refl, refl)
   output-joins None rest_possible =
       let bytes = first_output environment.outputs in (
@@ -146,7 +146,7 @@ module _ (environment later : Environment) (possible : IsPossible environment) w
     abbrev LineJoins : (line : SerialCommand) → Type 0
     LineJoins line =
         (whole : Environment) × IsPossibleFrom (known_output before) whole × (serial_reply before whole line ≡ serial_reply before environment line)
-        × (session_after_line before whole line ≡ session_after_line before environment line) × (choice_after_line before whole line ≡ later)
+        × (session_after_line before whole line ≡ session_after_line before environment line) × (environment_after_line before whole line ≡ later)
 
     -- a restore or a load leaves the output as it is
     output-after_restore : (refused : Bool) (session : Session) → known_output session ≡ known_output before →
@@ -244,8 +244,8 @@ module _ (mask : ℕ) (start : Option (List ℕ)) where
               let few = output-few (known_output session) old.out at.output in
               let whole = line-joins environment later taken.1 session few line rest_possible in
               let same : text_from session clock_session whole.0 (Serial line ∷ commands) ≡ reply ++ text_from next clock_session later commands =
-              ap (λ xs. xs ++ text_from (session_after_line session whole.0 line) clock_session (choice_after_line session whole.0 line) commands) (whole.2 ∙ sym taken.2)
-              ∙ ap (λ (s : Session). reply ++ text_from s clock_session (choice_after_line session whole.0 line) commands) whole.3
+              ap (λ xs. xs ++ text_from (session_after_line session whole.0 line) clock_session (environment_after_line session whole.0 line) commands) (whole.2 ∙ sym taken.2)
+              ∙ ap (λ (s : Session). reply ++ text_from s clock_session (environment_after_line session whole.0 line) commands) whole.3
               ∙ ap (λ (c : Environment). reply ++ text_from next clock_session c commands) whole.4 in
               one-more (Serial line) commands end (completes (Serial line ∷ commands) whole.0 whole.1 end
               (subst (λ xs. Appends before end xs) (sym same) (Appends-append before after end reply (text_from next clock_session later commands) wrote rest))),

@@ -114,23 +114,23 @@ pub IsPossible-no_environment : IsPossible no_environment
 IsPossible-no_environment = record { sent = refl; room = omega arith; short = refl }
 
 -- a environment by which the next byte has this outcome
-abbrev pub choice_of : (outcome : Sent) → Environment
-choice_of sent.Nothing = no_environment
-choice_of sent.Out = record { outcomes = sent.Out ∷ []; outputs = [] }
-choice_of sent.Lost = record { outcomes = sent.Lost ∷ []; outputs = [] }
+abbrev pub environment_of : (outcome : Sent) → Environment
+environment_of sent.Nothing = no_environment
+environment_of sent.Out = record { outcomes = sent.Out ∷ []; outputs = [] }
+environment_of sent.Lost = record { outcomes = sent.Lost ∷ []; outputs = [] }
 
-pub IsPossible-choice_of : (outcome : Sent) → IsPossible (choice_of outcome)
-IsPossible-choice_of sent.Nothing = IsPossible-no_environment
-IsPossible-choice_of sent.Out = record { sent = refl; room = omega arith; short = refl }
-IsPossible-choice_of sent.Lost = record { sent = refl; room = omega arith; short = refl }
+pub IsPossible-environment_of : (outcome : Sent) → IsPossible (environment_of outcome)
+IsPossible-environment_of sent.Nothing = IsPossible-no_environment
+IsPossible-environment_of sent.Out = record { sent = refl; room = omega arith; short = refl }
+IsPossible-environment_of sent.Lost = record { sent = refl; room = omega arith; short = refl }
 
-outcome_if_sent-choice_of : (sends : Bool) (outcome : Sent) → IsTrue (beq (is_sent outcome) sends) → outcome ≡ outcome_if_sent sends (choice_of outcome)
-outcome_if_sent-choice_of true sent.Nothing fits = absurd (false≢true fits)
-outcome_if_sent-choice_of true sent.Out fits = refl
-outcome_if_sent-choice_of true sent.Lost fits = refl
-outcome_if_sent-choice_of false sent.Nothing fits = refl
-outcome_if_sent-choice_of false sent.Out fits = absurd (false≢true fits)
-outcome_if_sent-choice_of false sent.Lost fits = absurd (false≢true fits)
+outcome_if_sent-environment_of : (sends : Bool) (outcome : Sent) → IsTrue (beq (is_sent outcome) sends) → outcome ≡ outcome_if_sent sends (environment_of outcome)
+outcome_if_sent-environment_of true sent.Nothing fits = absurd (false≢true fits)
+outcome_if_sent-environment_of true sent.Out fits = refl
+outcome_if_sent-environment_of true sent.Lost fits = refl
+outcome_if_sent-environment_of false sent.Nothing fits = refl
+outcome_if_sent-environment_of false sent.Out fits = absurd (false≢true fits)
+outcome_if_sent-environment_of false sent.Lost fits = absurd (false≢true fits)
 
 -- an enqueue sends no byte
 enqueue-sends_nothing : (loopback : Bool) (bytes : List ℕ) → not_empty (sent_by (if loopback then Other else Arrival bytes)) ≡ false
@@ -277,9 +277,9 @@ module _ (laws : PortLaws) where
         let here = port_step-at op asked outcome response refusal old new before at made in
         let step = session_step-from_port_step op asked outcome response refusal old new before at here in
         let sending = session_sends before op in
-        let same_outcome = outcome_if_sent-choice_of sending outcome (sends-here before op asked outcome here.admissible) in
+        let same_outcome = outcome_if_sent-environment_of sending outcome (sends-here before op asked outcome here.admissible) in
         let found = subst (IsSessionStep op asked outcome response refusal old new before) same_outcome step in
-        (choice_of outcome, IsPossible-choice_of outcome, found.0, found.1)
+        (environment_of outcome, IsPossible-environment_of outcome, found.0, found.1)
 
     pub enqueue-step :
         (bytes : List ℕ) (asked : Asked) (outcome : Sent) →

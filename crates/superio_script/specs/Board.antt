@@ -48,14 +48,15 @@ pub record IsFresh (mask : ℕ) (board : Devices) : Type 0 where
   pub clock : board.clock ≡ record { state = fresh_clock; events = no_counts }
   pub controller : board.controller ≡ fresh_interrupt_line 0
 
--- a line of the serial port. From each session that the port is at there is a possible environment by which the reply is the
--- session's, and the port is then at the session after the line. That no more than 256 bytes go out before a loss, over
--- several lines, follows from where the port is: its output holds no more
+-- a line of the serial port. From each session that the port is at, there is a possible environment by which the reply
+-- is the session's, and the port is then at the session after the line. That no more than 256 bytes go out before a
+-- loss, over several lines, follows from where the port is: its output holds no more
 abbrev pub IsSerialLineStep :
     (line : SerialCommand) (reply : List ℕ) (old new : Port InterruptLine EventCounts Output) → Type 0
 IsSerialLineStep line reply old new =
     (before : Session) → IsAt before old → (environment : Environment)
-    × IsPossible environment × (reply ≡ serial_reply before environment line) × IsAt (session_after_line before environment line) new
+    × IsPossible environment × (reply ≡ serial_reply before environment line)
+    × IsAt (session_after_line before environment line) new
 
 -- a restore of the port in a state, with the old port's objects. From each session that a port in this state with these
 -- objects is at, the reply is that of a restore, and the port is then at the restored session, or unchanged where the

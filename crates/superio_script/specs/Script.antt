@@ -98,7 +98,8 @@ text_from session clock_session environment commands =
 -- the replies to the good ones of these lines, from fresh devices, given the mask of the serial port's interrupt line
 -- and the environment
 abbrev pub text_of_lines : (mask : ℕ) (environment : Environment) (lines : List (List ℕ)) → List ℕ
-text_of_lines mask environment lines = text_from (fresh_session mask) fresh_clock_session environment (good_commands lines)
+text_of_lines mask environment lines =
+    text_from (fresh_session mask) fresh_clock_session environment (good_commands lines)
 
 -- the number of a script's first bad line, counted from 1, or `None` where every line is good
 abbrev pub first_bad_line_of : (script : List ℕ) → Option ℕ
@@ -106,7 +107,8 @@ first_bad_line_of script = first_bad_line (body_of script).first (body_of script
 
 -- ---- a run
 
--- for some possible environment, the text of these lines was written: what the writer held before, and what it holds after
+-- for some possible environment, the text of these lines was written: what the writer held before, and what it holds
+-- after
 abbrev pub PrintsLines : (mask : ℕ) (lines : List (List ℕ)) (before after : Option (List ℕ)) → Type 0
 PrintsLines mask lines before after =
     (environment : Environment) × IsPossible environment × Appends before after (text_of_lines mask environment lines)

@@ -35,8 +35,8 @@ bytes_before_loss _ = 0
 abbrev pub is_short : (bytes : List ℕ) → Bool
 is_short bytes = nat_le (length bytes) 256
 
--- the possible choices: each byte goes out or is lost; one of the first 257 is lost, since the board's output has room
--- for 256; and no `so` prints more than these
+-- the possible environments: each byte goes out or is lost; one of the first 257 is lost, since the board's output has
+-- room for 256; and no `so` prints more than these
 pub record IsPossible (environment : Environment) : Type 0 where
   pub sent : IsTrue (list_all is_sent environment.outcomes)
   pub room : bytes_before_loss environment.outcomes ≤ 256
@@ -91,13 +91,14 @@ session_after_call session op outcome = record session {
 abbrev pub session_sends : (session : Session) (op : Op) → Bool
 session_sends session op = not_empty (sent_by (session_kind session op))
 
--- the outcome of the byte that a write sends, if it sends one, and the environment for what follows. No other call sends a
--- byte
+-- the outcome of the byte that a write sends, if it sends one, and the environment for what follows. No other call
+-- sends a byte
 abbrev pub outcome_if_sent : (sends : Bool) (environment : Environment) → Sent
 outcome_if_sent sends environment = if sends then first_outcome environment.outcomes else Sent.Nothing
 
-abbrev pub choice_after_write : (sends : Bool) (environment : Environment) → Environment
-choice_after_write sends environment = record environment { outcomes = if sends then drop 1 environment.outcomes else environment.outcomes }
+abbrev pub environment_after_write : (sends : Bool) (environment : Environment) → Environment
+environment_after_write sends environment =
+    record environment { outcomes = if sends then drop 1 environment.outcomes else environment.outcomes }
 
 abbrev pub session_write_outcome : (session : Session) (environment : Environment) (offset value : ℕ) → Sent
 session_write_outcome session environment offset value =
@@ -155,9 +156,9 @@ abbrev pub output_or_chosen : (known : Option (List ℕ)) (environment : Environ
 output_or_chosen (Some bytes) environment = bytes
 output_or_chosen None environment = first_output environment.outputs
 
-abbrev pub choice_after_output : (known : Option (List ℕ)) (environment : Environment) → Environment
-choice_after_output (Some bytes) environment = environment
-choice_after_output None environment = record environment { outputs = drop 1 environment.outputs }
+abbrev pub environment_after_output : (known : Option (List ℕ)) (environment : Environment) → Environment
+environment_after_output (Some bytes) environment = environment
+environment_after_output None environment = record environment { outputs = drop 1 environment.outputs }
 
 -- ---- the lines
 
@@ -186,15 +187,16 @@ session_after_line session environment serial.Restore = session_after_restore se
 session_after_line session environment (serial.Load bytes) = session_after_load session (loaded_port bytes)
 session_after_line session environment _ = session
 
-abbrev pub choice_after_line : (session : Session) (environment : Environment) (line : SerialCommand) → Environment
-choice_after_line session environment (serial.Write offset value) =
-    choice_after_write (session_sends session (Write offset value)) environment
-choice_after_line session environment serial.Output = choice_after_output (known_output session) environment
-choice_after_line session environment _ = environment
+abbrev pub environment_after_line : (session : Session) (environment : Environment) (line : SerialCommand) → Environment
+environment_after_line session environment (serial.Write offset value) =
+    environment_after_write (session_sends session (Write offset value)) environment
+environment_after_line session environment serial.Output = environment_after_output (known_output session) environment
+environment_after_line session environment _ = environment
 
 -- the replies to lines, in order
 abbrev pub serial_replies : (session : Session) (environment : Environment) (lines : List SerialCommand) → List (List ℕ)
 serial_replies session environment [] = []
 serial_replies session environment (line ∷ lines) =
     serial_reply session environment line
-    ∷ serial_replies (session_after_line session environment line) (choice_after_line session environment line) lines
+    ∷ serial_replies
+      (session_after_line session environment line) (environment_after_line session environment line) lines

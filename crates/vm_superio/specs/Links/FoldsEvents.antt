@@ -18,7 +18,8 @@ FoldsEvents-nil old new = (λ stays. sym stays.folds, λ same. record { folds = 
 -- the law `joined`: events that follow each other are one list of events
 pub FoldsEvents-append :
     {State Event : Type 0} {step : State → Event → State} (old between new : State) (first second : List Event) →
-    FoldsEvents step old first between → FoldsEvents step between second new → FoldsEvents step old (first ++ second) new
+    FoldsEvents step old first between → FoldsEvents step between second new →
+    FoldsEvents step old (first ++ second) new
 FoldsEvents-append {step = step} old between new first second to_between to_new = record {
   folds =
       to_new.folds ∙ ap (λ state. fold step state second) to_between.folds

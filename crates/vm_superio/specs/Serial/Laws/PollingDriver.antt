@@ -50,7 +50,8 @@ shows_data_ready (Read offset) (ByteRead byte) = (offset == 5) && has_bits byte 
 shows_data_ready op reply = false
 
 -- the driver reads RBR only if a read of LSR has shown data ready since its previous RBR read
-abbrev pub polls_after_data_ready : (start : State) (trace : Trace) (seen : Bool) (calls : List (TraceEntry × Response)) → Bool
+abbrev pub polls_after_data_ready :
+    (start : State) (trace : Trace) (seen : Bool) (calls : List (TraceEntry × Response)) → Bool
 polls_after_data_ready start trace seen [] = true
 polls_after_data_ready start trace seen (call ∷ later) =
     let reads = is_rbr_read (kind_at start trace call.0.op) in
