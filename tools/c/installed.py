@@ -85,15 +85,14 @@ def check_declarations(tally):
 
 
 def check_versions(tally):
-    """Counts whether the header and the README have the right versions. Those of the header are a number each and a text."""
-    text, readme = (path.read_text(encoding="utf-8") for path in (HEADER, ROOT / "README.md"))
+    """Counts whether the header has the right versions: numbers, and a text."""
+    text = HEADER.read_text(encoding="utf-8")
     abi, version = versions()
     tally.check(f"\n#define SUPERIO_ABI {abi}\n" in text, f"SUPERIO_ABI is not {abi}, the library's")
     parts = re.findall(r"^#define SUPERIO_VERSION_(MAJOR|MINOR|PATCH) (\d+)$", text, re.M)
     wanted = list(zip(["MAJOR", "MINOR", "PATCH"], version.split(".")))
     tally.check(parts == wanted, f"the header's numbers are not {version}")
     tally.check(f'\n#define SUPERIO_VERSION "{version}"\n' in text, f"SUPERIO_VERSION is not {version}, of CHANGELOG.md")
-    tally.check(re.findall(r"^Version (\S+) ", readme, re.M) == [version], f"README.md has not version {version}")
 
 
 def check_installed_files(tally, machine, prefix):

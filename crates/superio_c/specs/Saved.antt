@@ -3,7 +3,7 @@ use Rattle.std.specs.Prelude.{ℕ, Option, Some, None}
 use Rattle.vm_superio.specs.declared.saved.Error.{Error}
 use Rattle.vm_superio.specs.declared.saved.Error.TheVariants.{TooShort, NotASavedState, OtherDevice, UnknownVersion, WrongLength, TooManyBytes, InvalidArmed, Memory}
 
--- the numbers of `enum superio_load`: 0 where no check fails
+-- the numbers of `enum superio_load`: 0 if no check fails
 abbrev pub load_status : (fault : Option Error) → ℕ
 load_status None = 0
 load_status (Some TooShort) = 1

@@ -65,7 +65,7 @@ only_a_control_write_of_1_resets : Gives fresh_clock
     []
 only_a_control_write_of_1_resets = record { steps = refl; history = refl; reports = refl }
 
--- a load at a moment past 32 bits, of which the low 32 bits are 1
+-- a load at a moment past 32 bits, whose low 32 bits are 1
 abbrev loaded_late : List Access
 loaded_late = write 0x008 5 4294967297 ∷ []
 

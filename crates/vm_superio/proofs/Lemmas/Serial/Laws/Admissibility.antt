@@ -19,7 +19,7 @@ use Rattle.vm_superio.specs.Serial.Step.Transition.{read_events, sent_events, st
 use Rattle.vm_superio.specs.Serial.Laws.OneCall.{OutcomeEventsLaw, AdmissibilityLaw, reports_outcome, asked_when, sent_when}
 use Rattle.vm_superio.proofs.Lemmas.Serial.Laws.TriggerBound.{one_at_most}
 
--- what is reported of a byte, where one is sent or not
+-- an outcome is recorded exactly if a byte is sent
 abbrev sent_fits : Bool → Sent → Bool
 sent_fits sends_byte outcome = beq (is_sent outcome) sends_byte
 

@@ -155,7 +155,7 @@ taken value false Nothing outcome ok before after link = cc
 taken value false Out outcome ok before after link = link refl
 taken value false Lost outcome ok before after link = cc
 
--- where a byte is sent, an admissible call has an outcome of it
+-- if a byte is sent, an admissible call has an outcome of it
 outcome : (is_answered sends : Bool) (sent : Sent) → sends ≡ true → IsTrue (is_answered && beq (is_sent sent) sends)
     → IsTrue (is_sent sent)
 outcome true true Nothing is admissible = cc

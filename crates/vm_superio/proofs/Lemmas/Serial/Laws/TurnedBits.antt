@@ -80,7 +80,7 @@ module _ (old : ℕ) where
   unfolding has_bits with_bits
   thre_leaves = ap (λ n. n == 0x04) (and_or_apart 0x04 (without_bits old 0x01) 0x02 refl) ∙ without_rda
 
-  -- ---- raising, where IIR is any byte
+  -- ---- raising, if IIR is any byte
 
   rda_asked : (enabled pending : Bool) → has_bits old 0x04 ≡ pending
       → has_bits (if enabled && not pending then with_bits (without_bits old 0x01) 0x04 else old) 0x04 ≡ (enabled || pending)
