@@ -211,7 +211,7 @@ static void controller_write(uint8_t offset, uint8_t value)
     strcpy(reply, resets && !trigger() ? "trigger" : "ok");
 }
 
-/* The call of a line, of which `word` are the words after its name. */
+/* The call of a line: `word` has the words after its name. */
 static void make(const char *name, char **word)
 {
 #define HEX(i) strtoull(word[i], NULL, 16)

@@ -67,7 +67,7 @@ def serial_enqueue(r):
 
 
 def spoiled(r, form):
-    """A saved state, of which three in ten are cut, changed or go on."""
+    """A saved state. Three in ten are cut, changed or too long."""
     kind = r.randrange(10)
     if kind == 0:
         return form[:r.randrange(len(form))]

@@ -65,7 +65,7 @@ static uint8_t *port_page, *bytes_page;
 static superio_serial *port;
 static struct model_port model;
 
-/* Begins with a fresh port, or with any bytes, of which some are plausible. */
+/* Begins with a fresh port, or with any bytes, some of them plausible. */
 static void new_port(void) {
     port = beside_guard(port_page, sizeof *port);
     *port = superio_serial_new();
