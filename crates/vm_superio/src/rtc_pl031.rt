@@ -5,7 +5,7 @@
 //! in 32 bits, and otherwise the host's time. It does not wrap.
 //!
 //! The match register is an alarm. It raises bit 0 of the raw interrupt status at the first access at which guest time
-//! has reached a match that was not past when written. The clock calls no trigger: ask [`Rtc::state`].
+//! has reached a match that was not past when written. The clock calls no trigger: ask [`Rtc::interrupt_line`].
 ghost use Rattle.std.specs.Prelude.{◌≡◌, ◌↔◌, ◌<◌, ◌^◌, List, [], ◌∷◌, ◌++◌, false, IfSome};
 ghost use Rattle.std.specs.Bool.{OnTrue, OnFalse};
 ghost use Rattle.std.proofs.Common.{◌∙◌};
