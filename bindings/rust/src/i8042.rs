@@ -32,7 +32,7 @@ pub struct I8042Device<T: Trigger> {
 }
 
 impl<T: Trigger> I8042Device<T> {
-    /// Makes a controller that calls `reset_evt` for each reset command. The trigger is not called now.
+    /// Makes a controller that calls `reset_evt` for each reset command. Does not call it now.
     pub fn new(reset_evt: T) -> I8042Device<T> {
         ffi::check_library();
         I8042Device { reset_evt }

@@ -1,12 +1,12 @@
 //! A 16550 serial port, a PL031 real-time clock and an i8042 reset controller, for virtual machine monitors.
 //!
 //! The devices are those of the proved library `superio_c`, which this crate links. Their names, signatures and errors
-//! are those of the crate vm-superio 0.8.2, so a monitor changes nothing but the line of its `Cargo.toml`.
+//! are those of the crate vm-superio 0.8.2, so a monitor changes one line of its `Cargo.toml`.
 //!
 //! # Differences
 //!
-//! - The match register of the clock is an [alarm](rtc_pl031), where that of vm-superio 0.8.2 has no effect.
-//! - A host whose clock is before 1970 has the moment 0, where vm-superio 0.8.2 panics.
+//! - The clock's match register is an [alarm](rtc_pl031). In vm-superio 0.8.2 it has no effect.
+//! - A host clock before 1970 reads as 0. vm-superio 0.8.2 panics.
 //! - Making a device or a default `SerialState`, and saving or loading a state, panic if the linked library has another
 //!   binary interface than this crate.
 //!

@@ -2,10 +2,10 @@
 //!
 //! # The alarm
 //!
-//! In vm-superio 0.8.2 the match register RTCMR (0x004) only reads back what was written. Here it is an alarm. It raises
-//! bit 0 of the raw interrupt status at the first access at which guest time has come to a match that was not past when
-//! it was written. The clock has no trigger: a monitor that has an interrupt line for it sets the line after each access
-//! to [`Rtc::line`], and makes an access when [`Rtc::due`] says so.
+//! In vm-superio 0.8.2 the match register RTCMR (0x004) only reads back what was written. Here it is an alarm. The
+//! first access that finds guest time at or past the match raises bit 0 of the raw interrupt status, unless the match
+//! was past when it was written. The clock has no trigger. If your monitor has an interrupt line for it, set the line
+//! to [`Rtc::line`] after each access, and make an access when [`Rtc::due`] says so.
 use std::fmt;
 use std::sync::Arc;
 use std::time::{SystemTime, UNIX_EPOCH};
@@ -20,7 +20,7 @@ const RTCMR: u16 = 0x004;
 /// The offset of RTCLR, which sets guest time.
 const RTCLR: u16 = 0x008;
 
-/// Hears of the accesses that a clock cannot serve. A clock calls it for nothing else.
+/// Receives a clock's invalid accesses. The clock calls it for nothing else.
 ///
 /// # Example
 ///
@@ -46,10 +46,10 @@ const RTCLR: u16 = 0x008;
 /// assert_eq!(refusals.0.get(), 2);
 /// ```
 pub trait RtcEvents {
-    /// The guest read at an offset that shows nothing.
+    /// The guest read an unreadable offset.
     fn invalid_read(&self);
 
-    /// The guest wrote at an offset that takes no write.
+    /// The guest wrote to an unwritable offset.
     fn invalid_write(&self);
 }
 
@@ -73,10 +73,10 @@ impl<EV: RtcEvents> RtcEvents for Arc<EV> {
     }
 }
 
-/// What a clock's registers hold, as vm-superio 0.8.2 saves them. Any numbers may be restored. The default state has
+/// The contents of a clock's registers, as vm-superio 0.8.2 saves them. Any values may be restored. The default is all
 /// zeros.
 ///
-/// These five fields do not say whether an alarm waits, so a clock that is restored from them has none.
+/// These five fields do not say whether an alarm is set, so a clock restored from them has none.
 /// [`RtcSnapshot`] has the whole state.
 #[derive(Clone, Copy, Debug, Default, Eq, PartialEq)]
 #[cfg_attr(feature = "serde", derive(serde::Deserialize, serde::Serialize))]
@@ -93,7 +93,7 @@ pub struct RtcState {
     pub ris: u32,
 }
 
-/// The whole state of a clock: its registers, and whether an alarm waits.
+/// The whole state of a clock: its registers, and whether an alarm is set.
 ///
 /// # Example
 ///
@@ -114,7 +114,7 @@ pub struct RtcState {
 pub struct RtcSnapshot {
     /// The registers.
     pub state: RtcState,
-    /// Whether an alarm waits for guest time to come to the match.
+    /// Whether an alarm is set and has not fired.
     pub armed: bool,
 }
 
@@ -128,7 +128,7 @@ impl RtcSnapshot {
     ///
     /// # Errors
     ///
-    /// That which [`SavedStateError`] names first, if the bytes are the saved form of no clock.
+    /// The first check of [`SavedStateError`] that the bytes fail.
     pub fn from_bytes(bytes: &[u8]) -> Result<RtcSnapshot, SavedStateError> {
         Clock::load(bytes).map(|clock| RtcSnapshot::of(&clock))
     }
@@ -198,40 +198,39 @@ impl Default for Rtc<NoEvents> {
 }
 
 impl Rtc<NoEvents> {
-    /// Makes a clock of the default state, which reports to nobody.
+    /// Makes a clock in the default state that ignores events.
     pub fn new() -> Self {
         Self::with_events(NoEvents)
     }
 }
 
 impl<EV: RtcEvents> Rtc<EV> {
-    /// Makes a clock of this state, whatever numbers it has, without an alarm that waits. The events object is not
-    /// called.
+    /// Makes a clock from `state`, whatever its values, with no alarm set. Does not call the events object.
     pub fn from_state(state: &RtcState, rtc_events: EV) -> Self {
         Self::from_snapshot(&RtcSnapshot { state: *state, armed: false }, rtc_events)
     }
 
-    /// Makes a clock of this whole state, whatever numbers it has. The events object is not called.
+    /// Makes a clock from a whole state, whatever its values. Does not call the events object.
     pub fn from_snapshot(snapshot: &RtcSnapshot, rtc_events: EV) -> Self {
         Rtc { clock: snapshot.clock(), events: rtc_events }
     }
 
-    /// Makes a clock of the default state. The events object is not called.
+    /// Makes a clock in the default state. Does not call the events object.
     pub fn with_events(rtc_events: EV) -> Self {
         Rtc { clock: Clock::new(), events: rtc_events }
     }
 
-    /// The registers; [`from_state`](Rtc::from_state) recreates the clock, except for an alarm that waits.
+    /// A snapshot of the registers; [`from_state`](Rtc::from_state) recreates the clock without its alarm.
     pub fn state(&self) -> RtcState {
         self.snapshot().state
     }
 
-    /// The whole state; [`from_snapshot`](Rtc::from_snapshot) recreates the clock.
+    /// A snapshot; [`from_snapshot`](Rtc::from_snapshot) recreates the clock.
     pub fn snapshot(&self) -> RtcSnapshot {
         RtcSnapshot::of(&self.clock)
     }
 
-    /// Whether an alarm waits for guest time to come to the match.
+    /// Whether an alarm is set and has not fired.
     pub fn is_armed(&self) -> bool {
         self.clock.armed != 0
     }
@@ -241,8 +240,8 @@ impl<EV: RtcEvents> Rtc<EV> {
         self.clock.line()
     }
 
-    /// In how many seconds after the moment `now` the alarm is due if the guest does nothing until then, or `None` if it
-    /// never is. An access at that moment raises the interrupt, and none before it does.
+    /// The seconds from the moment `now`, in seconds since 1970, until the alarm is due if the guest makes no access.
+    /// `None` if it never is. An access at that moment raises the interrupt, and no earlier one does.
     pub fn due(&self, now: u64) -> Option<u64> {
         Some(self.clock.due(now)).filter(|seconds| *seconds != u64::MAX)
     }
@@ -254,13 +253,13 @@ impl<EV: RtcEvents> Rtc<EV> {
 
     /// The guest writes `data`, lowest byte first, at `offset` from the clock's base.
     ///
-    /// A write where the clock takes none stores nothing, and calls `invalid_write` of the events object once.
+    /// A write to an unwritable offset stores nothing and calls the events object's `invalid_write` once.
     pub fn write(&mut self, offset: u16, data: &[u8; 4]) {
         let now = self.moment(matches!(offset, RTCMR | RTCLR));
         self.write_at(offset, data, now);
     }
 
-    /// [`write`](Rtc::write), at the moment `now` in seconds since 1970 in place of the host's time.
+    /// Writes as [`write`](Rtc::write) does, at the moment `now`, in seconds since 1970, instead of the host's time.
     pub fn write_at(&mut self, offset: u16, data: &[u8; 4], now: u64) {
         if self.clock.write(offset, u32::from_le_bytes(*data), now).invalid_write {
             self.events.invalid_write();
@@ -269,13 +268,13 @@ impl<EV: RtcEvents> Rtc<EV> {
 
     /// The guest reads into `data`, lowest byte first, at `offset` from the clock's base.
     ///
-    /// A read where the clock shows nothing leaves `data` as it was, and calls `invalid_read` of the events object once.
+    /// A read of an unreadable offset leaves `data` unchanged and calls the events object's `invalid_read` once.
     pub fn read(&mut self, offset: u16, data: &mut [u8; 4]) {
         let now = self.moment(offset == RTCDR);
         self.read_at(offset, data, now);
     }
 
-    /// [`read`](Rtc::read), at the moment `now` in seconds since 1970 in place of the host's time.
+    /// Reads as [`read`](Rtc::read) does, at the moment `now`, in seconds since 1970, instead of the host's time.
     pub fn read_at(&mut self, offset: u16, data: &mut [u8; 4], now: u64) {
         let read = self.clock.read(offset, now);
         if read.invalid_read {
@@ -285,7 +284,7 @@ impl<EV: RtcEvents> Rtc<EV> {
         }
     }
 
-    /// The moment of an access. The host is asked for it only if the register or an alarm that waits depends on it.
+    /// The moment of an access. The host is asked for it only if the register or an alarm that is set depends on it.
     fn moment(&self, is_timed: bool) -> u64 {
         if is_timed || self.is_armed() {
             moment_of(SystemTime::now())

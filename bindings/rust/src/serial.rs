@@ -15,7 +15,7 @@ pub use state::SerialState;
 /// A 16550 serial port: its registers, a receive FIFO of 64 bytes that is always on, and two interrupt conditions.
 ///
 /// It owns the trigger of its interrupt, an events object, and the writer that the guest's output goes to. If one of
-/// them panics and the monitor catches that, the port is as far as it had come: it goes on as vm-superio 0.8.2 does.
+/// them panics and the monitor catches the panic, the port is left in the state in which vm-superio 0.8.2 leaves it.
 ///
 /// A port is `Send` and `Sync` if these objects are. Threads share it behind a lock.
 ///
@@ -28,7 +28,7 @@ pub use state::SerialState;
 /// use std::convert::Infallible;
 /// use vm_superio::{Serial, Trigger};
 ///
-/// /// Counts, where a monitor writes to an eventfd.
+/// /// Counts its calls. A monitor writes to an eventfd instead.
 /// #[derive(Default)]
 /// struct Interrupt(Cell<u32>);
 ///
@@ -102,7 +102,7 @@ pub enum Error<E> {
     Trigger(E),
     /// The writer failed to take the byte, or to flush.
     IOError(io::Error),
-    /// The receive FIFO has no room, or a saved state has more bytes than it holds.
+    /// The receive FIFO has no room, or a saved state has more bytes than it can hold.
     FullFifo,
 }
 
@@ -119,19 +119,19 @@ impl<E: fmt::Display> fmt::Display for Error<E> {
 impl<E: StdError> StdError for Error<E> {}
 
 impl<T: Trigger, W: Write> Serial<T, NoEvents, W> {
-    /// Makes a new port, which reports its events to nobody. The trigger is not called.
+    /// Makes a new port that reports no events. Does not call the trigger.
     pub fn new(trigger: T, out: W) -> Serial<T, NoEvents, W> {
         Self::with_events(trigger, NoEvents, out)
     }
 }
 
 impl<T: Trigger, EV: SerialEvents, W: Write> Serial<T, EV, W> {
-    /// Makes a port of a saved state. The trigger is called once for each condition that is both pending and enabled,
-    /// so that the interrupts that the guest has not taken reach the new trigger.
+    /// Makes a port from a saved state. Calls the trigger once for each condition that is both pending and enabled, so
+    /// that the interrupts that the guest has not taken reach the new trigger.
     ///
     /// # Errors
     ///
-    /// [`Error::FullFifo`] if the state holds more than 64 bytes; the trigger was not called then.
+    /// [`Error::FullFifo`] if the state holds more than 64 bytes, without a trigger call.
     /// [`Error::Trigger`] at the first call that the trigger refused. The objects are dropped.
     pub fn from_state(state: &SerialState, trigger: T, serial_evts: EV, out: W) -> Result<Self, Error<T::E>> {
         let port = state.port().ok_or(Error::FullFifo)?;
@@ -140,7 +140,7 @@ impl<T: Trigger, EV: SerialEvents, W: Write> Serial<T, EV, W> {
         Ok(serial)
     }
 
-    /// Makes a new port. Neither the trigger nor the events object is called.
+    /// Makes a new port. Calls neither the trigger nor the events object.
     pub fn with_events(trigger: T, serial_evts: EV, out: W) -> Self {
         Serial { port: SerialPort::new(), interrupt_evt: trigger, events: serial_evts, out }
     }
@@ -155,12 +155,12 @@ impl<T: Trigger, EV: SerialEvents, W: Write> Serial<T, EV, W> {
         &self.out
     }
 
-    /// The writer, to change it.
+    /// The writer, mutably.
     pub fn writer_mut(&mut self) -> &mut W {
         &mut self.out
     }
 
-    /// The writer as it is now. The trigger and the events object are dropped.
+    /// Returns the writer unchanged. Drops the trigger and the events object.
     pub fn into_writer(self) -> W {
         self.out
     }
@@ -232,9 +232,9 @@ impl<T: Trigger, EV: SerialEvents, W: Write> Serial<T, EV, W> {
     /// Calls the trigger once for each condition that is both pending and enabled, up to the first refusal. The port is
     /// unchanged.
     ///
-    /// vm-superio 0.8.2 has no such call. A monitor whose trigger can refuse makes it after a refusal, until it returns
-    /// `Ok`: otherwise a refused interrupt never reaches the guest. The guest may be interrupted again for a condition
-    /// that it already knows of.
+    /// vm-superio 0.8.2 has no such call. If your trigger can refuse, repeat it after a refusal until it returns `Ok`.
+    /// Otherwise a refused interrupt may never reach the guest. The guest may be interrupted again for a condition that
+    /// it already knows of.
     ///
     /// # Errors
     ///
@@ -243,15 +243,15 @@ impl<T: Trigger, EV: SerialEvents, W: Write> Serial<T, EV, W> {
         (0..self.port.interrupts_due()).try_for_each(|_| self.interrupt_evt.trigger())
     }
 
-    /// How many bytes may still be enqueued: 64 less the number of bytes that are held.
+    /// How many bytes may still be enqueued: 64 minus the number of held bytes.
     #[inline]
     pub fn fifo_capacity(&self) -> usize {
         self.port.fifo_capacity()
     }
 
-    /// Receives bytes for the guest: the first of them, as many as there is room for. Returns how many.
+    /// Receives as many bytes for the guest as fit, first ones first. Returns how many.
     ///
-    /// In loopback nothing is accepted, and 0 is returned.
+    /// In loopback it accepts no bytes and returns 0.
     ///
     /// # Errors
     ///

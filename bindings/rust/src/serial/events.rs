@@ -49,7 +49,7 @@ pub trait SerialEvents {
     /// The writer failed, so a byte that the guest sent is lost.
     fn tx_lost_byte(&self);
 
-    /// The guest read the receive buffer, and the port holds no byte now. It precedes the `buffer_read` of the same read.
+    /// The guest read the receive buffer, and the port holds no byte now. Reported before the read's `buffer_read`.
     fn in_buffer_empty(&self);
 }
 

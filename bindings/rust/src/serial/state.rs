@@ -2,7 +2,7 @@
 use crate::ffi::{check_library, SerialPort, FIFO_SIZE};
 use crate::saved::SavedStateError;
 
-/// What a port's registers and its receive FIFO hold. The default state is that of a new port.
+/// The contents of a port's registers and its receive FIFO. The default is a new port's.
 ///
 /// # Example
 ///
@@ -57,12 +57,10 @@ impl Default for SerialState {
 }
 
 impl SerialState {
-    /// Whether a port can come to this state from a new one, as far as its registers and bytes have to agree: at most 64
-    /// bytes, data ready if and only if there is one, an IIR of 1, 2, 4 or 6, and received data pending only if there is
-    /// a byte.
+    /// Whether the registers and bytes agree, as those of every port do that began as a new one: at most 64 bytes, data
+    /// ready if and only if there is one, an IIR of 1, 2, 4 or 6, and received data pending only if there is a byte.
     ///
-    /// Restoring any other state is safe too. A monitor that takes states from a source that it does not trust may
-    /// refuse one that is not coherent.
+    /// Restoring any other state is safe too. You may refuse an incoherent one from an untrusted source.
     pub fn is_coherent(&self) -> bool {
         self.port().map_or(false, |port| port.is_coherent())
     }
@@ -80,7 +78,7 @@ impl SerialState {
     ///
     /// # Errors
     ///
-    /// That which [`SavedStateError`] names first, if the bytes are the saved form of no serial port.
+    /// The first check of [`SavedStateError`] that the bytes fail.
     pub fn from_bytes(bytes: &[u8]) -> Result<SerialState, SavedStateError> {
         SerialPort::load(bytes).map(|port| SerialState::of(&port))
     }
@@ -100,7 +98,7 @@ impl SerialState {
         }
     }
 
-    /// The port of this state, or `None` if it has more bytes than a port holds.
+    /// The port of this state, or `None` if it has more bytes than a port can hold.
     pub(crate) fn port(&self) -> Option<SerialPort> {
         check_library();
         let count = self.in_buffer.len();
