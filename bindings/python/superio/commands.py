@@ -33,7 +33,7 @@ class Verb(NamedTuple):
 
 def _alone(rest: str, name: str) -> None:
     if rest:
-        raise ScriptError(f"{name} stands alone")
+        raise ScriptError(f"{name} takes no arguments")
 
 
 def _path(rest: str, usage: str) -> str:

@@ -208,8 +208,8 @@ class Serial:
 class Rtc:
     """A PL031 real-time clock, which counts seconds.
 
-    It reads no clock of the host: each access is given its moment `now`, in seconds since 1970, of which the low 32
-    bits count.
+    It reads no clock of the host: each access is given its moment `now`, in seconds since 1970. Only the low 32 bits of
+    a moment count.
 
     >>> clock = Rtc()
     >>> clock.write("LR", 100, now=1000)

@@ -20,7 +20,7 @@ class FileFault(Exception):
 
 
 class BadLine(Exception):
-    """A line of a file was not carried out. The message says where it stands, and why."""
+    """A line of a file was not carried out. The message says which line, and why."""
 
     def __init__(self, name: str, number: int, line: bytes, reason: str) -> None:
         super().__init__(f'{name}:{number}: "{shown(line.decode("utf-8", "surrogateescape"), _SHOWN)}": {reason}')

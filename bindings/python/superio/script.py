@@ -14,7 +14,7 @@ MAXIMUM = 65_536
 _DIGITS = re.compile(rb"[0-9A-Fa-f]*")
 _MANY_BYTES = 128
 
-_SPACES = "one space separates two fields, and none stands at the end"
+_SPACES = "one space separates two fields, and none follows the last"
 
 TOO_MANY = "it goes on after its last field"
 """Why a line with too many fields has no form."""

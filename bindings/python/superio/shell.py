@@ -42,7 +42,7 @@ def _files(text: str) -> List[str]:
 
 
 def completions(before: str, text: str) -> List[str]:
-    """What `text` can be completed to, after what stands before it on the line."""
+    """What `text` can be completed to, after what precedes it on the line."""
     words = before.split()
     if not words:
         return sorted(name + " " for name in HELP if name.startswith(text))

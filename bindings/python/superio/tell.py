@@ -166,7 +166,7 @@ def registers(board: Snapshot) -> List[str]:
 
 
 def clock_registers(state: RtcState, now: Optional[int] = None) -> List[str]:
-    """The registers of the clock, and its alarm, below a heading. At a moment guest time stands there too."""
+    """The registers of the clock, and its alarm, below a heading. With a moment, guest time too."""
     clock = Rtc.from_state(state)
     rows = ["clock" if now is None else "clock, in UTC"]
     if now is not None:

@@ -208,7 +208,7 @@ class Speaker:
 def _alone(name: str, script_name: str) -> "Callable[[Speaker, str], Command]":
     def phrase(speaker: Speaker, rest: str) -> Command:
         if rest.strip():
-            raise ScriptError(f"{name} stands alone")
+            raise ScriptError(f"{name} takes no arguments")
         return Command(script_name)
     return phrase
 
