@@ -1,4 +1,4 @@
-"""Edits, files that turn one function of a crate into a wrong one: what each says, where it stands, and which share a round."""
+"""Edits, files that turn one function of a crate into a wrong one: what each says, where it is, and which share a round."""
 import re
 from dataclasses import dataclass, field
 from pathlib import Path
@@ -7,7 +7,7 @@ from pathlib import Path
 NO_CODE = re.compile(r'//[^\n]*|/\*.*?\*/|r(#*)".*?"\1|"(?:\\.|[^"\\])*"|\'(?:\\.|[^\'\\\n])\'', re.S)
 HEAD = re.compile(r"\bfn\s+(\w+)")
 BLOCK = re.compile(r"^[ \t]*(?:unsafe\s+)?impl\b([^{;]*)\{", re.M)
-# What stands before the brace of a clause, and never before that of a body.
+# What precedes the brace of a clause, and never that of a body.
 CLAUSE = re.compile(r"\b(?:requires|ensures|ghost)\b\*?\s*(?:\w+\s*:?)?\s*$")
 ENSURES = re.compile(r"\bensures\b(\*?)\s*(\w*)\s*\{")
 ABOVE = re.compile(r"(?:^[ \t]*(?:#\[|//).*\n)*\Z", re.M)
@@ -70,7 +70,7 @@ def body_of(code, at):
 
 def owner_of(header):
     """The pattern of what an `impl` puts into the paths of its functions: `Serial`, or `LineTrigger` of a trait, whose
-    arguments follow it. The types for which it stands may follow the type."""
+    arguments follow it. The types in place of its parameters may follow the type."""
     parameters, header = split_off_parameters(header.split(" where ")[0])
     names = [[it for it in re.findall(r"\w+", part)] for part in without_nested(header).split(" for ")]
     if len(names) == 1:
@@ -92,7 +92,7 @@ def split_off_parameters(header):
 
 
 def without_nested(text):
-    """A text without what stands in angle brackets."""
+    """A text without what is in angle brackets."""
     while NESTED.search(text):
         text = NESTED.sub("", text)
     return text
@@ -120,7 +120,7 @@ def function_at(text, place):
 
 
 def has_path(file, function, path):
-    """Whether a path, as `rt check` prints it, can be that of a function of this file: before the name stands its `impl`, or
+    """Whether a path, as `rt check` prints it, can be that of a function of this file: its `impl` precedes the name, or
     else its module."""
     *modules, name = path.split("::")
     stem = Path(file).stem
@@ -161,7 +161,7 @@ class Edit:
 
 
 def read_edit(path):
-    """Reads the file of an edit. Each `old:` text has to stand once in its file as that is in the repository."""
+    """Reads the file of an edit. Each `old:` text must occur once in its file in the repository."""
     edit, file, old = Edit(path), "", None
     for line in path.read_text(encoding="utf-8").splitlines():
         key, _, value = line.partition(": ")
@@ -192,7 +192,7 @@ def add_replacement(edit, file, old, new):
     if not file.startswith("src/") or ".." in file or not source.is_file():
         return f"there is no file {file or 'named'}"
     if not old:
-        return "a 'new:' line stands without an 'old:' line before it"
+        return "a 'new:' line has no 'old:' line before it"
     text = source.read_text(encoding="utf-8")
     if text.count(old) != 1:
         return f"an 'old:' text is in {file} {text.count(old)} times, and not once"
@@ -214,7 +214,7 @@ def changed(text, replacements):
 
 
 def texts_of(crate, edits):
-    """The sources of a crate that these edits change, as they stand with all of them."""
+    """The sources of a crate that these edits change, with all of them made."""
     files = {}
     for it in (it for edit in edits for it in edit.replacements):
         files.setdefault(it.file, []).append(it)
@@ -222,7 +222,7 @@ def texts_of(crate, edits):
 
 
 def may_share(edit, other):
-    """Whether two edits can stand in one copy of the crate: a function is proved from the contracts of what it calls and
+    """Whether two edits can be made in one copy of the crate: a function is proved from the contracts of what it calls and
     never from their bodies, so they can if they change different functions, and nothing else."""
     return not (edit.is_outside or other.is_outside or edit.places & other.places)
 

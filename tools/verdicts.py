@@ -118,7 +118,7 @@ class Outcome:
 
 @dataclass
 class Place:
-    """Where a function stands, in lines."""
+    """Where a function is, in lines."""
     file: str
     first: int
     last: int

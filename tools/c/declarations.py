@@ -156,7 +156,7 @@ def struct_assertions(name, known):
 
 
 def assertions():
-    """A file in C, and in C++ but for the layout, that compiles if the header's types are those of the Rattle side."""
+    """A file in C and, except for the layout, in C++, that compiles if the header's types are those of the Rattle side."""
     known = structs()
     lines = ["#include <superio.h>", "#ifndef __cplusplus"]
     for name in STRUCTS:

@@ -1,4 +1,4 @@
-"""The C library of each processor: where it stands in `prebuilt`, and how it is built from the proofs."""
+"""The C library of each processor: where it is in `prebuilt`, and how it is built from the proofs."""
 import hashlib
 import platform
 import shutil
@@ -11,7 +11,7 @@ from pathlib import Path
 ROOT = Path(__file__).resolve().parent.parent.parent
 CRATE = ROOT / "crates" / "superio_c"
 PREBUILT = ROOT / "prebuilt"
-# What Cargo packs with the Rust crate has to stand in its folder, and links have no place in this repository.
+# What Cargo packs with the Rust crate has to be in its folder, and links have no place in this repository.
 PACKED = ROOT / "bindings" / "rust" / "prebuilt"
 HEADER = ROOT / "include" / "superio.h"
 

@@ -178,13 +178,13 @@ KINDS = {
     "digit too few or too many": lambda line: True,
 }
 
-# How many fields stand behind a name, at the most.
+# The most fields that follow a name.
 WANTED = {b"sr": 1, b"sw": 2, b"sq": 1, b"sc": 0, b"sd": 0, b"ss": 0, b"sb": 0, b"sl": 1, b"so": 0, b"st": 0, b"se": 0,
           b"cr": 2, b"cw": 3, b"cb": 0, b"cl": 1, b"kr": 1, b"kw": 2, b"refuse": 1}
 
 
 def is_plain(script):
-    """Whether a script can stand line by line in a file of tests/."""
+    """Whether a file of tests/ can have a script line by line."""
     lines = script.split(b"\n")
     return lines.pop() == b"" and lines and all(re.fullmatch(rb"[!-~]+( [!-~]+)*", line) for line in lines)
 

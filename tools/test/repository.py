@@ -29,7 +29,7 @@ class CopyTest(unittest.TestCase):
                 shutil.copy(ROOT / part, self.root / part)
 
     def change(self, name, old, new):
-        """Changes a text that stands once in a file of the copy."""
+        """Changes a text that occurs once in a file of the copy."""
         path = self.root / name
         text = path.read_text(encoding="utf-8")
         self.assertEqual(text.count(old), 1, f"{name} has {old!r} otherwise than once")

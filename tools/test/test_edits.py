@@ -1,4 +1,4 @@
-"""Tests of how edits are read, where they stand, and which share a round. No prover runs."""
+"""Tests of how edits are read, where they are, and which share a round. No prover runs."""
 import tempfile
 import unittest
 

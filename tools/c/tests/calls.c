@@ -43,7 +43,7 @@ static void fresh_port(void) {
     CHECK(superio_serial_is_coherent(&port) && superio_serial_fifo_capacity(&port) == SUPERIO_SERIAL_FIFO_SIZE);
 }
 
-/* What a guest writes at a register's offset stands in the field of its name, and in no other. */
+/* What a guest writes at a register's offset goes to the field of its name, and to no other. */
 static void guest_writes(void) {
     static const struct { uint8_t latch, offset, value, place, kept; } ROWS[] = {
         {0x83, 0, 0x5A, offsetof(superio_serial, baud_divisor_low), 0x5A},
@@ -64,7 +64,7 @@ static void guest_writes(void) {
     }
 }
 
-/* What stands in a field is what the guest reads at the register's offset. */
+/* The guest reads a field at its register's offset. */
 static void guest_reads(void) {
     static const struct { uint8_t latch, offset, place, value, shown; } ROWS[] = {
         {0x80, 0, offsetof(superio_serial, baud_divisor_low), 0x12, 0x12},
@@ -205,7 +205,7 @@ static void clock_registers(void) {
     CHECK(!superio_rtc_write(&clock, 0x00C, 1, NOW).invalid_write && clock.lr == 0 && clock.offset == 0);
 }
 
-/* The identification stands above 0xFF, and nothing stands at those offsets cut to 8 or to 12 bits. */
+/* The identification is above 0xFF, and nothing is at those offsets cut to 8 or to 12 bits. */
 static void clock_offsets(void) {
     static const uint8_t IDENTIFICATION[] = {0x31, 0x10, 0x04, 0x00, 0x0D, 0xF0, 0x05, 0xB1};
     superio_rtc clock = superio_rtc_new();

@@ -1,6 +1,6 @@
 /*
  * Makes random calls of each function of the library, and the same calls of the
- * model: `fuzz CALLS SEED`. Each struct and each string of bytes stands beside
+ * model: `fuzz CALLS SEED`. Each struct and each string of bytes is beside
  * a page that nobody may touch, before or after it. Prints the first difference
  * and exits with 1, or prints how many calls were made.
  */

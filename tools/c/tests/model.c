@@ -255,8 +255,8 @@ superio_rtc_write_effects model_clock_write(superio_rtc *clock, uint16_t offset,
 
 bool model_line(const superio_rtc *clock) { return clock->ris & clock->imsc & 1; }
 
-/* The first host's time from one on at which guest time has come to the match, or HOST_TIMES. Guest time goes up by one
- * a second, except where the sum enters or leaves its range: so that is at once, at the match, or at such an end. */
+/* The first host's time from one on when guest time has reached the match, or HOST_TIMES. Guest time goes up by one a
+ * second, unless the sum enters or leaves its range: so that is at once, at the match, or at such an end. */
 static wide first_reached(const superio_rtc *clock, wide from) {
     wide candidates[] = {from, clock->mr, (wide)clock->mr - clock->offset, -(wide)clock->offset,
                          HOST_TIMES - clock->offset};

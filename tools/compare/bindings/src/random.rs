@@ -42,7 +42,7 @@ impl Random {
         self.one_of(&[moment, 1_000 + moment % 100, u64::from(u32::MAX) - 1 + moment % 4])
     }
 
-    /// A call, where the clock shows this guest time.
+    /// A call, when the clock shows this guest time.
     pub fn call(&mut self, guest_time: u32) -> Call {
         let action = match self.below(20) {
             0..=5 => Action::SerialRead(self.serial_offset()),
@@ -88,7 +88,7 @@ impl Random {
         Action::SerialWrite(offset, value)
     }
 
-    /// The state of a port to restore: its own, one that calls could have led to but for its bytes, or any.
+    /// The state of a port to restore: its own, one whose registers calls could have led to, or any.
     fn port(&mut self) -> Option<Port> {
         let mut registers: [u8; 9] = std::array::from_fn(|_| self.byte());
         match self.below(3) {

@@ -17,7 +17,7 @@ pub struct Board {
 }
 
 impl Board {
-    /// A board of fresh devices, of which the serial port has an interrupt line with this mask.
+    /// A board of fresh devices, whose serial port has an interrupt line with this mask.
     pub fn new(mask: u64) -> Self {
         Board {
             serial: Serial::with_events(Line::new(mask), Arc::default(), Output::default()),
