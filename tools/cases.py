@@ -1,10 +1,13 @@
 """What tools/hostile tries: random scripts for the program `superio`, and runs of calls for `superio_calls`."""
 import random
 
-LINES = 40           # of a random script or run, at most
+from expected import CLOCK_FIELDS, form
+
+LINES = 24           # of a random script, at most
+CALLS = 40           # of a random run
 ROOM = 256           # bytes that the output of a script's board takes
 SCRIPT_READS = [f"sr {offset:02x}" for offset in (0, 1, 2, 3, 4, 5, 6, 7, 8, 255)]
-SCRIPT_ENDS = ["st", "sc", "se", "so"]
+SCRIPT_ENDS = ["st", "sc", "se", "so", "sb", "cb"]
 
 
 # Lines that scripts and calls share.
@@ -40,6 +43,24 @@ def clock_access(source):
     return f"cr {at}" if source.random() < 0.5 else f"cw {at} {number(source):08x}"
 
 
+def port_start(source, *counts):
+    """Any registers, and no bytes, some, 64, or a number of `counts`. Of IIR the bits that a port sets are common, and
+    DLAB is mostly clear."""
+    registers = bytearray(source.randbytes(9))
+    if source.random() < 0.5:
+        registers[3] %= 8
+    if source.random() < 0.3:
+        registers[4] &= 0x7F
+    return bytes(registers), source.randbytes(source.choice((0, 64, source.randrange(4), source.randrange(65), *counts)))
+
+
+def clock_start(source):
+    """Any clock, by the fields of its form. Offsets at the ends of their range are common."""
+    ahead = source.choice((source.getrandbits(64) - 2**63, 2**63 - 1 - number(source), number(source) - 2**63,
+                           number(source) - number(source)))
+    return *(number(source) for _ in range(4)), ahead, source.random() < 0.5
+
+
 def controller_access(source):
     offset, value = (source.choice((usual, source.randrange(256))) for usual in (4, 0xFE))
     return f"kr {offset:02x}" if source.random() < 0.25 else f"kw {offset:02x} {value:02x}"
@@ -47,22 +68,39 @@ def controller_access(source):
 
 # Scripts.
 
+def load_port(source, *counts):
+    return f"sl {form(1, b''.join(port_start(source, *counts)))}"
+
+
+def load_clock(source):
+    return f"cl {form(2, CLOCK_FIELDS.pack(*clock_start(source)))}"
+
+
 def serial_line(source):
     kind = source.randrange(24)
-    if kind < 18:
+    if kind < 17:
         return serial_access(source)
-    if kind < 21:
+    if kind < 20:
         return f"sq {any_bytes(source)}".rstrip()
-    return source.choice(("sd", "st", "sc", "se", "so")) if kind > 21 else "ss"
+    if kind < 22:
+        return source.choice(("ss", "ss", "ss", load_port(source, 65, 80)))
+    return source.choice(("sd", "st", "sc", "se", "so", "sb"))
+
+
+def clock_line(source):
+    kind = source.randrange(16)
+    return clock_access(source) if kind < 14 else "cb" if kind == 14 else load_clock(source)
 
 
 def any_line(source):
-    return source.choice((serial_line, serial_line, clock_access, controller_access))(source)
+    return source.choice((serial_line, serial_line, clock_line, controller_access))(source)
 
 
 def full_output(source):
-    """An output with room for a few bytes more."""
-    return [f"sw 00 {source.randrange(256):02x}" for _ in range(ROOM - 4)] + [serial_line(source) for _ in range(LINES)]
+    """An output with room for two bytes at most, and a byte for it in every other line."""
+    sends = [f"sw 00 {byte:02x}" for byte in source.randbytes(ROOM + LINES)]
+    filled = ROOM - source.randrange(3)
+    return sends[:filled] + [line for send in sends[filled:][:LINES // 2] for line in (serial_line(source), send)]
 
 
 def two_writes(source):
@@ -73,35 +111,31 @@ def two_writes(source):
 
 
 def random_script(source):
-    """The lines of a script, under a mask or none."""
-    kind = source.randrange(100)
-    mask = source.choice((None, None, source.getrandbits(64) & source.getrandbits(64), 1 << source.randrange(6)))
+    """The lines of a script, under a mask or none. Half of them begin at a state that is loaded."""
+    kind = source.randrange(200)
+    bits = source.getrandbits(64)
+    mask = source.choice((None, None, None, bits, bits, bits & source.getrandbits(64), 1 << source.randrange(6)))
     lines = [] if mask is None else [f"refuse {mask:016x}"]
     if kind < 2:
         return lines + full_output(source) + SCRIPT_ENDS
-    if kind < 17:
+    if kind < 32:
         return lines + two_writes(source) + SCRIPT_ENDS
-    one = serial_line if kind < 70 else clock_access if kind < 90 else any_line if kind < 98 else controller_access
+    one = serial_line if kind < 140 else clock_line if kind < 180 else any_line if kind < 196 else controller_access
+    if source.random() < 0.5:
+        lines += [load_port(source)] * (one != clock_line) + [load_clock(source)] * (one in (clock_line, any_line))
     return lines + [one(source) for _ in range(source.randrange(1, LINES + 1))] + SCRIPT_ENDS
 
 
 # Runs of calls. Each begins with a state, so that many follow each other in one process.
 
 def port_state(source, *counts):
-    """A state of any registers, with no bytes, some, 64, or a number of `counts`. Of IIR the bits that a port sets are
-    common."""
-    registers = bytearray(source.randbytes(9))
-    if source.random() < 0.5:
-        registers[3] %= 8
-    held = source.randbytes(source.choice((0, 64, source.randrange(4), source.randrange(65), *counts)))
+    registers, held = port_start(source, *counts)
     return f"sl {registers.hex()} {held.hex() or '-'}"
 
 
 def clock_state(source):
-    ahead = source.choice((source.getrandbits(64) - 2**63, 2**63 - 1 - number(source), number(source) - 2**63,
-                           number(source) - number(source)))
-    lr, mr, imsc, ris = (f"{number(source):08x}" for _ in range(4))
-    return f"cl {lr} {ahead} {mr} {imsc} {ris}" + source.choice(("", " armed"))
+    lr, mr, imsc, ris, ahead, is_armed = clock_start(source)
+    return f"cl {lr:08x} {ahead} {mr:08x} {imsc:08x} {ris:08x}{' armed' * is_armed}"
 
 
 def hindered(source, call):
@@ -120,16 +154,16 @@ def port_call(source):
 
 
 def port_run(source):
-    return [port_state(source), *(hindered(source, port_call(source)) for _ in range(LINES)), "ss"]
+    return [port_state(source), *(hindered(source, port_call(source)) for _ in range(CALLS)), "ss"]
 
 
 def clock_run(source):
-    calls = (["cs"] * (source.randrange(8) == 0) + [clock_access(source)] for _ in range(LINES))
+    calls = (["cs"] * (source.randrange(8) == 0) + [clock_access(source)] for _ in range(CALLS))
     return [clock_state(source), *(call for some in calls for call in some), "cs"]
 
 
 def controller_run(source):
-    return [hindered(source, controller_access(source)) for _ in range(LINES)]
+    return [hindered(source, controller_access(source)) for _ in range(CALLS)]
 
 
 def random_run(source):

@@ -1,8 +1,18 @@
 """What a script prints, and what recorded calls reply, by the search of the past in oracle.py."""
+from struct import Struct
+
 from oracle import Clock, Port, resets, start_fact
 
 ROOM = 256                            # bytes that the output of a script's board takes
 UNREAD = "a5a5a5a5"                   # what an invalid read of a recorded call leaves
+
+
+CLOCK_FIELDS = Struct("<IIIIq?")      # of a saved state
+
+
+def form(kind, contents):
+    """The digits of a saved state, as docs/SAVED-STATES.md has them."""
+    return (b"SIOS" + bytes([kind, 1]) + len(contents).to_bytes(2, "little") + contents).hex()
 
 
 def numbers(fields):
@@ -34,18 +44,36 @@ class Board:
     def restore(self):
         return "trigger" if "R" in self.port.restore(self.port.past) else "ok"
 
+    def load(self, data):
+        """Loads a form, of any registers and bytes. tools/saved_forms tries those with another header."""
+        registers, held = data[8:17], data[17:]
+        if len(held) > 64:
+            return "too many bytes"
+        start = start_fact(registers, held)
+        return "trigger" if "R" in self.port.restore([*self.port.past, start]) else "ok"
+
+    def load_clock(self, data):
+        lr, mr, imsc, ris, ahead, armed = CLOCK_FIELDS.unpack(data[8:])
+        self.clock.start(lr, ahead, mr, imsc, ris, armed)
+        return "ok"
+
+    def saved_clock(self):
+        lr, ahead, mr, imsc, ris, armed = self.clock.state()
+        return form(2, CLOCK_FIELDS.pack(lr, mr, imsc, ris, ahead, armed))
+
     def of_clock(self, moment, offset, value=None):
         answer = self.clock.access(moment, offset, value)
         return "invalid" if answer is None else "ok" if value is not None else f"{answer:08x}"
 
     def reply(self, line):
         name, *fields = line.split(" ")
-        if name == "sq":
-            return self.port.enqueue(bytes.fromhex("".join(fields)))
         port = self.port
+        of_bytes = {"sq": port.enqueue, "sl": self.load, "cl": self.load_clock}
+        if name in of_bytes:
+            return of_bytes[name](bytes.fromhex("".join(fields)))
         return {"sr": port.read, "sw": port.write, "sc": lambda: f"{port.room():02x}", "sd": port.drain,
-                "ss": self.restore, "so": lambda: port.output().hex(), "st": lambda: f"{self.count('T', 'R'):016x}",
-                "se": self.counts, "cr": self.of_clock, "cw": self.of_clock, "kr": lambda _: "00",
+                "sb": lambda: form(1, port.state() + port.held()), "ss": self.restore, "so": lambda: port.output().hex(),
+                "st": lambda: f"{self.count('T', 'R'):016x}", "se": self.counts, "cb": self.saved_clock, "cr": self.of_clock, "cw": self.of_clock, "kr": lambda _: "00",
                 "kw": lambda *write: "reset" if resets(*write) else "ok"}[name](*numbers(fields))
 
 

@@ -1,8 +1,8 @@
 """What devices show, by a search of all that was done before: slow, and plainly right.
 
 There are no registers. What a call shows is found in the calls before it: the last write of a register, the bytes that
-came in and were taken, what raised a condition and what acknowledged it. A search ends at the latest at the start state,
-which is the first fact of the past. A few facts of each call are remembered, and each was found once by such a search.
+came in and were taken, what raised a condition and what acknowledged it. A search ends at the latest at the newest start
+state, which is a fact of the past too. A few facts of each call are remembered, and each was found once by such a search.
 docs/DEVICES.md has the rules.
 
 expected.py says with these devices what a script prints, and what recorded calls reply.
@@ -23,6 +23,7 @@ IDENTIFICATION = (0x31, 0x10, 0x04, 0x00, 0x0D, 0xF0, 0x05, 0xB1)
 class Fact:
     """A call that was carried out, and what was found of it."""
 
+    starts = False                        # whether it is a start state, before which no register or byte is from
     stored = {}                           # registers, with the values that were written to them
     sent = None                           # a byte that the writer took
     accepted = b""                        # the bytes that came in and found room
@@ -40,8 +41,8 @@ def start_fact(registers, held):
     """The start state of a port. Bits that mean nothing stay with the registers that show them."""
     stored = dict(zip(REGISTERS, registers))
     pending = tuple(condition for condition in (RDA, THRE) if stored["IIR"] & condition)
-    return Fact(stored=stored, accepted=held, ready=stored["LSR"] & 1 == 1, none=stored["IIR"] & NONE == NONE,
-                raised=pending, acknowledged=(RDA, THRE))
+    return Fact(starts=True, stored=stored, accepted=held, ready=stored["LSR"] & 1 == 1,
+                none=stored["IIR"] & NONE == NONE, raised=pending, acknowledged=(RDA, THRE))
 
 
 class Port:
@@ -69,8 +70,11 @@ class Port:
         return self.register("MCR") & 0x10 != 0
 
     def held(self):
-        accepted = b"".join(fact.accepted for fact in self.past)
-        return accepted[sum(fact.took for fact in self.past):]
+        held, took = b"", 0
+        for fact in reversed(self.past):
+            held, took = fact.accepted + held, took + fact.took
+            if fact.starts:
+                return held[took:]
 
     def is_pending(self, condition):
         """Raised, and not acknowledged since."""

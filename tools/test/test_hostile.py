@@ -20,17 +20,53 @@ monitor = Monitor()
 for line in sys.stdin:
     print(monitor.reply(line.rstrip()){{change}})
 """
+SCRIPT_PROGRAM = f"""#!{sys.executable}
+import sys
+sys.path.insert(0, {str(TOOLS)!r})
+from expected import script_replies
+for reply in script_replies(sys.stdin.read().splitlines()):
+    print(reply{{change}})
+"""
 RUNS = [("first", ["sl 0c000001036008b000 -", "sw 01 02", "sw 00 41 f"]), ("second", ["kw 04 fe 1", "cs"])]
+
+
+# The form of a port whose THRE is not enabled.
+FRESH_FORM = "53494f53010109000c000001036008b000"
+# A byte goes out. The line refuses the call of the load, so the port stays.
+SCRIPTS = [("first", ["refuse 0000000000000001", "sw 00 41", "sl 53494f5301010a000c000104036108b05a61", "sb", "so"]),
+           ("second", ["cl 53494f530201190080009265bc0092650100000000000000f0f1ffffffffffff01", "cb"])]
+
+
+def messages_of(judge, text, cases, reached):
+    """What is said of a program of this text that is given these cases."""
+    with tempfile.TemporaryDirectory() as folder:
+        program = Path(folder) / "program"
+        program.write_text(text)
+        os.chmod(program, 0o755)
+        return list(judge(str(program), cases, Counter() if reached is None else reached))
+
+
+class Scripts(unittest.TestCase):
+    def messages(self, change, reached=None):
+        return messages_of(hostile.judge_scripts, SCRIPT_PROGRAM.format(change=change), SCRIPTS, reached)
+
+    def test_the_same_replies_pass(self):
+        reached = Counter()
+        self.assertEqual(self.messages("", reached), [])
+        self.assertEqual(reached, {("sw", "ok"): 1, ("sl", "trigger"): 1, ("sb", FRESH_FORM): 1, ("so", "41"): 1,
+                                   ("cl", "ok"): 1, ("cb", SCRIPTS[1][1][0][3:]): 1})
+
+    def test_another_reply_is_found(self):
+        found, = self.messages(".replace('bc00', 'bd00')")
+        self.assertIn("second: ", found)
+
+    def test_a_program_that_fails_is_found(self):
+        self.assertEqual(len(self.messages(", file=sys.exit(3)")), 2)
 
 
 class Runs(unittest.TestCase):
     def messages(self, change, reached=None):
-        """What is said of a program with this change, that makes RUNS."""
-        with tempfile.TemporaryDirectory() as folder:
-            program = Path(folder) / "program"
-            program.write_text(PROGRAM.format(change=change))
-            os.chmod(program, 0o755)
-            return list(hostile.judge_runs(str(program), RUNS, Counter() if reached is None else reached))
+        return messages_of(hostile.judge_runs, PROGRAM.format(change=change), RUNS, reached)
 
     def test_the_same_replies_pass(self):
         reached = Counter()
@@ -52,11 +88,13 @@ class Runs(unittest.TestCase):
         self.assertIn("status 3", found)
 
     def test_a_kind_that_no_run_reached_is_found(self):
-        self.assertEqual(len(hostile.unreached(Counter(), 100)), len(hostile.KINDS))
-        self.assertEqual(hostile.unreached(Counter(dict.fromkeys(hostile.KINDS, 1)), 100), [])
+        for kinds in hostile.SCRIPT_KINDS, hostile.RUN_KINDS:
+            self.assertEqual(len(hostile.unreached(kinds, Counter(), 100, "runs")), len(kinds))
+            self.assertEqual(hostile.unreached(kinds, Counter(dict.fromkeys(kinds, 1)), 100, "runs"), [])
 
 
 class Cases(unittest.TestCase):
     def test_more_cases_leave_the_first_as_they_are(self):
-        few, many = (list(cases.random_cases(cases.random_run, "run", 1, count)) for count in (3, 6))
-        self.assertEqual(few, many[:3])
+        for make in cases.random_run, cases.random_script:
+            few, many = (list(cases.random_cases(make, "case", 1, count)) for count in (3, 6))
+            self.assertEqual(few, many[:3])
