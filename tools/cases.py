@@ -1,7 +1,8 @@
 """What tools/hostile tries: random scripts for the program `superio`, and runs of calls for `superio_calls`."""
 import random
 
-from expected import CLOCK_FIELDS, form
+from expected import CLOCK_FIELDS
+from saved_bytes import CLOCK, SERIAL, form
 
 LINES = 24           # of a random script, at most
 CALLS = 40           # of a random run
@@ -69,11 +70,11 @@ def controller_access(source):
 # Scripts.
 
 def load_port(source, *counts):
-    return f"sl {form(1, b''.join(port_start(source, *counts)))}"
+    return f"sl {form(SERIAL, b''.join(port_start(source, *counts))).hex()}"
 
 
 def load_clock(source):
-    return f"cl {form(2, CLOCK_FIELDS.pack(*clock_start(source)))}"
+    return f"cl {form(CLOCK, CLOCK_FIELDS.pack(*clock_start(source))).hex()}"
 
 
 def serial_line(source):
@@ -110,7 +111,7 @@ def two_writes(source):
             f"sw 04 {source.choice((0x08, 0x10)):02x}", *writes, *SCRIPT_READS]
 
 
-def random_script(source):
+def script_lines(source):
     """The lines of a script, under a mask or none. Half of them begin at a state that is loaded."""
     kind = source.randrange(200)
     bits = source.getrandbits(64)
@@ -124,6 +125,20 @@ def random_script(source):
     if source.random() < 0.5:
         lines += [load_port(source)] * (one != clock_line) + [load_clock(source)] * (one in (clock_line, any_line))
     return lines + [one(source) for _ in range(source.randrange(1, LINES + 1))] + SCRIPT_ENDS
+
+
+def broken(source, script):
+    """A script that is cut short, or has a byte changed, taken out or put in."""
+    place = source.randrange(len(script))
+    before, after = script[:place], script[place + 1:]
+    byte = chr(source.choice((source.randrange(256), *b" \n\r0f\xFF")))
+    return source.choice((before, before + byte + after, before + after, before + byte + script[place:]))
+
+
+def random_script(source):
+    """A script, with a character for each byte. One of eight is broken."""
+    script = "".join(line + "\n" for line in script_lines(source))
+    return broken(source, script) if source.randrange(8) == 0 else script
 
 
 # Runs of calls. Each begins with a state, so that many follow each other in one process.

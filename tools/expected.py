@@ -1,18 +1,19 @@
 """What a script prints, and what recorded calls reply, by the search of the past in oracle.py."""
+import re
 from struct import Struct
 
 from oracle import Clock, Port, resets, start_fact
+from saved_bytes import CLOCK, SERIAL, form, reply_to
 
 ROOM = 256                            # bytes that the output of a script's board takes
 UNREAD = "a5a5a5a5"                   # what an invalid read of a recorded call leaves
 
 
 CLOCK_FIELDS = Struct("<IIIIq?")      # of a saved state
-
-
-def form(kind, contents):
-    """The digits of a saved state, as docs/SAVED-STATES.md has them."""
-    return (b"SIOS" + bytes([kind, 1]) + len(contents).to_bytes(2, "little") + contents).hex()
+# The first line of a script, and any line.
+REFUSE = re.compile("refuse ([0-9A-Fa-f]{16})")
+LINE = re.compile("s[bcdeloqst]|c[bl]|(sq|[sc]l) (HH){1,128}|[sk]r HH|[sk]w HH HH|cr H{16} H{4}|cw H{16} H{4} H{8}"
+                  .replace("H", "[0-9A-Fa-f]"))
 
 
 def numbers(fields):
@@ -45,21 +46,21 @@ class Board:
         return "trigger" if "R" in self.port.restore(self.port.past) else "ok"
 
     def load(self, data):
-        """Loads a form, of any registers and bytes. tools/saved_forms tries those with another header."""
-        registers, held = data[8:17], data[17:]
-        if len(held) > 64:
-            return "too many bytes"
-        start = start_fact(registers, held)
-        return "trigger" if "R" in self.port.restore([*self.port.past, start]) else "ok"
+        reply = reply_to(SERIAL, data)
+        if reply == "ok" and "R" in self.port.restore([*self.port.past, start_fact(data[8:17], data[17:])]):
+            return "trigger"
+        return reply
 
     def load_clock(self, data):
-        lr, mr, imsc, ris, ahead, armed = CLOCK_FIELDS.unpack(data[8:])
-        self.clock.start(lr, ahead, mr, imsc, ris, armed)
-        return "ok"
+        reply = reply_to(CLOCK, data)
+        if reply == "ok":
+            lr, mr, imsc, ris, ahead, armed = CLOCK_FIELDS.unpack(data[8:])
+            self.clock.start(lr, ahead, mr, imsc, ris, armed)
+        return reply
 
     def saved_clock(self):
         lr, ahead, mr, imsc, ris, armed = self.clock.state()
-        return form(2, CLOCK_FIELDS.pack(lr, mr, imsc, ris, ahead, armed))
+        return form(CLOCK, CLOCK_FIELDS.pack(lr, mr, imsc, ris, ahead, armed)).hex()
 
     def of_clock(self, moment, offset, value=None):
         answer = self.clock.access(moment, offset, value)
@@ -72,16 +73,22 @@ class Board:
         if name in of_bytes:
             return of_bytes[name](bytes.fromhex("".join(fields)))
         return {"sr": port.read, "sw": port.write, "sc": lambda: f"{port.room():02x}", "sd": port.drain,
-                "sb": lambda: form(1, port.state() + port.held()), "ss": self.restore, "so": lambda: port.output().hex(),
-                "st": lambda: f"{self.count('T', 'R'):016x}", "se": self.counts, "cb": self.saved_clock, "cr": self.of_clock, "cw": self.of_clock, "kr": lambda _: "00",
+                "ss": self.restore, "sb": lambda: form(SERIAL, port.state() + port.held()).hex(),
+                "so": lambda: port.output().hex(), "st": lambda: f"{self.count('T', 'R'):016x}", "se": self.counts,
+                "cb": self.saved_clock, "cr": self.of_clock, "cw": self.of_clock, "kr": lambda _: "00",
                 "kw": lambda *write: "reset" if resets(*write) else "ok"}[name](*numbers(fields))
 
 
-def script_replies(lines):
-    """What a script prints, of its lines."""
-    mask = int(lines[0][len("refuse "):], 16) if lines[0].startswith("refuse ") else None
-    board = Board(mask or 0)
-    return [board.reply(line) for line in lines[mask is not None:]]
+def script_replies(script):
+    """The lines of a script that have replies, up to the first bad one, the replies, and the number of that line, or
+    `None`."""
+    lines = script.removesuffix("\n").split("\n") if script else []
+    refuse = REFUSE.fullmatch(lines[0]) if lines else None
+    first = 1 if refuse else 0
+    bad = next((place for place, line in enumerate(lines) if place >= first and not LINE.fullmatch(line)), None)
+    board = Board(int(refuse[1], 16) if refuse else 0)
+    answered = lines[first:bad]
+    return answered, [board.reply(line) for line in answered], None if bad is None else bad + 1
 
 
 class Monitor:

@@ -7,6 +7,7 @@ from collections import Counter
 from pathlib import Path
 
 import cases
+from expected import script_replies
 from test_check import TOOLS, module_of
 
 hostile = module_of("hostile")
@@ -24,17 +25,21 @@ SCRIPT_PROGRAM = f"""#!{sys.executable}
 import sys
 sys.path.insert(0, {str(TOOLS)!r})
 from expected import script_replies
-for reply in script_replies(sys.stdin.read().splitlines()):
+_, replies, bad_line = script_replies(sys.stdin.read())
+for reply in replies:
     print(reply{{change}})
+if bad_line:
+    sys.exit(f"bad line {{{{bad_line}}}}")
 """
 RUNS = [("first", ["sl 0c000001036008b000 -", "sw 01 02", "sw 00 41 f"]), ("second", ["kw 04 fe 1", "cs"])]
 
 
-# The form of a port whose THRE is not enabled.
+# The forms of a port whose THRE is not enabled.
 FRESH_FORM = "53494f53010109000c000001036008b000"
+CLOCK_FORM = "53494f530201190080009265bc0092650100000000000000f0f1ffffffffffff01"
 # A byte goes out. The line refuses the call of the load, so the port stays.
-SCRIPTS = [("first", ["refuse 0000000000000001", "sw 00 41", "sl 53494f5301010a000c000104036108b05a61", "sb", "so"]),
-           ("second", ["cl 53494f530201190080009265bc0092650100000000000000f0f1ffffffffffff01", "cb"])]
+SCRIPTS = [("first", "refuse 0000000000000001\nsw 00 41\nsl 53494f5301010a000c000104036108b05a61\nsb\nso\n"),
+           ("second", f"cl {CLOCK_FORM}\ncb\nss \nss")]
 
 
 def messages_of(judge, text, cases, reached):
@@ -54,7 +59,7 @@ class Scripts(unittest.TestCase):
         reached = Counter()
         self.assertEqual(self.messages("", reached), [])
         self.assertEqual(reached, {("sw", "ok"): 1, ("sl", "trigger"): 1, ("sb", FRESH_FORM): 1, ("so", "41"): 1,
-                                   ("cl", "ok"): 1, ("cb", SCRIPTS[1][1][0][3:]): 1})
+                                   ("cl", "ok"): 1, ("cb", CLOCK_FORM): 1})
 
     def test_another_reply_is_found(self):
         found, = self.messages(".replace('bc00', 'bd00')")
@@ -62,6 +67,11 @@ class Scripts(unittest.TestCase):
 
     def test_a_program_that_fails_is_found(self):
         self.assertEqual(len(self.messages(", file=sys.exit(3)")), 2)
+
+    def test_the_first_bad_line_is_that_of_the_document(self):
+        for script, bad_line in (("", None), ("kr 04", None), ("\n", 1), ("sc\n\n", 2), ("sc\nrefuse 0000000000000001\n", 2),
+                                 ("kr 04\r\n", 1), ("sq " + 128 * "61", None), ("sq " + 129 * "61", 1), ("sr \xFF5", 1)):
+            self.assertEqual(script_replies(script)[2], bad_line, script)
 
 
 class Runs(unittest.TestCase):

@@ -10,7 +10,6 @@ from repository import ROOT, CopyTest
 CAT = shutil.which("cat")
 # Beside each tool what it says if the repository has nothing but tools/.
 WITHOUT_ALL = {
-    "broken_scripts": "tests/whole_scripts.txt: No such file or directory",
     "calls": "calls/clocks.txt is not there",
     "excerpts": "README.md: No such file or directory",
     "failing_io": "tests/whole_scripts.txt: No such file or directory",
