@@ -69,8 +69,8 @@ class Scripts(unittest.TestCase):
         self.assertEqual(len(self.messages(", file=sys.exit(3)")), 2)
 
     def test_the_first_bad_line_is_that_of_the_document(self):
-        for script, bad_line in (("", None), ("kr 04", None), ("\n", 1), ("sc\n\n", 2), ("sc\nrefuse 0000000000000001\n", 2),
-                                 ("kr 04\r\n", 1), ("sq " + 128 * "61", None), ("sq " + 129 * "61", 1), ("sr \xFF5", 1)):
+        for script, bad_line in (("", None), ("kr 04", None), ("\n", 1), ("sc\n\n", 2), ("kr 04\r\n", 1), ("sr \xFF5", 1),
+                                 ("sc\nrefuse 0000000000000001\n", 2), ("sq " + 128 * "61", None), ("sq " + 129 * "61", 1)):
             self.assertEqual(script_replies(script)[2], bad_line, script)
 
 

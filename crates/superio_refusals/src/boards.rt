@@ -57,13 +57,14 @@ pub fn restore_line(alloc: Global) -> Result<&'static str, AllocError> {
     Ok(if answers_match { outcome } else { "another board" })
 }
 
-/// A script of most forms. Its mask refuses the second call of the interrupt line.
+/// A script of all forms. Its mask refuses the second call of the interrupt line.
 const EVERY_FORM: &[u8] = b"\
 refuse 0000000000000002\nsw 01 01\nsq 48656c6c6f\nsr 02\nsr 00\nsc\nsq\nsw 00 21\nso\nsw 01 01\nss\nst\nse\nsd\n\
-cw 00000000000003e8 0008 00000064\ncr 00000000000003ef 0000\ncr 00000000000003ef 0020\nkw 04 fe\nkr 04\n";
+cw 00000000000003e8 0008 00000064\ncr 00000000000003ef 0000\ncr 00000000000003ef 0020\nkw 04 fe\n\
+sl 53494f5301010a000c000101036108b05a61\nsb\ncb\ncl 53\nkr 04\n";
 
 /// The replies to its lines, except `refuse`.
-const EVERY_REPLY: [&[u8]; 18] = [
+const EVERY_REPLY: [&[u8]; 22] = [
     b"ok\n",
     b"05\n",
     b"c4\n",
@@ -81,6 +82,10 @@ const EVERY_REPLY: [&[u8]; 18] = [
     b"0000006b\n",
     b"invalid\n",
     b"reset\n",
+    b"ok\n",
+    b"53494f5301010a000c000101036108b05a61\n",
+    b"53494f5302011900640000000000000000000000000000007cfcffffffffffff00\n",
+    b"too short\n",
     b"00\n",
 ];
 
@@ -97,14 +102,16 @@ fn reply_count(mut text: &[u8]) -> Option<usize> {
 
 pub fn script(alloc: Global) -> &'static str {
     let mut reader = EVERY_FORM;
-    let mut room = [0; 256];
+    let mut room = [0; 512];
     let mut writer = room.as_mut_slice();
     let end = run_script(alloc, &mut reader, &mut writer);
-    let printed = 256usize.saturating_sub(writer.len());
+    let printed = 512usize.saturating_sub(writer.len());
     match (end, reply_count(&room[..printed])) {
-        (Ok(()), Some(18)) => "each reply",
+        (Ok(()), Some(22)) => "each reply",
         (Err(ScriptFault::Memory), Some(0)) => "Memory, and no reply",
         (Err(ScriptFault::Memory), Some(9)) => "Memory, and the replies before `ss`",
+        (Err(ScriptFault::Memory), Some(17)) => "Memory, and the replies before `sl`",
+        (Err(ScriptFault::Memory), Some(18)) => "Memory, and the replies before `sb`",
         _ => "other replies",
     }
 }
