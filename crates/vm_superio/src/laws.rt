@@ -7,7 +7,7 @@ ghost use Rattle.vm_superio.specs.Serial.Laws.Agreement.{RegisterLaw, HeldBytesL
 ghost use Rattle.vm_superio.specs.Serial.Laws.Consequences.{PendingByPrefixesLaw, TriggerBoundLaw, WaitingBytesLaw, SameReadsLaw, TakenThenHeldLaw, ReadsAreTakenLaw, ReadThenHeldLaw, OutputLaw};
 ghost use Rattle.vm_superio.specs.Serial.Laws.PollingDriver.{PollingDriverLaw, DriverGetsAllLaw, PollsAfterDataReadyLaw};
 ghost use Rattle.vm_superio.specs.Serial.Laws.FieldsRun.{FieldsRunLaw};
-ghost use Rattle.vm_superio.specs.Serial.Laws.OneCall.{OneCallLaw, OneReadLaw, ReceivedLaw, RbrReadLaw, RbrDataReadyLaw, ThrWriteLaw, OutcomeEventsLaw, TurnedBitsLaw, AdmissibilityLaw};
+ghost use Rattle.vm_superio.specs.Serial.Laws.OneCall.{OneCallLaw, OneReadLaw, ReceivedLaw, RbrReadLaw, RbrDataReadyLaw, ThrWriteLaw, OutcomeEventsLaw, TurnedBitsLaw};
 
 mod clock;
 pub mod saved;
@@ -168,11 +168,4 @@ pub fn outcome_events()
 #[tactic(auto, using(crate::proofs::Lemmas::Serial::Laws::TurnedBits::turned_bits_law))]
 pub fn turned_bits()
     ensures { TurnedBitsLaw }
-{}
-
-/// One call in any state: answers and an outcome are admissible exactly if some answers to the due trigger calls, and
-/// the writer's success or failure, produce them.
-#[tactic(auto, using(crate::proofs::Lemmas::Serial::Laws::Admissibility::exact_test_law))]
-pub fn admissibility()
-    ensures { AdmissibilityLaw }
 {}

@@ -1,5 +1,5 @@
 -- The laws of one call, in any state.
-use Rattle.std.specs.Prelude.{◌≡◌, ◌↔◌, ℕ, zero, suc, Bool, true, false, not, if◌then◌else◌, List, [], ◌∷◌, ◌++◌, ◌<◌, ◌&&◌, length, count_by, IsTrue, Option}
+use Rattle.std.specs.Prelude.{◌≡◌, ℕ, Bool, true, false, not, List, [], ◌∷◌, ◌++◌, ◌<◌, ◌&&◌, length, count_by, IsTrue, Option}
 use Rattle.std.specs.List.{list_all}
 use Rattle.std.specs.Io.KnownBytes.{Appends}
 use Rattle.vm_superio.specs.declared.trace.Asked.{Asked}
@@ -13,7 +13,7 @@ use Rattle.vm_superio.specs.Serial.Port.OpKinds.{sent_by}
 use Rattle.vm_superio.specs.Links.Writer.{bytes_written}
 use Rattle.vm_superio.specs.Serial.Step.Raising.{raise, receive_bytes}
 use Rattle.vm_superio.specs.Serial.Step.Transition.{step, step_response, step_events}
-use Rattle.vm_superio.specs.Serial.Step.Admissible.{kind_in_state, step_calls, sends_byte, is_admissible}
+use Rattle.vm_superio.specs.Serial.Step.Admissible.{kind_in_state, is_admissible}
 use Rattle.vm_superio.specs.Serial.Step.PortStep.{turned_on_count}
 use Rattle.vm_superio.specs.Serial.History.Registers.{accepted_by, taken_by}
 use Rattle.vm_superio.specs.Serial.History.Reads.{byte_read}
@@ -94,23 +94,3 @@ abbrev pub TurnedBitsLaw : Type 0
 TurnedBitsLaw = (s : State) (op : Op) (asked : Asked) (sent : Sent)
     → IsTrue (is_admissible s op asked sent)
     → answer_count asked ≡ turned_on_count s (step s op asked)
-
--- the record of a trigger that is called this many times: the answer to the first call and, if there is one, to the
--- second
-abbrev pub asked_when : (calls : ℕ) (first second : Bool) → Asked
-asked_when zero first second = Asked.Nothing
-asked_when (suc zero) first second = if first then Asked.Took else Asked.Refused
-asked_when (suc (suc more)) first second =
-    if first then (if second then Asked.TookTook else Asked.TookRefused) else Asked.Refused
-
--- the outcome of a byte, if one is sent: the writer's success or failure
-abbrev pub sent_when : (sends success : Bool) → Sent
-sent_when false success = Sent.Nothing
-sent_when true success = if success then Sent.Out else Sent.Lost
-
--- an entry is admissible exactly if some answers of the trigger and some success or failure of the writer give it
-abbrev pub AdmissibilityLaw : Type 0
-AdmissibilityLaw = (s : State) (op : Op) (asked : Asked) (sent : Sent)
-    → IsTrue (is_admissible s op asked sent)
-    ↔ ((first second success : Bool)
-    × (asked ≡ asked_when (step_calls s op) first second) × (sent ≡ sent_when (sends_byte s op) success))
