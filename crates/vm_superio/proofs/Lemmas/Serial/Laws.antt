@@ -1,8 +1,8 @@
-pub mod Admissibility
 pub mod Coherence
 pub mod HeldBytes
 pub mod Interrupts
 pub mod OneCall
+pub mod OutcomeEvents
 pub mod Output
 pub mod PendingByPrefixes
 pub mod PollingDriver
