@@ -199,4 +199,4 @@ serial_replies session environment [] = []
 serial_replies session environment (line ∷ lines) =
     serial_reply session environment line
     ∷ serial_replies
-      (session_after_line session environment line) (environment_after_line session environment line) lines
+    (session_after_line session environment line) (environment_after_line session environment line) lines

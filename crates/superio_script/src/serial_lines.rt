@@ -24,8 +24,8 @@ use vm_superio::{Serial, SerialState, laws, saved};
 /// The serial port of a board.
 pub(crate) type Port = Serial<Line, Counts, Output>;
 
-/// Executes a line on the serial port and returns the reply. Only a line that takes memory can fail, for lack of it. The
-/// port is then unchanged.
+/// Executes a line on the serial port and returns the reply. Only a line that takes memory can fail, for lack of it.
+/// The port is then unchanged.
 pub(crate) fn serial_line(
     alloc: Global,
     serial: &mut Port,

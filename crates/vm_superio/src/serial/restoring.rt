@@ -32,7 +32,8 @@ impl Registers {
 
     /// Calls the trigger once for each condition that is pending and enabled, up to the first refusal.
     pub(super) fn reassert<T: Trigger>(&self, trigger: &mut T) -> Result<(), T::E>
-        ensures accepted { OnOk result (T.link trigger.old (all_ok (restore_calls (state_with self.now []))) trigger.new) }
+        ensures accepted { OnOk result
+            (T.link trigger.old (all_ok (restore_calls (state_with self.now []))) trigger.new) }
         ensures refused { IfErr result (λ refusal. (answers : List (Result (Unit {0}) T.E))
             × StopsAtRefusal (restore_calls (state_with self.now [])) refusal answers
             × T.link trigger.old answers trigger.new) }
