@@ -4,6 +4,7 @@ use Rattle.vm_superio.specs.Serial.Port.Operations.{Event}
 use Rattle.vm_superio.specs.Links.Objects.{Link, TriggerAnswer, Contents}
 use Rattle.vm_superio.specs.Serial.Port.Model.{Port}
 use Rattle.vm_superio.specs.Serial.Step.PortStep.{IsWriteStep}
+use Rattle.superio_examples.specs.declared.bus.Keyboard.{Keyboard}
 use Rattle.superio_examples.specs.declared.bus.BusError.{BusError}
 use Rattle.superio_examples.specs.declared.bus.BusError.TheVariants.{Serial, Reset}
 
@@ -14,6 +15,12 @@ is_serial base port = nat_le base port && nat_lt port (base + 8)
 -- the two ports of the controller, for data and commands, unless they are the serial port's
 abbrev pub is_i8042 : (base port : ℕ) → Bool
 is_i8042 base port = not (is_serial base port) && ((port == 0x60) || (port == 0x64))
+
+-- what a read of these two shows: 0 of a keyboard that never answers. Otherwise bit 0x01, output full, and not bit
+-- 0x02, input full
+abbrev pub controller_byte : (keyboard : Keyboard) → ℕ
+controller_byte Keyboard.Unspecified = 0
+controller_byte Keyboard.Absent = 0xFD
 
 -- a port of neither device
 abbrev pub is_vacant : (base port : ℕ) → Bool

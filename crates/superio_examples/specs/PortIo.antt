@@ -7,7 +7,7 @@ use Rattle.vm_superio.specs.Links.Objects.{Link, TriggerAnswer, Contents}
 use Rattle.vm_superio.specs.Serial.Step.PortStep.{IsReadStep}
 use Rattle.superio_examples.specs.declared.bus.Bus.{Bus}
 use Rattle.superio_examples.specs.declared.bus.BusError.{BusError}
-use Rattle.superio_examples.specs.Bus.{is_serial, is_i8042, is_vacant, is_reset, ForwardsWrite, ForwardsReset}
+use Rattle.superio_examples.specs.Bus.{is_serial, is_i8042, is_vacant, is_reset, controller_byte, ForwardsWrite, ForwardsReset}
 
 -- the lengths that an access of a guest has
 abbrev pub is_width : (length : ℕ) → Bool
@@ -25,10 +25,11 @@ module _ {T E EV W R F : Type 0} (trigger : Link T (TriggerAnswer E)) (events : 
         OnTrue (is_serial old.base port)
         (IsReadStep trigger events contents (port - old.base) byte old.serial new.serial)
     pub serial_alone : OnFalse (is_serial old.base port) (new.serial ≡ old.serial)
-    pub controller : OnTrue (is_i8042 old.base port) (byte ≡ 0)
+    pub controller : OnTrue (is_i8042 old.base port) (byte ≡ controller_byte old.keyboard)
     pub controller_alone : new.controller ≡ old.controller
     pub vacant : OnTrue (is_vacant old.base port) (byte ≡ 0xFF)
     pub base : new.base ≡ old.base
+    pub keyboard : new.keyboard ≡ old.keyboard
 
   -- bytes are read at ports that follow each other
   abbrev pub ReadsBytes : (port : ℕ) (bytes : List ℕ) (old new : Bus T EV W R E F) → Type 0
@@ -47,6 +48,7 @@ module _ {T E EV W R F : Type 0} (trigger : Link T (TriggerAnswer E)) (events : 
     pub controller_alone : OnFalse (is_reset old.base port value) (new.controller ≡ old.controller)
     pub others : OnFalse (is_serial old.base port || is_reset old.base port value) (result ≡ Ok tt)
     pub base : new.base ≡ old.base
+    pub keyboard : new.keyboard ≡ old.keyboard
 
   -- bytes are written at ports that follow each other, and the result is the first error, if there is one
   abbrev pub WritesBytes :

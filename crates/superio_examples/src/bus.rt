@@ -3,7 +3,7 @@ ghost use Rattle.std.specs.Prelude.{◌≡◌, ◌-◌, ◌||◌, if◌then◌el
 ghost use Rattle.std.specs.Bool.{OnTrue, OnFalse};
 ghost use Rattle.vm_superio.specs.Serial.Port.Coherent.{Coherent};
 ghost use Rattle.vm_superio.specs.Serial.Step.PortStep.{IsReadStep};
-ghost use Rattle.superio_examples.specs.Bus.{is_serial, is_i8042, is_vacant, is_reset};
+ghost use Rattle.superio_examples.specs.Bus.{is_serial, is_i8042, is_vacant, is_reset, controller_byte};
 ghost use Rattle.superio_examples.specs.Bus.{ForwardsWrite, ForwardsReset};
 
 use std::io::Write;
@@ -28,6 +28,16 @@ const I8042_DATA: u16 = 0x60;
 /// The controller's command port. On a PC, those in between are not its own: 0x61 is system control port B.
 const I8042_COMMAND: u16 = 0x64;
 
+/// What a guest reads at the controller's two ports. The reset command works with either.
+#[derive(Clone, Copy)]
+pub enum Keyboard {
+    /// 0, as the controller gives: a keyboard that never answers. Linux waits for it half a second.
+    Unspecified,
+    /// 0xFD. Bit 0x01 of the status never clears, so Linux finds no controller after 17 reads. Bit 0x02 is clear, or it
+    /// would read the status 65,536 times before the reset command, as it does with 0xFF.
+    Absent,
+}
+
 /// Why a write failed.
 #[derive(Debug, Drop)]
 pub enum BusError<E, F> {
@@ -43,6 +53,8 @@ pub enum BusError<E, F> {
 pub struct Bus<T: Trigger, EV: SerialEvents, W: Write, R: Trigger> {
     /// The first port of the serial port, such as [`COM1`].
     pub base: u16,
+    /// What reads of the controller's ports give.
+    pub keyboard: Keyboard,
     pub serial: Serial<T, EV, W>,
     pub controller: I8042Device<R>,
 }
@@ -54,16 +66,20 @@ impl<T: Trigger, EV: SerialEvents, W: Write, R: Trigger> Bus<T, EV, W, R> {
         ensures serial { OnTrue (is_serial self.old.base port)
             (IsReadStep T.link EV.link W.contents (port - self.old.base) result self.old.serial self.new.serial) }
         ensures serial_alone { OnFalse (is_serial self.old.base port) (self.new.serial ≡ self.old.serial) }
-        ensures controller { OnTrue (is_i8042 self.old.base port) (result ≡ 0) }
+        ensures controller { OnTrue (is_i8042 self.old.base port) (result ≡ controller_byte self.old.keyboard) }
         ensures controller_alone { self.new.controller ≡ self.old.controller }
         ensures vacant { OnTrue (is_vacant self.old.base port) (result ≡ 0xFF) }
         ensures base { self.new.base ≡ self.old.base }
+        ensures keyboard { self.new.keyboard ≡ self.old.keyboard }
         ensures coherent { Coherent self.old.serial.state → Coherent self.new.serial.state }
     {
-        match (self.serial_offset(port), port) {
-            (Some(offset), _) => self.serial.read(offset),
-            (None, I8042_DATA | I8042_COMMAND) => self.controller.read((port - I8042_DATA) as u8),
-            (None, _) => 0xFF,
+        match (self.serial_offset(port), port, self.keyboard) {
+            (Some(offset), _, _) => self.serial.read(offset),
+            (None, I8042_DATA | I8042_COMMAND, Keyboard::Unspecified) => {
+                self.controller.read((port - I8042_DATA) as u8)
+            }
+            (None, I8042_DATA | I8042_COMMAND, Keyboard::Absent) => 0xFD,
+            (None, _, _) => 0xFF,
         }
     }
 
@@ -85,6 +101,7 @@ impl<T: Trigger, EV: SerialEvents, W: Write, R: Trigger> Bus<T, EV, W, R> {
             (self.new.controller ≡ self.old.controller) }
         ensures others { OnFalse (is_serial self.old.base port || is_reset self.old.base port value) (result ≡ Ok tt) }
         ensures base { self.new.base ≡ self.old.base }
+        ensures keyboard { self.new.keyboard ≡ self.old.keyboard }
         ensures coherent { Coherent self.old.serial.state → Coherent self.new.serial.state }
     {
         match (self.serial_offset(port), port) {

@@ -3,7 +3,7 @@ use crate::objects::{Log, Object, port};
 use std::alloc::Global;
 use std::test::Fail;
 use superio_examples::alarm::{Alarm, alarm_at, find_alarm};
-use superio_examples::bus::{Bus, BusError, COM1, COM2, COM3, COM4};
+use superio_examples::bus::{Bus, BusError, COM1, COM2, COM3, COM4, Keyboard};
 use superio_examples::event_fd::EventFd;
 use superio_examples::mmio::ClockWindow;
 use vm_superio::serial::Error;
@@ -22,6 +22,7 @@ const INTERRUPTED: i32 = 4;
 fn bus_at(alloc: Global, log: &Log, base: u16) -> Result<TestBus<'_>, Fail> {
     Ok(Bus {
         base,
+        keyboard: Keyboard::Unspecified,
         serial: port(alloc, log)?,
         controller: I8042Device::new(Object::new(log)),
     })
@@ -32,6 +33,7 @@ fn a_bus_reaches_its_devices_by_port(rt: HostRuntime) -> Result<(), Fail> {
     let (log, resets) = (Log::new(), Log::new());
     let mut bus = Bus {
         base: COM1,
+        keyboard: Keyboard::Unspecified,
         serial: port(rt.alloc(), &log)?,
         controller: I8042Device::new(Object::new(&resets)),
     };
@@ -84,34 +86,55 @@ fn a_bus_reaches_its_devices_by_port(rt: HostRuntime) -> Result<(), Fail> {
 }
 
 #[test]
-fn a_serial_port_is_where_the_bus_has_it(rt: HostRuntime) -> Result<(), Fail> {
-    let log = Log::new();
-    let bases = [COM1, COM2, COM3, COM4];
-    assert!(rt; bases == [0x3F8, 0x2F8, 0x3E8, 0x2E8]);
-    // Two ports side by side keep what the guest wrote to the scratch register of each.
+fn serial_ports_side_by_side_do_not_mix(rt: HostRuntime) -> Result<(), Fail> {
+    assert!(rt; [COM1, COM2, COM3, COM4] == [0x3F8, 0x2F8, 0x3E8, 0x2E8]);
     for (first, second) in [(COM1, COM2), (COM3, COM4)] {
-        let mut one = bus_at(rt.alloc(), &log, first)?;
-        let mut two = bus_at(rt.alloc(), &log, second)?;
-        for (base, value) in [(first, 0x11), (second, 0x22)] {
-            assert!(rt; one.write(base | 0x07, value).is_ok());
-            assert!(rt; two.write(base | 0x07, value).is_ok());
+        let (log_one, log_two) = (Log::new(), Log::new());
+        let mut one = bus_at(rt.alloc(), &log_one, first)?;
+        let mut two = bus_at(rt.alloc(), &log_two, second)?;
+        two.keyboard = Keyboard::Absent;
+        // The guest enables RDA at the first port and THRE at the second, and sends bytes. Both buses are offered every
+        // access.
+        for (port, value) in [
+            (first | 1, 0x01),
+            (second | 1, 0x02),
+            (first | 7, 0x11),
+            (second | 7, 0x22),
+            (first, b'a'),
+            (second, b'b'),
+            (second, b'c'),
+        ] {
+            assert!(rt; one.write(port, value).is_ok() && two.write(port, value).is_ok());
         }
-        for base in bases {
-            let (of_one, of_two) = (one.read(base | 0x07), two.read(base | 0x07));
+        assert!(rt; one.serial.enqueue_raw_bytes(b"x").ok() == Some(1));
+        assert!(rt; log_one.writes.get() == 1 && log_one.triggers.get() == 1);
+        assert!(rt; log_two.writes.get() == 2 && log_two.triggers.get() == 1);
+        // IIR, LSR, RBR, IER and the scratch register.
+        for (offset, of_one, of_two) in [
+            (2, 0xC4, 0xC2),
+            (5, 0x61, 0x60),
+            (0, b'x', 0x00),
+            (1, 0x01, 0x02),
+            (7, 0x11, 0x22),
+        ] {
+            let (at_one, at_two) = (first | offset, second | offset);
             assert!(rt;
-                of_one == if base == first { 0x11 } else { 0xFF },
-                "{base:#x}"
+                one.read(at_one) == of_one && one.read(at_two) == 0xFF,
+                "{offset}"
             );
             assert!(rt;
-                of_two == if base == second { 0x22 } else { 0xFF },
-                "{base:#x}"
-            );
-            let (below, above) = (base.wrapping_sub(1), base.wrapping_add(8));
-            assert!(rt;
-                one.read(below) == 0xFF && two.read(above) == 0xFF,
-                "{base:#x}"
+                two.read(at_two) == of_two && two.read(at_one) == 0xFF,
+                "{offset}"
             );
         }
+        // The ports next to them, and the controller's.
+        for port in [first.wrapping_sub(1), first.wrapping_add(8)] {
+            assert!(rt; one.read(port) == 0xFF && two.read(port) == 0xFF);
+        }
+        for port in [0x60, 0x64] {
+            assert!(rt; one.read(port) == 0x00 && two.read(port) == 0xFD);
+        }
+        assert!(rt; two.write(0x64, 0xFE).is_ok() && log_two.triggers.get() == 2);
     }
     Ok(())
 }

@@ -12,6 +12,7 @@ returns-in-1-clause-bytes g c = rw (c.in-1.is, c.copy_from_slice.ensures.after) 
     controller_alone = c.read.ensures.controller_alone;
     vacant = c.read.ensures.vacant;
     base = c.read.ensures.base;
+    keyboard = c.read.ensures.keyboard;
   },
   refl,
 )
@@ -26,6 +27,7 @@ returns-in-2-clause-bytes g c = rw (c.in-2.is, c.copy_from_slice-in-2.ensures.af
     controller_alone = c.read-in-2.ensures.controller_alone;
     vacant = c.read-in-2.ensures.vacant;
     base = c.read-in-2.ensures.base;
+    keyboard = c.read-in-2.ensures.keyboard;
   },
   (
     c.read-in-2-2.new.self,
@@ -36,6 +38,7 @@ returns-in-2-clause-bytes g c = rw (c.in-2.is, c.copy_from_slice-in-2.ensures.af
       controller_alone = c.read-in-2-2.ensures.controller_alone;
       vacant = c.read-in-2-2.ensures.vacant;
       base = c.read-in-2-2.ensures.base;
+      keyboard = c.read-in-2-2.ensures.keyboard;
     },
     refl,
   ),

@@ -21,6 +21,7 @@ returns-in-len1-clause-bytes g c =
         controller_alone = c.write.ensures.controller_alone;
         others = c.write.ensures.others;
         base = c.write.ensures.base;
+        keyboard = c.write.ensures.keyboard;
       },
       (refl, refl),
       and-ok c.write.result,
@@ -44,6 +45,7 @@ returns-in-len2-clause-bytes g c =
         controller_alone = c.write-first.ensures.controller_alone;
         others = c.write-first.ensures.others;
         base = c.write-first.ensures.base;
+        keyboard = c.write-first.ensures.keyboard;
       },
       (
         c.write-in-len2.result,
@@ -56,6 +58,7 @@ returns-in-len2-clause-bytes g c =
           controller_alone = c.write-in-len2.ensures.controller_alone;
           others = c.write-in-len2.ensures.others;
           base = c.write-in-len2.ensures.base;
+          keyboard = c.write-in-len2.ensures.keyboard;
         },
         (refl, refl),
         and-ok c.write-in-len2.result,

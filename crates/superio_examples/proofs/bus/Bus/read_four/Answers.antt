@@ -12,6 +12,7 @@ returns-clause-bytes g c = (
     controller_alone = c.read.ensures.controller_alone;
     vacant = c.read.ensures.vacant;
     base = c.read.ensures.base;
+    keyboard = c.read.ensures.keyboard;
   },
   (
     c.read-2.new.self,
@@ -22,6 +23,7 @@ returns-clause-bytes g c = (
       controller_alone = c.read-2.ensures.controller_alone;
       vacant = c.read-2.ensures.vacant;
       base = c.read-2.ensures.base;
+      keyboard = c.read-2.ensures.keyboard;
     },
     (
       c.read-3.new.self,
@@ -32,6 +34,7 @@ returns-clause-bytes g c = (
         controller_alone = c.read-3.ensures.controller_alone;
         vacant = c.read-3.ensures.vacant;
         base = c.read-3.ensures.base;
+        keyboard = c.read-3.ensures.keyboard;
       },
       (
         c.read-4.new.self,
@@ -42,6 +45,7 @@ returns-clause-bytes g c = (
           controller_alone = c.read-4.ensures.controller_alone;
           vacant = c.read-4.ensures.vacant;
           base = c.read-4.ensures.base;
+          keyboard = c.read-4.ensures.keyboard;
         },
         refl,
       ),

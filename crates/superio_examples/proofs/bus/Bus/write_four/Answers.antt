@@ -15,6 +15,7 @@ returns-clause-bytes g c = (
     controller_alone = c.write-at_first.ensures.controller_alone;
     others = c.write-at_first.ensures.others;
     base = c.write-at_first.ensures.base;
+    keyboard = c.write-at_first.ensures.keyboard;
   },
   (
     c.write-at_second.result,
@@ -27,6 +28,7 @@ returns-clause-bytes g c = (
       controller_alone = c.write-at_second.ensures.controller_alone;
       others = c.write-at_second.ensures.others;
       base = c.write-at_second.ensures.base;
+      keyboard = c.write-at_second.ensures.keyboard;
     },
     (
       c.write-at_third.result,
@@ -39,6 +41,7 @@ returns-clause-bytes g c = (
         controller_alone = c.write-at_third.ensures.controller_alone;
         others = c.write-at_third.ensures.others;
         base = c.write-at_third.ensures.base;
+        keyboard = c.write-at_third.ensures.keyboard;
       },
       (
         c.write-at_fourth.result,
@@ -51,6 +54,7 @@ returns-clause-bytes g c = (
           controller_alone = c.write-at_fourth.ensures.controller_alone;
           others = c.write-at_fourth.ensures.others;
           base = c.write-at_fourth.ensures.base;
+          keyboard = c.write-at_fourth.ensures.keyboard;
         },
         (refl, refl),
         and-ok c.write-at_fourth.result,
