@@ -1,7 +1,7 @@
 -- A clock's window in a guest's memory.
-use Rattle.std.specs.Prelude.{◌≡◌, ℕ, ◌+◌, ◌-◌, ◌%◌, Bool, ◌&&◌, ◌||◌, ◌==◌, nat_le, nat_lt, if◌then◌else◌, List, length, take, drop, replicate}
+use Rattle.std.specs.Prelude.{◌≡◌, ℕ, ◌+◌, ◌-◌, ◌%◌, Bool, ◌&&◌, ◌||◌, ◌==◌, nat_le, nat_lt, not, if◌then◌else◌, List, [], ◌∷◌, length, take, drop, replicate}
 use Rattle.vm_superio.specs.Links.Objects.{Link}
-use Rattle.vm_superio.specs.Rtc.Events.{RtcEvent}
+use Rattle.vm_superio.specs.Rtc.Events.{RtcEvent, invalid_read, invalid_write}
 use Rattle.vm_superio.specs.Rtc.Registers.{read, write_of, host_time, bytes_left}
 use Rattle.vm_superio.specs.Rtc.Step.{ClockDevice, after_alarm, clock_response, clock_step, clock_events}
 
@@ -23,6 +23,13 @@ is_read base address length =
 abbrev pub is_write : (base address length : ℕ) → Bool
 is_write base address length = is_inside base address && (length == 4)
 
+-- any other access in the window
+abbrev pub is_other_read : (base address length : ℕ) → Bool
+is_other_read base address length = is_inside base address && not (is_read base address length)
+
+abbrev pub is_other_write : (base address length : ℕ) → Bool
+is_other_write base address length = is_inside base address && not (is_write base address length)
+
 module _ {EV : Type 0} (link : Link EV RtcEvent) where
   -- the clock's read, into bytes that were cleared, of the register around the offset: the part from the offset on
   pub record ReadsClock (offset now : ℕ) (bytes : List ℕ) (old new : ClockDevice EV) : Type 0 where
@@ -37,3 +44,12 @@ module _ {EV : Type 0} (link : Link EV RtcEvent) where
   pub record WritesClock (offset : ℕ) (bytes : List ℕ) (now : ℕ) (old new : ClockDevice EV) : Type 0 where
     pub state : new.state ≡ clock_step old.state (write_of offset bytes now)
     pub events : link old.events (clock_events (write_of offset bytes now)) new.events
+
+  -- an invalid access changes no register, and reports one event. Like any access it begins with the alarm
+  pub record IsInvalidRead (now : ℕ) (old new : ClockDevice EV) : Type 0 where
+    pub state : new.state ≡ after_alarm old.state (host_time now)
+    pub events : link old.events (invalid_read ∷ []) new.events
+
+  pub record IsInvalidWrite (now : ℕ) (old new : ClockDevice EV) : Type 0 where
+    pub state : new.state ≡ after_alarm old.state (host_time now)
+    pub events : link old.events (invalid_write ∷ []) new.events

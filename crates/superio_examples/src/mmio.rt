@@ -1,7 +1,8 @@
 //! A clock on an MMIO bus: a window of guest memory, which the guest reaches by 64-bit addresses.
 ghost use Rattle.std.specs.Prelude.{◌≡◌, ◌-◌, if◌then◌else◌, length, replicate, Some, None};
 ghost use Rattle.std.specs.Bool.{OnTrue, OnFalse};
-ghost use Rattle.superio_examples.specs.Mmio.{is_inside, is_read, is_write, ReadsClock, WritesClock};
+ghost use Rattle.superio_examples.specs.Mmio.{is_inside, is_read, is_write, is_other_read, is_other_write};
+ghost use Rattle.superio_examples.specs.Mmio.{ReadsClock, WritesClock, IsInvalidRead, IsInvalidWrite};
 
 use vm_superio::Rtc;
 use vm_superio::rtc_pl031::RtcEvents;
@@ -9,8 +10,12 @@ use vm_superio::rtc_pl031::RtcEvents;
 /// The length of the window, as of a PL031.
 const LENGTH: u64 = 0x1000;
 
+/// An offset of no register. There an access is invalid, and changes no register.
+const NO_REGISTER: u16 = 0x020;
+
 /// A clock whose window begins at `base`. A guest reaches its registers by accesses of four bytes. A read of one or two
-/// bytes gives that part of the register around it, as EDK II reads the identification.
+/// bytes gives that part of the register around it, as EDK II reads the identification. Any other access in the window
+/// is invalid, a narrow write too, and the clock reports it as such.
 ///
 /// Each access takes its moment, in seconds since 1970, from the host's clock. If a guest moves, both hosts must tell
 /// the same time.
@@ -21,15 +26,17 @@ pub struct ClockWindow<EV: RtcEvents> {
 }
 
 impl<EV: RtcEvents> ClockWindow<EV> {
-    /// Reads at `address`, as the guest does at the moment `now`. Clears the bytes first, so a register that cannot be
-    /// read gives zeros, and nothing of the monitor's memory. An access of another length, one of two bytes that lie in
-    /// two registers, or one outside the window gives zeros too, and changes nothing.
+    /// Reads at `address`, as the guest does at the moment `now`. Clears the bytes first, so an invalid read gives zeros,
+    /// and nothing of the monitor's memory. A read of another length, or of two bytes that lie in two registers, is
+    /// invalid. One outside the window gives zeros too, and changes nothing.
     pub fn read(&mut self, address: u64, bytes: &mut [u8], now: u64)
         ensures clock { OnTrue (is_read self.old.base address (length bytes.old))
             (ReadsClock EV.link (address - self.old.base) now bytes.new self.old.clock self.new.clock) }
         ensures elsewhere { OnFalse (is_read self.old.base address (length bytes.old))
             (bytes.new ≡ replicate (length bytes.old) 0) }
-        ensures alone { OnFalse (is_read self.old.base address (length bytes.old)) (self.new ≡ self.old) }
+        ensures invalid { OnTrue (is_other_read self.old.base address (length bytes.old))
+            (IsInvalidRead EV.link now self.old.clock self.new.clock) }
+        ensures alone { OnFalse (is_inside self.old.base address) (self.new ≡ self.old) }
         ensures base { self.new.base ≡ self.old.base }
     {
         bytes.fill(0);
@@ -46,23 +53,29 @@ impl<EV: RtcEvents> ClockWindow<EV> {
                     let end = place + bytes.len();
                     bytes.copy_from_slice(&register[place..end]);
                 }
-                _ => {}
+                _ => self.clock.read(NO_REGISTER, &mut register, now),
             }
         }
     }
 
-    /// Writes at `address`, as the guest does at the moment `now`. An access of another length, or outside the window,
-    /// changes nothing.
+    /// Writes at `address`, as the guest does at the moment `now`. A write of another length than four is invalid. One
+    /// outside the window changes nothing.
     pub fn write(&mut self, address: u64, bytes: &[u8], now: u64)
         ensures clock { OnTrue (is_write self.old.base address (length bytes.now))
             (WritesClock EV.link (address - self.old.base) bytes.now now self.old.clock self.new.clock) }
-        ensures alone { OnFalse (is_write self.old.base address (length bytes.now)) (self.new ≡ self.old) }
+        ensures invalid { OnTrue (is_other_write self.old.base address (length bytes.now))
+            (IsInvalidWrite EV.link now self.old.clock self.new.clock) }
+        ensures alone { OnFalse (is_inside self.old.base address) (self.new ≡ self.old) }
         ensures base { self.new.base ≡ self.old.base }
     {
-        if let (Some(offset), 4) = (self.offset(address), bytes.len()) {
+        if let Some(offset) = self.offset(address) {
             let mut register = [0; 4];
-            register.copy_from_slice(bytes);
-            self.clock.write(offset, &register, now);
+            if bytes.len() == 4 {
+                register.copy_from_slice(bytes);
+                self.clock.write(offset, &register, now);
+            } else {
+                self.clock.write(NO_REGISTER, &register, now);
+            }
         }
     }
 
