@@ -1,2 +1,3 @@
 pub mod InputLemmas
+pub mod OutputLemmas
 pub mod PortIoLemmas

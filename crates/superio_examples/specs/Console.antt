@@ -4,13 +4,16 @@ use Rattle.std.specs.Bool.{OnTrue, OnFalse}
 use Rattle.circular_buffer.specs.Buffer.{buffer}
 use Rattle.vm_superio.specs.declared.serial.errors.Error.{Error}
 use Rattle.vm_superio.specs.declared.serial.errors.Error.TheVariants.{Trigger}
-use Rattle.vm_superio.specs.Serial.Port.Operations.{Event}
+use Rattle.vm_superio.specs.Serial.Port.Operations.{Event, Write}
+use Rattle.vm_superio.specs.Serial.Port.OpKinds.{sent_by}
 use Rattle.vm_superio.specs.declared.serial.registers.Condition.{Condition}
 use Rattle.vm_superio.specs.Links.Objects.{Link, TriggerAnswer, Contents, RefusesOwnState}
 use Rattle.vm_superio.specs.Serial.Port.Model.{refusal_in_result}
+use Rattle.vm_superio.specs.Serial.Step.Admissible.{kind_in_state}
 use Rattle.vm_superio.specs.Serial.Step.PortStep.{IsReadStep, IsWriteStep}
 use Rattle.superio_examples.specs.declared.console.Console.{Console}
 use Rattle.superio_examples.specs.Input.{room_in, ForwardsEnqueue}
+use Rattle.superio_examples.specs.Output.{after_sent}
 
 module _ {T E EV W : Type 0} (trigger : Link T (TriggerAnswer E)) (events : Link EV Event) (contents : Contents W) where
   -- the port is given the waiting bytes, as far as it has room, and a refusal of its trigger is remembered
@@ -19,6 +22,7 @@ module _ {T E EV W : Type 0} (trigger : Link T (TriggerAnswer E)) (events : Link
     pub step : ForwardsEnqueue trigger events contents old.input.items answer old.serial new.serial
     pub left : new.input ≡ buffer (drop (room_in old.serial.state) old.input.items) old.input.capacity
     pub kept : new.serial.state.in_buffer ++ new.input.items ≡ old.serial.state.in_buffer ++ old.input.items
+    pub output : new.output ≡ old.output
     pub remembered : new.is_refused ≡ (old.is_refused || is_err answer)
 
   -- so where `starts`; else nothing changes
@@ -32,7 +36,8 @@ module _ {T E EV W : Type 0} (trigger : Link T (TriggerAnswer E)) (events : Link
     pub others : between ≡ record old { serial = between.serial }
     pub fed : FeedsIf (length between.serial.state.in_buffer == 0) between new
 
-  -- so is its write, of which a refusal is remembered; then input goes in, where MCR was written
+  -- its write too. A byte that it sends waits in the output, or is dropped, and a refusal is remembered. Then input
+  -- goes in, if MCR was written
   pub record WritesThenFeeds (offset value : ℕ) (answer : Result (Unit {0}) (Error E)) (old new : Console T EV W E) :
       Type 0 where
     pub between : Console T EV W E
@@ -40,6 +45,7 @@ module _ {T E EV W : Type 0} (trigger : Link T (TriggerAnswer E)) (events : Link
     pub others :
         between ≡ record old {
           serial = between.serial;
+          output = after_sent (sent_by (kind_in_state old.serial.state (Write offset value))) old.output;
           is_refused = old.is_refused || is_some (refusal_in_result answer);
         }
     pub fed : FeedsIf (offset == 4) between new

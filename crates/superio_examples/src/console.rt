@@ -1,18 +1,16 @@
 //! A serial port in a monitor's event loop. The loop stops reading its source while the input is full, and retries a
 //! refused interrupt.
-ghost use Rattle.std.specs.Prelude.{◌≡◌, ◌-◌, ◌==◌, ◌++◌, length, take, drop, min, is_some, false, true, IfOk, OnErr};
-ghost use Rattle.std.specs.Io.KnownBytes.{WriteAppends};
+ghost use Rattle.std.specs.Prelude.{◌≡◌, ◌-◌, ◌==◌, ◌++◌, length, take, min, is_some, false, true};
 ghost use Rattle.circular_buffer.specs.Buffer.{buffer};
 ghost use Rattle.vm_superio.specs.Serial.Port.Coherent.{Coherent};
 ghost use Rattle.vm_superio.specs.Links.Objects.{all_ok};
 ghost use Rattle.vm_superio.specs.Serial.Port.Model.{refusal_in_result};
 ghost use Rattle.vm_superio.specs.Serial.Step.Restore.{restore_calls};
-ghost use Rattle.vm_superio.specs.Serial.Step.PortStep.{with_trigger, with_writer};
+ghost use Rattle.vm_superio.specs.Serial.Step.PortStep.{with_trigger};
 ghost use Rattle.superio_examples.specs.Console.{Feeds, ReadsThenFeeds, RefusesAgain, WritesThenFeeds};
 
 use crate::input::Input;
 use crate::output::Output;
-use std::io;
 use std::io::Write;
 use vm_superio::serial::{Error, SerialEvents};
 use vm_superio::{Serial, Trigger};
@@ -20,15 +18,18 @@ use vm_superio::{Serial, Trigger};
 /// The offset of MCR, which has the loopback bit.
 const MCR: u8 = 4;
 
-/// A serial port, with the input for its guest. An event loop
+/// A serial port, with the input and the output of its guest. The port's own writer gets the output too, and may be
+/// `io::sink()`. An event loop
 ///
 /// - polls its source while `input.room()` is above 0, reads at most that many bytes, passes them to `receive`;
+/// - polls its sink unless `output.is_empty()`, and passes it to `output.drain_into`;
 /// - passes each access of the guest to `read` or `write`, which may make room;
 /// - calls `retry` on a timer while `is_refused`.
 #[derive(Drop)]
 pub struct Console<T: Trigger, EV: SerialEvents, W: Write> {
     pub serial: Serial<T, EV, W>,
     pub input: Input,
+    pub output: Output,
     /// The trigger refused a call since the last successful `retry`: the guest may wait for an interrupt.
     pub is_refused: bool,
 }
@@ -62,7 +63,8 @@ impl<T: Trigger, EV: SerialEvents, W: Write> Console<T, EV, W> {
         byte
     }
 
-    /// Writes `value` at `offset`, as the guest does. Feeds the port after a write to MCR, which may end loopback.
+    /// Writes `value` at `offset`, as the guest does. A byte that the guest sends waits in the output, or is dropped and
+    /// counted, as by [`Output::forward`]. Feeds the port after a write to MCR, which may end loopback.
     ///
     /// # Errors
     ///
@@ -71,7 +73,7 @@ impl<T: Trigger, EV: SerialEvents, W: Write> Console<T, EV, W> {
         ensures step { WritesThenFeeds T.link EV.link W.contents offset value result self.old self.new }
         ensures coherent { Coherent self.old.serial.state → Coherent self.new.serial.state }
     {
-        let written = self.serial.write(offset, value);
+        let written = self.output.forward(&mut self.serial, offset, value);
         self.is_refused |= is_refusal(&written);
         if offset == MCR {
             self.feed();
@@ -105,25 +107,6 @@ impl<T: Trigger, EV: SerialEvents, W: Write> Console<T, EV, W> {
         if self.input.feed(&mut self.serial).is_err() {
             self.is_refused = true;
         }
-    }
-}
-
-impl<T: Trigger, EV: SerialEvents> Console<T, EV, Output> {
-    /// Passes the waiting output to a sink, as [`Output::drain_into`] does, and returns how many bytes it took.
-    ///
-    /// # Errors
-    ///
-    /// Returns the sink's error, and all bytes stay.
-    pub fn drain_into<S: Write>(&mut self, sink: &mut S) -> io::Result<usize>
-        ensures bytes { WriteAppends (S.contents sink.old) (S.contents sink.new) result self.old.serial.out.items }
-        ensures taken { IfOk result (λ count.
-            self.new.serial.out ≡ record self.old.serial.out { items = drop count self.old.serial.out.items }) }
-        ensures refused { OnErr result (self.new ≡ self.old) }
-        ensures rest_unchanged { self.new ≡ record self.old {
-          serial = with_writer self.old.serial self.new.serial.out;
-        } }
-    {
-        self.serial.writer_mut().drain_into(sink)
     }
 }
 

@@ -1,20 +1,40 @@
-//! Output of a guest. It waits until the monitor's sink takes it, and a write to it never blocks.
-ghost use Rattle.std.specs.Prelude.{◌≡◌, ◌+◌, ◌-◌, ◌≤◌, ◌==◌, ◌++◌, [], length, take, drop, min, Some, IfOk, OnErr};
+//! Output of a guest. It waits until the monitor's sink takes it, and the guest never waits for the sink.
+ghost use Rattle.std.specs.Prelude.{◌≡◌, ◌-◌, ◌==◌, ◌++◌, ℕ, [], ◌∷◌, if◌then◌else◌, length, drop, min, Some, IfOk, OnErr};
 ghost use Rattle.std.specs.Io.{WritesAtMost};
 ghost use Rattle.std.specs.Io.KnownBytes.{WriteAppends, Appends, Keeps};
-ghost use Rattle.superio_examples.specs.Output.{Waiting, dropped_by};
+ghost use Rattle.vm_superio.specs.Serial.Port.Coherent.{Coherent};
+ghost use Rattle.vm_superio.specs.Serial.Port.OpKinds.{sent_by};
+ghost use Rattle.vm_superio.specs.Serial.Port.Operations.{Write};
+ghost use Rattle.vm_superio.specs.Serial.Port.Registers.{is_dlab, is_loopback};
+ghost use Rattle.vm_superio.specs.Serial.Step.Admissible.{kind_in_state};
+ghost use Rattle.vm_superio.specs.Serial.Step.PortStep.{IsWriteStep};
+ghost use Rattle.superio_examples.specs.Output.{Waiting, OutputLaw, after_sent, dropped_by};
 
 use circular_buffer::HeapCircularBuffer;
 use std::alloc::{AllocError, Global};
 use std::io;
 use std::io::Write;
 use std::marker::Model;
+use vm_superio::serial::{Error, SerialEvents};
+use vm_superio::{Serial, Trigger};
 
-/// A writer whose bytes wait for the monitor's sink, oldest first, in a ring. Their number is limited, and `new`
-/// allocates the memory for this limit.
+/// The offsets of THR, LCR and MCR, and the bits of DLAB and loopback in the last two.
+const THR: u8 = 0;
+
+const LCR: u8 = 3;
+
+const MCR: u8 = 4;
+
+const DLAB: u8 = 0x80;
+
+const LOOPBACK: u8 = 0x10;
+
+/// The bytes that wait for the monitor's sink, oldest first, in a ring. Their number is limited, and `new` allocates the
+/// memory for this limit. A byte that finds no room is dropped, and counted.
 ///
-/// In a serial port, a byte that finds no room is dropped, and counted: the guest's write returns an I/O error of the
-/// kind `WriteZero`, which the monitor can log. The guest goes on.
+/// A monitor passes each write of the guest to [`Output::forward`], as a `Console` does. An `Output` may also be the
+/// port's own writer. Then the guest's write returns an I/O error of the kind `WriteZero` for a byte that is dropped,
+/// which the monitor can log, and no contract says what the output holds after an I/O error.
 #[derive(Drop)]
 pub struct Output {
     waiting: HeapCircularBuffer<u8>,
@@ -72,6 +92,39 @@ impl Output {
         self.waiting.to_vec(alloc)
     }
 
+    /// Makes the guest's write of `value` at `offset`. If it sends a byte, which a write to THR outside loopback does,
+    /// the byte waits. If it finds no room, it is dropped, and counted. The port's own writer gets each byte too, and
+    /// may be `io::sink()`.
+    ///
+    /// # Errors
+    ///
+    /// Returns the error of the port's `write`. It says nothing of the output.
+    pub fn forward<T: Trigger, EV: SerialEvents, W: Write>(
+        &mut self,
+        serial: &mut Serial<T, EV, W>,
+        offset: u8,
+        value: u8,
+    ) -> Result<(), Error<T::E>>
+        ensures sent { self.new ≡ after_sent (sent_by (kind_in_state serial.old.state (Write offset value))) self.old }
+        ensures step { IsWriteStep T.link EV.link W.contents offset value result serial.old serial.new }
+        ensures coherent { Coherent serial.old.state → Coherent serial.new.state }
+    {
+        if sends(serial, offset) {
+            self.push(value);
+        }
+        serial.write(offset, value)
+    }
+
+    /// Takes a byte if there is room, and otherwise drops and counts it.
+    fn push(&mut self, byte: u8)
+        ensures { self.new ≡ after_sent (byte ∷ []) self.old }
+    {
+        if self.waiting.try_push_back(byte).is_err() {
+            let dropped = &mut self.dropped;
+            *dropped = dropped.saturating_add(1);
+        }
+    }
+
     /// Passes the waiting bytes to a sink by one call of its `write`, and returns how many it took. The others stay.
     ///
     /// # Errors
@@ -116,4 +169,38 @@ impl Write for Output {
     {
         Ok(())
     }
+}
+
+/// A law, for proofs about many calls: a guest sends bytes, by `forward`, and sinks take them, by `drain_into`, in any
+/// order. What sinks took, then what waits, is what waited at the start, then what the guest sent, in order, without the
+/// bytes that were dropped. The count has grown by the number of these, up to 2^64 - 1.
+pub fn in_order()
+    ensures { OutputLaw }
+{}
+
+/// Whether a write at `offset` sends a byte.
+fn sends<T: Trigger, EV: SerialEvents, W: Write>(serial: &mut Serial<T, EV, W>, offset: u8) -> bool
+    ensures byte { (value : ℕ) → sent_by (kind_in_state serial.old.state (Write offset value))
+        ≡ (if result then value ∷ [] else []) }
+    ensures port { serial.new ≡ serial.old }
+{
+    let is_dlab = has_dlab(serial);
+    let is_loopback = has_loopback(serial);
+    offset == THR && !is_dlab && !is_loopback
+}
+
+/// Whether LCR has the bit of DLAB.
+fn has_dlab<T: Trigger, EV: SerialEvents, W: Write>(serial: &mut Serial<T, EV, W>) -> bool
+    ensures bit { result ≡ is_dlab serial.old.state.line_control }
+    ensures port { serial.new ≡ serial.old }
+{
+    serial.read(LCR) & DLAB == DLAB
+}
+
+/// Whether MCR has the bit of loopback.
+fn has_loopback<T: Trigger, EV: SerialEvents, W: Write>(serial: &mut Serial<T, EV, W>) -> bool
+    ensures bit { result ≡ is_loopback serial.old.state.modem_control }
+    ensures port { serial.new ≡ serial.old }
+{
+    serial.read(MCR) & LOOPBACK == LOOPBACK
 }

@@ -8,6 +8,7 @@ use superio_examples::first_claim::read_back;
 use superio_examples::input::Input;
 use superio_examples::migration::{RestoreError, restore, restore_input, save};
 use superio_examples::monitor::saved_devices;
+use superio_examples::output::Output;
 use vm_superio::Rtc;
 use vm_superio::run::{Call, Done, Reply};
 use vm_superio::saved::Error as FormError;
@@ -70,6 +71,7 @@ fn input_stops_and_starts_and_a_refused_interrupt_is_tried_again(
     let mut console = Console {
         serial: port(rt.alloc(), &log)?,
         input: Input::new(rt.alloc(), 16)?,
+        output: Output::new(rt.alloc(), 0)?,
         is_refused: false,
     };
     log.refused.set(1);

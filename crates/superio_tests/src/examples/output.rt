@@ -1,31 +1,23 @@
 //! Output of a guest that waits for the monitor's sink.
-use crate::objects::{Log, Object};
+use crate::objects::{Log, Object, port};
 use std::alloc::Global;
 use std::io::{ErrorKind, Write};
 use std::test::Fail;
 use superio_examples::console::Console;
 use superio_examples::first_claim::send_byte;
 use superio_examples::input::Input;
-use superio_examples::output::Output;
+use superio_examples::output::{Output, in_order};
 use superio_script::Output as Sink;
-use vm_superio::Serial;
-use vm_superio::serial::Refused;
 
-/// A port whose output waits.
-type OutputPort<'a> = Serial<Object<'a>, Object<'a>, Output>;
+/// A console over a log's objects.
+type TestConsole<'a> = Console<Object<'a>, Object<'a>, Object<'a>>;
 
 /// A console over a log's objects, where at most `limit` bytes of output wait.
-fn console(
-    alloc: Global,
-    log: &Log,
-    limit: usize,
-) -> Result<Console<Object<'_>, Object<'_>, Output>, Fail> {
-    let object = Object::new(log);
-    let output = Output::new(alloc, limit)?;
-    let made: Result<OutputPort<'_>, _> = Serial::with_events(alloc, object, object, output);
+fn console(alloc: Global, log: &Log, limit: usize) -> Result<TestConsole<'_>, Fail> {
     Ok(Console {
-        serial: made.map_err(Refused::into_error)?,
+        serial: port(alloc, log)?,
         input: Input::new(alloc, 0)?,
+        output: Output::new(alloc, limit)?,
         is_refused: false,
     })
 }
@@ -57,30 +49,43 @@ fn an_output_takes_what_has_room_and_counts_what_it_drops(rt: HostRuntime) -> Re
 
 #[test]
 fn output_waits_for_its_sink_and_then_goes_on_in_order(rt: HostRuntime) -> Result<(), Fail> {
+    in_order();
     let log = Log::new();
     let mut console = console(rt.alloc(), &log, 300)?;
-    // The guest sends 310 bytes, while the sink has no room. The last ten are dropped.
+    // The guest sends 310 bytes, while the sink has no room, and the port's own writer fails. The last ten are dropped.
     log.write_fault.set(11);
     let mut object = Object::new(&log);
     for number in 0..310u32 {
-        let is_taken = console.write(0, (number % 251) as u8).is_ok();
-        assert!(rt; is_taken == (number < 300), "{number}");
-        let refused = console.drain_into(&mut object);
+        assert!(rt; console.write(0, (number % 251) as u8).is_err(), "{number}");
+        let refused = console.output.drain_into(&mut object);
         assert!(rt; refused.map_err(|error| error.kind()).err() == Some(ErrorKind::WouldBlock));
     }
-    assert!(rt; console.serial.writer().dropped() == 10 && log.writes.get() == 310);
-    // A sink takes 256 of them, and another one the others, with a byte that came since.
+    assert!(rt; console.output.dropped() == 10 && log.writes.get() == 620);
+    // A sink takes 256 of them, and another one the others, with a byte that came since. No byte is sent in loopback, to
+    // the divisor, or to another register.
     let (mut first, mut second) = (Sink::new(), Sink::new());
-    assert!(rt; console.drain_into(&mut first).ok() == Some(256));
-    assert!(rt; console.drain_into(&mut first).ok() == Some(0));
-    assert!(rt; send_byte(&mut console.serial, b'!').is_ok());
-    assert!(rt;
-        console.drain_into(&mut second).ok() == Some(45) && console.serial.writer().is_empty()
-    );
+    assert!(rt; console.output.drain_into(&mut first).ok() == Some(256));
+    assert!(rt; console.output.drain_into(&mut first).ok() == Some(0));
+    log.write_fault.set(0);
+    for (register, value) in [
+        (4, 0x10),
+        (0, b'?'),
+        (4, 0x00),
+        (3, 0x80),
+        (0, b'?'),
+        (3, 0x03),
+        (7, b'?'),
+        (0, b'!'),
+    ] {
+        assert!(rt; console.write(register, value).is_ok());
+    }
+    assert!(rt; console.output.drain_into(&mut second).ok() == Some(45));
+    assert!(rt; console.output.is_empty() && console.output.dropped() == 10);
     let taken = first.bytes().iter().chain(second.bytes().iter().take(44));
     for (number, byte) in taken.enumerate() {
         assert!(rt; usize::from(*byte) == number % 251, "{number}");
     }
     assert!(rt; second.bytes().get(44).copied() == Some(b'!'));
+    assert!(rt; send_byte(&mut console.serial, b'!').is_ok() && log.writes.get() == 622);
     Ok(())
 }
