@@ -1,6 +1,7 @@
 pub mod Alarm
 pub mod Bus
 pub mod Console
+pub mod Counter
 pub mod Input
 pub mod Migration
 pub mod Mmio

@@ -1,10 +1,11 @@
-//! Short modules to copy into a monitor: a bus, a clock's window in memory and its alarm, a trigger, input and output in
+//! Short modules to copy into a monitor: a bus, a clock's window in memory and its alarm, triggers, input and output in
 //! an event loop, a migration, and first claims about what a guest reads and sends.
 #![tactic(auto)]
 
 pub mod alarm;
 pub mod bus;
 pub mod console;
+pub mod counter;
 pub mod driver;
 pub mod event_fd;
 pub mod first_claim;

@@ -4,6 +4,7 @@ use std::alloc::Global;
 use std::test::Fail;
 use superio_examples::alarm::{Alarm, alarm_at, find_alarm};
 use superio_examples::bus::{Bus, BusError, COM1, COM2, COM3, COM4, Keyboard};
+use superio_examples::counter::Counter;
 use superio_examples::event_fd::EventFd;
 use superio_examples::mmio::ClockWindow;
 use vm_superio::serial::Error;
@@ -241,6 +242,14 @@ fn an_event_is_one_write_of_eight_bytes(rt: HostRuntime) {
         );
     }
     assert!(rt; log.flushes.get() == 0);
+}
+
+#[test]
+fn a_counter_counts_its_calls(rt: HostRuntime) {
+    let mut line = Counter::new();
+    for calls in 0..3 {
+        assert!(rt; line.calls() == calls && line.trigger().is_ok());
+    }
 }
 
 #[test]
