@@ -145,6 +145,49 @@ fn input_stops_and_starts_and_a_refused_interrupt_is_tried_again(
     Ok(())
 }
 
+/// How many of 80 bytes a guest gets that reads when it is interrupted, from an event loop without poll. The trigger
+/// refuses its calls in the first eight turns. The source has no more bytes from the sixth turn on. A loop that `stops`
+/// there ends with its source, or waits for more bytes in a blocking read.
+fn bytes_served(alloc: Global, log: &Log, stops: bool) -> Result<usize, Fail> {
+    let mut console = Console {
+        serial: port(alloc, log)?,
+        input: Input::new(alloc, 16)?,
+        output: Output::new(alloc, 0)?,
+        is_refused: false,
+    };
+    console.write(1, 0x01)?;
+    let bytes = INPUT;
+    let mut rest = &bytes[..80];
+    let mut served = 0usize;
+    for turn in 0..20 {
+        let next = log.triggers.get().wrapping_add(1);
+        log.refused.set(if turn < 8 { next } else { 0 });
+        console.retry();
+        let count = console.receive(rest);
+        rest = &rest[count..];
+        if rest.is_empty() && (stops || !console.is_refused && console.input.room() == 16) {
+            break;
+        }
+        if !console.is_refused {
+            for byte in bytes.iter().skip(served) {
+                if console.read(5) & 0x01 == 0 {
+                    break;
+                }
+                served = served.wrapping_add(usize::from(console.read(0) == *byte));
+            }
+        }
+    }
+    Ok(served)
+}
+
+#[test]
+fn a_loop_without_poll_serves_what_its_source_left(rt: HostRuntime) -> Result<(), Fail> {
+    let (stopping, going_on) = (Log::new(), Log::new());
+    assert!(rt; bytes_served(rt.alloc(), &stopping, true)? == 0);
+    assert!(rt; bytes_served(rt.alloc(), &going_on, false)? == 80);
+    Ok(())
+}
+
 #[test]
 fn devices_are_saved_and_restored_however_many_bytes_are_held(rt: HostRuntime) -> Result<(), Fail> {
     let log = Log::new();

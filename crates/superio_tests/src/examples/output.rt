@@ -89,3 +89,25 @@ fn output_waits_for_its_sink_and_then_goes_on_in_order(rt: HostRuntime) -> Resul
     assert!(rt; send_byte(&mut console.serial, b'!').is_ok() && log.writes.get() == 622);
     Ok(())
 }
+
+#[test]
+fn what_loopback_drops_can_be_counted_before_each_write(rt: HostRuntime) -> Result<(), Fail> {
+    let log = Log::new();
+    let mut serial = port(rt.alloc(), &log)?;
+    let mut dropped = 0u32;
+    // 70 bytes to THR in loopback, and others to the divisor and the scratch register.
+    let writes = [(4, 0x10), (3, 0x80), (0, b'a'), (3, 0x00), (7, b'a')];
+    for (offset, value) in writes
+        .iter()
+        .copied()
+        .chain([(0, b'a'); 70].iter().copied())
+    {
+        let is_thr = offset == 0 && serial.read(3) & 0x80 == 0;
+        if is_thr && serial.read(4) & 0x10 != 0 && serial.fifo_capacity() == 0 {
+            dropped = dropped.wrapping_add(1);
+        }
+        assert!(rt; serial.write(offset, value).is_ok());
+    }
+    assert!(rt; dropped == 6 && log.calls() == 0);
+    Ok(())
+}
