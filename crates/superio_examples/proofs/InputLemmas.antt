@@ -12,7 +12,7 @@ use Rattle.vm_superio.specs.Serial.Port.Model.{refusal_in_error}
 use Rattle.vm_superio.specs.Serial.Laws.OneCall.{ReceivedLaw}
 use Rattle.superio_examples.specs.Input.{room_in}
 
--- none, or as many of the first as there is room for, and then the bytes behind so many
+-- none, or as many of the first as there is room for, and then the bytes after so many
 taken-rest : (none : Bool) (room : ℕ) (bytes : List ℕ) →
     (if none then [] else take room bytes) ++ drop (length (if none then [] else take room bytes)) bytes ≡ bytes
 taken-rest true room bytes = refl
@@ -55,7 +55,7 @@ keep-drop count items few =
     let first : length items - (length items - count) ≡ count = omega (arith, few) in
     ap (λ n. drop n items) first
 
--- the bytes behind the accepted ones are those behind the room
+-- the bytes after the accepted ones are those after the room
 drop-taken : (none : Bool) (room : ℕ) (bytes : List ℕ) →
     drop (length (if none then [] else take room bytes)) bytes ≡ drop (if none then 0 else room) bytes
 drop-taken true room bytes = refl

@@ -1,15 +1,15 @@
--- An access of some width: the bytes of a list of that length, and results of which the first error counts.
+-- An access of some width: the bytes of a list of that length, and the first error of several results.
 use Rattle.std.proofs.Common.{◌≡◌, ℕ, Bool, true, false, List, [], ◌∷◌, Result, Ok, Err, length, refl, arith}
 use Rattle.std.specs.Prelude.{slice_index}
 use Rattle.std.specs.Result.{result_and}
 use Rattle.std.specs.Bool.{OnTrue}
 
--- what holds anyway holds where a test does
+-- what holds in any case holds if a test does
 pub on-true : {P : Type 0} (test : Bool) → P → OnTrue test P
 on-true true holds = holds
 on-true false holds = tt
 
--- no byte is left behind the last
+-- no byte follows the last
 pub and-ok : {E : Type 0} (result : Result (Unit {0}) E) → result ≡ result_and result (Ok tt)
 and-ok (Ok done) = refl
 and-ok (Err error) = refl

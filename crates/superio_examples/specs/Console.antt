@@ -25,11 +25,11 @@ module _ {T E EV W : Type 0} (trigger : Link T (TriggerAnswer E)) (events : Link
     pub output : new.output ≡ old.output
     pub remembered : new.is_refused ≡ (old.is_refused || is_err answer)
 
-  -- so where `starts`; else nothing changes
+  -- so if it `starts`; otherwise nothing changes
   abbrev pub FeedsIf : (starts : Bool) (old new : Console T EV W E) → Type 0
   FeedsIf starts old new = OnTrue starts (Feeds old new) × OnFalse starts (new ≡ old)
 
-  -- the guest's read is the port's; then input goes in, where no byte is held
+  -- the guest's read is the port's; then input goes in, if no byte is held
   pub record ReadsThenFeeds (offset byte : ℕ) (old new : Console T EV W E) : Type 0 where
     pub between : Console T EV W E
     pub step : IsReadStep trigger events contents offset byte old.serial between.serial

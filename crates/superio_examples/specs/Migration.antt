@@ -1,4 +1,4 @@
--- What a restore of saved devices makes, and what it returns where it is refused.
+-- What a restore of saved devices makes, and what it returns if it is refused.
 use Rattle.std.specs.Prelude.{◌≡◌, List, Option, Some, None, Result}
 use Rattle.std.specs.Option.{option_or}
 use Rattle.vm_superio.specs.Serial.Step.Restore.{restore_calls, RefusesRestore}

@@ -8,7 +8,7 @@ use std::io;
 use std::io::Write;
 use vm_superio::Trigger;
 
-/// An interrupt line, or the event that requests a reset, behind a file descriptor. `W` is the descriptor as a writer,
+/// An interrupt line, or the event that requests a reset, as a file descriptor. `W` is the descriptor as a writer,
 /// such as a `File`.
 ///
 /// No value of the program shows what the kernel does with it. So its link states nothing about a trigger that was

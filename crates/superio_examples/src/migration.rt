@@ -19,9 +19,9 @@ use vm_superio::{Rtc, RtcState, Serial, SerialState, Trigger};
 /// What is sent to the other machine.
 #[derive(Debug, Drop, Eq, PartialEq)]
 pub struct Saved {
-    /// The serial port's state as bytes, of which there are at most 81.
+    /// The serial port's state as bytes, at most 81.
     pub serial: Vec<u8>,
-    /// The clock's state as bytes, of which there are 33.
+    /// The clock's state as 33 bytes.
     pub clock: Vec<u8>,
     /// The input that the serial port has not taken.
     pub input: Vec<u8>,

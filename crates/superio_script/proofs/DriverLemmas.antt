@@ -21,7 +21,7 @@ use Rattle.superio_script.specs.Driver.{IsReady, ReadsWhileReady, bytes_while_re
 
 -- ---- how many reads are to come
 
--- while LSR shows data ready: one for each held byte, and one where none is
+-- while LSR shows data ready: one for each held byte, and one if none is
 abbrev pub reads_left : (s : State) → ℕ
 reads_left s = if has_bits s.line_status 0x01 then 1 + (length s.in_buffer - 1) else 0
 
@@ -101,7 +101,7 @@ module _ {T E EV W : Type 0} (trigger : Link T (TriggerAnswer E)) (events : Link
         less = reads_left-after_read law byte old new hidden ready step;
       }
 
-  -- a driver reads what the steps say, where its reads end because LSR does not show data ready
+  -- a driver reads what the steps say, if its reads end because LSR does not show data ready
   pub reads-are_stepped : (most : ℕ) (bytes : List ℕ) (old new : Port T EV W) → is_dlab old.state.line_control ≡ false
       → ReadsWhileReady trigger events contents bytes old new → has_bits new.state.line_status 0x01 ≡ false
       → length bytes ≤ most → bytes ≡ bytes_while_ready most old.state
@@ -166,7 +166,7 @@ without_bytes-after_read s before after =
     ∙ ap (λ line_status. record (without_bytes s) { line_status = line_status })
     (ready-cleared (drop 1 s.in_buffer) s.line_status after.data_ready)
 
--- no byte is held where LSR does not show data ready
+-- no byte is held if LSR does not show data ready
 none-held : (held : List ℕ) → false ≡ not_empty held → held ≡ []
 none-held [] none = refl
 none-held (byte ∷ held) none = absurd (false≢true none)

@@ -23,14 +23,14 @@ clock_form-loads state numbers =
 
 -- ---- what is read
 
--- where a state was read, it is loaded
+-- if a state was read, it is loaded
 pub port-loaded : (bytes : List ℕ) (state : State) → length state.in_buffer ≤ 64 → bytes ≡ serial_form state → loaded_port bytes ≡ Ok state
 port-loaded bytes state few is = ap loaded_port is ∙ port_form-loads state few
 
 pub clock-loaded : (bytes : List ℕ) (state : RtcState) → IsClock state → bytes ≡ clock_form state → loaded_clock bytes ≡ Ok state
 clock-loaded bytes state numbers is = ap loaded_clock is ∙ clock_form-loads state numbers
 
--- where a check failed, the load has its error
+-- if a check failed, the load has its error
 pub port-refused : (fault : Option Error) (state : State) (result : Result SerialState Error) (error : Error) → result ≡ Err error →
     IfSome fault (λ fault. result ≡ Err fault) → (fault ≡ None → IfErr result (λ error. error ≡ Memory)) → error ≢ Memory → unless_fault fault state ≡ Err error
 port-refused None state (Ok read) error is found memory other = absurd cc

@@ -185,7 +185,7 @@ known_output-from session start = kept (known_output session)
 
 -- ---- the byte that was sent
 
--- nothing is written where the kind sends nothing
+-- nothing is written if the kind sends nothing
 abbrev IsOutcome : (bytes : List ℕ) (outcome : Sent) → Type 0
 IsOutcome bytes outcome = IsTrue (beq (is_sent outcome) (not_empty bytes))
 
@@ -216,7 +216,7 @@ enqueue-sends_none : (latch loopback : Bool) (bytes : List ℕ) → [] ≡ sent_
 enqueue-sends_none latch true bytes = refl
 enqueue-sends_none latch false bytes = refl
 
--- where no byte is lost, the writer took the one that the call sends
+-- if no byte is lost, the writer took the one that the call sends
 pub written-is_sent : (latch loopback : Bool) (op : Op) (outcome : Sent) → IsTrue (not (is_lost outcome)) →
     IsOutcome (sent_by (kind_of latch loopback op)) outcome → bytes_written op outcome ≡ sent_by (kind_of latch loopback op)
 written-is_sent latch loopback (Read offset) outcome kept fits = read-sends_none (register_at latch offset)

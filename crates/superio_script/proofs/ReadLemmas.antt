@@ -20,7 +20,7 @@ pub room_holds-filled :
 room_holds-filled filled count room got rest h k =
     omega (arith, length-take-le filled room h, length-append (take filled room) (got ++ rest), length-append got rest)
 
--- bytes that were read into the room behind those that were read before
+-- bytes that were read into the room after those that were read before
 pub Consumes-append :
     (before middle after : Option (List ℕ)) (filled count : ℕ) (room got rest : List ℕ) → filled ≤ length room → count ≤ length got →
     Consumes before middle (take filled room) → Consumes middle after (take count got) →

@@ -41,7 +41,7 @@ abbrev pub HasRoom : (output : Option (List ℕ)) (outcomes : List Sent) → Typ
 HasRoom None outcomes = Unit {0}
 HasRoom (Some output) outcomes = length output + bytes_before_loss outcomes ≤ 256
 
--- a possible environment for what follows, where this went out before
+-- a possible environment for what follows, if this went out before
 pub record IsPossibleFrom (output : Option (List ℕ)) (environment : Environment) : Type 0 where
   pub sent : IsTrue (list_all is_sent environment.outcomes)
   pub room : HasRoom output environment.outcomes
@@ -207,7 +207,7 @@ module _ (mask : ℕ) (start : Option (List ℕ)) where
       (session : Session) × (clock_session : ClockSession) × IsAt session board.serial
       × (board.clock.state ≡ clock_session_state clock_session) × Completes before session clock_session earlier
 
-  -- where nothing follows
+  -- if nothing follows
   pub Prints-so_far : (before : Option (List ℕ)) (board : Devices) (earlier : List Command) → Continues before board earlier → Prints earlier before
   Prints-so_far before board earlier (session, clock_session, at, is, completes) =
       let few = output-few (known_output session) board.serial.out at.output in

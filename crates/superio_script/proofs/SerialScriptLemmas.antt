@@ -106,7 +106,7 @@ trigger_answers-from_link line new calls TookRefused (Some refusal) fits some li
 
 -- ---- the byte that was sent
 
--- the environment where nothing is left open
+-- the environment if nothing is left open
 abbrev pub no_environment : Environment
 no_environment = record { outcomes = []; outputs = [] }
 
@@ -174,7 +174,7 @@ known_output-after session entry =
     output_since-cases session.earlier_output (none_lost session.trace) entry.sent (output session.start [] session.trace) _ _
     (ap (λ (before : List TraceEntry). sent_by (kind_at session.start before entry.op)) (append-nil session.trace))
 
--- it is what the writer holds, where the writer is linked by the byte's outcome, and took what was sent
+-- it is what the writer holds, if the writer is linked by the byte's outcome, and took what was sent
 written_bytes-after_call :
     (known : Option (List ℕ)) (outcome : Sent) (accepted bytes : List ℕ) (old new : Output) →
     WriterLink (λ output. Some (written_bytes output)) (outcome ∷ []) accepted old new → (IsTrue (not (is_lost outcome)) → accepted ≡ bytes) →
@@ -219,7 +219,7 @@ module _ (laws : PortLaws) where
   -- ---- a call
 
   module _ (op : Op) (asked : Asked) (outcome : Sent) (response : Response) (refusal : Option LineRefused) (old new : Port InterruptLine EventCounts Output) where
-    -- the call is a step of a session, where its byte has this outcome
+    -- the call is a step of a session, if its byte has this outcome
     abbrev pub IsSessionStep : (before : Session) (byte_outcome : Sent) → Type 0
     IsSessionStep before byte_outcome = (response_reply response ≡ call_reply before op byte_outcome) × IsAt (session_after_call before op byte_outcome) new
 
@@ -258,7 +258,7 @@ module _ (laws : PortLaws) where
           },
         )
 
-  -- there is an outcome exactly where the session sends a byte
+  -- there is an outcome exactly if the session sends a byte
   sends-here : (before : Session) (op : Op) (asked : Asked) (outcome : Sent) → IsTrue (is_admissible (stepped_state before) op asked outcome) →
       IsTrue (beq (is_sent outcome) (session_sends before op))
   sends-here before op asked outcome admissible =
@@ -414,7 +414,7 @@ abbrev AreAccepted : (line new : InterruptLine) (calls : ℕ) → Type 0
 AreAccepted line new calls =
     (ends_in_refusal (trigger_answers line calls) ≡ false) × (new ≡ interrupt_line_after_answers line (trigger_answers line calls))
 
--- where all calls of a restore were accepted, no response is a refusal
+-- if all calls of a restore were accepted, no response is a refusal
 restore-accepted :
     (line new : InterruptLine) (thre rda : Bool) → InterruptLineLink line (all_ok (pending_in_order thre rda)) new →
     AreAccepted line new (length (pending_in_order thre rda))
@@ -428,7 +428,7 @@ restore-accepted line new true true link =
     ap (λ (a : Bool). two_responses a (is_call_refused line.mask (interrupt_line_after_call line).calls)) first ∙ ap (λ (b : Bool). two_responses false b) second in
     (ap ends_in_refusal same, sym link.1.1 ∙ ap (interrupt_line_after_answers line) (sym same))
 
--- where one was refused, the last response is a refusal
+-- if one was refused, the last response is a refusal
 restore-refused :
     (line new : InterruptLine) (thre rda : Bool) (refusal : LineRefused) (responses : List (Result (Unit {0}) LineRefused)) →
     StopsAtRefusal (pending_in_order thre rda) refusal responses → InterruptLineLink line responses new →
@@ -530,7 +530,7 @@ refused-load-step bytes port fault fails before at = (
   subst (λ (loaded : Result State Fault). IsAt (session_after_load before loaded) port) (sym fails) at,
 )
 
--- what holds of a reply, where there is one, has this consequence
+-- what holds of a reply, if there is one, has this consequence
 pub reply-weaker : {Reply Failure : Type 0} {P Q : Reply → Type 0} (result : Result Reply Failure) → ((reply : Reply) → P reply → Q reply) →
     IfOk result P → IfOk result Q
 reply-weaker (Ok reply) follows holds = follows reply holds

@@ -1,4 +1,4 @@
--- The first piece ends at the first separator. Where there is none, it is all of the bytes.
+-- The first piece ends at the first separator. If there is none, it is all of the bytes.
 use Rattle.std.proofs.Common.{◌≡◌, ◌≢◌, ℕ, ◌+◌, ◌<◌, ◌≤◌, ◌==◌, Bool, true, false, cond, ◌-◌, subst, List, [], ◌∷◌, length, take, drop, refl, arith, add-one, one-add}
 use Rattle.std.specs.Prelude.{not, if◌then◌else◌, Some, None, nat_lt}
 use Rattle.std.specs.List.{position, position_or_len}
@@ -11,7 +11,7 @@ module _ (separator : ℕ) (end : List (List ℕ)) where
   abbrev pub first_separator : (xs : List ℕ) → ℕ
   first_separator xs = position_or_len (λ b. b == separator) xs
 
-  -- where `position` finds the first separator
+  -- if `position` finds the first separator
   position-found : (xs : List ℕ) (at : ℕ) → position (λ b. b == separator) xs ≡ Some at → (first_separator xs ≡ at) × (at < length xs)
   position-found xs at h =
       elim (nat_lt (first_separator xs) (length xs)) as (λ b. nat_lt (first_separator xs) (length xs) ≡ b → cond b (Some (first_separator xs)) None ≡ Some at → (first_separator xs ≡ at) × (at < length xs)) [
@@ -19,7 +19,7 @@ module _ (separator : ℕ) (end : List (List ℕ)) where
         | false ↦ λ _ e. absurd cc
       ] refl h
 
-  -- and where it finds none
+  -- and if it finds none
   position-none : (xs : List ℕ) → position (λ b. b == separator) xs ≡ None → length xs ≤ first_separator xs
   position-none xs h =
       elim (nat_lt (first_separator xs) (length xs)) as (λ b. nat_lt (first_separator xs) (length xs) ≡ b → cond b (Some (first_separator xs)) None ≡ None → length xs ≤ first_separator xs) [
@@ -43,7 +43,7 @@ module _ (separator : ℕ) (end : List (List ℕ)) where
         | false ↦ λ within. rw (one-add, add-one, pieces_of-found xs (omega arith)) (rw add-one refl)
       ] h
 
-  -- with no separator there is one piece, where there is a byte
+  -- with no separator there is one piece, if there is a byte
   pub pieces_of-whole :
       ((b : ℕ) → prepend_to_first b end ≡ (b ∷ []) ∷ []) → (x : ℕ) (xs : List ℕ) →
       length (x ∷ xs) ≤ first_separator (x ∷ xs) → pieces_of separator end (x ∷ xs) ≡ (x ∷ xs) ∷ []
@@ -73,7 +73,7 @@ pieces_of-last_field separator [] h = refl
 pieces_of-last_field separator (x ∷ xs) h =
     pieces_of-whole separator ([] ∷ []) (λ b. refl) x xs (position-none separator ([] ∷ []) (x ∷ xs) h)
 
--- the last line, where it lacks its LF
+-- the last line, if it lacks its LF
 pub pieces_of-last_line :
     (separator : ℕ) (xs : List ℕ) → position (λ b. b == separator) xs ≡ None → xs ≢ [] → pieces_of separator [] xs ≡ xs ∷ []
 pieces_of-last_line separator [] h some = absurd (some refl)

@@ -59,7 +59,7 @@ IsSerialLineStep line reply old new =
     × IsAt (session_after_line before environment line) new
 
 -- a restore of the port in a state, with the old port's objects. From each session that a port in this state with these
--- objects is at, the reply is that of a restore, and the port is then at the restored session, or unchanged where the
+-- objects is at, the reply is that of a restore, and the port is then at the restored session, or unchanged if the
 -- restore was refused
 pub record RestoresTo
     (restored : Session) (refused : Bool) (reply : List ℕ) (old new : Port InterruptLine EventCounts Output) :

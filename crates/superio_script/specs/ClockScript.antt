@@ -33,7 +33,7 @@ clock_session_after_access session access = record session { accesses = access �
 
 -- ---- the lines
 
--- the eight digits of the value that a read gives, or `invalid` where it gives none
+-- the eight digits of the value that a read gives, or `invalid` if it gives none
 abbrev pub value_reply : (value : Option ℕ) → List ℕ
 value_reply (Some number) = digits_reply (to_be_bytes w32 number)
 value_reply None = with_lf (codes "invalid")

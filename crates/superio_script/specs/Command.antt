@@ -128,7 +128,7 @@ abbrev pub command_of_fields : (fields : List (List ℕ)) → Option Command
 command_of_fields [] = None
 command_of_fields (name ∷ fields) = command_of_name name fields
 
--- what a line asks for, or `None` where it has no form
+-- what a line asks for, or `None` if it has no form
 abbrev pub command_of : (line : List ℕ) → Option Command
 command_of line = command_of_fields (fields_of line)
 

@@ -17,7 +17,7 @@ use Rattle.vm_superio.specs.Serial.Step.Transition.{rbr_read}
 abbrev pub IsReady : (s : State) → Type 0
 IsReady s = IsTrue (has_bits s.line_status lsr_dr_bit)
 
--- reads at offset 0 that give these bytes, in order, each where LSR shows data ready, take a port from `old` to `new`
+-- reads at offset 0 that give these bytes, in order, each while LSR shows data ready, take a port from `old` to `new`
 module _ {T E EV W : Type 0} (trigger : Link T (TriggerAnswer E)) (events : Link EV Event) (contents : Contents W) where
   abbrev pub ReadsWhileReady : (bytes : List ℕ) (old new : Port T EV W) → Type 0
   ReadsWhileReady [] old new = new ≡ old
@@ -26,7 +26,7 @@ module _ {T E EV W : Type 0} (trigger : Link T (TriggerAnswer E)) (events : Link
       × ((middle : Port T EV W) × IsReadStep trigger events contents 0 byte old middle
       × ReadsWhileReady bytes middle new)
 
--- the bytes that at most so many reads of RBR give, each where LSR shows data ready
+-- the bytes that at most so many reads of RBR give, each while LSR shows data ready
 abbrev pub bytes_while_ready : (reads : ℕ) (s : State) → List ℕ
 bytes_while_ready zero s = []
 bytes_while_ready (suc others) s =

@@ -12,7 +12,7 @@ use Rattle.vm_superio.specs.Saved.Laws.{IsClock}
 
 -- ---- the states
 
--- the first check that fails, or what is loaded where none does
+-- the first check that fails, or what is loaded if none does
 abbrev pub unless_fault : {A : Type 0} → (fault : Option Error) (loaded : A) → Result A Error
 unless_fault None loaded = Ok loaded
 unless_fault (Some fault) loaded = Err fault

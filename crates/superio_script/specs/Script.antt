@@ -101,7 +101,7 @@ abbrev pub text_of_lines : (mask : ℕ) (environment : Environment) (lines : Lis
 text_of_lines mask environment lines =
     text_from (fresh_session mask) fresh_clock_session environment (good_commands lines)
 
--- the number of a script's first bad line, counted from 1, or `None` where every line is good
+-- the number of a script's first bad line, counted from 1, or `None` if every line is good
 abbrev pub first_bad_line_of : (script : List ℕ) → Option ℕ
 first_bad_line_of script = first_bad_line (body_of script).first (body_of script).lines
 

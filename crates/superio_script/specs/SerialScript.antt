@@ -21,9 +21,9 @@ use Rattle.superio_script.specs.declared.command.SerialCommand.TheVariants as se
 
 -- what a script does not determine: whether the writer takes a byte, and what the writer holds after a loss
 pub record Environment : Type 0 where
-  -- what becomes of each byte that the port sends to the writer, in order. Where the list ends, bytes are lost
+  -- what becomes of each byte that the port sends to the writer, in order. After the end of the list, bytes are lost
   pub outcomes : List Sent
-  -- the bytes that each `so` after a loss prints, in order. Where the list ends, it prints none
+  -- the bytes that each `so` after a loss prints, in order. After the end of the list, it prints none
   pub outputs : List (List ℕ)
 
 -- how many bytes go out before the first one is lost
@@ -151,7 +151,7 @@ session_after_load session (Ok state) =
 
 -- ---- the output
 
--- the bytes that went out, or the chosen ones where they are not known, and the environment for what follows
+-- the bytes that went out, or the chosen ones if they are not known, and the environment for what follows
 abbrev pub output_or_chosen : (known : Option (List ℕ)) (environment : Environment) → List ℕ
 output_or_chosen (Some bytes) environment = bytes
 output_or_chosen None environment = first_output environment.outputs

@@ -7,7 +7,7 @@ abbrev pub prepend_to_first : (byte : ℕ) (pieces : List (List ℕ)) → List (
 prepend_to_first byte [] = (byte ∷ []) ∷ []
 prepend_to_first byte (piece ∷ pieces) = (byte ∷ piece) ∷ pieces
 
--- the pieces before, between and after the separators; where no byte remains, there are those of end
+-- the pieces before, between and after the separators; if no byte remains, there are those of end
 abbrev pub pieces_of : (separator : ℕ) (end : List (List ℕ)) (bytes : List ℕ) → List (List ℕ)
 pieces_of separator end [] = end
 pieces_of separator end (byte ∷ bytes) =
@@ -18,7 +18,7 @@ pieces_of separator end (byte ∷ bytes) =
 abbrev pub lines_of : (script : List ℕ) → List (List ℕ)
 lines_of script = pieces_of 10 [] script
 
--- the fields of a line. One space separates two fields, so a field is empty where two spaces meet, before a leading
+-- the fields of a line. One space separates two fields, so a field is empty if two spaces meet, before a leading
 -- space and after a trailing one
 abbrev pub fields_of : (line : List ℕ) → List (List ℕ)
 fields_of line = pieces_of 32 ([] ∷ []) line

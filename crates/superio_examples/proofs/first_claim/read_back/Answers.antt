@@ -1,4 +1,4 @@
--- By the laws of one call: the input went behind no byte, and each read gives the oldest byte and leaves the others.
+-- By the laws of one call: no byte was held before the input, and each read gives the oldest byte and leaves the others.
 use Rattle.std.proofs.Common.{rules, ◌≡◌, ◌-◌, ◌<◌, [], ◌∷◌, ◌++◌, length, take, sym, ap, ◌∙◌, append-nil, append_assoc, arith}
 use Rattle.std.proofs.lemmas.List.{nil_from_length}
 use Rattle.vm_superio.specs.Bits.{has_bits}

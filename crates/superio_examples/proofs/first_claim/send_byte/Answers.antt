@@ -5,7 +5,7 @@ use Rattle.vm_superio.specs.Serial.Port.Operations.{Response, WriteOk}
 use Rattle.vm_superio.specs.Serial.Port.Model.{write_response}
 use Rattle.superio_examples.proofs.first_claim.send_byte.Goals as goal
 
--- what follows from the response `Ok` holds where the result is `Ok`
+-- what follows from the response `Ok` holds if the result is `Ok`
 on_ok : {E : Type 0} (result : Result (Unit {0}) (Error E)) (reply : Response) (P : Type 0) → write_response result ≡ reply
     → (WriteOk ≡ reply → P) → OnOk result P
 on_ok (Ok done) reply P is claim = claim is

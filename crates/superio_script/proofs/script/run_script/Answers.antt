@@ -1,4 +1,4 @@
--- There are no more lines than bytes, of which there are few. A bad line of the text that was read is one of the script.
+-- There are no more lines than bytes, and these are few. A bad line of the text that was read is one of the script.
 use Rattle.std.proofs.Common.{rules, arith, ◌≡◌, Some, List, ℕ}
 use Rattle.std.proofs.lemmas.Option.{IfSome_then}
 use Rattle.superio_script.specs.Script.{RunsUpTo}

@@ -1,4 +1,4 @@
--- The port reads, and then input goes in where no byte is left.
+-- The port reads, and then input goes in if no byte is left.
 use Rattle.std.proofs.Common.{rules, ◌≡◌, ◌==◌, length, true, false, refl}
 use Rattle.superio_examples.proofs.console.Console.read.Goals as goal
 
