@@ -117,7 +117,7 @@ def script_lines(source):
     bits = source.getrandbits(64)
     mask = source.choice((None, None, None, bits, bits, bits & source.getrandbits(64), 1 << source.randrange(6)))
     lines = [] if mask is None else [f"refuse {mask:016x}"]
-    if kind < 2:
+    if kind < 1:
         return lines + full_output(source) + SCRIPT_ENDS
     if kind < 32:
         return lines + two_writes(source) + SCRIPT_ENDS
