@@ -19,7 +19,7 @@ is_i8042 base port = not (is_serial base port) && ((port == 0x60) || (port == 0x
 -- what a read of these two shows: 0 of a keyboard that never answers. Otherwise bit 0x01, output full, and not bit
 -- 0x02, input full
 abbrev pub controller_byte : (keyboard : Keyboard) → ℕ
-controller_byte Keyboard.Unspecified = 0
+controller_byte Keyboard.Silent = 0
 controller_byte Keyboard.Absent = 0xFD
 
 -- a port of neither device

@@ -32,7 +32,7 @@ const I8042_COMMAND: u16 = 0x64;
 #[derive(Clone, Copy)]
 pub enum Keyboard {
     /// 0, as the controller gives: a keyboard that never answers. Linux waits for it half a second.
-    Unspecified,
+    Silent,
     /// 0xFD. Bit 0x01 of the status never clears, so Linux finds no controller after 17 reads. Bit 0x02 is clear, or it
     /// would read the status 65,536 times before the reset command, as it does with 0xFF.
     Absent,
@@ -75,7 +75,7 @@ impl<T: Trigger, EV: SerialEvents, W: Write, R: Trigger> Bus<T, EV, W, R> {
     {
         match (self.serial_offset(port), port, self.keyboard) {
             (Some(offset), _, _) => self.serial.read(offset),
-            (None, I8042_DATA | I8042_COMMAND, Keyboard::Unspecified) => {
+            (None, I8042_DATA | I8042_COMMAND, Keyboard::Silent) => {
                 self.controller.read((port - I8042_DATA) as u8)
             }
             (None, I8042_DATA | I8042_COMMAND, Keyboard::Absent) => 0xFD,

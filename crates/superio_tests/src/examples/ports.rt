@@ -23,7 +23,7 @@ const INTERRUPTED: i32 = 4;
 fn bus_at(alloc: Global, log: &Log, base: u16) -> Result<TestBus<'_>, Fail> {
     Ok(Bus {
         base,
-        keyboard: Keyboard::Unspecified,
+        keyboard: Keyboard::Silent,
         serial: port(alloc, log)?,
         controller: I8042Device::new(Object::new(log)),
     })
@@ -34,7 +34,7 @@ fn a_bus_reaches_its_devices_by_port(rt: HostRuntime) -> Result<(), Fail> {
     let (log, resets) = (Log::new(), Log::new());
     let mut bus = Bus {
         base: COM1,
-        keyboard: Keyboard::Unspecified,
+        keyboard: Keyboard::Silent,
         serial: port(rt.alloc(), &log)?,
         controller: I8042Device::new(Object::new(&resets)),
     };
