@@ -24,7 +24,8 @@ static void add_memory(const struct machine *machine, uint32_t slot, uint64_t st
     KVM(machine->vm, KVM_SET_USER_MEMORY_REGION, &region);
 }
 
-/* The processor is the host's, as far as KVM has it, with the number 0. */
+/* The processor is the host's, as far as KVM has it, with the number 0. A bit says that this is a virtual machine: without it
+ * Linux does not ask for KVM's clock, and has to measure the processor's by a timer whose ticks may be late. */
 static void set_cpuid(const struct machine *machine) {
     static union {
         struct kvm_cpuid2 head;
@@ -32,8 +33,10 @@ static void set_cpuid(const struct machine *machine) {
     } cpuid = {.head.nent = CPUID_ENTRIES};
     KVM(machine->kvm, KVM_GET_SUPPORTED_CPUID, &cpuid);
     for (struct kvm_cpuid_entry2 *entry = cpuid.head.entries; entry < cpuid.head.entries + cpuid.head.nent; entry++) {
-        if (entry->function == 1)
+        if (entry->function == 1) {
             entry->ebx &= 0x00FFFFFF;
+            entry->ecx |= 1u << 31;
+        }
         if (entry->function == 0x0B || entry->function == 0x1F)
             entry->edx = 0;
     }
