@@ -2,57 +2,53 @@
 #include "monitor.h"
 
 #include <getopt.h>
-#include <signal.h>
-#include <stdarg.h>
-#include <sys/eventfd.h>
 #include <sys/signalfd.h>
 
 static const char HELP[] =
     "usage: monitor -k KERNEL [-i INITRAMFS] [-c WORDS] [OPTION ..]   boots Linux, a bzImage or a vmlinux\n"
     "       monitor -f IMAGE [OPTION ..]                              starts an image at 0x7C00 in real mode\n"
-    "       monitor --restore SNAPSHOT [OPTION ..]                    goes on from a snapshot\n"
-    "\n"
+    "       monitor --restore SNAPSHOT [OPTION ..]                    goes on from a snapshot\n\n"
     "  -m MEGABYTES       the guest's memory, 256 if not given\n"
     "  -s FILE            what Ctrl-A s writes, monitor.snapshot if not given\n"
     "  --trace FILE       writes the calls of the devices as lines of a script, with replies\n"
-    "  --refuse-each N    refuses each Nth interrupt of the serial port, for tests\n"
-    "\n"
+    "  --refuse-each N    refuses each Nth interrupt of the serial port, for tests\n\n"
     "Ctrl-A h lists the keys.\n";
 
-struct options {
-    const char *kernel, *initramfs, *words, *image, *snapshot, *trace;
-    uint64_t megabytes;
-};
+pthread_mutex_t lock = PTHREAD_MUTEX_INITIALIZER;
+pthread_cond_t changed = PTHREAD_COND_INITIALIZER;
+bool has_ended;
+static int epoll, signals, status; /* the status is the monitor's */
+static const char *why;            /* it ended */
 
-void fail(const char *format, ...) {
-    console_restore();
-    va_list arguments;
-    va_start(arguments, format);
-    fputs("monitor: ", stderr);
-    vfprintf(stderr, format, arguments);
-    fputs("\n", stderr);
-    _Exit(1);
+/* The result of a call that has to succeed. */
+int must(int result, const char *what) {
+    if (result < 0)
+        err(1, "%s", what);
+    return result;
 }
 
-/* Watches a file for events, or no more. A file that is watched for none would still report a hang-up, again and again. */
-void monitor_watch(struct monitor *monitor, int fd, uint32_t events) {
-    struct epoll_event event = {.events = events, .data.fd = fd};
-    if (events == 0)
-        epoll_ctl(monitor->epoll, EPOLL_CTL_DEL, fd, NULL);
-    else if (epoll_ctl(monitor->epoll, EPOLL_CTL_MOD, fd, &event) < 0)
-        epoll_ctl(monitor->epoll, EPOLL_CTL_ADD, fd, &event);
+/* Watches a file for events, from now on or again. What epoll does not watch, such as a file on a disk, never blocks. */
+void monitor_watch(int fd, uint32_t events, void (*serve)(void)) {
+    struct epoll_event event = {.events = events, .data.ptr = (void *)serve};
+    if (epoll_ctl(epoll, EPOLL_CTL_MOD, fd, &event) < 0)
+        epoll_ctl(epoll, EPOLL_CTL_ADD, fd, &event);
 }
 
-void monitor_end(struct monitor *monitor, int status, const char *format, ...) {
-    if (monitor->has_ended)
+/* Ends the machine, for the first reason that is given. A signal has the event loop notice. */
+void monitor_end(int result, const char *reason) {
+    if (has_ended)
         return;
-    va_list arguments;
-    va_start(arguments, format);
-    vsnprintf(monitor->why, sizeof monitor->why, format, arguments);
-    va_end(arguments);
-    monitor->status = status;
-    monitor->has_ended = true;
-    eventfd_write(monitor->wake, 1);
+    has_ended = true;
+    status = result;
+    why = reason;
+    pthread_cond_broadcast(&changed);
+    kill(getpid(), SIGTERM);
+}
+
+static void signalled(void) {
+    struct signalfd_siginfo got;
+    if (read(signals, &got, sizeof got) == sizeof got)
+        monitor_end(128 + (int)got.ssi_signo, strsignal((int)got.ssi_signo));
 }
 
 /* A fault of the monitor itself: the terminal first. */
@@ -63,123 +59,82 @@ static void died(int number) {
 }
 
 /* The signals that end the monitor become events. The vCPU's thread, which is made later, inherits the mask. */
-static int open_signals(void) {
-    const int faults[] = {SIGSEGV, SIGBUS, SIGILL, SIGFPE, SIGABRT};
-    for (size_t i = 0; i < sizeof faults / sizeof *faults; i++)
-        signal(faults[i], died);
+static void open_events(void) {
+    for (const int *fault = (const int[]){SIGSEGV, SIGBUS, SIGILL, SIGFPE, SIGABRT, 0}; *fault; fault++)
+        signal(*fault, died);
     signal(SIGPIPE, SIG_IGN);
     signal(SIGTSTP, SIG_IGN); /* a stop would leave the terminal raw */
     sigset_t set;
     sigemptyset(&set);
-    sigaddset(&set, SIGINT);
-    sigaddset(&set, SIGTERM);
-    sigaddset(&set, SIGQUIT);
-    sigaddset(&set, SIGHUP);
-    int fd = signalfd(-1, &set, SFD_NONBLOCK | SFD_CLOEXEC);
-    sigaddset(&set, SIGUSR1);
+    for (const int *ending = (const int[]){SIGINT, SIGTERM, SIGQUIT, SIGHUP, 0}; *ending; ending++)
+        sigaddset(&set, *ending);
     pthread_sigmask(SIG_BLOCK, &set, NULL);
-    return fd;
+    epoll = must(epoll_create1(EPOLL_CLOEXEC), "events");
+    signals = must(signalfd(-1, &set, SFD_NONBLOCK | SFD_CLOEXEC), "signals");
+    monitor_watch(signals, EPOLLIN, signalled);
 }
 
-static void signalled(struct monitor *monitor) {
-    struct signalfd_siginfo got;
-    if (read(monitor->signals, &got, sizeof got) == sizeof got)
-        monitor_end(monitor, 128 + (int)got.ssi_signo, "signal %u", got.ssi_signo);
-}
-
-/* Takes what has come of a timer, and returns whether it went off. */
-static bool went_off(int timer) {
-    uint64_t times;
-    return read(timer, &times, sizeof times) == sizeof times;
-}
-
-static void serve(struct monitor *monitor, int fd) {
-    if (fd == monitor->console.in)
-        console_read(monitor);
-    else if (fd == monitor->console.out)
-        console_flush(monitor);
-    else if (fd == monitor->interrupts.timer && went_off(fd))
-        interrupts_retry(monitor);
-    else if (fd == monitor->clock.timer && went_off(fd))
-        clock_alarm(monitor);
-    else if (fd == monitor->signals)
-        signalled(monitor);
-}
-
-static void run(struct monitor *monitor) {
-    machine_start(monitor);
-    pthread_mutex_lock(&monitor->lock);
-    while (!monitor->has_ended) {
-        pthread_mutex_unlock(&monitor->lock);
-        struct epoll_event events[8];
-        int count = epoll_wait(monitor->epoll, events, sizeof events / sizeof *events, -1);
-        pthread_mutex_lock(&monitor->lock);
-        for (int i = 0; i < count && !monitor->has_ended; i++)
-            serve(monitor, events[i].data.fd);
+static void run(void) {
+    pthread_mutex_lock(&lock);
+    machine_start();
+    while (!has_ended) {
+        pthread_mutex_unlock(&lock);
+        struct epoll_event event;
+        int count = epoll_wait(epoll, &event, 1, -1);
+        pthread_mutex_lock(&lock);
+        if (count > 0 && !has_ended)
+            ((void (*)(void))event.data.ptr)();
     }
-    pthread_mutex_unlock(&monitor->lock);
-    machine_join(monitor);
+    machine_join();
 }
 
-static struct options parse(struct monitor *monitor, int count, char **words) {
-    static const struct option LONG[] = {{"restore", required_argument, NULL, 'r'},
-                                         {"trace", required_argument, NULL, 't'},
-                                         {"refuse-each", required_argument, NULL, 'n'},
-                                         {"help", no_argument, NULL, 'h'},
-                                         {0}};
-    struct options options = {.words = "console=ttyS0 reboot=k panic=1", .megabytes = 256};
-    for (int option; (option = getopt_long(count, words, "k:i:c:f:m:s:", LONG, NULL)) != -1;) {
-        switch (option) {
-        case 'k': options.kernel = optarg; break;
-        case 'i': options.initramfs = optarg; break;
-        case 'c': options.words = optarg; break;
-        case 'f': options.image = optarg; break;
-        case 'm': options.megabytes = strtoull(optarg, NULL, 10); break;
-        case 's': monitor->snapshot = optarg; break;
-        case 'r': options.snapshot = optarg; break;
-        case 't': options.trace = optarg; break;
-        case 'n': monitor->interrupts.refuse_each = (unsigned)strtoul(optarg, NULL, 10); break;
-        case 'h': fputs(HELP, stdout); exit(0);
-        default: exit(2);
-        }
+/* What each option was given, by its letter. */
+static const char *given[128] = {
+    ['c'] = "console=ttyS0 reboot=k panic=1", ['m'] = "256", ['n'] = "0", ['s'] = "monitor.snapshot"};
+static const struct option LONG[] = {{"restore", required_argument, NULL, 'r'},
+                                     {"trace", required_argument, NULL, 't'},
+                                     {"refuse-each", required_argument, NULL, 'n'},
+                                     {"help", no_argument, NULL, 'h'},
+                                     {0}};
+
+static void parse(int count, char **words) {
+    for (int letter; (letter = getopt_long(count, words, "k:i:c:f:m:s:", LONG, NULL)) != -1;) {
+        if (letter == '?')
+            exit(2);
+        given[letter] = optarg ? optarg : "";
     }
-    if (!options.kernel + !options.image + !options.snapshot != 2 || optind < count) {
-        fputs(HELP, stderr);
-        exit(2);
+    bool is_right = !given['k'] + !given['f'] + !given['r'] == 2 && optind == count;
+    if (given['h'] || !is_right) {
+        fputs(HELP, given['h'] ? stdout : stderr);
+        exit(given['h'] ? 0 : 2);
     }
-    return options;
 }
 
 int main(int count, char **words) {
-    static struct monitor monitor = {.lock = PTHREAD_MUTEX_INITIALIZER, .snapshot = "monitor.snapshot"};
     if (!SUPERIO_ABI_MATCHES())
-        fail("the library has another interface than the header");
-    struct options options = parse(&monitor, count, words);
-    monitor.epoll = epoll_create1(EPOLL_CLOEXEC);
-    monitor.wake = eventfd(0, EFD_CLOEXEC);
-    monitor.signals = open_signals();
-    monitor_watch(&monitor, monitor.wake, EPOLLIN);
-    monitor_watch(&monitor, monitor.signals, EPOLLIN);
-
-    monitor.serial = superio_serial_new();
-    monitor.rtc = superio_rtc_new();
-    clock_open(&monitor);
-    if (options.snapshot)
-        snapshot_restore(&monitor, options.snapshot);
+        errx(1, "the library has another interface than the header");
+    parse(count, words);
+    open_events();
+    serial = superio_serial_new();
+    rtc = superio_rtc_new();
+    clock_open();
+    if (given['r'])
+        snapshot_restore(given['r']);
     else
-        machine_create(&monitor.machine, options.megabytes << 20);
-    if (options.image)
-        boot_flat(&monitor.machine, options.image);
-    if (options.kernel)
-        boot_linux(&monitor.machine, options.kernel, options.initramfs, options.words);
-    interrupts_open(&monitor);
-    trace_open(&monitor, options.trace);
-    console_open(&monitor);
-    interrupts_retry(&monitor); /* what a restored guest has not taken */
-    clock_follow(&monitor);
-    run(&monitor);
-    trace_close(&monitor);
-    console_finish(&monitor);
-    fprintf(stderr, "monitor: %s\n", monitor.why);
-    return monitor.status;
+        machine_create(strtoull(given['m'], NULL, 10) << 20);
+    if (given['f'])
+        boot_flat(given['f']);
+    if (given['k'])
+        boot_linux(given['k'], given['i'], given['c']);
+    snapshot_path = given['s'];
+    trace_open(given['t']);
+    interrupts_open((unsigned)strtoul(given['n'], NULL, 10));
+    console_open();
+    interrupts_retry(); /* what a restored guest has not taken */
+    clock_follow();
+    run();
+    trace_close();
+    console_finish();
+    warnx("%s", why);
+    return status;
 }

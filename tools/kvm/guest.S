@@ -45,7 +45,6 @@ _start: cli
         outb 0xFE, SLAVE + 1
         outb 0x03, LCR
         outb 0x0B, MCR                          # DTR, RTS, OUT2
-        fwait                                   # which KVM does not emulate, where it emulates guests
         mov $ready, %si
         call print
         outb 0x01, IER
