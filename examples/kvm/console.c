@@ -16,9 +16,10 @@ struct queue console_input;
 static struct queue output; /* of the guest, until the terminal takes it */
 static unsigned long long dropped;
 static int in, out;
-static bool has_input, is_after_ctrl_a; /* `in` may bring more; the next byte is a command */
-static bool is_stalled;                 /* `out` took nothing for as long as the guest waits */
-static volatile bool is_raw;            /* for the handlers of signals, as is this: */
+static bool has_input, is_watched; /* `in` may bring more; its event is still to be served */
+static bool is_after_ctrl_a;       /* the next byte is a command */
+static bool is_stalled;            /* `out` took nothing for as long as the guest waits */
+static volatile bool is_raw;       /* for the handlers of signals, as is this: */
 static struct termios before;
 
 static void drop(struct queue *queue, size_t count) {
@@ -92,7 +93,8 @@ static void read_input(void) {
     uint8_t bytes[4096];
     size_t room = QUEUE_SIZE - console_input.count;
     ssize_t count = read(in, bytes, room < sizeof bytes ? room : sizeof bytes);
-    has_input = count > 0 || room == 0 || (count < 0 && (errno == EAGAIN || errno == EINTR));
+    is_watched = false;
+    has_input = count > 0 || (count < 0 && (errno == EAGAIN || errno == EINTR));
     for (ssize_t i = 0; i < count; i++)
         typed(bytes[i]);
     console_feed();
@@ -111,8 +113,10 @@ void console_feed(void) {
         trace_row("sq %s  %s", trace_bytes(console_input.bytes, count), reply);
         drop(&console_input, done.taken);
     }
-    if (has_input && console_input.count < QUEUE_SIZE)
+    if (has_input && !is_watched && console_input.count < QUEUE_SIZE) {
+        is_watched = true;
         monitor_watch(in, EPOLLIN | EPOLLONESHOT, read_input);
+    }
 }
 
 /* A file description of our own, so that O_NONBLOCK does not reach the shell that shares the old one. */
@@ -124,8 +128,8 @@ static int own(int fd, const char *name, int flags) {
 }
 
 void console_open(void) {
-    in = own(STDIN_FILENO, "/dev/stdin", O_RDONLY);
-    out = own(STDOUT_FILENO, "/dev/stdout", O_WRONLY);
+    in = own(STDIN_FILENO, "/proc/self/fd/0", O_RDONLY);
+    out = own(STDOUT_FILENO, "/proc/self/fd/1", O_WRONLY);
     monitor_watch(out, EPOLLOUT | EPOLLET, flush);
     has_input = true;
     console_feed(); /* what waited in a snapshot, and has room now */
