@@ -9,6 +9,8 @@ static uint8_t serial_read(uint8_t offset) {
     trace_row("sr %02x  %02x", offset, done.byte);
     if (done.in_buffer_empty)
         console_feed();
+    else if (done.buffer_read)
+        interrupts_look_again();
     return done.byte;
 }
 

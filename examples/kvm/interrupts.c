@@ -25,8 +25,13 @@ static unsigned raise_up_to_refusal(unsigned times) {
     while (accepted < times && raise_line())
         accepted++;
     if (accepted < times)
-        timerfd_settime(timer, 0, &SOON, NULL);
+        interrupts_look_again();
     return accepted;
+}
+
+/* Has `interrupts_retry` called soon. */
+void interrupts_look_again(void) {
+    timerfd_settime(timer, 0, &SOON, NULL);
 }
 
 /* Carries out what a call of the port left to do, and returns whether a request was refused. */
@@ -42,6 +47,9 @@ bool interrupts_ask(unsigned times) {
  * is refused leaves no trace, as it changes nothing. */
 void interrupts_retry(void) {
     unsigned due = superio_serial_interrupts_due(&serial);
+    bool is_left = due == 0 && serial.held > 0 && serial.interrupt_enable & 1 && !(serial.line_control & 0x80);
+    if (is_left) /* each RBR read ends RDA. Linux stops after 256, and waits for an interrupt. An IER write raises it */
+        bus_port(COM1 + 1, true, &(uint8_t){serial.interrupt_enable});
     if (due == 0 || raise_up_to_refusal(due) < due)
         return;
     trace_asked(due, false);

@@ -78,6 +78,7 @@ void console_finish(void);
 /* interrupts.c */
 void interrupts_open(unsigned refuse_each);
 bool interrupts_ask(unsigned times);
+void interrupts_look_again(void);
 void interrupts_retry(void);
 /* clock.c */
 void clock_open(void);
