@@ -54,7 +54,11 @@ pub fn restore_line(alloc: Global) -> Result<&'static str, AllocError> {
     };
     let answers_match = has_replies(alloc, &mut board, &[(b"st", calls)])
         && has_replies(alloc, &mut board, &AFTER);
-    Ok(if answers_match { outcome } else { "another board" })
+    Ok(if answers_match {
+        outcome
+    } else {
+        "another board"
+    })
 }
 
 /// A script of all forms. Its mask refuses the second call of the interrupt line.
