@@ -47,7 +47,7 @@ bool interrupts_ask(unsigned times) {
  * is refused leaves no trace, as it changes nothing. */
 void interrupts_retry(void) {
     unsigned due = superio_serial_interrupts_due(&serial);
-    bool is_left = due == 0 && serial.held > 0 && serial.interrupt_enable & 1 && !(serial.line_control & 0x80);
+    bool is_left = due == 0 && serial.len > 0 && serial.interrupt_enable & 1 && !(serial.line_control & 0x80);
     if (is_left) /* each RBR read ends RDA. Linux stops after 256, and waits for an interrupt. An IER write raises it */
         bus_port(COM1 + 1, true, &(uint8_t){serial.interrupt_enable});
     if (due == 0 || raise_up_to_refusal(due) < due)

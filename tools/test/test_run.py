@@ -5,17 +5,16 @@ import sys
 from repository import ROOT, CopyTest
 
 EXAMPLE = ROOT / "examples" / "three_devices.script"
-# In place of the program: it replies as the search of the past does, and takes the line `bad` for a bad one.
+# In place of the program: it replies as the search of the past does.
 PROGRAM = f"""#!{sys.executable}
 import sys
 sys.path.insert(0, {str(ROOT / "tools")!r})
 from expected import script_replies
-lines = sys.stdin.read().splitlines()
-good = lines[:lines.index("bad")] if "bad" in lines else lines
-for reply in script_replies(good):
+_, replies, bad_line = script_replies(sys.stdin.read())
+for reply in replies:
     print(reply)
-if good != lines:
-    sys.exit(f"bad line {{len(good) + 1}}")
+if bad_line:
+    sys.exit(f"bad line {{bad_line}}")
 """
 
 

@@ -53,12 +53,12 @@ static uint8_t modem_status(const struct model_port *port) {
 static superio_serial_read_effects read_data(struct model_port *port) {
     superio_serial_read_effects effects = {.buffer_read = true};
     acknowledge(port, RDA);
-    if (port->len > 0) {
+    if (port->held > 0) {
         effects.byte = port->queue[0];
-        memmove(port->queue, port->queue + 1, --port->len);
+        memmove(port->queue, port->queue + 1, --port->held);
     }
-    effects.in_buffer_empty = port->len == 0;
-    if (port->len == 0)
+    effects.in_buffer_empty = port->held == 0;
+    if (port->held == 0)
         port->registers[LSR] &= 0xFE;
     return effects;
 }
@@ -83,14 +83,14 @@ superio_serial_read_effects model_read(struct model_port *port, uint8_t offset) 
 
 /* Puts a byte into the queue, which has room, as received. */
 static void receive(struct model_port *port, uint8_t byte) {
-    port->queue[port->len++] = byte;
+    port->queue[port->held++] = byte;
     port->registers[LSR] |= 0x01;
 }
 
 static superio_serial_write_effects write_data(struct model_port *port, uint8_t value) {
     if (!(port->registers[MCR] & 0x10))
         return (superio_serial_write_effects){.sends = true, .interrupts = raised(port, THRE)};
-    if (port->len == 64)
+    if (port->held == 64)
         return (superio_serial_write_effects){.sends = false};
     receive(port, value);
     return (superio_serial_write_effects){.interrupts = raised(port, RDA)};
@@ -107,7 +107,7 @@ superio_serial_write_effects model_write(struct model_port *port, uint8_t offset
         break;
     case 1:
         port->registers[latch ? DLM : IER] = latch ? value : value & 0x0F;
-        if (!latch && port->len > 0)
+        if (!latch && port->held > 0)
             effects.interrupts += raised(port, RDA);
         if (!latch)
             effects.interrupts += raised(port, THRE);
@@ -125,8 +125,8 @@ superio_serial_enqueue_effects model_enqueue(struct model_port *port, const uint
     superio_serial_enqueue_effects effects = {0};
     if (count == 0 || port->registers[MCR] & 0x10)
         return effects;
-    effects.full = port->len == 64;
-    while (effects.taken < count && port->len < 64)
+    effects.full = port->held == 64;
+    while (effects.taken < count && port->held < 64)
         receive(port, bytes[effects.taken++]);
     if (!effects.full)
         effects.interrupts = raised(port, RDA);
@@ -140,8 +140,8 @@ uint8_t model_interrupts_due(const struct model_port *port) {
 
 bool model_is_coherent(const struct model_port *port) {
     uint8_t pending = port->registers[IIR];
-    return (pending == 1 || pending == 2 || pending == 4 || pending == 6) && (port->len > 0 || !(pending & 0x04)) &&
-           (port->registers[LSR] & 0x01) == (port->len > 0);
+    return (pending == 1 || pending == 2 || pending == 4 || pending == 6) && (port->held > 0 || !(pending & 0x04)) &&
+           (port->registers[LSR] & 0x01) == (port->held > 0);
 }
 
 static uint8_t *put(uint8_t *place, uint64_t number, int size) {
@@ -175,10 +175,10 @@ static uint32_t check_header(uint8_t kind, const uint8_t *bytes, size_t count) {
 }
 
 size_t model_save(const struct model_port *port, uint8_t *bytes) {
-    uint8_t *place = put_header(bytes, 1, REGISTERS + port->len);
+    uint8_t *place = put_header(bytes, 1, REGISTERS + port->held);
     memcpy(place, port->registers, REGISTERS);
-    memcpy(place + REGISTERS, port->queue, port->len);
-    return 8 + REGISTERS + port->len;
+    memcpy(place + REGISTERS, port->queue, port->held);
+    return 8 + REGISTERS + port->held;
 }
 
 uint32_t model_load(struct model_port *port, const uint8_t *bytes, size_t count) {
@@ -187,9 +187,9 @@ uint32_t model_load(struct model_port *port, const uint8_t *bytes, size_t count)
         return status;
     if (count < 8 + REGISTERS || count > 8 + REGISTERS + 64)
         return count < 8 + REGISTERS ? SUPERIO_LOAD_WRONG_LENGTH : SUPERIO_LOAD_TOO_MANY_BYTES;
-    port->len = (unsigned)(count - 8 - REGISTERS);
+    port->held = (unsigned)(count - 8 - REGISTERS);
     memcpy(port->registers, bytes + 8, REGISTERS);
-    memcpy(port->queue, bytes + 8 + REGISTERS, port->len);
+    memcpy(port->queue, bytes + 8 + REGISTERS, port->held);
     return status;
 }
 
