@@ -1,5 +1,5 @@
 //! Tests of what no contract, script of tests/ or recorded call shows: printed text, objects that are dropped, a
-//! writer's own faults, and runs of many calls.
+//! writer's own faults, a trigger's late refusals, and runs of many calls.
 #![tactic(auto)]
 
 #[cfg(test)]
@@ -16,6 +16,8 @@ mod lent;
 mod memory;
 #[cfg(test)]
 mod objects;
+#[cfg(test)]
+mod refusals;
 #[cfg(test)]
 mod runs;
 #[cfg(test)]
