@@ -1,4 +1,5 @@
 pub mod Splitting
+pub mod Fields
 pub mod Command
 pub mod InterruptLine
 pub mod Counts

@@ -7,6 +7,7 @@ mod counts;
 mod devices;
 mod driver;
 mod fault;
+mod fields;
 pub mod laws;
 mod output;
 mod replies;

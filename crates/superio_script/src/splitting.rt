@@ -42,8 +42,9 @@ impl<'a> Fields<'a> {
 
     /// Takes the next field.
     pub(crate) fn next_field(&mut self) -> Option<&'a [u8]>
-        ensures { MatchOption result (remaining_fields self.old.rest ≡ [])
+        ensures taken { MatchOption result (remaining_fields self.old.rest ≡ [])
             (λ field. remaining_fields self.old.rest ≡ field.now ∷ remaining_fields self.new.rest) }
+        ensures none_left { IfNone result (remaining_fields self.new.rest ≡ []) }
     {
         let (field, rest) = first_piece(self.rest?, SPACE);
         self.rest = rest;

@@ -1,5 +1,5 @@
 -- There are no more lines than bytes, and these are few. A bad line of the text that was read is one of the script.
-use Rattle.std.proofs.Common.{rules, arith, ◌≡◌, Some, List, ℕ}
+use Rattle.std.proofs.Common.{rules, arith, ◌≡◌, Some, None, IfSome, List, ℕ}
 use Rattle.std.proofs.lemmas.Option.{IfSome_then}
 use Rattle.superio_script.specs.Script.{RunsUpTo}
 use Rattle.superio_script.proofs.SplittingLemmas.{length-lines_of-le}
@@ -16,3 +16,14 @@ returns-in_err-write_replies-clause-bad g c = λ number is.
     {Q = λ (script : List ℕ). RunsUpTo (Some number) script (g.R.Read.remaining c.read_script.new.reader) (g.W.Write.contents c.args.writer.now) (g.W.Write.contents c.write_replies.new.writer)}
     c.in_ok-script.ensures.whole
     (λ script same. record { within_limit = search rules; none_left = search rules; first_bad = search rules; text = search rules })
+
+pub returns-clause-ok : goal.returns-clause-ok
+returns-clause-ok g c =
+    let ok = c.in_ok-write_replies.ensures.ok in
+    let runs : IfSome (g.R.Read.remaining c.args.reader.now) (λ script. RunsUpTo None script (g.R.Read.remaining c.read_script.new.reader) (g.W.Write.contents c.args.writer.now) (g.W.Write.contents c.write_replies.new.writer)) =
+    IfSome_then (g.R.Read.remaining c.args.reader.now)
+    {P = λ (script : List ℕ). c.in_ok-script.script.items ≡ script}
+    {Q = λ (script : List ℕ). RunsUpTo None script (g.R.Read.remaining c.read_script.new.reader) (g.W.Write.contents c.args.writer.now) (g.W.Write.contents c.write_replies.new.writer)}
+    c.in_ok-script.ensures.whole
+    (λ script same. record { within_limit = search rules; none_left = search rules; first_bad = search (rules, ok.0); text = search (rules, ok.1) }) in
+    search (rules, runs)

@@ -1,0 +1,57 @@
+-- The fields of a line, by the kinds that the forms have.
+use Rattle.std.specs.Prelude.{ℕ, ◌/◌, ◌&&◌, nat_le, List, [], ◌∷◌, length, if◌then◌else◌, Option, Some, None}
+use Rattle.std.specs.Option.{option_map, option_and_then}
+use Rattle.std.specs.Result.{result_ok}
+use Rattle.std.specs.Int.{Width, byte_len, from_be_bytes}
+use Rattle.hex.specs.Hex.{decode_sized}
+
+-- ---- one field
+
+-- so many bytes, each of two hexadecimal digits of either case
+abbrev pub bytes_of : (count : ℕ) (field : List ℕ) → Option (List ℕ)
+bytes_of count field = result_ok (decode_sized field count)
+
+-- a number of this width: two digits for each of its bytes, the most significant digit first
+abbrev pub number_of : (width : Width) (field : List ℕ) → Option ℕ
+number_of width field = option_map (from_be_bytes width) (bytes_of (byte_len width) field)
+
+-- 1 to 128 bytes, of two digits each
+abbrev pub field_bytes_of : (field : List ℕ) → Option (List ℕ)
+field_bytes_of field =
+    let count = length field / 2 in
+    if nat_le 1 count && nat_le count 128 then bytes_of count field else None
+
+-- ---- the first of the fields
+
+abbrev pub first_number : (width : Width) (fields : List (List ℕ)) → Option ℕ
+first_number width [] = None
+first_number width (field ∷ fields) = number_of width field
+
+-- no bytes without a field
+abbrev pub first_bytes : (fields : List (List ℕ)) → Option (List ℕ)
+first_bytes [] = Some []
+first_bytes (field ∷ fields) = field_bytes_of field
+
+abbrev pub later_fields : (fields : List (List ℕ)) → List (List ℕ)
+later_fields [] = []
+later_fields (field ∷ fields) = fields
+
+abbrev pub no_field : (fields : List (List ℕ)) → Option (Unit {0})
+no_field [] = Some tt
+no_field (field ∷ fields) = None
+
+-- ---- the fields of a form, read one after another
+
+-- a number of this width, and the fields after it
+abbrev pub number : {A : Type 0} (width : Width) (next : (value : ℕ) → List (List ℕ) → Option A)
+    (fields : List (List ℕ)) → Option A
+number width next fields = option_and_then (λ value. next value (later_fields fields)) (first_number width fields)
+
+-- bytes, and no field after them
+abbrev pub bytes : {A : Type 0} (next : (value : List ℕ) → List (List ℕ) → Option A)
+    (fields : List (List ℕ)) → Option A
+bytes next fields = option_and_then (λ value. next value (later_fields fields)) (first_bytes fields)
+
+-- no further field
+abbrev pub end : {A : Type 0} (command : A) (fields : List (List ℕ)) → Option A
+end command fields = option_map (λ _. command) (no_field fields)

@@ -1,0 +1,135 @@
+//! The fields of a line, read one after another.
+ghost use Rattle.std.specs.Prelude.{◌≡◌};
+ghost use Rattle.std.specs.Int.{w8, w16, w32, w64};
+ghost use Rattle.superio_script.specs.Splitting.{remaining_fields};
+ghost use Rattle.superio_script.specs.Fields.{bytes_of, number_of, field_bytes_of, first_number, first_bytes, later_fields, no_field};
+
+use crate::splitting::Fields;
+use arrayvec::ArrayVec;
+use std::marker::Model;
+
+/// The most bytes that a field can have.
+const FIELD_LIMIT: usize = 128;
+
+/// The bytes of a field, or none without a field. In contracts they are a list.
+#[derive(Drop)]
+pub(crate) struct FieldBytes {
+    bytes: ArrayVec<u8, FIELD_LIMIT>,
+}
+
+impl Model for FieldBytes {
+    ghost use Rattle.std.specs.Prelude.{List, ℕ};
+
+    ghost Value = { List ℕ };
+
+    ghost view = { λ field. field.bytes.items };
+}
+
+impl FieldBytes {
+    ghost use Rattle.std.specs.Prelude.{[], ◌≤◌, length};
+
+    /// No bytes.
+    fn none() -> FieldBytes
+        ensures { result ≡ [] }
+    {
+        FieldBytes {
+            bytes: ArrayVec::new(),
+        }
+    }
+
+    /// These bytes, at most 128.
+    fn of(bytes: &[u8]) -> FieldBytes
+        requires { length bytes.now ≤ 128 }
+        ensures { result ≡ bytes.now }
+    {
+        let mut field = ArrayVec::new();
+        field.try_extend_from_slice(bytes).unwrap();
+        FieldBytes { bytes: field }
+    }
+
+    /// The bytes.
+    pub(crate) fn as_slice(&self) -> &[u8]
+        ensures { result.now ≡ self.now }
+    {
+        self.bytes.as_slice()
+    }
+}
+
+/// The bytes of a field of exactly two hexadecimal digits per byte.
+fn parse_bytes<const N: usize>(field: &[u8]) -> Option<[u8; N]>
+    ensures { result ≡ bytes_of N field.now }
+{
+    let mut bytes = [0; N];
+    hex::decode_to_slice(field, &mut bytes).ok()?;
+    Some(bytes)
+}
+
+/// The 1 to 128 bytes of a field of two digits per byte.
+fn field_bytes(field: &[u8]) -> Option<FieldBytes>
+    ensures { result ≡ field_bytes_of field.now }
+{
+    let mut bytes = [0; FIELD_LIMIT];
+    let count = field.len() / 2;
+    if count == 0 || count > FIELD_LIMIT {
+        return None;
+    }
+    let bytes = &mut bytes[..count];
+    hex::decode_to_slice(field, bytes).ok()?;
+    Some(FieldBytes::of(bytes))
+}
+
+// Each takes the next field, if it is of its kind. After `None` the line has no form.
+impl Fields<'_> {
+    /// A byte, of two digits.
+    pub(crate) fn u8(&mut self) -> Option<u8>
+        ensures value { result ≡ first_number w8 (remaining_fields self.old.rest) }
+        ensures later { remaining_fields self.new.rest ≡ later_fields (remaining_fields self.old.rest) }
+    {
+        Some(u8::from_be_bytes(parse_bytes(self.next_field()?)?))
+    }
+
+    /// A number of four digits.
+    pub(crate) fn u16(&mut self) -> Option<u16>
+        ensures value { result ≡ first_number w16 (remaining_fields self.old.rest) }
+        ensures later { remaining_fields self.new.rest ≡ later_fields (remaining_fields self.old.rest) }
+    {
+        Some(u16::from_be_bytes(parse_bytes(self.next_field()?)?))
+    }
+
+    /// A number of eight digits.
+    pub(crate) fn u32(&mut self) -> Option<u32>
+        ensures value { result ≡ first_number w32 (remaining_fields self.old.rest) }
+        ensures later { remaining_fields self.new.rest ≡ later_fields (remaining_fields self.old.rest) }
+    {
+        Some(u32::from_be_bytes(parse_bytes(self.next_field()?)?))
+    }
+
+    /// A number of sixteen digits.
+    pub(crate) fn u64(&mut self) -> Option<u64>
+        ensures value { result ≡ first_number w64 (remaining_fields self.old.rest) }
+        ensures later { remaining_fields self.new.rest ≡ later_fields (remaining_fields self.old.rest) }
+    {
+        Some(u64::from_be_bytes(parse_bytes(self.next_field()?)?))
+    }
+
+    /// 1 to 128 bytes of two digits each, or none if no field is left.
+    pub(crate) fn bytes(&mut self) -> Option<FieldBytes>
+        ensures value { result ≡ first_bytes (remaining_fields self.old.rest) }
+        ensures later { remaining_fields self.new.rest ≡ later_fields (remaining_fields self.old.rest) }
+    {
+        match self.next_field() {
+            Some(field) => field_bytes(field),
+            None => Some(FieldBytes::none()),
+        }
+    }
+
+    /// `Some` if no field is left.
+    pub(crate) fn end(&mut self) -> Option<()>
+        ensures { result ≡ no_field (remaining_fields self.old.rest) }
+    {
+        match self.next_field() {
+            None => Some(()),
+            Some(_) => None,
+        }
+    }
+}
