@@ -33,7 +33,7 @@ module _ {T E EV W : Type 0} (trigger : Link T (TriggerAnswer E)) (events : Link
   pub record ReadsThenFeeds (offset byte : ℕ) (old new : Console T EV W E) : Type 0 where
     pub between : Console T EV W E
     pub step : IsReadStep trigger events contents offset byte old.serial between.serial
-    pub others : between ≡ record old { serial = between.serial }
+    pub rest_unchanged : between ≡ record old { serial = between.serial }
     pub fed : FeedsIf (length between.serial.state.in_buffer == 0) between new
 
   -- its write too. A byte that it sends waits in the output, or is dropped, and a refusal is remembered. Then input
@@ -42,7 +42,7 @@ module _ {T E EV W : Type 0} (trigger : Link T (TriggerAnswer E)) (events : Link
       Type 0 where
     pub between : Console T EV W E
     pub step : IsWriteStep trigger events contents offset value answer old.serial between.serial
-    pub others :
+    pub rest_unchanged :
         between ≡ record old {
           serial = between.serial;
           output = after_sent (sent_by (kind_in_state old.serial.state (Write offset value))) old.output;

@@ -46,7 +46,7 @@ module _ {T E EV W R F : Type 0} (trigger : Link T (TriggerAnswer E)) (events : 
     pub serial_alone : OnFalse (is_serial old.base port) (new.serial ≡ old.serial)
     pub reset_called : OnTrue (is_reset old.base port value) (ForwardsReset reset result old.controller new.controller)
     pub controller_alone : OnFalse (is_reset old.base port value) (new.controller ≡ old.controller)
-    pub others : OnFalse (is_serial old.base port || is_reset old.base port value) (result ≡ Ok tt)
+    pub otherwise_ok : OnFalse (is_serial old.base port || is_reset old.base port value) (result ≡ Ok tt)
     pub base : new.base ≡ old.base
     pub keyboard : new.keyboard ≡ old.keyboard
 

@@ -99,7 +99,7 @@ impl<T: Trigger, EV: SerialEvents, W: Write, R: Trigger> Bus<T, EV, W, R> {
             (ForwardsReset R.link result self.old.controller self.new.controller) }
         ensures controller_alone { OnFalse (is_reset self.old.base port value)
             (self.new.controller ≡ self.old.controller) }
-        ensures others { OnFalse (is_serial self.old.base port || is_reset self.old.base port value) (result ≡ Ok tt) }
+        ensures otherwise_ok { OnFalse (is_serial self.old.base port || is_reset self.old.base port value) (result ≡ Ok tt) }
         ensures base { self.new.base ≡ self.old.base }
         ensures keyboard { self.new.keyboard ≡ self.old.keyboard }
         ensures coherent { Coherent self.old.serial.state → Coherent self.new.serial.state }

@@ -15,7 +15,7 @@ impl<T: Trigger, EV: SerialEvents, W: Write, R: Trigger> Bus<T, EV, W, R> {
     pub fn port_in(&mut self, port: u16, bytes: &mut [u8])
         ensures bytes { OnTrue (is_width (length bytes.old))
             (ReadsBytes T.link EV.link W.contents R.link port bytes.new self.old self.new) }
-        ensures others { OnFalse (is_width (length bytes.old)) (bytes.new ≡ replicate (length bytes.old) 0xFF) }
+        ensures other_lengths { OnFalse (is_width (length bytes.old)) (bytes.new ≡ replicate (length bytes.old) 0xFF) }
         ensures alone { OnFalse (is_width (length bytes.old)) (self.new ≡ self.old) }
         ensures coherent { Coherent self.old.serial.state → Coherent self.new.serial.state }
     {
@@ -36,7 +36,7 @@ impl<T: Trigger, EV: SerialEvents, W: Write, R: Trigger> Bus<T, EV, W, R> {
     pub fn port_out(&mut self, port: u16, bytes: &[u8]) -> Result<(), BusError<T::E, R::E>>
         ensures bytes { OnTrue (is_width (length bytes.now))
             (WritesBytes T.link EV.link W.contents R.link port bytes.now result self.old self.new) }
-        ensures others { OnFalse (is_width (length bytes.now)) (result ≡ Ok tt) }
+        ensures other_lengths { OnFalse (is_width (length bytes.now)) (result ≡ Ok tt) }
         ensures alone { OnFalse (is_width (length bytes.now)) (self.new ≡ self.old) }
         ensures coherent { Coherent self.old.serial.state → Coherent self.new.serial.state }
     {

@@ -19,7 +19,7 @@ returns-in-len1-clause-bytes g c =
         serial_alone = c.write.ensures.serial_alone;
         reset_called = c.write.ensures.reset;
         controller_alone = c.write.ensures.controller_alone;
-        others = c.write.ensures.others;
+        otherwise_ok = c.write.ensures.otherwise_ok;
         base = c.write.ensures.base;
         keyboard = c.write.ensures.keyboard;
       },
@@ -43,7 +43,7 @@ returns-in-len2-clause-bytes g c =
         serial_alone = c.write-first.ensures.serial_alone;
         reset_called = c.write-first.ensures.reset;
         controller_alone = c.write-first.ensures.controller_alone;
-        others = c.write-first.ensures.others;
+        otherwise_ok = c.write-first.ensures.otherwise_ok;
         base = c.write-first.ensures.base;
         keyboard = c.write-first.ensures.keyboard;
       },
@@ -56,7 +56,7 @@ returns-in-len2-clause-bytes g c =
           serial_alone = c.write-in-len2.ensures.serial_alone;
           reset_called = c.write-in-len2.ensures.reset;
           controller_alone = c.write-in-len2.ensures.controller_alone;
-          others = c.write-in-len2.ensures.others;
+          otherwise_ok = c.write-in-len2.ensures.otherwise_ok;
           base = c.write-in-len2.ensures.base;
           keyboard = c.write-in-len2.ensures.keyboard;
         },

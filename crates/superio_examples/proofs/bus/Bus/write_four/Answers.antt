@@ -13,7 +13,7 @@ returns-clause-bytes g c = (
     serial_alone = c.write-at_first.ensures.serial_alone;
     reset_called = c.write-at_first.ensures.reset;
     controller_alone = c.write-at_first.ensures.controller_alone;
-    others = c.write-at_first.ensures.others;
+    otherwise_ok = c.write-at_first.ensures.otherwise_ok;
     base = c.write-at_first.ensures.base;
     keyboard = c.write-at_first.ensures.keyboard;
   },
@@ -26,7 +26,7 @@ returns-clause-bytes g c = (
       serial_alone = c.write-at_second.ensures.serial_alone;
       reset_called = c.write-at_second.ensures.reset;
       controller_alone = c.write-at_second.ensures.controller_alone;
-      others = c.write-at_second.ensures.others;
+      otherwise_ok = c.write-at_second.ensures.otherwise_ok;
       base = c.write-at_second.ensures.base;
       keyboard = c.write-at_second.ensures.keyboard;
     },
@@ -39,7 +39,7 @@ returns-clause-bytes g c = (
         serial_alone = c.write-at_third.ensures.serial_alone;
         reset_called = c.write-at_third.ensures.reset;
         controller_alone = c.write-at_third.ensures.controller_alone;
-        others = c.write-at_third.ensures.others;
+        otherwise_ok = c.write-at_third.ensures.otherwise_ok;
         base = c.write-at_third.ensures.base;
         keyboard = c.write-at_third.ensures.keyboard;
       },
@@ -52,7 +52,7 @@ returns-clause-bytes g c = (
           serial_alone = c.write-at_fourth.ensures.serial_alone;
           reset_called = c.write-at_fourth.ensures.reset;
           controller_alone = c.write-at_fourth.ensures.controller_alone;
-          others = c.write-at_fourth.ensures.others;
+          otherwise_ok = c.write-at_fourth.ensures.otherwise_ok;
           base = c.write-at_fourth.ensures.base;
           keyboard = c.write-at_fourth.ensures.keyboard;
         },

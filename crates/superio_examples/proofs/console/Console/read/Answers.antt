@@ -8,7 +8,7 @@ returns-then-fifo_capacity-eq64-clause-step g c =
     record {
       between = record c.args.self.now { serial = c.read-byte.new.self };
       step = c.read-byte.ensures.step;
-      others = refl;
+      rest_unchanged = refl;
       fed = rw empty (c.feed.ensures.fed, tt);
     }
 
@@ -18,6 +18,6 @@ returns-else-fifo_capacity-eq64-clause-step g c =
     record {
       between = record c.args.self.now { serial = c.read-byte.new.self };
       step = c.read-byte.ensures.step;
-      others = refl;
+      rest_unchanged = refl;
       fed = rw held (tt, refl);
     }

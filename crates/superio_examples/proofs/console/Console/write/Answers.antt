@@ -14,7 +14,7 @@ returns-then-offset-eq-MCR-clause-step g c =
     record {
       between = noted c.forward-written.new.self c.is_refusal.result;
       step = c.forward-written.ensures.step;
-      others =
+      rest_unchanged =
           ap (λ output. noted output c.is_refusal.result) c.forward-written.ensures.sent
           ∙ ap (noted _) c.is_refusal.ensures;
       fed = rw is_mcr (c.feed.ensures.fed, tt);
@@ -31,7 +31,7 @@ returns-else-offset-eq-MCR-clause-step g c =
     record {
       between = noted c.forward-written.new.self c.is_refusal.result;
       step = c.forward-written.ensures.step;
-      others =
+      rest_unchanged =
           ap (λ output. noted output c.is_refusal.result) c.forward-written.ensures.sent
           ∙ ap (noted _) c.is_refusal.ensures;
       fed = rw is_other (tt, refl);
