@@ -7,8 +7,6 @@ from saved_bytes import CLOCK, SERIAL, form, reply_to
 
 ROOM = 256                            # bytes that the output of a script's board takes
 UNREAD = "a5a5a5a5"                   # what an invalid read of a recorded call leaves
-
-
 CLOCK_FIELDS = Struct("<IIIIq?")      # of a saved state
 # The first line of a script, and any line.
 REFUSE = re.compile("refuse ([0-9A-Fa-f]{16})")
@@ -37,34 +35,24 @@ class Board:
         return place < 64 and self.mask >> place & 1 == 1
 
     def writing(self):
-        return "n" if len(self.port.output()) >= ROOM else None
+        return "n" if len(self.port.output()) >= ROOM else ""
 
-    def counts(self):
-        return " ".join(f"{self.count(event):016x}" for event in "bole")
-
-    def restore(self):
-        return "trigger" if "R" in self.port.restore(self.port.past) else "ok"
+    def restore(self, *start):
+        return "trigger" if "R" in self.port.restore([*self.port.past, *start]) else "ok"
 
     def load(self, data):
         reply = reply_to(SERIAL, data)
-        if reply == "ok" and "R" in self.port.restore([*self.port.past, start_fact(data[8:17], data[17:])]):
-            return "trigger"
-        return reply
+        return self.restore(start_fact(data[8:17], data[17:])) if reply == "ok" else reply
 
     def load_clock(self, data):
         reply = reply_to(CLOCK, data)
         if reply == "ok":
-            lr, mr, imsc, ris, ahead, armed = CLOCK_FIELDS.unpack(data[8:])
-            self.clock.start(lr, ahead, mr, imsc, ris, armed)
+            self.clock.start(*CLOCK_FIELDS.unpack(data[8:]))
         return reply
 
-    def saved_clock(self):
-        lr, ahead, mr, imsc, ris, armed = self.clock.state()
-        return form(CLOCK, CLOCK_FIELDS.pack(lr, mr, imsc, ris, ahead, armed)).hex()
-
-    def of_clock(self, moment, offset, value=None):
-        answer = self.clock.access(moment, offset, value)
-        return "invalid" if answer is None else "ok" if value is not None else f"{answer:08x}"
+    def of_clock(self, moment, offset, *value):
+        answer = self.clock.access(moment, offset, *value)
+        return "invalid" if answer is None else "ok" if value else f"{answer:08x}"
 
     def reply(self, line):
         name, *fields = line.split(" ")
@@ -74,8 +62,10 @@ class Board:
             return of_bytes[name](bytes.fromhex("".join(fields)))
         return {"sr": port.read, "sw": port.write, "sc": lambda: f"{port.room():02x}", "sd": port.drain,
                 "ss": self.restore, "sb": lambda: form(SERIAL, port.state() + port.held()).hex(),
-                "so": lambda: port.output().hex(), "st": lambda: f"{self.count('T', 'R'):016x}", "se": self.counts,
-                "cb": self.saved_clock, "cr": self.of_clock, "cw": self.of_clock, "kr": lambda _: "00",
+                "so": lambda: port.output().hex(), "st": lambda: f"{self.count('T', 'R'):016x}",
+                "se": lambda: " ".join(f"{self.count(event):016x}" for event in "bole"),
+                "cb": lambda: form(CLOCK, CLOCK_FIELDS.pack(*self.clock.state())).hex(), "cr": self.of_clock,
+                "cw": self.of_clock, "kr": lambda _: "00",
                 "kw": lambda *write: "reset" if resets(*write) else "ok"}[name](*numbers(fields))
 
 
@@ -91,25 +81,26 @@ def script_replies(script):
     return answered, [board.reply(line) for line in answered], None if bad is None else bad + 1
 
 
+def clock_text(lr, mr, imsc, ris, ahead, armed):
+    """A state of the clock, as recorded calls write it."""
+    return f"{lr:08x} {ahead} {mr:08x} {imsc:08x} {ris:08x}{' armed' * armed}"
+
+
 class Monitor:
     """The devices of recorded calls, as tests/calls/README.md describes them. The methods with the name of a call
     return its reply, and the calls of objects in it."""
 
     def __init__(self):
-        self.refused, self.writing = set(), None
-        self.port = Port(lambda number: number in self.refused, lambda: self.writing)
+        self.words = []               # how the objects behave in a call
+        self.port = Port(lambda number: str(number) in self.words, lambda: self.words)
         self.clock = Clock()
 
     def reply(self, line):
         """What stands after ` = ` in a line of a recording, of what stands before."""
         name, *fields = line.split(" ")
-        self.refused, self.writing = set(), None
+        self.words = []
         while fields and fields[-1] in ("1", "2", "n", "f", "i", "u"):
-            word = fields.pop()
-            if word in "12":
-                self.refused.add(int(word))
-            else:
-                self.writing = word
+            self.words.append(fields.pop())
         reply, did = getattr(self, name)(*fields)
         return " ".join([reply, *did])
 
@@ -139,12 +130,11 @@ class Monitor:
 
     def restored(self, past):
         did = self.port.restore(past)
-        if "R" in did:
-            return "trigger", did
-        return f"{self.port.state().hex()} {self.port.held().hex() or '-'} {self.port.room():02x}", did
+        state = f"{self.port.state().hex()} {self.port.held().hex() or '-'} {self.port.room():02x}"
+        return "trigger" if "R" in did else state, did
 
     def cr(self, *fields):
-        answer = self.clock.access(*numbers(fields), None)
+        answer = self.clock.access(*numbers(fields))
         return (UNREAD, "i") if answer is None else (f"{answer:08x}", ())
 
     def cw(self, *fields):
@@ -152,12 +142,10 @@ class Monitor:
         return "ok", "j" if answer is None else ""
 
     def cs(self):
-        lr, ahead, mr, imsc, ris, armed = self.clock.state()
-        return f"{lr:08x} {ahead} {mr:08x} {imsc:08x} {ris:08x}{' armed' * armed}", ()
+        return clock_text(*self.clock.state()), ()
 
     def cl(self, lr, ahead, mr, imsc, ris, *armed):
-        mr, imsc, ris = numbers((mr, imsc, ris))
-        self.clock.start(int(lr, 16), int(ahead), mr, imsc, ris, bool(armed))
+        self.clock.start(*numbers((lr, mr, imsc, ris)), int(ahead), bool(armed))
         return self.cs()
 
     def kr(self, _):
