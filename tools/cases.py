@@ -1,12 +1,12 @@
 """What tools/hostile tries: random scripts for the program `superio`, and runs of calls for `superio_calls`."""
 import random
+from itertools import product
 
-from expected import CLOCK_FIELDS
+from expected import CLOCK_FIELDS, ROOM, clock_text
 from saved_bytes import CLOCK, SERIAL, form
 
-LINES = 24           # of a random script, at most
+LINES = 24           # of a random script, at most, before those that end it
 CALLS = 40           # of a random run
-ROOM = 256           # bytes that the output of a script's board takes
 SCRIPT_READS = [f"sr {offset:02x}" for offset in (0, 1, 2, 3, 4, 5, 6, 7, 8, 255)]
 SCRIPT_ENDS = ["st", "sc", "se", "so", "sb", "cb"]
 
@@ -44,6 +44,14 @@ def clock_access(source):
     return f"cr {at}" if source.random() < 0.5 else f"cw {at} {number(source):08x}"
 
 
+def seconds_at_an_end(source):
+    """A load that takes guest time to an end of 32 bits, or near it, and reads in the seconds until it is past."""
+    moment, away = source.randrange(2**32, 2**34), source.randrange(4)
+    end, step = source.choice(((0, -1), (2**32 - 1, 1)))
+    reads = [f"cr {moment + step * seconds:016x} 0000" for seconds in range(5)]
+    return [f"cw {moment:016x} 0008 {end - step * away:08x}", *reads]
+
+
 def port_start(source, *counts):
     """Any registers, and no bytes, some, 64, or a number of `counts`. Of IIR the bits that a port sets are common, and
     DLAB is mostly clear."""
@@ -52,7 +60,8 @@ def port_start(source, *counts):
         registers[3] %= 8
     if source.random() < 0.3:
         registers[4] &= 0x7F
-    return bytes(registers), source.randbytes(source.choice((0, 64, source.randrange(4), source.randrange(65), *counts)))
+    count = source.choice((0, 64, source.randrange(4), source.randrange(65), *counts))
+    return bytes(registers), source.randbytes(count)
 
 
 def clock_start(source):
@@ -83,9 +92,8 @@ def serial_line(source):
         return serial_access(source)
     if kind < 20:
         return f"sq {any_bytes(source)}".rstrip()
-    if kind < 22:
-        return source.choice(("ss", "ss", "ss", load_port(source, 65, 80)))
-    return source.choice(("sd", "st", "sc", "se", "so", "sb"))
+    restores = ("ss", "ss", "ss", load_port(source, 65, 80))
+    return source.choice(restores if kind < 22 else ("sd", "st", "sc", "se", "so", "sb"))
 
 
 def clock_line(source):
@@ -111,20 +119,31 @@ def two_writes(source):
             f"sw 04 {source.choice((0x08, 0x10)):02x}", *writes, *SCRIPT_READS]
 
 
+def every_identification(source):
+    """An access, mostly a read of RBR, in a state of any registers for each value of IIR, with a byte or none."""
+    for identification in range(8):
+        registers, _ = port_start(source)
+        state = registers[:3] + bytes([identification]) + registers[4:] + source.choice((b"", b"a"))
+        yield from (f"sl {form(SERIAL, state).hex()}", source.choice(("sr 00", serial_access(source))), "sb")
+
+
+# What makes a script or its lines, with how many of 200 scripts it makes.
+SCRIPT_PARTS = {full_output: 1, two_writes: 31, every_identification: 16, serial_line: 92, clock_line: 40, any_line: 16,
+                controller_access: 4}
+
+
 def script_lines(source):
     """The lines of a script, under a mask or none. Half of them begin at a state that is loaded."""
-    kind = source.randrange(200)
     bits = source.getrandbits(64)
     mask = source.choice((None, None, None, bits, bits, bits & source.getrandbits(64), 1 << source.randrange(6)))
     lines = [] if mask is None else [f"refuse {mask:016x}"]
-    if kind < 1:
-        return lines + full_output(source) + SCRIPT_ENDS
-    if kind < 32:
-        return lines + two_writes(source) + SCRIPT_ENDS
-    one = serial_line if kind < 140 else clock_line if kind < 180 else any_line if kind < 196 else controller_access
+    make, = source.choices(list(SCRIPT_PARTS), SCRIPT_PARTS.values())
+    if make in (full_output, two_writes, every_identification):
+        return [*lines, *make(source), *SCRIPT_ENDS]
     if source.random() < 0.5:
-        lines += [load_port(source)] * (one != clock_line) + [load_clock(source)] * (one in (clock_line, any_line))
-    return lines + [one(source) for _ in range(source.randrange(1, LINES + 1))] + SCRIPT_ENDS
+        lines += [load_port(source)] * (make != clock_line) + [load_clock(source)] * (make in (clock_line, any_line))
+    lines += [make(source) for _ in range(source.randrange(1, LINES + 1))]
+    return lines + seconds_at_an_end(source) * (make == clock_line) + SCRIPT_ENDS
 
 
 def broken(source, script):
@@ -148,11 +167,6 @@ def port_state(source, *counts):
     return f"sl {registers.hex()} {held.hex() or '-'}"
 
 
-def clock_state(source):
-    lr, mr, imsc, ris, ahead, is_armed = clock_start(source)
-    return f"cl {lr:08x} {ahead} {mr:08x} {imsc:08x} {ris:08x}{' armed' * is_armed}"
-
-
 def hindered(source, call):
     """A call in which objects refuse or fail, or do not."""
     refusals = "".join(f" {number}" for number in (1, 2) if source.randrange(4) == 0)
@@ -173,8 +187,9 @@ def port_run(source):
 
 
 def clock_run(source):
-    calls = (["cs"] * (source.randrange(8) == 0) + [clock_access(source)] for _ in range(CALLS))
-    return [clock_state(source), *(call for some in calls for call in some), "cs"]
+    start = f"cl {clock_text(*clock_start(source))}"
+    calls = [call for _ in range(CALLS) for call in (*["cs"] * (source.randrange(8) == 0), clock_access(source))]
+    return [start, *calls, *seconds_at_an_end(source), "cs"]
 
 
 def controller_run(source):
@@ -190,15 +205,12 @@ def every_write():
     """Every write of the serial port, with and without the divisor latch, loopback and a held byte: those of the eight
     registers each from a new state, and those of the other offsets by offset."""
     reads = [*SCRIPT_READS, "ss"]
-    for held in ("-", "61"):
-        for latch in ("03", "80"):
-            for modem in ("08", "10"):
-                start = f"sl 0c000001{latch}{'60' if held == '-' else '61'}{modem}b000 {held}"
-                for offset in range(8):
-                    for value in range(256):
-                        yield [start, f"sw {offset:02x} {value:02x}", *reads]
-                for offset in range(8, 256):
-                    yield [start, *(f"sw {offset:02x} {value:02x}" for value in range(256)), *reads]
+    for (status, held), latch, modem in product((("60", "-"), ("61", "61")), ("03", "80"), ("08", "10")):
+        start = f"sl 0c000001{latch}{status}{modem}b000 {held}"
+        for offset in range(256):
+            writes = [f"sw {offset:02x} {value:02x}" for value in range(256)]
+            for some in ([write] for write in writes) if offset < 8 else [writes]:
+                yield [start, *some, *reads]
 
 
 def every_send():
@@ -219,13 +231,12 @@ def every_access():
 
 def fixed_runs():
     """Each run with a name."""
-    for what, runs in (("every write", every_write()), ("every send", every_send()), ("every access", every_access())):
-        for place, run in enumerate(runs):
-            yield f"{what}, run {place}", run
+    for make in every_write, every_send, every_access:
+        for place, run in enumerate(make()):
+            yield f"{make.__name__}, run {place}", run
 
 
 def random_cases(make, what, seed, count):
-    """So many random scripts or runs, each with a name, and with numbers of its own: the first are the same of any
-    count."""
+    """So many random scripts or runs, each with a name. More of them leave the first as they are."""
     for place in range(count):
         yield f"{what} {place} of seed {seed}", make(random.Random(f"{what} {place} {seed}"))
