@@ -143,7 +143,7 @@ def script_lines(source):
     if source.random() < 0.5:
         lines += [load_port(source)] * (make != clock_line) + [load_clock(source)] * (make in (clock_line, any_line))
     lines += [make(source) for _ in range(source.randrange(1, LINES + 1))]
-    return lines + seconds_at_an_end(source) * (make == clock_line) + SCRIPT_ENDS
+    return lines + ["cb", *seconds_at_an_end(source)] * (make == clock_line) + SCRIPT_ENDS
 
 
 def broken(source, script):
@@ -189,7 +189,7 @@ def port_run(source):
 def clock_run(source):
     start = f"cl {clock_text(*clock_start(source))}"
     calls = [call for _ in range(CALLS) for call in (*["cs"] * (source.randrange(8) == 0), clock_access(source))]
-    return [start, *calls, *seconds_at_an_end(source), "cs"]
+    return [start, *calls, "cs", *seconds_at_an_end(source), "cs"]
 
 
 def controller_run(source):
