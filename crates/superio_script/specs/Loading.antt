@@ -5,7 +5,7 @@ use Rattle.hex.specs.Hex.{encode_lower}
 use Rattle.vm_superio.specs.declared.rtc_pl031.RtcState.{RtcState}
 use Rattle.vm_superio.specs.declared.saved.Error.{Error}
 use Rattle.vm_superio.specs.declared.saved.Error.TheVariants.{TooShort, NotASavedState, OtherDevice, UnknownVersion, WrongLength, TooManyBytes, InvalidArmed, Memory}
-use Rattle.vm_superio.specs.Serial.Port.State.{State}
+use Rattle.vm_superio.specs.Serial.Port.State.{State, state_of_bytes}
 use Rattle.vm_superio.specs.Saved.Form.{serial_form, clock_form}
 use Rattle.vm_superio.specs.Saved.Faults.{serial_fault, clock_fault}
 use Rattle.vm_superio.specs.Saved.Laws.{IsClock}
@@ -17,20 +17,9 @@ abbrev pub unless_fault : {A : Type 0} → (fault : Option Error) (loaded : A) �
 unless_fault None loaded = Ok loaded
 unless_fault (Some fault) loaded = Err fault
 
--- the registers and the received bytes of a port, at their places in a form
+-- the registers and the received bytes of a port, after the header
 abbrev pub port_in : (bytes : List ℕ) → State
-port_in bytes = record {
-  baud_divisor_low = slice_index bytes 8;
-  baud_divisor_high = slice_index bytes 9;
-  interrupt_enable = slice_index bytes 10;
-  interrupt_identification = slice_index bytes 11;
-  line_control = slice_index bytes 12;
-  line_status = slice_index bytes 13;
-  modem_control = slice_index bytes 14;
-  modem_status = slice_index bytes 15;
-  scratch = slice_index bytes 16;
-  in_buffer = drop 17 bytes;
-}
+port_in bytes = state_of_bytes (drop 8 bytes)
 
 abbrev pub loaded_port : (bytes : List ℕ) → Result State Error
 loaded_port bytes = unless_fault (serial_fault bytes) (port_in bytes)

@@ -33,7 +33,7 @@ use std::marker::Model;
 /// A 16550 serial port, reduced to what a guest's driver uses: its registers, a receive FIFO of 64 bytes that is always
 /// on, and two interrupt conditions.
 ///
-/// Contracts see the port as its state of ten fields and the three objects that it owns.
+/// Contracts see the port as its state and the three objects that it owns.
 #[derive(Drop)]
 pub struct Serial<T: Trigger, EV: SerialEvents, W: Write> {
     registers: Registers,

@@ -1,10 +1,11 @@
 -- The checks of bytes that are read as a saved state, in order: the first that fails is the error.
-use Rattle.std.specs.Prelude.{ℕ, ◌==◌, not, nat_le, nat_lt, if◌then◌else◌, List, [], ◌∷◌, length, drop, slice_index, Option, Some, None}
+use Rattle.std.specs.Prelude.{ℕ, ◌==◌, not, ◌+◌, nat_le, nat_lt, if◌then◌else◌, List, [], ◌∷◌, length, drop, slice_index, Option, Some, None}
 use Rattle.std.specs.Int.{w16, from_le_bytes}
 use Rattle.std.specs.Option.{option_or}
 use Rattle.std.specs.Str.{bytes_eq}
 use Rattle.vm_superio.specs.declared.saved.Error.{Error}
 use Rattle.vm_superio.specs.declared.saved.Error.TheVariants.{TooShort, NotASavedState, OtherDevice, UnknownVersion, WrongLength, TooManyBytes, InvalidArmed}
+use Rattle.vm_superio.specs.Serial.Port.State.{register_count}
 use Rattle.vm_superio.specs.Saved.Form.{magic, serial_kind, clock_kind, version}
 
 -- there is a header; it has the magic, the kind of this device and the version of this form; and its length
@@ -18,11 +19,11 @@ header_fault kind (m0 ∷ m1 ∷ m2 ∷ m3 ∷ its_kind ∷ its_version ∷ low 
     else None)))
 header_fault kind _ = Some TooShort
 
--- what follows the header of a port: nine registers, and at most 64 received bytes
+-- what follows the header of a port: the registers, and at most 64 received bytes
 abbrev pub serial_contents_fault : (contents : List ℕ) → Option Error
 serial_contents_fault contents =
-    if nat_lt (length contents) 9 then Some WrongLength
-    else (if nat_lt 73 (length contents) then Some TooManyBytes else None)
+    if nat_lt (length contents) register_count then Some WrongLength
+    else (if nat_lt (register_count + 64) (length contents) then Some TooManyBytes else None)
 
 abbrev pub serial_fault : (bytes : List ℕ) → Option Error
 serial_fault bytes = option_or (header_fault serial_kind bytes) (serial_contents_fault (drop 8 bytes))

@@ -2,7 +2,7 @@
 use Rattle.std.specs.Prelude.{ℕ, Bool, if◌then◌else◌, List, [], ◌∷◌, ◌++◌, length}
 use Rattle.std.specs.Int.{w16, w32, w64, to_le_bytes, cast_unsigned}
 use Rattle.vm_superio.specs.declared.rtc_pl031.RtcState.{RtcState}
-use Rattle.vm_superio.specs.Serial.Port.State.{State}
+use Rattle.vm_superio.specs.Serial.Port.State.{State, register_bytes}
 
 -- the letters SIOS, with which each saved state begins
 abbrev pub magic : List ℕ
@@ -29,12 +29,9 @@ form kind contents = header kind (length contents) ++ contents
 
 -- ---- the serial port
 
--- the nine registers, and the received bytes that no guest has read, oldest first
+-- the registers, and the received bytes that no guest has read, oldest first
 abbrev pub serial_contents : (state : State) → List ℕ
-serial_contents state =
-    state.baud_divisor_low ∷ state.baud_divisor_high ∷ state.interrupt_enable ∷ state.interrupt_identification
-    ∷ state.line_control ∷ state.line_status ∷ state.modem_control ∷ state.modem_status ∷ state.scratch
-    ∷ state.in_buffer
+serial_contents state = register_bytes state ++ state.in_buffer
 
 abbrev pub serial_form : (state : State) → List ℕ
 serial_form state = form serial_kind (serial_contents state)

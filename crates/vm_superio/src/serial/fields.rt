@@ -21,7 +21,7 @@ use crate::fifo::{FIFO_SIZE, ReceiveFifo};
 #[repr(C)]
 #[derive(Clone, Copy)]
 pub struct SerialFields {
-    /// The nine registers.
+    /// The registers.
     pub registers: Registers,
     /// The received bytes that no guest has read.
     pub in_buffer: RxRing,

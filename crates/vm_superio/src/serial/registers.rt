@@ -1,7 +1,7 @@
-//! The registers of a 16550: which one an offset reaches, and the nine bytes that they hold.
+//! The registers of a 16550: which one an offset reaches, and the bytes that they hold.
 ghost use Rattle.std.specs.Prelude.{◌≡◌, if◌then◌else◌, []};
 ghost use Rattle.vm_superio.specs.Bits.{has_bits};
-ghost use Rattle.vm_superio.specs.Serial.Port.State.{fresh_state, state_with};
+ghost use Rattle.vm_superio.specs.Serial.Port.State.{fresh_state, state_with, register_bytes};
 
 use super::bits::{
     DATA_OFFSET, DEFAULT_BAUD_DIVISOR_LOW, DEFAULT_LINE_CONTROL, DEFAULT_LINE_STATUS,
@@ -72,7 +72,10 @@ impl Condition {
     }
 }
 
-/// The nine register bytes of a port, in the order of a saved state, without the received bytes.
+/// How many registers keep a byte.
+pub(super) const REGISTER_COUNT: usize = 9;
+
+/// The register bytes of a port, in the order of a saved state, without the received bytes.
 #[repr(C)]
 #[derive(Clone, Copy)]
 pub struct Registers {
@@ -113,6 +116,41 @@ impl Registers {
             modem_control: DEFAULT_MODEM_CONTROL,
             modem_status: DEFAULT_MODEM_STATUS,
             scratch: 0,
+        }
+    }
+
+    /// Their bytes, in the order of the fields.
+    pub(super) fn to_array(self) -> [u8; REGISTER_COUNT]
+        ensures { result ≡ register_bytes (state_with self []) }
+    {
+        [
+            self.baud_divisor_low,
+            self.baud_divisor_high,
+            self.interrupt_enable,
+            self.interrupt_identification,
+            self.line_control,
+            self.line_status,
+            self.modem_control,
+            self.modem_status,
+            self.scratch,
+        ]
+    }
+
+    /// The registers with these bytes.
+    pub(super) fn from_array(bytes: [u8; REGISTER_COUNT]) -> Registers
+        ensures { register_bytes (state_with result []) ≡ bytes }
+    {
+        let [dll, dlm, ier, iir, lcr, lsr, mcr, msr, scr] = bytes;
+        Registers {
+            baud_divisor_low: dll,
+            baud_divisor_high: dlm,
+            interrupt_enable: ier,
+            interrupt_identification: iir,
+            line_control: lcr,
+            line_status: lsr,
+            modem_control: mcr,
+            modem_status: msr,
+            scratch: scr,
         }
     }
 

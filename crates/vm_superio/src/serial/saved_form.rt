@@ -8,24 +8,21 @@ ghost use Rattle.vm_superio.specs.Saved.Form.{serial_contents, serial_form};
 ghost use Rattle.vm_superio.specs.Saved.Faults.{serial_fault};
 
 use super::fields::SerialFields;
-use super::registers::Registers;
+use super::registers::{REGISTER_COUNT, Registers};
 use super::rx_ring::RxRing;
 use super::state::SerialState;
 use crate::fifo::{FIFO_SIZE, ReceiveFifo};
-use crate::saved::{Error, SERIAL_KIND, contents_of, header};
+use crate::saved::{Error, HEADER_SIZE, SERIAL_KIND, contents_of, header};
 use arrayvec::ArrayVec;
 use std::alloc::Global;
 
-/// The maximum size of a port's byte form: the header, nine registers and 64 received bytes.
-pub const SAVED_MAX: usize = 81;
-
-/// The size of the registers.
-const REGISTERS_SIZE: usize = 9;
+/// The maximum size of a port's byte form: the header, the registers and 64 received bytes.
+pub const SAVED_MAX: usize = HEADER_SIZE + REGISTER_COUNT + FIFO_SIZE;
 
 impl SerialState {
     /// The state as bytes; `from_bytes` reads them back. Allocates no memory.
     ///
-    /// They are a header of eight bytes, the nine registers in the order of the fields, and the received bytes, oldest
+    /// They are a header of eight bytes, the registers in the order of the fields, and the received bytes, oldest
     /// first.
     ///
     /// # Errors
@@ -100,7 +97,7 @@ impl SerialFields {
 
 /// Adds the held bytes, oldest first.
 fn push_held(form: &mut ArrayVec<u8, SAVED_MAX>, mut held: RxRing)
-    requires { length form.old.items + length (held_bytes held) ≤ 81 }
+    requires { length form.old.items + length (held_bytes held) ≤ SAVED_MAX }
     ensures { form.new.items ≡ form.old.items ++ held_bytes held }
 {
     while let Some(byte) = held.take_first() {
@@ -114,23 +111,12 @@ impl Registers {
         requires { held ≤ 64 }
         ensures form { (in_buffer : List ℕ) → length in_buffer ≡ held →
             result.items ++ in_buffer ≡ serial_form (state_with self.now in_buffer) }
-        ensures length { length result.items ≡ 17 }
+        ensures length { length result.items ≡ HEADER_SIZE + REGISTER_COUNT }
     {
         let mut form = ArrayVec::new();
-        form.try_extend_from_slice(&header(SERIAL_KIND, (REGISTERS_SIZE + held) as u16))
+        form.try_extend_from_slice(&header(SERIAL_KIND, (REGISTER_COUNT + held) as u16))
             .unwrap();
-        form.try_extend_from_slice(&[
-            self.baud_divisor_low,
-            self.baud_divisor_high,
-            self.interrupt_enable,
-            self.interrupt_identification,
-            self.line_control,
-            self.line_status,
-            self.modem_control,
-            self.modem_status,
-            self.scratch,
-        ])
-        .unwrap();
+        form.try_extend_from_slice(&self.to_array()).unwrap();
         form
     }
 }
@@ -146,22 +132,11 @@ pub(super) fn registers_of(bytes: &[u8]) -> Result<(Registers, &[u8]), Error>
     ensures fault { result_err result ≡ serial_fault bytes.now }
 {
     let contents = contents_of(SERIAL_KIND, bytes)?;
-    let [dll, dlm, ier, iir, lcr, lsr, mcr, msr, scr, in_buffer @ ..] = contents else {
+    let Some((registers, in_buffer)) = contents.split_first_chunk::<REGISTER_COUNT>() else {
         return Err(Error::WrongLength);
     };
     if in_buffer.len() > FIFO_SIZE {
         return Err(Error::TooManyBytes);
     }
-    let registers = Registers {
-        baud_divisor_low: *dll,
-        baud_divisor_high: *dlm,
-        interrupt_enable: *ier,
-        interrupt_identification: *iir,
-        line_control: *lcr,
-        line_status: *lsr,
-        modem_control: *mcr,
-        modem_status: *msr,
-        scratch: *scr,
-    };
-    Ok((registers, in_buffer))
+    Ok((Registers::from_array(*registers), in_buffer))
 }

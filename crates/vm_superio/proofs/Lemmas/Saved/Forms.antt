@@ -7,7 +7,7 @@ use Rattle.std.proofs.lemmas.Int.{to_z-of_z}
 use Rattle.std.proofs.lemmas.Nat.{from_le_bytes-to_le_bytes_4, from_le_bytes-to_le_bytes_8}
 use Rattle.vm_superio.specs.declared.rtc_pl031.RtcState.{RtcState}
 use Rattle.vm_superio.specs.declared.saved.Error.{Error}
-use Rattle.vm_superio.specs.Serial.Port.State.{State}
+use Rattle.vm_superio.specs.Serial.Port.State.{state_of_bytes}
 use Rattle.vm_superio.specs.Saved.Form.{flag, clock_form}
 use Rattle.vm_superio.specs.Saved.Faults.{clock_fault}
 use Rattle.vm_superio.specs.Saved.Laws.{IsClock, SerialFormLaw, ClockFormLaw, OneSerialStateLaw, OneClockStateLaw}
@@ -56,23 +56,8 @@ pub one_clock_state : OneClockStateLaw
 one_clock_state a b a_fits b_fits same =
     sym (numbers_in-form a a_fits) ∙ ap numbers_in same ∙ numbers_in-form b b_fits
 
--- the bytes at their places
-abbrev state_in : (bytes : List ℕ) → State
-state_in bytes = record {
-  baud_divisor_low = slice_index bytes 8;
-  baud_divisor_high = slice_index bytes 9;
-  interrupt_enable = slice_index bytes 10;
-  interrupt_identification = slice_index bytes 11;
-  line_control = slice_index bytes 12;
-  line_status = slice_index bytes 13;
-  modem_control = slice_index bytes 14;
-  modem_status = slice_index bytes 15;
-  scratch = slice_index bytes 16;
-  in_buffer = drop 17 bytes;
-}
-
 pub one_serial_state : OneSerialStateLaw
-one_serial_state a b same = ap state_in same
+one_serial_state a b same = ap (λ (bytes : List ℕ). state_of_bytes (drop 8 bytes)) same
 
 pub serial_form_has_no_fault : SerialFormLaw
 serial_form_has_no_fault state few = grind arith

@@ -1,5 +1,5 @@
--- The state of a serial port: a fresh one, that of a saved state, and that of its registers and bytes.
-use Rattle.std.specs.Prelude.{ℕ, Bool, true, false, List, [], ◌∷◌}
+-- The state of a serial port: a fresh one, that of a saved state, that of its registers and bytes, and as bytes.
+use Rattle.std.specs.Prelude.{ℕ, Bool, true, false, List, [], ◌∷◌, drop, slice_index}
 use Rattle.vm_superio.specs.declared.serial.registers.Registers.{Registers}
 use Rattle.vm_superio.specs.declared.serial.state.SerialState.{SerialState}
 
@@ -65,4 +65,31 @@ state_with registers bytes = record {
   modem_status = registers.modem_status;
   scratch = registers.scratch;
   in_buffer = bytes;
+}
+
+-- ---- the registers as bytes
+
+-- how many registers keep a byte
+abbrev pub register_count : ℕ
+register_count = 9
+
+-- their bytes, in the order of a saved state
+abbrev pub register_bytes : (s : State) → List ℕ
+register_bytes s =
+    s.baud_divisor_low ∷ s.baud_divisor_high ∷ s.interrupt_enable ∷ s.interrupt_identification ∷ s.line_control
+    ∷ s.line_status ∷ s.modem_control ∷ s.modem_status ∷ s.scratch ∷ []
+
+-- the state with these bytes: those of the registers, and then the received ones
+abbrev pub state_of_bytes : (bytes : List ℕ) → State
+state_of_bytes bytes = record {
+  baud_divisor_low = slice_index bytes 0;
+  baud_divisor_high = slice_index bytes 1;
+  interrupt_enable = slice_index bytes 2;
+  interrupt_identification = slice_index bytes 3;
+  line_control = slice_index bytes 4;
+  line_status = slice_index bytes 5;
+  modem_control = slice_index bytes 6;
+  modem_status = slice_index bytes 7;
+  scratch = slice_index bytes 8;
+  in_buffer = drop register_count bytes;
 }
