@@ -8,7 +8,7 @@ use Rattle.vm_superio.specs.Serial.Port.State.{State, not_empty}
 use Rattle.vm_superio.specs.Serial.Port.Registers.{Rda, Thre, register_at, identification_of, register_read}
 use Rattle.vm_superio.specs.Serial.Port.Operations.{Asked, Sent, Op, Read, Write, Enqueue, Restore, TraceEntry, Response, ByteRead, EnqueueOk, TriggerRefused, FifoFull, NoResponse, is_first_refused, is_lost, recorded_write_response, Trace}
 use Rattle.vm_superio.specs.Serial.Port.OpKinds.{OpKind, RbrRead, sent_by}
-use Rattle.vm_superio.specs.Serial.History.Registers.{kind_at, line_control, modem_control, scratch, dlab, loopback, divisor_low, divisor_high, interrupt_enable, accepted_by, held_bytes}
+use Rattle.vm_superio.specs.Serial.History.Registers.{kind_at, dlab, loopback, with_last_writes, accepted_by, held_bytes}
 use Rattle.vm_superio.specs.Serial.History.Interrupts.{is_pending}
 
 abbrev pub interrupt_identification : (start : State) (trace : Trace) → ℕ
@@ -25,16 +25,9 @@ line_status start trace = with_data_ready start.line_status (not_empty (held_byt
 
 -- the state that the history of a trace describes
 abbrev pub state_of_history : (start : State) (trace : Trace) → State
-state_of_history start trace = record {
-  baud_divisor_low = divisor_low start trace;
-  baud_divisor_high = divisor_high start trace;
-  interrupt_enable = interrupt_enable start trace;
+state_of_history start trace = record (with_last_writes start trace) {
   interrupt_identification = interrupt_identification start trace;
-  line_control = line_control start trace;
   line_status = line_status start trace;
-  modem_control = modem_control start trace;
-  modem_status = start.modem_status;
-  scratch = scratch start trace;
   in_buffer = held_bytes start trace;
 }
 

@@ -1,6 +1,6 @@
 -- The history of registers and bytes: the last write to each register, and the bytes accepted, taken and held. No state
 -- is kept along a trace: each definition searches the start and the trace. Restores change nothing.
-use Rattle.std.specs.Prelude.{ℕ, ◌-◌, Bool, ◌==◌, if◌then◌else◌, List, [], ◌∷◌, ◌++◌, length, take, drop, Option, Some, None, unwrap_or}
+use Rattle.std.specs.Prelude.{◌≡◌, ℕ, ◌-◌, Bool, ◌==◌, if◌then◌else◌, List, [], ◌∷◌, ◌++◌, length, take, drop, Option, Some, None, unwrap_or}
 use Rattle.std.specs.Option.{option_or, option_map_or}
 use Rattle.vm_superio.specs.Bits.{only_bits}
 use Rattle.vm_superio.specs.Serial.Port.Bits.{ier_bits}
@@ -53,6 +53,27 @@ abbrev pub interrupt_enable : (start : State) (trace : Trace) → ℕ
 interrupt_enable start trace =
     option_map_or (λ value. only_bits value ier_bits)
     (last_found (λ before op. if dlab start before then None else value_written_at 1 op) trace) start.interrupt_enable
+
+-- the start with each register at its last effective write. MSR keeps its byte, and IIR and LSR have rules of their own
+abbrev pub with_last_writes : (start : State) (trace : Trace) → State
+with_last_writes start trace = record start {
+  baud_divisor_low = divisor_low start trace;
+  baud_divisor_high = divisor_high start trace;
+  interrupt_enable = interrupt_enable start trace;
+  line_control = line_control start trace;
+  modem_control = modem_control start trace;
+  scratch = scratch start trace;
+}
+
+-- a state with these registers, whatever its IIR, its LSR and its received bytes are
+pub record RegistersAgree (start : State) (trace : Trace) (s : State) : Type 0 where
+  pub divisor_low : s.baud_divisor_low ≡ divisor_low start trace
+  pub divisor_high : s.baud_divisor_high ≡ divisor_high start trace
+  pub interrupt_enable : s.interrupt_enable ≡ interrupt_enable start trace
+  pub line_control : s.line_control ≡ line_control start trace
+  pub modem_control : s.modem_control ≡ modem_control start trace
+  pub modem_status : s.modem_status ≡ start.modem_status
+  pub scratch : s.scratch ≡ scratch start trace
 
 -- what an operation means at this point
 abbrev pub kind_at : (start : State) (trace : Trace) (op : Op) → OpKind

@@ -13,7 +13,8 @@ use Rattle.vm_superio.specs.Links.Writer.{bytes_written}
 use Rattle.vm_superio.specs.Serial.Step.Transition.{step, step_response, step_events}
 use Rattle.vm_superio.specs.Serial.Step.Admissible.{step_calls, is_admissible}
 use Rattle.vm_superio.specs.Serial.Step.Restore.{restore_calls}
-use Rattle.vm_superio.specs.Serial.History.Registers.{kind_at, line_control, modem_control, scratch, divisor_low, divisor_high, interrupt_enable, held_bytes}
+pub use Rattle.vm_superio.specs.Serial.History.Registers.{RegistersAgree}
+use Rattle.vm_superio.specs.Serial.History.Registers.{kind_at, held_bytes}
 use Rattle.vm_superio.specs.Serial.History.Interrupts.{is_well_formed_entry, is_well_formed, restore_calls_due}
 use Rattle.vm_superio.specs.Serial.History.Calls.{calls_due, history_events}
 use Rattle.vm_superio.specs.Serial.History.Reads.{interrupt_identification, line_status, state_of_history, history_response, ResponsesAre}
@@ -27,15 +28,6 @@ state_after start (entry ∷ trace) = step (state_after start trace) entry.op en
 -- ---- state and trace
 
 -- the register law, from any start and over any trace: each register is its last effective write, and MSR stays
-pub record RegistersAgree (start : State) (trace : Trace) (s : State) : Type 0 where
-  pub divisor_low : s.baud_divisor_low ≡ divisor_low start trace
-  pub divisor_high : s.baud_divisor_high ≡ divisor_high start trace
-  pub interrupt_enable : s.interrupt_enable ≡ interrupt_enable start trace
-  pub line_control : s.line_control ≡ line_control start trace
-  pub modem_control : s.modem_control ≡ modem_control start trace
-  pub modem_status : s.modem_status ≡ start.modem_status
-  pub scratch : s.scratch ≡ scratch start trace
-
 abbrev pub RegisterLaw : Type 0
 RegisterLaw = (start : State) (trace : Trace) → RegistersAgree start trace (state_after start trace)
 
