@@ -30,7 +30,7 @@ loop-preserved g c =
     let shown = c.one_call.ensures.rbr_read c.loop.serial.state c.read.result before.latch_hidden
     (omega (arith, before.to_come, some)) made.response in
     rw (made.state, c.in_ok-push.ensures.items) record {
-      latch_hidden = ap (λ (s : State). is_dlab s.line_control) shown.others ∙ before.latch_hidden;
+      latch_hidden = ap (λ (s : State). is_dlab s.line_control) shown.rest_unchanged ∙ before.latch_hidden;
       in_order = append_assoc c.loop.read.items (c.read.result ∷ []) _
           ∙ ap (λ bytes. c.loop.read.items ++ bytes) shown.bytes ∙ before.in_order;
       to_come = omega (arith, ap length shown.bytes, before.to_come);

@@ -44,7 +44,7 @@ ReceivedLaw = (s : State) (bytes : List ℕ)
 -- IIR
 pub record GivesOldest (s new : State) (byte : ℕ) : Type 0 where
   pub bytes : byte ∷ new.in_buffer ≡ s.in_buffer
-  pub others : new ≡ record s {
+  pub rest_unchanged : new ≡ record s {
     in_buffer = new.in_buffer;
     line_status = new.line_status;
     interrupt_identification = new.interrupt_identification;

@@ -126,7 +126,7 @@ rbr_read s byte hidden some response = record {
       (subst (λ kind. byte_read kind s.in_buffer (ByteRead byte) ++ (step s (Read 0) Nothing).in_buffer
       ≡ s.in_buffer ++ accepted_by kind s.in_buffer) (ap (λ latch. read_kind (register_at latch 0)) hidden)
       (rw response (one_read s (Read 0) Nothing sent.Nothing)));
-  others = kept (register_at (is_dlab s.line_control) 0) s;
+  rest_unchanged = kept (register_at (is_dlab s.line_control) 0) s;
 }
 
 -- LSR after a read that leaves these bytes
