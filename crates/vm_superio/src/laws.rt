@@ -22,7 +22,7 @@ pub fn registers()
 
 /// The held-bytes law, from any start: the bytes in the FIFO are those of the history. LSR shows whether there are any
 /// if the start's LSR did.
-#[tactic(auto, using(crate::proofs::Lemmas::Serial::Laws::HeldBytes::held_bytes_law, crate::proofs::Lemmas::Serial::Laws::HeldBytes::line_status_law,))]
+#[tactic(auto, using(crate::proofs::Lemmas::Serial::Laws::HeldBytes::held_bytes_laws))]
 pub fn held_bytes()
     ensures bytes { HeldBytesLaw }
     ensures line_status { LineStatusLaw }
@@ -43,7 +43,7 @@ pub fn coherence()
 
 /// From a coherent start, the state after any trace is that of the history, and a call responds as the history says: a
 /// read with the guest read.
-#[tactic(auto, using(crate::proofs::Lemmas::Serial::Laws::StatesOfHistory::state_law, crate::proofs::Lemmas::Serial::Laws::StatesOfHistory::response_law,))]
+#[tactic(auto, using(crate::proofs::Lemmas::Serial::Laws::StatesOfHistory::states_of_history_laws))]
 pub fn states_of_history()
     ensures state { StateLaw }
     ensures response { ResponseLaw }
@@ -118,7 +118,7 @@ pub fn taken_then_held()
 
 /// From any start, if calls respond as the history says, the bytes that they give a guest from the FIFO are those that
 /// they take. So the bytes read, then those held, are those held at the start, then those accepted.
-#[tactic(auto, using(crate::proofs::Lemmas::Serial::Laws::ReadsAreTaken::reads_are_taken, crate::proofs::Lemmas::Serial::Laws::ReadsAreTaken::read_then_held,))]
+#[tactic(auto, using(crate::proofs::Lemmas::Serial::Laws::ReadsAreTaken::reads_are_taken_laws))]
 pub fn reads_are_taken()
     ensures taken { ReadsAreTakenLaw }
     ensures held { ReadThenHeldLaw }
@@ -128,7 +128,7 @@ pub fn reads_are_taken()
 /// the start, then those accepted. If LSR does not show data ready in the end, it got all of these bytes. A driver
 /// polls if it reads RBR only after a read of LSR has shown data ready since its previous RBR read. Other calls in
 /// between do not matter.
-#[tactic(auto, using(crate::proofs::Lemmas::Serial::Laws::PollingDriver::polling_driver, crate::proofs::Lemmas::Serial::Laws::PollingDriver::driver_gets_all, crate::proofs::Lemmas::Serial::Laws::PollingDriver::polls_after_data_ready_law,))]
+#[tactic(auto, using(crate::proofs::Lemmas::Serial::Laws::PollingDriver::polling_driver_laws))]
 pub fn polling_driver()
     ensures bytes { PollingDriverLaw }
     ensures all { DriverGetsAllLaw }
@@ -146,7 +146,7 @@ pub fn output()
 /// It gives a guest the byte that it takes. Received bytes, and an RBR read of a held byte, change only the FIFO, LSR
 /// and IIR. After an RBR read, LSR shows data ready if it did before and a byte is left. A THR write outside loopback
 /// sends its byte and changes only IIR. If it returns `Ok`, a writer of known contents has grown by the byte.
-#[tactic(auto, using(crate::proofs::Lemmas::Serial::Laws::OneCall::one_call, crate::proofs::Lemmas::Serial::Laws::OneCall::received, crate::proofs::Lemmas::Serial::Laws::OneCall::one_read, crate::proofs::Lemmas::Serial::Laws::OneCall::rbr_read, crate::proofs::Lemmas::Serial::Laws::OneCall::rbr_data_ready, crate::proofs::Lemmas::Serial::Laws::OneCall::thr_write,))]
+#[tactic(auto, using(crate::proofs::Lemmas::Serial::Laws::OneCall::one_call_laws))]
 pub fn one_call()
     ensures taken { OneCallLaw }
     ensures read { OneReadLaw }

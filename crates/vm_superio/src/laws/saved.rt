@@ -11,14 +11,14 @@ use arrayvec::ArrayVec;
 use std::alloc::Global;
 
 /// A written form passes every check when read.
-#[tactic(auto, using(crate::proofs::Lemmas::Saved::Forms::serial_form_has_no_fault, crate::proofs::Lemmas::Saved::Forms::clock_form_has_no_fault,))]
+#[tactic(auto, using(crate::proofs::Lemmas::Saved::Forms::forms_are_read_laws))]
 pub fn forms_are_read()
     ensures serial { SerialFormLaw }
     ensures clock { ClockFormLaw }
 {}
 
 /// No two states share a form.
-#[tactic(auto, using(crate::proofs::Lemmas::Saved::Forms::one_serial_state, crate::proofs::Lemmas::Saved::Forms::one_clock_state,))]
+#[tactic(auto, using(crate::proofs::Lemmas::Saved::Forms::one_state_of_a_form_laws))]
 pub fn one_state_of_a_form()
     ensures serial { OneSerialStateLaw }
     ensures clock { OneClockStateLaw }

@@ -76,3 +76,9 @@ pub clock_form_read : (bytes : List ℕ) (result : Result RtcState Error) → If
 clock_form_read bytes (Ok found) numbers form fault state fits is = ap Ok (one_clock_state found state numbers fits (sym form ∙ is))
 clock_form_read bytes (Err error) numbers form fault state fits is =
     let none : Some error ≡ None = fault ∙ ap clock_fault is ∙ clock_form_has_no_fault state in cc
+
+-- ---- what the laws rest on
+
+pub ruleset one_state_of_a_form_laws = (one_serial_state, one_clock_state)
+
+pub ruleset forms_are_read_laws = (serial_form_has_no_fault, clock_form_has_no_fault)

@@ -124,3 +124,7 @@ pub line_status_law : LineStatusLaw
 line_status_law start trace right =
     ready_after start trace right
     ∙ ap (λ bytes. with_data_ready start.line_status (not_empty bytes)) (held_bytes_law start trace)
+
+-- ---- what the law rests on
+
+pub ruleset held_bytes_laws = (held_bytes_law, line_status_law)

@@ -177,3 +177,7 @@ thr_write s value asked sent hidden outside admissible =
           (subst (λ inside. (if inside then receive_bytes (bytes_that_fit s.in_buffer (value ∷ [])) s else raised) ≡ raised) (sym outside) refl);
       taken = taken value (ends_in_refusal asked) sent has_outcome;
     }
+
+-- ---- what the law rests on
+
+pub ruleset one_call_laws = (one_call, received, one_read, rbr_read, rbr_data_ready, thr_write)

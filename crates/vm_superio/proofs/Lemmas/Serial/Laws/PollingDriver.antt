@@ -135,3 +135,7 @@ polls_from start trace seen (call ∷ later) right are sight =
 
 pub polls_after_data_ready_law : PollsAfterDataReadyLaw
 polls_after_data_ready_law start calls are sight = polls_from start [] false calls (λ none. absurd (false≢true none)) are sight
+
+-- ---- what the law rests on
+
+pub ruleset polling_driver_laws = (polling_driver, driver_gets_all, polls_after_data_ready_law)

@@ -38,3 +38,7 @@ pub read_then_held : ReadThenHeldLaw
 read_then_held start calls are =
     ap (λ bytes. bytes ++ held_bytes start (trace_after [] calls)) (reads_are_taken start [] calls are)
     ∙ taken_then_held start (trace_after [] calls)
+
+-- ---- what the law rests on
+
+pub ruleset reads_are_taken_laws = (reads_are_taken, read_then_held)

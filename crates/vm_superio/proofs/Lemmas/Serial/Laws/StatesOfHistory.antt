@@ -48,3 +48,7 @@ pub response_law : ResponseLaw
 response_law start trace entry coherent =
     ap (λ (s : State). step_response s entry.op entry.asked entry.sent) (state_law start trace coherent)
     ∙ answer_reported start trace entry.op entry.asked entry.sent
+
+-- ---- what the law rests on
+
+pub ruleset states_of_history_laws = (state_law, response_law)
