@@ -16,8 +16,14 @@ fn a_refusal_of_any_call_fails_that_call_alone(rt: HostRuntime) -> Result<(), Fa
         for call in 1..=301u64 {
             let came = serial.enqueue_raw_bytes(b"a");
             let is_refused = matches!(came, Err(Error::Trigger(LineRefused)));
-            assert!(rt; is_refused == (call == refused) && (is_refused || came.is_ok()), "{call}");
-            assert!(rt; serial.read(0) == b'a' && log.triggers.get() == call, "{call}");
+            assert!(rt;
+                is_refused == (call == refused) && (is_refused || came.is_ok()),
+                "{call}"
+            );
+            assert!(rt;
+                serial.read(0) == b'a' && log.triggers.get() == call,
+                "{call}"
+            );
         }
     }
     Ok(())
