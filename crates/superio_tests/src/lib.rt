@@ -9,13 +9,10 @@ mod dropped;
 #[cfg(test)]
 mod errors;
 #[cfg(test)]
-mod examples;
-#[cfg(test)]
 mod lent;
 #[cfg(test)]
 mod memory;
-#[cfg(test)]
-mod objects;
+pub mod objects;
 #[cfg(test)]
 mod refusals;
 #[cfg(test)]

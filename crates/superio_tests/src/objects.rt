@@ -7,10 +7,9 @@ use std::alloc::Global;
 use std::cell::Cell;
 use std::io;
 use std::io::{ErrorKind, Write};
-use std::test::Fail;
 use superio_script::LineRefused;
 use vm_superio::rtc_pl031::RtcEvents;
-use vm_superio::serial::{Refused, SerialEvents};
+use vm_superio::serial::{Error, Refused, SerialEvents};
 use vm_superio::{Serial, Trigger};
 
 /// What objects do, and how often they were called.
@@ -85,10 +84,9 @@ impl Object<'_> {
 pub type Port<'a> = Serial<Object<'a>, Object<'a>, Object<'a>>;
 
 /// A new port.
-pub fn port(alloc: Global, log: &Log) -> Result<Port<'_>, Fail> {
+pub fn port(alloc: Global, log: &Log) -> Result<Port<'_>, Error<LineRefused>> {
     let object = Object::new(log);
-    let made = Serial::with_events(alloc, object, object, object);
-    Ok(made.map_err(Refused::into_error)?)
+    Serial::with_events(alloc, object, object, object).map_err(Refused::into_error)
 }
 
 impl Trigger for Object<'_> {

@@ -1,5 +1,4 @@
 //! Output of a guest that waits for the monitor's sink.
-use crate::objects::{Log, Object, port};
 use std::alloc::Global;
 use std::io::{ErrorKind, Write};
 use std::test::Fail;
@@ -8,6 +7,7 @@ use superio_examples::first_claim::send_byte;
 use superio_examples::input::Input;
 use superio_examples::output::{Output, in_order};
 use superio_script::Output as Sink;
+use superio_tests::objects::{Log, Object, port};
 
 /// A console over a log's objects.
 type TestConsole<'a> = Console<Object<'a>, Object<'a>, Object<'a>>;

@@ -1,5 +1,4 @@
 //! Input for a guest, drivers that read it, and devices that move to another machine.
-use crate::objects::{Log, Object, port};
 use std::alloc::Global;
 use std::test::Fail;
 use superio_examples::console::Console;
@@ -9,6 +8,7 @@ use superio_examples::input::Input;
 use superio_examples::migration::{RestoreError, restore, restore_input, save};
 use superio_examples::monitor::saved_devices;
 use superio_examples::output::Output;
+use superio_tests::objects::{Log, Object, port};
 use vm_superio::Rtc;
 use vm_superio::run::{Call, Done, Reply};
 use vm_superio::saved::Error as FormError;

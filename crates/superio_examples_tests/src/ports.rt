@@ -1,5 +1,4 @@
 //! What a guest reaches by port and by address, and a trigger that is a file descriptor.
-use crate::objects::{Log, Object, port};
 use std::alloc::Global;
 use std::test::Fail;
 use superio_examples::alarm::{Alarm, alarm_at, find_alarm};
@@ -7,6 +6,7 @@ use superio_examples::bus::{Bus, BusError, COM1, COM2, COM3, COM4, Keyboard};
 use superio_examples::counter::Counter;
 use superio_examples::event_fd::EventFd;
 use superio_examples::mmio::ClockWindow;
+use superio_tests::objects::{Log, Object, port};
 use vm_superio::serial::Error;
 use vm_superio::{I8042Device, Rtc, Trigger};
 

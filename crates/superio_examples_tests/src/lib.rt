@@ -1,0 +1,9 @@
+//! Tests of the modules of superio_examples at work.
+#![tactic(auto)]
+
+#[cfg(test)]
+mod input;
+#[cfg(test)]
+mod output;
+#[cfg(test)]
+mod ports;
