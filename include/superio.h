@@ -18,21 +18,31 @@
  *     superio_serial port = superio_serial_new();
  *
  *     // The guest writes.
- *     superio_serial_write_effects done =
+ *     superio_serial_write_effects written =
  *         superio_serial_write(&port, offset, value);
- *     if (done.sends)
+ *     if (written.sends)
  *         send(value);
- *     for (int i = 0; i < done.interrupts; i++) {
+ *     interrupt(written.interrupts);
+ *     if (offset == 4) // MCR: loopback may have ended
+ *         offer_input();
+ *
+ *     // The guest reads.
+ *     superio_serial_read_effects read = superio_serial_read(&port, offset);
+ *     if (read.in_buffer_empty)
+ *         offer_input();
+ *     if (offset == 2 && read.byte & 0x01) // IIR: nothing is pending
+ *         interrupt(superio_serial_character_timeout(&port));
+ *
+ *     // Your event loop makes a turn.
+ *     interrupt(superio_serial_character_timeout(&port));
+ *
+ *     // What `interrupt` does.
+ *     for (int i = 0; i < times; i++) {
  *         if (!ask_for_interrupt()) {
- *             if (done.interrupts == 2 && i == 0)
- *                 superio_serial_first_refused(&port);
- *             ask_again_later(&port);
+ *             ask_again_later(); // superio_serial_interrupts_due(&port) times
  *             break;
  *         }
  *     }
- *
- *     // The guest reads.
- *     uint8_t byte = superio_serial_read(&port, offset).byte;
  *
  * Rules
  * -----
@@ -145,7 +155,7 @@ extern "C" {
  * program, store it with them. A saved device has its own version, which a
  * load checks.
  */
-#define SUPERIO_ABI 2
+#define SUPERIO_ABI 3
 #define SUPERIO_ABI_MATCHES() (superio_abi() == SUPERIO_ABI)
 
 /* The binary interface of the library that the program runs with. */
@@ -219,7 +229,14 @@ typedef struct superio_serial_enqueue_effects {
  */
 superio_serial superio_serial_new(void) SUPERIO_MUST_USE;
 
-/* The guest reads at `offset`. A read asks for no interrupt. */
+/*
+ * The guest reads at `offset`. A read asks for no interrupt. Afterwards do two
+ * things:
+ *
+ * - If `in_buffer_empty` is true, offer the input that waits.
+ * - If `offset` is 2 and bit 0x01 of the byte is set, call
+ *   superio_serial_character_timeout, or input may never reach the guest.
+ */
 superio_serial_read_effects superio_serial_read(superio_serial *port,
                                                 uint8_t offset)
     SUPERIO_NONNULL SUPERIO_ACCESS(read_write, 1);
@@ -233,14 +250,19 @@ superio_serial_read_effects superio_serial_read(superio_serial *port,
  *    fails. The port is the same either way, and the second step follows
  *    either way.
  * 2. Ask for the interrupt as often as `interrupts` says. Stop at the first
- *    refusal, such as a write to an eventfd that fails. If `interrupts` is 2
- *    and the first of the two is refused, call superio_serial_first_refused.
- *    No other refusal changes the port.
+ *    refusal, such as a write to an eventfd that fails. You need not report a
+ *    refusal: the port is the same either way.
  *
  * The condition of a refused interrupt stays pending, so no later access asks
  * for it until the guest has acknowledged it. A guest that waits for the
  * interrupt may never do so. If your interrupt can be refused, ask again
  * later, as often as superio_serial_interrupts_due says.
+ *
+ * `interrupts` is 2 only if a write to IER raises both conditions. If the first
+ * of the two is refused, both conditions are pending, and
+ * superio_serial_interrupts_due says 2. The Rust crate vm-superio does not
+ * raise THRE after that refusal: its guest may see 0x04 in IIR where this one
+ * sees 0x06.
  *
  * A write to MCR, at offset 4, may end loopback: offer input again that an
  * enqueue did not take.
@@ -249,20 +271,6 @@ superio_serial_write_effects superio_serial_write(superio_serial *port,
                                                   uint8_t offset,
                                                   uint8_t value)
     SUPERIO_MUST_USE SUPERIO_NONNULL SUPERIO_ACCESS(read_write, 1);
-
-/*
- * Tells the port that the first of two interrupts was refused, right after the
- * write whose `interrupts` was 2. The refusal ends that write before it raises
- * its second condition, THRE, so THRE is not pending afterwards.
- *
- * At any other time the call does the same, and the guest may lose an
- * interrupt that it waits for: bit 0x02 of IIR is clear afterwards, IIR is 1
- * if no bit is left, and nothing else changes. A coherent port stays coherent.
- * If you skip the call, the port behaves as if only the second interrupt had
- * been refused: both conditions are pending.
- */
-void superio_serial_first_refused(superio_serial *port)
-    SUPERIO_NONNULL SUPERIO_ACCESS(read_write, 1);
 
 /*
  * Bytes arrive for the guest. The port takes as many of the `count` bytes as
@@ -282,6 +290,23 @@ superio_serial_enqueue_effects superio_serial_enqueue(superio_serial *port,
     SUPERIO_MUST_USE SUPERIO_NONNULL SUPERIO_COUNTED
     SUPERIO_ACCESS(read_write, 1) SUPERIO_ACCESS(read_only, 2, 3);
 
+/*
+ * Raises RDA again for bytes that are left: if bytes are held, IER enables RDA
+ * and RDA is not pending, RDA becomes pending. Otherwise nothing happens. DLAB
+ * and loopback make no difference. Returns how often to ask for the interrupt:
+ * 0 or 1 times.
+ *
+ * A guest's read of RBR or IIR ends RDA even if it leaves bytes. Without this
+ * call, these wait without an interrupt until another byte arrives or the guest
+ * writes IER, and a guest that waits for the interrupt hangs. Make the call
+ *
+ * - after each guest read at offset 2 whose byte has bit 0x01 set, which says
+ *   that nothing is pending;
+ * - once in each turn of your event loop.
+ */
+uint8_t superio_serial_character_timeout(superio_serial *port)
+    SUPERIO_MUST_USE SUPERIO_NONNULL SUPERIO_ACCESS(read_write, 1);
+
 /* How many bytes fit: 64 minus those that are held. */
 size_t superio_serial_fifo_capacity(const superio_serial *port)
     SUPERIO_MUST_USE SUPERIO_NONNULL SUPERIO_ACCESS(read_only, 1);
@@ -299,7 +324,7 @@ uint8_t superio_serial_interrupts_due(const superio_serial *port)
     SUPERIO_MUST_USE SUPERIO_NONNULL SUPERIO_ACCESS(read_only, 1);
 
 /*
- * Whether the port is coherent: `held` is at most 64, data ready says whether
+ * Whether the port is coherent: `len` is at most 64, data ready says whether
  * a byte is held, IIR is 1, 2, 4 or 6, and RDA is pending only while a byte is
  * held. The other fields are free. A new port is coherent. Every call but a
  * load keeps a port coherent.
@@ -307,7 +332,7 @@ uint8_t superio_serial_interrupts_due(const superio_serial *port)
  * If you restore a port from an untrusted source, you may refuse one that is
  * not coherent. You need not: every call is safe and does its step from any
  * bytes. To refuse only too many bytes, as the Rust crate vm-superio does,
- * compare `held` with 64.
+ * compare `len` with 64.
  */
 bool superio_serial_is_coherent(const superio_serial *port)
     SUPERIO_MUST_USE SUPERIO_NONNULL SUPERIO_ACCESS(read_only, 1);
@@ -472,8 +497,9 @@ size_t superio_serial_save(
  * changes only if the result is SUPERIO_LOAD_OK. Then ask for the interrupt as
  * often as superio_serial_interrupts_due says.
  *
- * The port need not be coherent: superio_serial_is_coherent tells. `bytes`
- * points to `count` bytes outside the port. If `count` is 0 it may be NULL.
+ * A loaded port holds at most 64 bytes. It need not be coherent:
+ * superio_serial_is_coherent tells. `bytes` points to `count` bytes outside the
+ * port. If `count` is 0 it may be NULL.
  */
 uint32_t superio_serial_load(superio_serial *port, const uint8_t *bytes,
                              size_t count)

@@ -87,13 +87,15 @@ def load_clock(source):
 
 
 def serial_line(source):
-    kind = source.randrange(24)
+    kind = source.randrange(26)
     if kind < 17:
         return serial_access(source)
     if kind < 20:
         return f"sq {any_bytes(source)}".rstrip()
+    if kind < 22:
+        return "si"
     restores = ("ss", "ss", "ss", load_port(source, 65, 80))
-    return source.choice(restores if kind < 22 else ("sd", "st", "sc", "se", "so", "sb"))
+    return source.choice(restores if kind < 24 else ("sd", "st", "sc", "se", "so", "sb"))
 
 
 def clock_line(source):
@@ -124,12 +126,21 @@ def every_identification(source):
     for identification in range(8):
         registers, _ = port_start(source)
         state = registers[:3] + bytes([identification]) + registers[4:] + source.choice((b"", b"a"))
-        yield from (f"sl {form(SERIAL, state).hex()}", source.choice(("sr 00", serial_access(source))), "sb")
+        yield from (f"sl {form(SERIAL, state).hex()}", source.choice(("sr 00", "si", serial_access(source))), "sb")
+
+
+def turns(source):
+    """Turns of a driver that takes a byte or none, and then reads IIR, with the monitor's timeout after each."""
+    lines = [f"sw 01 {source.choice((1, 3)):02x}"]
+    for _ in range(LINES // 4):
+        arrives = source.choice(("sq", "sq 61", "sq 616263", serial_access(source)))
+        lines += [arrives, *["sr 00"] * source.randrange(2), "sr 02", "si", "st"]
+    return lines
 
 
 # What makes a script or its lines, with how many of 200 scripts it makes.
-SCRIPT_PARTS = {full_output: 1, two_writes: 31, every_identification: 16, serial_line: 92, clock_line: 40, any_line: 16,
-                controller_access: 4}
+SCRIPT_PARTS = {full_output: 1, two_writes: 31, every_identification: 16, turns: 8, serial_line: 84, clock_line: 40,
+                any_line: 16, controller_access: 4}
 
 
 def script_lines(source):
@@ -138,7 +149,7 @@ def script_lines(source):
     mask = source.choice((None, None, None, bits, bits, bits & source.getrandbits(64), 1 << source.randrange(6)))
     lines = [] if mask is None else [f"refuse {mask:016x}"]
     make, = source.choices(list(SCRIPT_PARTS), SCRIPT_PARTS.values())
-    if make in (full_output, two_writes, every_identification):
+    if make in (full_output, two_writes, every_identification, turns):
         return [*lines, *make(source), *SCRIPT_ENDS]
     if source.random() < 0.5:
         lines += [load_port(source)] * (make != clock_line) + [load_clock(source)] * (make in (clock_line, any_line))
@@ -174,12 +185,14 @@ def hindered(source, call):
 
 
 def port_call(source):
-    kind = source.randrange(20)
+    kind = source.randrange(22)
     if kind < 15:
         return serial_access(source)
     if kind < 18:
         return f"sq {any_bytes(source) or '-'}"
-    return ("sc", source.choice(("ss", "ss", "ss", port_state(source, 65, 80))))[kind - 18]
+    if kind < 20:
+        return "si"
+    return ("sc", source.choice(("ss", "ss", "ss", port_state(source, 65, 80))))[kind - 20]
 
 
 def port_run(source):
@@ -213,6 +226,15 @@ def every_write():
                 yield [start, *some, *reads]
 
 
+def every_timeout():
+    """A timeout under 8 values of IIR and 32 of IER, with and without data ready, the divisor latch, loopback and a held
+    byte. The trigger takes its call or refuses it."""
+    states = product(range(8), ("60", "61"), ("03", "80"), ("08", "10"), ("-", "61"), ("", " 1"))
+    for identification, status, latch, modem, held, refusal in states:
+        yield [call for enable in (*range(16), *range(0xF0, 0x100)) for call in (
+            f"sl 0c00{enable:02x}{identification:02x}{latch}{status}{modem}b000 {held}", f"si{refusal}", "ss")]
+
+
 def every_send():
     """A write of THR under every value of LCR and MCR."""
     for line in range(256):
@@ -231,7 +253,7 @@ def every_access():
 
 def fixed_runs():
     """Each run with a name."""
-    for make in every_write, every_send, every_access:
+    for make in every_write, every_timeout, every_send, every_access:
         for place, run in enumerate(make()):
             yield f"{make.__name__}, run {place}", run
 

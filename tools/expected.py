@@ -10,7 +10,7 @@ UNREAD = "a5a5a5a5"                   # what an invalid read of a recorded call 
 CLOCK_FIELDS = Struct("<IIIIq?")      # of a saved state
 # The first line of a script, and any line.
 REFUSE = re.compile("refuse ([0-9A-Fa-f]{16})")
-LINE = re.compile("s[bcdeloqst]|c[bl]|(sq|[sc]l) (HH){1,128}|[sk]r HH|[sk]w HH HH|cr H{16} H{4}|cw H{16} H{4} H{8}"
+LINE = re.compile("s[bcdeiloqst]|c[bl]|(sq|[sc]l) (HH){1,128}|[sk]r HH|[sk]w HH HH|cr H{16} H{4}|cw H{16} H{4} H{8}"
                   .replace("H", "[0-9A-Fa-f]"))
 
 
@@ -60,8 +60,8 @@ class Board:
         of_bytes = {"sq": port.enqueue, "sl": self.load, "cl": self.load_clock}
         if name in of_bytes:
             return of_bytes[name](bytes.fromhex("".join(fields)))
-        return {"sr": port.read, "sw": port.write, "sc": lambda: f"{port.room():02x}", "sd": port.drain,
-                "ss": self.restore, "sb": lambda: form(SERIAL, port.state() + port.held()).hex(),
+        return {"sr": port.read, "sw": port.write, "si": port.character_timeout, "sc": lambda: f"{port.room():02x}",
+                "sd": port.drain, "ss": self.restore, "sb": lambda: form(SERIAL, port.state() + port.held()).hex(),
                 "so": lambda: port.output().hex(), "st": lambda: f"{self.count('T', 'R'):016x}",
                 "se": lambda: " ".join(f"{self.count(event):016x}" for event in "bole"),
                 "cb": lambda: form(CLOCK, CLOCK_FIELDS.pack(*self.clock.state())).hex(), "cr": self.of_clock,
@@ -117,6 +117,9 @@ class Monitor:
 
     def sq(self, digits):
         return self.called(self.port.enqueue, bytes.fromhex(digits.strip("-")))
+
+    def si(self):
+        return self.called(self.port.character_timeout)
 
     def sc(self):
         return f"{self.port.room():02x}", ()

@@ -165,6 +165,11 @@ class Port(Device):
         accepted = data[:self.room()]
         return "full" if data and not accepted else self.receive(accepted, f"{len(accepted):02x}")
 
+    def character_timeout(self):
+        """Bytes that are left raise RDA again."""
+        made, did = self.raises(["RDA"] if self.held() else [], self.last("IER"))
+        return self.done("ok", made, did)
+
     def drain(self):
         """What a driver gets that reads RBR while LSR shows data ready. With DLAB set it cannot reach RBR."""
         got = ""

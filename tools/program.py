@@ -12,10 +12,10 @@ from status import Status, progress
 CRATES = Path(__file__).resolve().parent.parent / "crates"
 # The programs and the library, each with the crates whose sources it is built of, the lowest last.
 SOURCES = {
-    "superio": ["superio", "superio_script", "vm_superio"],
-    "superio_calls": ["superio_calls", "vm_superio"],
-    "superio_refusals": ["superio_refusals", "superio_script", "vm_superio"],
-    "superio_c": ["superio_c", "vm_superio"],
+    "superio": ["superio", "superio_script", "vm_superio", "superio_core"],
+    "superio_calls": ["superio_calls", "vm_superio", "superio_core"],
+    "superio_refusals": ["superio_refusals", "superio_script", "vm_superio", "superio_core"],
+    "superio_c": ["superio_c", "superio_core"],
 }
 
 # How rt says which crate it works on.

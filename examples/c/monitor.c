@@ -1,6 +1,6 @@
 /*
- * A monitor in small: a bus, an input loop, an interrupt that a timer asks for again, a clock with an alarm, and a
- * migration. The "guest" is the calls in main, and time is what main says.
+ * A monitor in small: a bus, an input loop, a refused interrupt, a clock with an alarm, and a migration. The "guest" is
+ * the calls in main and in handle, and time is what main says.
  */
 #include <ctype.h>
 #include <stdio.h>
@@ -14,10 +14,11 @@ enum { COM1 = 0x3F8, CLOCK = 0x09010000 };
 struct machine {
     superio_serial serial;
     superio_rtc clock;
-    char input[128];   /* what has not gone to the guest yet */
-    bool line_is_down; /* the interrupt line takes nothing now */
-    bool retries;      /* the timer is to ask for interrupts again */
-    uint64_t now;      /* the host's time, in seconds */
+    char input[128];     /* what has not gone to the guest yet */
+    bool line_is_down;   /* the interrupt line takes nothing now */
+    bool was_refused;    /* the event loop is to ask for interrupts again */
+    bool is_interrupted; /* the guest's handler is to run */
+    uint64_t now;        /* the host's time, in seconds */
 };
 
 static void check(bool is_good, const char *what) {
@@ -28,34 +29,26 @@ static void check(bool is_good, const char *what) {
 }
 
 /* Raises the interrupt of the serial port once. A monitor writes to an eventfd here. */
-static bool raise_interrupt(const struct machine *machine) {
+static bool raise_interrupt(struct machine *machine) {
     puts(machine->line_is_down ? "interrupt refused" : "interrupt");
+    machine->is_interrupted |= !machine->line_is_down;
     return !machine->line_is_down;
 }
 
-/* Raises the interrupt as often as an effect says, up to a refusal. The port is told if the first of two is refused. */
+/* Raises the interrupt as often as a call says, up to a refusal. Then a monitor sets a timer for the next turn. */
 static void interrupt(struct machine *machine, unsigned times) {
-    for (unsigned i = 0; i < times; i++) {
-        if (raise_interrupt(machine))
-            continue;
-        if (times == 2 && i == 0)
-            superio_serial_first_refused(&machine->serial);
-        machine->retries = true;
-        return;
-    }
+    while (times > 0 && raise_interrupt(machine))
+        times--;
+    machine->was_refused |= times > 0;
 }
 
-/* What the event loop calls at a timer, a while after a refusal. */
-static void retry(struct machine *machine) {
-    if (!machine->retries)
-        return;
-    machine->retries = false;
-    for (unsigned due = superio_serial_interrupts_due(&machine->serial); due > 0; due--) {
-        if (raise_interrupt(machine))
-            continue;
-        machine->retries = true;
-        return;
-    }
+/* What the event loop does in each turn: bytes that the guest left interrupt it again, and refusals are retried. */
+static void turn(struct machine *machine) {
+    unsigned times = superio_serial_character_timeout(&machine->serial);
+    if (machine->was_refused)
+        times = superio_serial_interrupts_due(&machine->serial); /* the timeout's interrupt among them */
+    machine->was_refused = false;
+    interrupt(machine, times);
 }
 
 /* Offers the input, and keeps what does not fit. */
@@ -96,6 +89,8 @@ static uint8_t port_read(struct machine *machine, uint16_t port) {
     superio_serial_read_effects done = superio_serial_read(&machine->serial, (uint8_t)(port - COM1));
     if (done.in_buffer_empty)
         feed(machine);
+    if (port == COM1 + 2 && done.byte & 0x01) /* nothing is pending: bytes that are left have to interrupt again */
+        interrupt(machine, superio_serial_character_timeout(&machine->serial));
     return done.byte;
 }
 
@@ -138,6 +133,15 @@ static struct machine migrate(const struct machine *machine) {
     return other;
 }
 
+/* The guest's interrupt handler. As Linux's does after 256 bytes, it looks at IIR again after 40. */
+static int handle(struct machine *machine) {
+    int received = 0;
+    while (!(port_read(machine, COM1 + 2) & 0x01))
+        for (int i = 0; i < 40 && port_read(machine, COM1 + 5) & 0x01; i++) /* data ready */
+            received += port_read(machine, COM1) == 'x';
+    return received;
+}
+
 int main(void) {
     check(SUPERIO_ABI_MATCHES(), "the comparison of header and library");
     struct machine machine = {.serial = superio_serial_new(), .clock = superio_rtc_new(), .now = 1000};
@@ -150,11 +154,13 @@ int main(void) {
     printf("%zu of 100 bytes wait after it\n", strlen(machine.input));
 
     machine.line_is_down = true;
-    port_write(&machine, COM1 + 1, 0x03); /* enables both interrupts, and the first is refused */
-    port_write(&machine, COM1, '?');      /* its interrupt is refused too, so now two are due */
-    retry(&machine);
+    port_write(&machine, COM1 + 1, 0x03); /* enables both interrupts. The first is refused, so both are due */
+    port_write(&machine, COM1, '?');
+    turn(&machine);
     machine.line_is_down = false;
-    retry(&machine);
+    turn(&machine);
+    printf("IIR %02x\n", port_read(&machine, COM1 + 2)); /* which ends both, although 64 bytes are held */
+    turn(&machine);
     printf("IIR %02x\n", port_read(&machine, COM1 + 2));
 
     memory_write(&machine, CLOCK + 0x010, 1);    /* RTCIMSC: the alarm may raise the line */
@@ -168,8 +174,10 @@ int main(void) {
     port_write(&machine, COM1, '!'); /* its interrupt is not taken before the move */
     struct machine other = migrate(&machine);
     int received = 0;
-    while (port_read(&other, COM1 + 5) & 0x01) /* data ready */
-        received += port_read(&other, COM1) == 'x';
+    while (other.is_interrupted) {
+        other.is_interrupted = false;
+        received += handle(&other);
+    }
     printf("%d bytes received\n", received);
     port_write(&other, COM1, 0x1B); /* escape */
     printf("ports 0x61 and 0x400 read %02x and %02x, and the controller %02x\n", port_read(&other, 0x61),

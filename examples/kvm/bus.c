@@ -9,8 +9,8 @@ static uint8_t serial_read(uint8_t offset) {
     trace_row("sr %02x  %02x", offset, done.byte);
     if (done.in_buffer_empty)
         console_feed();
-    else if (done.buffer_read)
-        interrupts_look_again();
+    if (offset == 2 && done.byte & 0x01) /* nothing is pending */
+        interrupts_character_timeout();
     return done.byte;
 }
 

@@ -25,33 +25,30 @@ static unsigned raise_up_to_refusal(unsigned times) {
     while (accepted < times && raise_line())
         accepted++;
     if (accepted < times)
-        interrupts_look_again();
+        timerfd_settime(timer, 0, &SOON, NULL);
     return accepted;
-}
-
-/* Has `interrupts_retry` called soon. */
-void interrupts_look_again(void) {
-    timerfd_settime(timer, 0, &SOON, NULL);
 }
 
 /* Carries out what a call of the port left to do, and returns whether a request was refused. */
 bool interrupts_ask(unsigned times) {
     unsigned accepted = raise_up_to_refusal(times);
-    trace_asked(accepted, accepted < times);
-    if (times == 2 && accepted == 0)
-        superio_serial_first_refused(&serial);
+    trace_asked(accepted, times);
     return accepted < times;
 }
 
-/* Asks again for what is due: when the timer goes off, and after a restore. A script makes these requests by `ss`. One that
- * is refused leaves no trace, as it changes nothing. */
+/* Raises the interrupt again for bytes that the guest has left: when it has read that nothing is pending, and in each
+ * turn of the event loop. */
+void interrupts_character_timeout(void) {
+    bool is_refused = interrupts_ask(superio_serial_character_timeout(&serial));
+    trace_row("si  %s", is_refused ? "trigger" : "ok");
+}
+
+/* Asks again for what is due: when the timer goes off, and after a restore. A script makes these requests by `ss`. One
+ * that is refused leaves no trace, as it changes nothing. */
 void interrupts_retry(void) {
     unsigned due = superio_serial_interrupts_due(&serial);
-    bool is_left = due == 0 && serial.len > 0 && serial.interrupt_enable & 1 && !(serial.line_control & 0x80);
-    if (is_left) /* each RBR read ends RDA. Linux stops after 256, and waits for an interrupt. An IER write raises it */
-        bus_port(COM1 + 1, true, &(uint8_t){serial.interrupt_enable});
     if (due == 0 || raise_up_to_refusal(due) < due)
         return;
-    trace_asked(due, false);
+    trace_asked(due, due);
     trace_row("ss  ok");
 }

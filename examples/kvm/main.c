@@ -78,6 +78,7 @@ static void run(void) {
     pthread_mutex_lock(&lock);
     machine_start();
     while (!has_ended) {
+        interrupts_character_timeout();
         pthread_mutex_unlock(&lock);
         struct epoll_event event;
         int count = epoll_wait(epoll, &event, 1, -1);

@@ -78,7 +78,7 @@ void console_finish(void);
 /* interrupts.c */
 void interrupts_open(unsigned refuse_each);
 bool interrupts_ask(unsigned times);
-void interrupts_look_again(void);
+void interrupts_character_timeout(void);
 void interrupts_retry(void);
 /* clock.c */
 void clock_open(void);
@@ -94,7 +94,7 @@ void snapshot_restore(const char *path);
 /* trace.c */
 void trace_open(const char *path);
 void trace_row(const char *format, ...) PRINTF(1, 2);
-void trace_asked(unsigned accepted, bool is_refused);
+void trace_asked(unsigned accepted, unsigned times);
 void trace_sent(uint8_t byte);
 const char *trace_bytes(const uint8_t *bytes, size_t count);
 void trace_close(void);

@@ -1,6 +1,7 @@
 /* The calls of the devices as lines of docs/SCRIPT.md with their replies, in the form of examples/linux-boot.
- * The board of a script keeps 256 bytes of output, and its interrupt line can refuse one of its first 64 calls. So the
- * trace is cut into pieces. Each begins on a fresh board, with lines that load the saved devices. */
+ * The board of a script keeps 256 bytes of output, and its interrupt line can refuse one of its first 64 calls. If the
+ * line refuses the first of two calls, the board's port does not raise THRE. So the trace is cut into pieces. Each
+ * begins on a fresh board, with lines that load the saved devices. */
 #include "monitor.h"
 
 /* What a piece has room for, less what one row may add. A call makes up to two calls of the line. */
@@ -12,6 +13,7 @@ static char rows[MOST_BYTES + ROW_SIZE];
 static size_t length;
 static uint64_t refused; /* the mask of the interrupt line */
 static unsigned calls;   /* of the line */
+static bool is_apart;    /* the board's port has another state now */
 static uint8_t output[OUTPUT_KEPT];
 static unsigned sent;
 
@@ -31,7 +33,7 @@ static void begin(void) {
     length = (size_t)sprintf(rows, "sl %s  ok\n", trace_bytes(port, count));
     length += (size_t)sprintf(rows + length, "cl %s  ok\n", trace_bytes(clock, sizeof clock));
     calls = superio_serial_interrupts_due(&serial);
-    refused = sent = 0;
+    refused = sent = is_apart = 0;
 }
 
 /* The last rows of a piece are its output and its calls of the interrupt line. */
@@ -59,9 +61,11 @@ void trace_close(void) {
         errx(1, "the trace could not be written");
 }
 
-void trace_asked(unsigned accepted, bool is_refused) {
+/* How many requests of the interrupt line a call made, up to a refusal, and how many were accepted. */
+void trace_asked(unsigned accepted, unsigned times) {
     calls += accepted;
-    if (file && is_refused)
+    is_apart = times == 2 && accepted == 0;
+    if (file && accepted < times)
         refused |= 1ull << calls++;
 }
 
@@ -80,7 +84,7 @@ void trace_row(const char *format, ...) {
     length += (size_t)vsnprintf(rows + length, ROW_SIZE, format, arguments);
     va_end(arguments);
     strcpy(rows + length++, "\n");
-    if (calls <= MOST_CALLS && sent < OUTPUT_KEPT && length < MOST_BYTES)
+    if (calls <= MOST_CALLS && sent < OUTPUT_KEPT && length < MOST_BYTES && !is_apart)
         return;
     write_piece();
     fputs("\n", file);

@@ -77,7 +77,7 @@ def build_in_rust(dependency, target, **environment):
 def build(folder):
     """Builds the five programs, and returns them in the order of the table's columns."""
     ours = CRATES / "superio_bench" / "out" / "superio_bench"
-    if not is_current(ours, ["superio_bench", "vm_superio"]):
+    if not is_current(ours, ["superio_bench", "vm_superio", "superio_core"]):
         subprocess.run(["rt", "run", "--", "0", "0"], cwd=ours.parent.parent, stdin=subprocess.DEVNULL, check=True)
     library = built_library()
     bindings = ["--offline", "--config", f'patch.crates-io.vm-superio.path="{ROOT / "bindings/rust"}"']

@@ -11,11 +11,11 @@ from libraries import HEADER, ROOT, SOURCE_FOLDERS
 
 # The header's name of each struct and number that crosses.
 STRUCTS = {
-    "SerialFields": "superio_serial",
+    "SerialPort": "superio_serial",
     "ReadEffects": "superio_serial_read_effects",
     "WriteEffects": "superio_serial_write_effects",
     "EnqueueEffects": "superio_serial_enqueue_effects",
-    "RtcFields": "superio_rtc",
+    "Clock": "superio_rtc",
     "RtcReadEffects": "superio_rtc_read_effects",
     "RtcWriteEffects": "superio_rtc_write_effects",
     "I8042WriteEffects": "superio_i8042_write_effects",

@@ -24,7 +24,7 @@ TARGETS = {
     "x86_64-linux": (["--cpu=x86-64"], "elf_x86_64"),
 }
 # The crates whose sources are compiled into the library.
-SOURCE_FOLDERS = ["crates/superio_c/src", "crates/vm_superio/src"]
+SOURCE_FOLDERS = ["crates/superio_c/src", "crates/superio_core/src"]
 NEEDS_KIT = "this needs the Rattle kit, whose command is `rt`. It is not public yet. The libraries in prebuilt need none"
 
 

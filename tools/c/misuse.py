@@ -19,7 +19,7 @@ WANTED = [
     UNSET, UNSET, NO_ROOM, NO_ROOM, UNSET,
     ["discards", "discards", "invalid conversion", "no matching function"],
     ["incompatible pointer", "incompatible pointer", "cannot convert", "no matching function"],
-    ["too many arguments", "too many arguments", "too many arguments", "no matching function"], NULL_BYTES,
+    ["too many arguments", "too many arguments", "too many arguments", "no matching function"], NULL_BYTES, RESULT,
 ]
 
 

@@ -1,4 +1,5 @@
 """The programs that are built with the C library: tests, the comparison with a model, and the demo."""
+import random
 import shutil
 
 from declarations import assertions
@@ -71,10 +72,14 @@ def check_other_abi(tally, machine, folder):
                 build_and_run(tally, f"a library of interface {difference:+}", build, program, None, machine.runner)
 
 
+def watched(machine):
+    """The options of a long test. What is emulated has no sanitizers."""
+    return SANITIZERS if machine.is_host else ["-O2"]
+
+
 def fuzz_build(machine, compiler, program):
-    """The words that build the comparison with the model. What is emulated has no sanitizers."""
-    options = SANITIZERS if machine.is_host else ["-O2"]
-    return machine.program(compiler, [TESTS / "fuzz.c", TESTS / "model.c"], program, options)
+    """The words that build the comparison with the model."""
+    return machine.program(compiler, [TESTS / "fuzz.c", TESTS / "model.c"], program, watched(machine))
 
 
 def check_fuzz(tally, machine, folder):
@@ -85,6 +90,18 @@ def check_fuzz(tally, machine, folder):
         if tally.run("the comparison with the model is built", fuzz_build(machine, compiler, program)):
             command = [*machine.runner, program, str(CALLS), "1"]
             tally.run(f"random calls for {machine.target}", command, f"{CALLS} calls\n")
+
+
+def check_pastes(tally, machine, folder):
+    """Counts whether pastes reach the guests whole with the character timeout, and get stuck without it."""
+    program, seed = folder / "pastes", str(random.randrange(10**9))
+    for compiler in machine.compilers:
+        if compiler.language != C or not machine.can(tally, compiler, "pastes"):
+            continue
+        what = f"pastes for {machine.target} under {compiler.name}"
+        if tally.run(f"{what} are built", machine.program(compiler, [TESTS / "pastes.c"], program, watched(machine))):
+            for options in ([], ["--without-timeout"]):
+                tally.run(" ".join([what, *options]), [*machine.runner, program, *options, seed])
 
 
 def check_demo(tally, what, make, machine, folder):

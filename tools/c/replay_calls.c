@@ -54,13 +54,18 @@ static bool send(uint8_t byte)
     return writing != 'u';
 }
 
-/* Asks for interrupts up to the first refusal. */
+/*
+ * Asks for interrupts up to the first refusal. The recordings have vm-superio's
+ * behaviour: it raises THRE only after the interrupt of RDA is taken. The
+ * library raises both, and a refusal changes nothing. So after a refused first
+ * of two, this takes THRE back by the field: any bytes are a port.
+ */
 static bool ask(int interrupts)
 {
     for (int i = 0; i < interrupts; i++) {
         if (!trigger()) {
             if (i == 0 && interrupts == 2)
-                superio_serial_first_refused(&port);
+                port.interrupt_identification &= (uint8_t)~0x02; /* RDA is left */
             return false;
         }
     }
@@ -149,6 +154,11 @@ static void serial_enqueue(const char *digits)
         sprintf(reply, "%02zx", effects.taken);
 }
 
+static void serial_timeout(void)
+{
+    strcpy(reply, ask(superio_serial_character_timeout(&port)) ? "ok" : "trigger");
+}
+
 /* A port takes the place of this one if its interrupts are not refused. */
 static void serial_restore(superio_serial restored)
 {
@@ -221,6 +231,8 @@ static void make(const char *name, char **word)
         serial_write((uint8_t)HEX(0), (uint8_t)HEX(1));
     else if (strcmp(name, "sq") == 0)
         serial_enqueue(word[0]);
+    else if (strcmp(name, "si") == 0)
+        serial_timeout();
     else if (strcmp(name, "sc") == 0)
         sprintf(reply, "%02zx", superio_serial_fifo_capacity(&port));
     else if (strcmp(name, "ss") == 0)

@@ -1,7 +1,7 @@
 """Scripts for the comparison, the same ones for the same seed.
 
 Each script is made by one of a few recipes, so that long runs of one device come up as well as mixed ones, and any of
-them may end in a malformed line.
+them may end in a malformed line. None has the line `si`, since the original has no character timeout.
 """
 import random
 

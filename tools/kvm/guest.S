@@ -1,6 +1,6 @@
-# A guest in real mode, for the tests of the monitor. It prints 'ready', and then echoes what is typed, by interrupts and as
-# Linux's 8250 driver does: it reads IIR once for each interrupt, and then bytes for as long as LSR shows data ready. These
-# bytes are commands:
+# A guest in real mode, for the tests of the monitor. It prints 'ready', and then echoes what is typed, by interrupts
+# and as Linux's 8250 driver does: it reads IIR, then bytes for as long as LSR shows data ready, but at most 256, and
+# then IIR again, until that says that nothing is pending. These bytes are commands:
 #
 #     Ctrl-D  resets the machine
 #     Ctrl-E  enables the interrupt of the transmitter too
@@ -8,6 +8,7 @@
 #     Ctrl-O  prints 100,000 full stops
 #     Ctrl-T  prints 'waiting', and reads no more until an alarm two seconds later, at which it prints 'alarm'
 #     Ctrl-W  prints bytes of the clock that it reads in ones and twos
+#     Ctrl-X  reads only one byte, and not 256, before it reads IIR again, as Xen's driver does
         .code16
         .set COM1, 0x3F8
         .set RBR, COM1; .set THR, COM1; .set IER, COM1 + 1; .set IIR, COM1 + 2; .set LCR, COM1 + 3; .set MCR, COM1 + 4
@@ -53,20 +54,25 @@ sleep:  hlt
         jmp sleep
 
 serial: pusha
-        mov $IIR, %dx
+1:      mov $IIR, %dx
         in %dx, %al
         test $0x01, %al                         # nothing is pending
-        jnz 2f
-1:      mov $LSR, %dx
+        jnz 3f
+        mov most, %ax
+        mov %ax, left
+2:      mov $LSR, %dx
         in %dx, %al
         test $0x01, %al                         # data ready
-        jz 2f
+        jz 1b
         mov $RBR, %dx
         in %dx, %al
         call typed
         cmpb $0, is_waiting
-        je 1b
-2:      outb 0x20, MASTER                       # end of interrupt
+        jne 3f
+        decw left
+        jnz 2b
+        jmp 1b
+3:      outb 0x20, MASTER                       # end of interrupt
         popa
         iret
 
@@ -96,6 +102,8 @@ typed:  cmp $0x04, %al
         je await
         cmp $0x17, %al
         je widths
+        cmp $0x18, %al
+        je single
 send:   mov $THR, %dx
         out %al, %dx
         ret
@@ -104,6 +112,10 @@ reset:  outb 0xFE, 0x64
         hlt
 
 enable: outb 0x03, IER
+        ret
+
+single: movw $1, most
+        movw $1, left
         ret
 
 # As Linux's size_fifo: more bytes than fit, and a count of those that come back.
@@ -180,3 +192,5 @@ ready:  .asciz "ready\r\n"
 waits:  .asciz "waiting\r\n"
 alarmed: .asciz "alarm\r\n"
 is_waiting: .byte 0
+most:   .word 256                               # how many bytes it reads before it reads IIR again
+left:   .word 0                                 # how many of these are still to come

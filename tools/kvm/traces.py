@@ -15,6 +15,13 @@ def pieces(path):
         yield lines
 
 
+def forgotten_timeouts(traced):
+    """How many IIR reads of a trace say that nothing is pending, and no character timeout follows. What stands between
+    two pieces is no call."""
+    rows = [row for piece in traced for row in piece if row[0].split()[0] not in ("refuse", "sl", "cl", "so", "st")]
+    return sum(before == ("sr 02", "c1") and after[0] != "si" for before, after in zip(rows, rows[1:]))
+
+
 def script_of(piece):
     return "".join(f"{line}\n" for line, _ in piece).encode()
 

@@ -1,13 +1,17 @@
 """Makes the recorded calls of tests/calls, which come on standard input, over the Python package, and compares them.
 
-The trigger, the writer and the events object, which the devices leave to their caller, are here. Prints the first ten lines
-that differ, and how many calls did the same. Exits 1 if one differs, or if there was no call.
+The trigger, the writer and the events object, which the devices leave to their caller, are here. Prints the first ten
+lines that differ, and how many calls did the same. Exits 1 if one differs, or if there was no call.
 """
 import sys
+from dataclasses import replace
 
 from superio import I8042, Rtc, RtcState, Serial, SerialState
 
 FIFO_SIZE = 64
+
+# The bit of IIR by which THRE is pending.
+THRE = 0x02
 
 # The words after a call, which tell how the objects behave.
 BEHAVIOURS = set("12nifu")
@@ -65,8 +69,14 @@ class Monitor:
                 self.trigger()
             except Refused:
                 if (number, interrupts) == (0, 2):
-                    self.port.first_refused()
+                    self.take_back_thre()
                 raise
+
+    def take_back_thre(self):
+        """Makes THRE not pending: vm-superio ends a write to IER at the refusal of its first interrupt, before THRE is
+        raised. The library leaves both conditions pending, so that a caller can ask again."""
+        state = self.port.state
+        self.port = Serial.from_state(replace(state, interrupt_identification=state.interrupt_identification & ~THRE))
 
     def send(self, byte):
         """Sends a byte as Rust's `write_all` and `flush` do, and returns whether that succeeded."""
@@ -94,6 +104,10 @@ class Monitor:
         done = self.port.enqueue(bytes_of(digits))
         self.ask(done.interrupts)
         return "full" if done.full else f"{done.taken:02x}"
+
+    def si(self):
+        self.ask(self.port.character_timeout())
+        return "ok"
 
     def sc(self):
         return f"{self.port.fifo_capacity():02x}"

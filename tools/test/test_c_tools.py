@@ -9,10 +9,12 @@ from repository import ROOT, CopyTest
 
 TARGETS = ("aarch64-linux", "x86_64-linux")
 LIBRARIES = ("libsuperio.so.0", "libsuperio_c.a")
-SOURCES = ("crates/superio_c/src", "crates/vm_superio/src")
+SOURCES = ("crates/superio_c/src", "crates/superio_core/src")
 # A change of the model, or of what is expected of the controller, and what is said to differ.
 CHANGES = [
     ("model.c", "port->registers[SCR] = value;", "port->registers[SCR] = value & 0x7F;", "the port"),
+    ("model.c", "port->held > 0 ? raised(port, RDA) : 0", "port->held > 1 ? raised(port, RDA) : 0",
+     "the effects of superio_serial_character_timeout"),
     ("model.c", "case 0x010: effects.value = clock->imsc;", "case 0x010: effects.value = clock->ris;",
      "the effects of superio_rtc_read"),
     ("fuzz.c", "value == 0xFE), \"superio_i8042_write\"", "value == 0xFF), \"superio_i8042_write\"",
@@ -55,6 +57,11 @@ class Fuzzing(CopyTest):
                 self.change(f"tools/c/tests/{name}", old, new)
                 self.assertEqual(self.run_tool("tools/c/fuzz", "30000"), (1, f"{what} differs from the model\n", ""))
                 self.change(f"tools/c/tests/{name}", new, old)
+
+    def test_a_kind_of_call_that_is_not_made_is_noticed(self):
+        self.change("tools/c/tests/fuzz.c", "case 7: time_out();", "case 7: if (0) time_out();")
+        status, printed, said = self.run_tool("tools/c/fuzz", "30000")
+        self.assertEqual((status, printed, said), (1, "only 0 of the calls are a timeout that does nothing\n", ""))
 
     def test_other_arguments_are_refused(self):
         for arguments in (["all"], ["1", "2", "3"], ["-1"]):

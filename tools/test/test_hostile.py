@@ -7,7 +7,7 @@ from collections import Counter
 from pathlib import Path
 
 import cases
-from expected import script_replies
+from expected import Monitor, script_replies
 from test_check import TOOLS, module_of
 
 hostile = module_of("hostile")
@@ -89,6 +89,15 @@ class Runs(unittest.TestCase):
         self.assertIn("first: 'sw 00 41 f'", found)
         self.assertIn("io W41 l", found)
 
+    def test_a_timeout_that_asks_for_no_interrupt_is_found(self):
+        text = PROGRAM.format(change=".replace('ok T', 'ok')")
+        found, = messages_of(hostile.judge_runs, text, [("left", ["sl 0c000101036108b000 61", "si", "ss"])], None)
+        self.assertIn("left: 'si'", found)
+
+    def test_a_timeout_counts_by_whether_it_raised(self):
+        reached = hostile.kinds(["si", "si 1", "si", "sw 01 03"], ["ok T", "trigger R", "ok", "ok T T"])
+        self.assertEqual(reached, [("si", "ok T"), ("si", "trigger R"), ("si", "ok"), ("sw", "ok")])
+
     def test_each_run_is_found(self):
         self.assertEqual(len(self.messages(".replace('R', 'T').replace('W', 'w')")), 2)
 
@@ -104,6 +113,12 @@ class Runs(unittest.TestCase):
 
 
 class Cases(unittest.TestCase):
+    def test_one_of_eight_fixed_timeouts_raises(self):
+        monitor = Monitor()
+        replies = [(call[:2], monitor.reply(call)) for run in cases.every_timeout() for call in run]
+        timeouts = Counter(reply for name, reply in replies if name == "si")
+        self.assertEqual(timeouts, {"ok": 7168, "ok T": 512, "trigger R": 512})
+
     def test_more_cases_leave_the_first_as_they_are(self):
         for make in cases.random_run, cases.random_script:
             few, many = (list(cases.random_cases(make, "case", 1, count)) for count in (3, 6))

@@ -60,7 +60,7 @@ class MissingFiles(CopyTest):
             self.assertEqual(self.sum_of("scripts", CAT, says=says), (len(names), 2))
 
     def test_the_checks_of_c_and_rust(self):
-        self.take("CHANGELOG.md", "LICENSE", "README.md", "bindings/rust", "crates/superio_c/src", "crates/vm_superio/src",
+        self.take("CHANGELOG.md", "LICENSE", "README.md", "bindings/rust", "crates/superio_c/src", "crates/superio_core/src",
                   "examples/c", "include", "prebuilt")
         # Cargo is there, and fails.
         (self.root / "cargo").write_text('#!/bin/sh\n[ "$*" = --version ]\n', encoding="ascii")

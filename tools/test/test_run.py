@@ -2,6 +2,7 @@
 import os
 import sys
 
+from program import SOURCES
 from repository import ROOT, CopyTest
 
 EXAMPLE = ROOT / "examples" / "three_devices.script"
@@ -21,7 +22,7 @@ if bad_line:
 class Running(CopyTest):
     def setUp(self):
         super().setUp()
-        self.take(*(f"crates/{name}/src" for name in ("superio", "superio_script", "vm_superio")))
+        self.take(*(f"crates/{name}/src" for name in SOURCES["superio"]))
         self.program = self.root / "crates" / "superio" / "out" / "superio"
         self.program.parent.mkdir()
         self.program.write_text(PROGRAM, encoding="utf-8")

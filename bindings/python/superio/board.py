@@ -2,6 +2,7 @@
 
 It replies to each line as the program `superio` does.
 """
+from dataclasses import replace
 from typing import Callable, Dict, List, NamedTuple, Optional, Tuple
 
 from .devices import I8042, Rtc, Serial
@@ -13,6 +14,9 @@ __all__ = ["Board", "Call", "Counts", "InterruptLine", "OUTPUT_SIZE", "Snapshot"
 
 OUTPUT_SIZE = 256
 """How many bytes the board's output takes. Each byte after them is lost."""
+
+_THRE = 0x02
+"""The bit of IIR by which THRE is pending."""
 
 
 class InterruptLine:
@@ -88,10 +92,10 @@ class Board:
         self._is_lost = False
         self._replies: Dict[str, Callable[..., Optional[str]]] = {
             "refuse": self._refuse, "sr": self._serial_read, "sw": self._serial_write, "sq": self._enqueue,
-            "sc": self._capacity, "sd": self._drain, "ss": self._restore, "so": self._output, "st": self._line_calls,
-            "se": self._events, "cr": self._clock_read, "cw": self._clock_write, "kr": self._controller_read,
-            "kw": self._controller_write, "sb": self._save, "sl": self._load, "cb": self._clock_save,
-            "cl": self._clock_load,
+            "si": self._character_timeout, "sc": self._capacity, "sd": self._drain, "ss": self._restore,
+            "so": self._output, "st": self._line_calls, "se": self._events, "cr": self._clock_read,
+            "cw": self._clock_write, "kr": self._controller_read, "kw": self._controller_write, "sb": self._save,
+            "sl": self._load, "cb": self._clock_save, "cl": self._clock_load,
         }
 
     def reply(self, command: Command) -> Optional[str]:
@@ -136,8 +140,18 @@ class Board:
             self._send(value)
         is_taken = self._ask(done.interrupts)
         if done.interrupts == 2 and not self._answers[0]:
-            self.serial.first_refused()
+            self._take_back_thre()
         return "trigger" if not is_taken else "io" if self._is_lost else "ok"
+
+    def _take_back_thre(self) -> None:
+        """Makes THRE not pending after a write to IER whose first interrupt of two was refused.
+
+        The library leaves both conditions pending. vm-superio, as the program `superio`, ends the write at the refusal,
+        before it raises THRE.
+        """
+        state = self.serial.state
+        rda_alone = state.interrupt_identification & ~_THRE
+        self.serial = Serial.from_state(replace(state, interrupt_identification=rda_alone))
 
     def _send(self, value: int) -> None:
         self._is_lost = len(self.output) == OUTPUT_SIZE
@@ -154,6 +168,9 @@ class Board:
         done = self.serial.enqueue(data)
         is_taken = self._ask(done.interrupts)
         return "full" if done.full else f"{done.taken:02x}" if is_taken else "trigger"
+
+    def _character_timeout(self) -> str:
+        return "ok" if self._ask(self.serial.character_timeout()) else "trigger"
 
     def _capacity(self) -> str:
         return f"{self.serial.fifo_capacity():02x}"

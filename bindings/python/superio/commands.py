@@ -188,6 +188,9 @@ HELP: Dict[str, Help] = {
                   "'A', or names of bits as RDA|THRE."),
     "type": Help('type "TEXT"', "bytes arrive for the guest",
                  r"""1 to 128 bytes. In quotes \n, \r, \t, \0, \e, \\, \" and \x41 are single bytes."""),
+    "timeout": Help("timeout", "raises RDA again if bytes wait without it",
+                    "Bytes wait if IER enables RDA, and a read of IIR or RBR has ended it and left them. A monitor makes "
+                    "this call after each guest read of IIR that answers none, and once in each turn of its event loop."),
     "drain": Help("drain", "the guest's driver reads what is held"),
     "output": Help("output", "what the guest sent"),
     "room": Help("room", "how many more bytes fit"),
@@ -204,6 +207,7 @@ HELP: Dict[str, Help] = {
     "sr": Help("sr OO", "the guest reads at offset OO"),
     "sw": Help("sw OO VV", "the guest writes VV at offset OO"),
     "sq": Help("sq HH..", "1 to 128 bytes arrive; sq alone: none"),
+    "si": Help("si", "the line is idle: raises RDA again if bytes wait"),
     "sc": Help("sc", "how many more bytes fit"),
     "sd": Help("sd", "the guest's driver reads what is held"),
     "ss": Help("ss", "saves the port and restores it"),
@@ -225,10 +229,10 @@ HELP: Dict[str, Help] = {
 """What `help` says of every command."""
 
 _GROUPS: Dict[str, Tuple[str, ...]] = {
-    "Serial port": ("read", "write", "type", "drain", "output", "room", "calls", "events", "restore"),
+    "Serial port": ("read", "write", "type", "timeout", "drain", "output", "room", "calls", "events", "restore"),
     "Clock and reset controller": ("clock", "alarm", "i8042"),
     "What happened": ("regs", "why", "diff", "trace"),
     "Session": ("save", "load", "reset", "source", "help", "quit"),
-    "Lines of a script, with hexadecimal fields": ("sr", "sw", "sq", "sc", "sd", "ss", "sb", "sl", "so", "st", "se",
-                                                   "cr", "cw", "cb", "cl", "kr", "kw", "refuse"),
+    "Lines of a script, with hexadecimal fields": ("sr", "sw", "sq", "si", "sc", "sd", "ss", "sb", "sl", "so", "st",
+                                                   "se", "cr", "cw", "cb", "cl", "kr", "kw", "refuse"),
 }

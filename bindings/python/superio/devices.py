@@ -104,6 +104,8 @@ class Serial:
     def read(self, offset: Union[int, str]) -> ReadEffects:
         """The guest reads at an offset, 0 to 255, or a register by its name. A read asks for no interrupt.
 
+        If the offset is 2, IIR, and the byte has bit 0x01, call `character_timeout` afterwards.
+
         Raises `RegisterError` if no register has the name, or if the read would reach another one.
         """
         done = self._library.superio_serial_read(self._pointer, self._offset(offset, False))
@@ -113,16 +115,12 @@ class Serial:
         """The guest writes a value, 0 to 255, at an offset, 0 to 255, or to a register by its name.
 
         Afterwards send the value if `sends` is true, and then ask for the interrupt as often as `interrupts` says, up
-        to the first refusal. Call `first_refused` if `interrupts` is 2 and the first of the two was refused.
+        to the first refusal. What is refused stays pending: ask again later, as often as `interrupts_due` says.
 
         Raises `RegisterError` if no register has the name, or if the write would reach another one.
         """
         done = self._library.superio_serial_write(self._pointer, self._offset(offset, True), _number("value", value, 8))
         return WriteEffects(done.sends, done.interrupts)
-
-    def first_refused(self) -> None:
-        """Tells the port, after a write that asked for two interrupts, that the first of them was refused."""
-        self._library.superio_serial_first_refused(self._pointer)
 
     def enqueue(self, data: bytes) -> EnqueueEffects:
         """Bytes arrive for the guest. The first of them are taken, as many as there is room for, and in loopback none.
@@ -133,6 +131,17 @@ class Serial:
         data = bytes(data)
         done = self._library.superio_serial_enqueue(self._pointer, data, len(data))
         return EnqueueEffects(done.taken, done.full, done.interrupts)
+
+    def character_timeout(self) -> int:
+        """Raises RDA again if bytes wait without it. Returns how often to ask for the interrupt: 0 or 1 times.
+
+        Bytes wait if at least one is held, IER enables RDA, and RDA is not pending. A read of IIR or RBR ends RDA even
+        if it leaves bytes. If none wait, nothing happens.
+
+        Make the call after each guest read of offset 2 whose answer has bit 0x01 (none pending), and once in each turn
+        of your event loop. Where DLAB is set or loopback is on, the same call does no harm.
+        """
+        return self._library.superio_serial_character_timeout(self._pointer)
 
     def fifo_capacity(self) -> int:
         """How many bytes there is room for: 64 less those that are held."""

@@ -11,7 +11,7 @@ from .structs import (EnqueueEffectsStruct, I8042WriteEffectsStruct, ReadEffects
 
 __all__ = ["ABI", "FILE_NAME", "VARIABLE", "LibraryError", "Library", "candidates", "load", "open_library"]
 
-ABI = 2
+ABI = 3
 """The binary interface of superio.h that this package is written for."""
 
 FILE_NAME = "libsuperio.so.0"
@@ -28,8 +28,8 @@ PROTOTYPES = {
     "superio_serial_new": (SerialStruct, []),
     "superio_serial_read": (ReadEffectsStruct, [_SERIAL, c_uint8]),
     "superio_serial_write": (WriteEffectsStruct, [_SERIAL, c_uint8, c_uint8]),
-    "superio_serial_first_refused": (None, [_SERIAL]),
     "superio_serial_enqueue": (EnqueueEffectsStruct, [_SERIAL, c_char_p, c_size_t]),
+    "superio_serial_character_timeout": (c_uint8, [_SERIAL]),
     "superio_serial_fifo_capacity": (c_size_t, [_SERIAL]),
     "superio_serial_interrupts_due": (c_uint8, [_SERIAL]),
     "superio_serial_is_coherent": (c_bool, [_SERIAL]),

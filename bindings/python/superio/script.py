@@ -61,6 +61,7 @@ FORMS: Dict[str, Tuple[Field, ...]] = {
     "sr": (OFFSET,),
     "sw": (OFFSET, VALUE),
     "sq": (BYTES,),
+    "si": (),
     "sc": (),
     "sd": (),
     "ss": (),

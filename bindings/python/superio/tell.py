@@ -101,6 +101,17 @@ def _enqueue(call: Call) -> str:
     return text + _interrupts(call)
 
 
+def _character_timeout(call: Call) -> str:
+    state = call.before.serial
+    if not state.in_buffer:
+        return "no interrupt: no byte is held"
+    held = f"{plural(len(state.in_buffer), 'byte')} held"
+    if call.answers:
+        return held + _interrupts(call)
+    is_enabled = state.interrupt_enable & ENABLES["RDA"]
+    return f"{held}; no interrupt: {'RDA is pending already' if is_enabled else 'IER does not enable RDA'}"
+
+
 def date_of(seconds: int) -> str:
     """A guest time of 32 bits as a date and time of UTC."""
     return f"{datetime(1970, 1, 1) + timedelta(seconds=seconds):%Y-%m-%d %H:%M:%S}"
@@ -138,7 +149,8 @@ def _events(call: Call) -> str:
 
 
 _TELLERS = {
-    "sr": _serial_read, "sw": _serial_write, "sq": _enqueue, "sd": _text_output, "so": _text_output,
+    "sr": _serial_read, "sw": _serial_write, "sq": _enqueue, "si": _character_timeout, "sd": _text_output,
+    "so": _text_output,
     "sc": lambda call: f"room for {plural(int(call.reply or '0', 16), 'byte')}",
     "st": lambda call: f"the interrupt line was called {plural(int(call.reply or '0', 16), 'time')}",
     "ss": lambda call: ("restored" if call.reply == "ok" else "not restored") + _interrupts(call),

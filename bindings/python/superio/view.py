@@ -63,6 +63,7 @@ _PLACES = {
     "change": lambda step: bool(changes(step.call)),
     "sent": lambda step: step.call.after.sent > step.call.before.sent,
     "input": lambda step: len(step.call.after.serial.in_buffer) > len(step.call.before.serial.in_buffer),
+    "timeout": lambda step: step.call.command.name == "si",
     "reset": lambda step: step.call.reply == "reset",
     "difference": lambda step: step.differs,
     **{name.lower(): _raises(bit) for name, bit in CONDITIONS.items()},
@@ -131,8 +132,8 @@ class Viewer(cmd.Cmd):
         self._go(place)
 
     def do_next(self, rest: str) -> None:
-        """next [N|WHAT]: N calls forwards, or to the next WHAT: thre, rda, interrupt, refused, sent, input, reset,
-        change, difference, or an access of a register, as LSR"""
+        """next [N|WHAT]: N calls forwards, or to the next WHAT: thre, rda, interrupt, refused, sent, input, timeout,
+        reset, change, difference, or an access of a register, as LSR"""
         self._seek(rest, 1)
 
     def do_back(self, rest: str) -> None:

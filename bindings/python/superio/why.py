@@ -78,4 +78,6 @@ class Story:
         bytes_held = f"{plural(held, 'byte')} {'is' if held == 1 else 'are'} held"
         if not is_enabled:
             return "IER does not enable it" + (f", and {bytes_held}." if held else ".")
-        return f"{bytes_held}: the next byte or a write to IER raises it." if held else "The next byte raises it."
+        if not held:
+            return "The next byte raises it."
+        return f"{bytes_held}: a timeout, the next byte or a write to IER raises it."

@@ -5,8 +5,8 @@ from typing import Callable, Dict, List, Tuple
 
 from .board import Board
 from .registers import CLOCK, SERIAL, Register, clock_offset, serial_offset, serial_register
-from .script import (BYTES, CLOCK_OFFSET, FORMS, MASK, MOMENT, OFFSET, SAVED, TOO_MANY, VALUE, Command, Field, ScriptError,
-                     missing, parse, shown)
+from .script import (BYTES, CLOCK_OFFSET, FORMS, MASK, MOMENT, OFFSET, SAVED, TOO_MANY, VALUE, Command, Field,
+                     ScriptError, missing, parse, shown)
 
 __all__ = ["Speaker", "WORDS", "characters"]
 
@@ -215,9 +215,9 @@ def _alone(name: str, script_name: str) -> "Callable[[Speaker, str], Command]":
 
 _PHRASES: "Dict[str, Callable[[Speaker, str], Command]]" = {
     "read": Speaker.read, "write": Speaker.write, "type": Speaker.type, "clock": Speaker.clock, "alarm": Speaker.alarm,
-    "i8042": Speaker.controller, "drain": _alone("drain", "sd"), "room": _alone("room", "sc"),
-    "output": _alone("output", "so"), "calls": _alone("calls", "st"), "events": _alone("events", "se"),
-    "restore": _alone("restore", "ss"),
+    "i8042": Speaker.controller, "timeout": _alone("timeout", "si"), "drain": _alone("drain", "sd"),
+    "room": _alone("room", "sc"), "output": _alone("output", "so"), "calls": _alone("calls", "st"),
+    "events": _alone("events", "se"), "restore": _alone("restore", "ss"),
 }
 
 WORDS: Tuple[str, ...] = tuple(_PHRASES)

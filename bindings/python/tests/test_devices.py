@@ -2,6 +2,7 @@
 import copy
 import dataclasses
 import doctest
+import itertools
 import os
 import random
 import re
@@ -116,11 +117,38 @@ class SerialPort(unittest.TestCase):
         self.assertEqual(0, self.port.fifo_capacity())
         self.assertEqual(bytes(range(60)) + bytes(4), self.port.state.in_buffer)
 
-    def test_first_refused_leaves_thre_not_pending(self):
+    def test_character_timeout_raises_rda_again_while_bytes_are_held(self):
+        self.port.write("IER", 0x01)
+        self.port.enqueue(b"ab")
+        self.assertEqual(0, self.port.character_timeout())  # it is pending already
+        for access, after in (("IIR", 1), ("RBR", 1), ("RBR", 0)):
+            self.port.read(access)
+            self.assertEqual(after, self.port.character_timeout())
+            self.assertEqual(0xC4 if after else 0xC1, self.port.read("IIR").byte)
+            self.assertEqual(after, self.port.character_timeout())
+            self.assertEqual(0, self.port.character_timeout())
+
+    def test_character_timeout_in_every_setting(self):
+        """It raises RDA exactly if a byte is held, IER enables RDA and RDA is not pending, and changes nothing else."""
+        raised = 0
+        for held, enabled, identification, line_control, modem_control in itertools.product(
+                (0, 1, 64), range(16), range(8), (0x03, 0x83), (0x08, 0x18)):
+            state = SerialState(interrupt_enable=enabled, interrupt_identification=identification, scratch=0x5A,
+                                line_control=line_control, modem_control=modem_control, in_buffer=b"x" * held)
+            port = Serial.from_state(state)
+            is_raised = bool(held and enabled & 0x01 and not identification & 0x04)
+            self.assertEqual(int(is_raised), port.character_timeout())
+            after = identification & ~0x01 | 0x04 if is_raised else identification
+            self.assertEqual(dataclasses.replace(state, interrupt_identification=after), port.state)
+            raised += is_raised
+        self.assertEqual(2 * 8 * 4 * 4, raised)
+
+    def test_two_interrupts_stay_due_until_the_guest_takes_them(self):
         self.port.enqueue(b"a")
-        self.port.write("IER", 0x03)
-        self.port.first_refused()
-        self.assertEqual((0x04, 1), (self.port.state.interrupt_identification, self.port.interrupts_due()))
+        self.assertEqual(2, self.port.write("IER", 0x03).interrupts)
+        self.assertEqual((0x06, 2), (self.port.state.interrupt_identification, self.port.interrupts_due()))
+        self.port.read("IIR")
+        self.assertEqual(0, self.port.interrupts_due())
 
     def test_coherence(self):
         self.assertTrue(self.port.is_coherent())

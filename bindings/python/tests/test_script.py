@@ -59,6 +59,8 @@ BAD = [
     (b"sb 00", "it goes on after its last field"),
     (b"sl 53 49", "it goes on after its last field"),
     (b"sc 00", "it goes on after its last field"),
+    (b"si 00", "it goes on after its last field"),
+    (b"si ", "one space separates two fields, and none follows the last"),
     (b"sr 05\r", "it ends with a carriage return"),
     (b"\r", "it ends with a carriage return"),
 ]

@@ -108,6 +108,16 @@ class Stepping(unittest.TestCase):
         self.assertEqual("call 6 of 11, piece 1: sw 01 03  trigger\n  IER: ok; interrupt for RDA refused\n"
                          "  IER 0x01 -> 0x03  RDA THRE\n  IIR 0xc1 -> 0xc4  RDA\n  interrupt refused\n", self.out.getvalue())
 
+    def test_character_timeouts(self):
+        self.viewer = Viewer(steps_of(b"sw 01 01\nsq 6162\nsr 02\nsi  ok\nsr 00\nsi  trigger\n"), "trace", self.out, Style(False))
+        self.assertEqual(4, self.place_after("next timeout"))
+        self.assertEqual("call 4 of 6, piece 1: si  ok\n  2 bytes held; interrupt for RDA\n  IIR 0xc1 -> 0xc4  RDA\n"
+                         "  interrupt taken\n", self.out.getvalue())
+        self.assertEqual(6, self.place_after("next difference"))
+        self.assertIn("call 6 of 6, piece 1: si  ok\n  1 byte held; interrupt for RDA\n", self.out.getvalue())
+        self.assertIn("  recorded: trigger\n", self.out.getvalue())
+        self.assertEqual("no timeout further on", self.place_after("next timeout"))
+
     def test_registers_and_list(self):
         self.viewer.onecmd("goto 3")
         self.assertNotIsInstance(self.place_after("regs"), int)

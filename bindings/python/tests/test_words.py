@@ -50,7 +50,7 @@ MEANINGS = [
     ("alarm 0x10 now+1", "cw 000000006553f101 0004 00000010"),
     ("i8042 read 4", "kr 04"),
     ("i8042 write 4 0xfe", "kw 04 fe"),
-    ("drain", "sd"), ("room", "sc"), ("output", "so"), ("calls", "st"), ("events", "se"), ("restore", "ss"),
+    ("timeout", "si"), ("drain", "sd"), ("room", "sc"), ("output", "so"), ("calls", "st"), ("events", "se"), ("restore", "ss"),
     ("sr LSR", "sr 05"),
     ("sr 5", "sr 05"),
     ("sr 0x05", "sr 05"),
@@ -92,6 +92,8 @@ FAULTS = [
     ("alarm +4294967295", "guest time has 32 bits"),
     ("i8042 read", "the form is: i8042 read"),
     ("room 5", "room takes no arguments"),
+    ("timeout 5", "timeout takes no arguments"),
+    ("si 5", "it goes on after its last field"),
     ("why not", "why takes no arguments"),
     ("regs i8042", "the form is: regs"),
     ("save", "the form is: save FILE"),
@@ -118,6 +120,19 @@ DIALOGUES = [
      ["ok", "1 byte received; interrupt for RDA", "1 byte received; no interrupt: RDA is pending already"]),
     (["refuse 1", "write IER RDA", "type a", "restore"],
      ["ok", "1 byte received; interrupt for RDA refused", "restored; interrupt for RDA"]),
+    (["timeout", "type a", "timeout", "write IER RDA", "timeout", "read IIR", "timeout", "type b", "read RBR", "timeout",
+      "calls"],
+     ["no interrupt: no byte is held", "1 byte received; no interrupt: IER does not enable RDA",
+      "1 byte held; no interrupt: IER does not enable RDA", "ok; interrupt for RDA",
+      "1 byte held; no interrupt: RDA is pending already", "IIR = 0xc4  RDA", "1 byte held; interrupt for RDA",
+      "1 byte received; no interrupt: RDA is pending already", 'RBR = 0x61  "a"', "1 byte held; interrupt for RDA",
+      "the interrupt line was called 3 times"]),
+    (["refuse 2", "write IER RDA", "type a", "read IIR", "timeout", "timeout", "restore"],
+     ["ok", "1 byte received; interrupt for RDA", "IIR = 0xc4  RDA", "1 byte held; interrupt for RDA refused",
+      "1 byte held; no interrupt: RDA is pending already", "restored; interrupt for RDA"]),
+    (["write IER RDA|THRE", "type a", "read IIR", "write THR 'A'", "write LCR DLAB", "write MCR LOOP", "timeout", "read IIR"],
+     ["ok; interrupt for THRE", "1 byte received; interrupt for RDA", "IIR = 0xc6  RDA THRE", 'sent "A"; interrupt for THRE',
+      "ok", "ok", "1 byte held; interrupt for RDA", "IIR = 0xc6  RDA THRE"]),
     (["type " + "x" * 60, "type 12345", "type 6", "write MCR LOOP", "type 7", "room"],
      ["60 bytes received; no interrupt: IER does not enable RDA", "4 of 5 bytes received: the FIFO is full",
       "0 of 1 byte received: the FIFO is full", "ok", "0 of 1 byte received: the port is in loopback", "room for 0 bytes"]),
@@ -140,8 +155,12 @@ WHY = [
     (["sw 01 01", "sq 61"],
      "RDA is pending: call 2, sq 61, raised it, and the line took the interrupt. A read of IIR or of RBR acknowledges it.",
      None),
-    (["sw 01 01", "sq 6162", "sr 02"], "RDA is not pending: call 3, sr 02, acknowledged it. 2 bytes are held: the next byte "
-     "or a write to IER raises it.", None),
+    (["sw 01 01", "sq 6162", "sr 02"], "RDA is not pending: call 3, sr 02, acknowledged it. 2 bytes are held: a timeout, "
+     "the next byte or a write to IER raises it.", None),
+    (["sw 01 01", "sq 6162", "sr 02", "si"], "RDA is pending: call 4, si, raised it, and the line took the interrupt. A read "
+     "of IIR or of RBR acknowledges it.", None),
+    (["refuse 2", "sw 01 01", "sq 6162", "sr 02", "si"], "RDA is pending: call 5, si, raised it, and the line refused the "
+     "interrupt. A read of IIR or of RBR acknowledges it.", None),
     (["sw 01 01", "sq 61", "sd"], "RDA is not pending: call 3, sd, acknowledged it. The next byte raises it.", None),
     (["refuse 1", "sw 01 01", "sq 61", "sw 01 00"],
      "RDA is pending: call 3, sq 61, raised it, and the line refused the interrupt. IER does not enable it now.", None),
@@ -167,6 +186,8 @@ DIFFS = [
     (["sq 6869"], ["LSR 0x60 -> 0x61  DR THRE TEMT", "FIFO 0 -> 2 bytes"]),
     (["sw 00 41"], ["output 0 -> 1 byte"]),
     (["sr 05"], ["nothing changed"]),
+    (["sw 01 01", "sq 6162", "sr 02", "si"], ["IIR 0xc1 -> 0xc4  RDA", "interrupt taken"]),
+    (["si"], ["nothing changed"]),
     (["cw 0000000000000064 0004 00000069"], ["MR 0x00000000 -> 0x00000069", "alarm set"]),
     (["cw 0000000000000064 0008 00000069"], ["LR 0x00000000 -> 0x00000069", "clock offset 0 -> 5 s"]),
     (["refuse 1", "sq 61", "sw 01 03"], ["IER 0x00 -> 0x03  RDA THRE", "IIR 0xc1 -> 0xc4  RDA", "interrupt refused"]),
@@ -385,7 +406,7 @@ class Files(SessionTest):
 class Helping(SessionTest):
     def test_help_names_every_command(self):
         listed = "\n".join(self.said("help"))
-        for name in ("read", "write", "type", "regs", "why", "save", "source", "sr", "cw", "refuse", "quit"):
+        for name in ("read", "write", "type", "timeout", "si", "regs", "why", "save", "source", "sr", "cw", "refuse", "quit"):
             self.assertIn(f"  {name}", listed)
             self.assertTrue(self.said(f"help {name}"))
 

@@ -6,7 +6,7 @@
 use crate::saved::SavedStateError;
 
 /// The binary interface of the header that this module repeats.
-const ABI: u32 = 2;
+const ABI: u32 = 3;
 
 /// The room of the receive FIFO.
 pub(crate) const FIFO_SIZE: usize = 64;
@@ -94,8 +94,8 @@ extern "C" {
     fn superio_serial_new() -> SerialPort;
     fn superio_serial_read(port: *mut SerialPort, offset: u8) -> ReadEffects;
     fn superio_serial_write(port: *mut SerialPort, offset: u8, value: u8) -> WriteEffects;
-    fn superio_serial_first_refused(port: *mut SerialPort);
     fn superio_serial_enqueue(port: *mut SerialPort, bytes: *const u8, count: usize) -> EnqueueEffects;
+    fn superio_serial_character_timeout(port: *mut SerialPort) -> u8;
     fn superio_serial_fifo_capacity(port: *const SerialPort) -> usize;
     fn superio_serial_interrupts_due(port: *const SerialPort) -> u8;
     fn superio_serial_is_coherent(port: *const SerialPort) -> bool;
@@ -136,14 +136,14 @@ impl SerialPort {
         unsafe { superio_serial_write(self, offset, value) }
     }
 
-    pub(crate) fn first_refused(&mut self) {
-        // SAFETY: `self` is a whole port.
-        unsafe { superio_serial_first_refused(self) }
-    }
-
     pub(crate) fn enqueue(&mut self, bytes: &[u8]) -> EnqueueEffects {
         // SAFETY: `self` is a whole port, and `bytes` so many bytes beside it, at an address that is not null.
         unsafe { superio_serial_enqueue(self, bytes.as_ptr(), bytes.len()) }
+    }
+
+    pub(crate) fn character_timeout(&mut self) -> u8 {
+        // SAFETY: `self` is a whole port.
+        unsafe { superio_serial_character_timeout(self) }
     }
 
     pub(crate) fn fifo_capacity(&self) -> usize {

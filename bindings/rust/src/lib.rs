@@ -10,9 +10,10 @@
 //! - Making a device or a default `SerialState`, and saving or loading a state, panic if the linked library has another
 //!   binary interface than this crate.
 //!
-//! New are [`Serial::retry_interrupts`], the [saved form](saved) of a state, [`SerialState::is_coherent`], the whole
-//! state of a clock ([`RtcSnapshot`](rtc_pl031::RtcSnapshot)), its accesses at a given moment, [`Rtc::line`] and
-//! [`Rtc::due`]. The feature `serde` derives `Serialize` and `Deserialize` for the states.
+//! New are the [character timeout](serial::timeout), without which received bytes can wait for ever,
+//! [`Serial::retry_interrupts`], the [saved form](saved) of a state, [`SerialState::is_coherent`], the whole state of a
+//! clock ([`RtcSnapshot`](rtc_pl031::RtcSnapshot)), its accesses at a given moment, [`Rtc::line`] and [`Rtc::due`]. The
+//! feature `serde` derives `Serialize` and `Deserialize` for the states.
 //!
 //! # Example
 //!

@@ -1,8 +1,8 @@
 //! Saved states as bytes, the same form in every language and on every machine.
 //!
 //! [`SerialState`](crate::SerialState) and [`RtcSnapshot`](crate::rtc_pl031::RtcSnapshot) have `to_bytes` and
-//! `from_bytes`. docs/SAVED-STATES.md of the repository describes the form byte by byte. It has no checksum: the file or
-//! the stream around it has one.
+//! `from_bytes`. docs/SAVED-STATES.md of the repository describes the form byte by byte. It has no checksum: the file
+//! or the stream around it has one.
 use std::error::Error as StdError;
 use std::fmt;
 

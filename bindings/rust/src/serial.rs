@@ -8,9 +8,13 @@ use crate::Trigger;
 
 mod events;
 mod state;
+pub mod timeout;
 
 pub use events::{NoEvents, SerialEvents};
 pub use state::SerialState;
+
+/// The bit of `interrupt_identification` that is set while the interrupt of an empty transmitter is pending.
+const THRE: u8 = 0x02;
 
 /// A 16550 serial port: its registers, a receive FIFO of 64 bytes that is always on, and two interrupt conditions.
 ///
@@ -180,9 +184,9 @@ impl<T: Trigger, EV: SerialEvents, W: Write> Serial<T, EV, W> {
     /// # Errors
     ///
     /// [`Error::Trigger`] if the trigger refused a call, even if the writer failed too; otherwise [`Error::IOError`] if
-    /// the writer failed to take the byte or to flush. A failure of the writer leaves the same registers as a success. A
-    /// refused condition stays pending: the trigger is not called for it again until the guest has acknowledged it, or
-    /// [`retry_interrupts`](Serial::retry_interrupts) is called.
+    /// the writer failed to take the byte or to flush. A failure of the writer leaves the same registers as a success.
+    /// A refused condition stays pending: the trigger is not called for it again until the guest has acknowledged it,
+    /// or [`retry_interrupts`](Serial::retry_interrupts) is called.
     pub fn write(&mut self, offset: u8, value: u8) -> Result<(), Error<T::E>> {
         let pending = self.port.interrupt_identification;
         let effects = self.port.write(offset, value);
@@ -208,16 +212,19 @@ impl<T: Trigger, EV: SerialEvents, W: Write> Serial<T, EV, W> {
         sent.map_err(Error::IOError)
     }
 
-    /// Calls the trigger for both conditions. The second becomes pending after the first call has succeeded.
+    /// Calls the trigger for both conditions that a write to IER raised. In vm-superio the second one, THRE, becomes
+    /// pending after the first call has succeeded, so a call that refuses or panics leaves RDA alone.
     fn trigger_twice(&mut self) -> Result<(), T::E> {
-        let both_pending = self.port;
-        self.port.first_refused();
+        let both_pending = self.port.interrupt_identification;
+        self.port.interrupt_identification = both_pending & !THRE; // RDA is left, so 'none' stays clear
         self.interrupt_evt.trigger()?;
-        self.port = both_pending;
+        self.port.interrupt_identification = both_pending;
         self.interrupt_evt.trigger()
     }
 
     /// The guest reads the byte at `offset` from the port's base. The trigger is not called.
+    ///
+    /// If `offset` is 2 and the answer has bit 0x01 (none pending), make a [character timeout](timeout) afterwards.
     pub fn read(&mut self, offset: u8) -> u8 {
         let effects = self.port.read(offset);
         if effects.in_buffer_empty {

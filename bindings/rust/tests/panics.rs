@@ -6,6 +6,7 @@ use std::panic::{catch_unwind, AssertUnwindSafe};
 use std::rc::Rc;
 
 use vm_superio::rtc_pl031::RtcEvents;
+use vm_superio::serial::timeout::CharacterTimeout;
 use vm_superio::serial::SerialEvents;
 use vm_superio::{I8042Device, Rtc, Serial, SerialState, Trigger};
 
@@ -164,6 +165,18 @@ fn a_trigger_that_panics_at_an_enqueue_or_in_loopback_leaves_the_byte_and_its_co
         assert_eq!((state.interrupt_identification, state.line_status), (0x04, 0x61));
         assert_eq!(state.in_buffer, b"x");
     }
+}
+
+#[test]
+fn a_trigger_that_panics_at_a_character_timeout_leaves_its_condition_pending() {
+    let state =
+        SerialState { interrupt_enable: 0x01, line_status: 0x61, in_buffer: vec![b'x'], ..SerialState::default() };
+    let mut port = Port::of(&state);
+    port.trigger.panic_after(0);
+    port.panics(|serial| serial.character_timeout());
+    assert_eq!(port.serial.state(), SerialState { interrupt_identification: 0x04, ..state });
+    port.serial.character_timeout().unwrap();
+    assert_eq!(port.trigger.calls(), 1);
 }
 
 #[test]

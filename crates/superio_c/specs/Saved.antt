@@ -1,7 +1,7 @@
 -- What a load of a saved state returns.
 use Rattle.std.specs.Prelude.{ℕ, Option, Some, None}
-use Rattle.vm_superio.specs.declared.saved.Error.{Error}
-use Rattle.vm_superio.specs.declared.saved.Error.TheVariants.{TooShort, NotASavedState, OtherDevice, UnknownVersion, WrongLength, TooManyBytes, InvalidArmed, Memory}
+use Rattle.superio_core.specs.declared.saved.Error.{Error}
+use Rattle.superio_core.specs.declared.saved.Error.TheVariants.{TooShort, NotASavedState, OtherDevice, UnknownVersion, WrongLength, TooManyBytes, InvalidArmed}
 
 -- the numbers of `enum superio_load`: 0 if no check fails
 abbrev pub load_status : (fault : Option Error) → ℕ
@@ -13,5 +13,3 @@ load_status (Some (UnknownVersion _)) = 4
 load_status (Some WrongLength) = 5
 load_status (Some TooManyBytes) = 6
 load_status (Some InvalidArmed) = 7
--- no check
-load_status (Some Memory) = 8

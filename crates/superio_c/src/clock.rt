@@ -1,12 +1,12 @@
 //! The clock. Its struct is `superio_rtc` in the header.
-ghost use Rattle.std.specs.Prelude.{◌≡◌, not};
+ghost use Rattle.std.specs.Prelude.{◌≡◌, ◌≢◌, ◌<◌, ◌^◌, ◌-◌, not};
 ghost use Rattle.superio_c.specs.Clock.{effects_of_response, due_of};
-ghost use Rattle.vm_superio.specs.Rtc.Alarm.{is_line_up, IsAlarmDue};
-ghost use Rattle.vm_superio.specs.Rtc.Fields.{state_of_clock};
-ghost use Rattle.vm_superio.specs.Rtc.Registers.{fresh_clock, read, write, clock_register_at, is_writable};
-ghost use Rattle.vm_superio.specs.Rtc.Step.{clock_response, clock_step};
+ghost use Rattle.superio_core.specs.Rtc.Alarm.{is_line_up, IsAlarmDue};
+ghost use Rattle.superio_core.specs.Rtc.Clock.{state_of_clock};
+ghost use Rattle.superio_core.specs.Rtc.Registers.{fresh_clock, read, write, clock_register_at, is_writable};
+ghost use Rattle.superio_core.specs.Rtc.Step.{clock_response, clock_step};
 
-use vm_superio::rtc_pl031::fields::RtcFields;
+use superio_core::rtc_pl031::Clock;
 
 /// The answer if the alarm is never due.
 const NEVER: u64 = u64::MAX;
@@ -31,15 +31,15 @@ pub struct RtcWriteEffects {
 
 /// A clock that shows the host's time.
 #[unsafe(no_mangle)]
-pub extern "C" fn superio_rtc_new() -> RtcFields
+pub extern "C" fn superio_rtc_new() -> Clock
     ensures { state_of_clock result ≡ fresh_clock }
 {
-    RtcFields::new()
+    Clock::new()
 }
 
 /// The guest reads four bytes at `offset`, at the moment `now`.
 #[unsafe(no_mangle)]
-pub extern "C" fn superio_rtc_read(clock: &mut RtcFields, offset: u16, now: u64) -> RtcReadEffects
+pub extern "C" fn superio_rtc_read(clock: &mut Clock, offset: u16, now: u64) -> RtcReadEffects
     ensures response { result ≡ effects_of_response (clock_response (state_of_clock clock.old) (read offset now)) }
     ensures state { state_of_clock clock.new ≡ clock_step (state_of_clock clock.old) (read offset now) }
 {
@@ -58,7 +58,7 @@ pub extern "C" fn superio_rtc_read(clock: &mut RtcFields, offset: u16, now: u64)
 /// The guest writes `value`, as four bytes at `offset`, at the moment `now`.
 #[unsafe(no_mangle)]
 pub extern "C" fn superio_rtc_write(
-    clock: &mut RtcFields,
+    clock: &mut Clock,
     offset: u16,
     value: u32,
     now: u64,
@@ -74,7 +74,7 @@ pub extern "C" fn superio_rtc_write(
 
 /// Whether the interrupt line is up.
 #[unsafe(no_mangle)]
-pub extern "C" fn superio_rtc_line(clock: &RtcFields) -> bool
+pub extern "C" fn superio_rtc_line(clock: &Clock) -> bool
     ensures { result ≡ is_line_up (state_of_clock clock.now) }
 {
     clock.interrupt_line()
@@ -82,8 +82,9 @@ pub extern "C" fn superio_rtc_line(clock: &RtcFields) -> bool
 
 /// The seconds from the moment `now` until the alarm is due, if the guest makes no access.
 #[unsafe(no_mangle)]
-pub extern "C" fn superio_rtc_due(clock: &RtcFields, now: u64) -> u64
-    ensures { IsAlarmDue (state_of_clock clock.now) now (due_of result) }
+pub extern "C" fn superio_rtc_due(clock: &Clock, now: u64) -> u64
+    ensures due { IsAlarmDue (state_of_clock clock.now) now (due_of result) }
+    ensures bound { result ≢ 2 ^ 64 - 1 → result < 2 ^ 32 }
 {
     clock.alarm_due(now).unwrap_or(NEVER)
 }

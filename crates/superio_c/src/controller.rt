@@ -1,8 +1,8 @@
 //! The i8042 controller, which has no state.
 ghost use Rattle.std.specs.Prelude.{◌≡◌};
-ghost use Rattle.vm_superio.specs.I8042.{is_reset_command};
+ghost use Rattle.superio_core.specs.I8042.{is_reset_command};
 
-use vm_superio::i8042::is_reset_command;
+use superio_core::i8042::is_reset_command;
 
 /// Whether a write to the controller resets the machine.
 #[repr(C)]

@@ -12,12 +12,12 @@ mod saved;
 mod serial;
 
 /// Changes with every change to a struct or to the meaning of a call.
-const ABI: u32 = 2;
+const ABI: u32 = 3;
 
 /// The binary interface of this library; compare it with the header's, `SUPERIO_ABI`.
 #[unsafe(no_mangle)]
 pub extern "C" fn superio_abi() -> u32
-    ensures { result ≡ 2 }
+    ensures { result ≡ 3 }
 {
     ABI
 }

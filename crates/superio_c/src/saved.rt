@@ -1,17 +1,17 @@
 //! Saved states as bytes.
-ghost use Rattle.std.specs.Prelude.{◌≡◌, ◌≢◌, ◌++◌, length, drop, Some};
+ghost use Rattle.std.specs.Prelude.{◌≡◌, ◌≢◌, ◌≤◌, ◌++◌, length, take, drop, Some};
 ghost use Rattle.superio_c.specs.Saved.{load_status};
-ghost use Rattle.vm_superio.specs.Rtc.Fields.{state_of_clock};
-ghost use Rattle.vm_superio.specs.Serial.Port.Fields.{state_of_fields};
-ghost use Rattle.vm_superio.specs.Saved.Faults.{serial_fault, clock_fault};
-ghost use Rattle.vm_superio.specs.Saved.Form.{serial_form, clock_form};
+ghost use Rattle.superio_core.specs.Rtc.Clock.{state_of_clock};
+ghost use Rattle.superio_core.specs.Serial.Port.SerialPort.{state_of_port};
+ghost use Rattle.superio_core.specs.Saved.Faults.{serial_fault, clock_fault};
+ghost use Rattle.superio_core.specs.Saved.Form.{serial_form, clock_form};
+ghost use Rattle.superio_core.specs.Serial.Port.State.{State};
 
-use vm_superio::RtcState;
-use vm_superio::rtc_pl031::fields::RtcFields;
-use vm_superio::rtc_pl031::saved_form::SAVED_SIZE;
-use vm_superio::saved::Error;
-use vm_superio::serial::fields::SerialFields;
-use vm_superio::serial::saved_form::SAVED_MAX;
+use superio_core::rtc_pl031::saved_form::SAVED_SIZE;
+use superio_core::rtc_pl031::{Clock, RtcState};
+use superio_core::saved::Error;
+use superio_core::serial::SerialPort;
+use superio_core::serial::saved_form::SAVED_MAX;
 
 /// What a load returns on success.
 const LOADED: u32 = 0;
@@ -28,30 +28,31 @@ fn load_status(error: Error) -> u32
         Error::WrongLength => 5,
         Error::TooManyBytes => 6,
         Error::InvalidArmed => 7,
-        Error::Memory => 8,
     }
 }
 
 /// Writes the port's saved form to the start of `bytes`, and returns its length. The other bytes do not change.
 #[unsafe(no_mangle)]
-pub extern "C" fn superio_serial_save(port: &SerialFields, bytes: &mut [u8; SAVED_MAX]) -> usize
-    ensures count { result ≡ length (serial_form (state_of_fields port.now)) }
-    ensures form { bytes.new ≡ serial_form (state_of_fields port.now) ++ drop result bytes.old }
+pub extern "C" fn superio_serial_save(port: &SerialPort, bytes: &mut [u8; SAVED_MAX]) -> usize
+    ensures count { result ≡ length (serial_form (state_of_port port.now)) }
+    ensures at_most_81 { result ≤ 81 }
+    ensures form { take result bytes.new ≡ serial_form (state_of_port port.now) }
+    ensures rest_unchanged { drop result bytes.new ≡ drop result bytes.old }
 {
-    let form = port.to_bytes();
-    let count = form.len();
-    bytes[..count].copy_from_slice(&form);
-    count
+    port.to_bytes(bytes)
 }
 
 /// Loads a saved port and returns 0. If the bytes are invalid, nothing changes, and the result says which check failed.
 #[unsafe(no_mangle)]
-pub extern "C" fn superio_serial_load(port: &mut SerialFields, bytes: &[u8]) -> u32
+pub extern "C" fn superio_serial_load(port: &mut SerialPort, bytes: &[u8]) -> u32
     ensures status { result ≡ load_status (serial_fault bytes.now) }
-    ensures loaded { result ≡ 0 → bytes.now ≡ serial_form (state_of_fields port.new) }
+    ensures loaded { result ≡ 0 → bytes.now ≡ serial_form (state_of_port port.new) }
+    ensures read { (state : State) → length state.in_buffer ≤ 64 → bytes.now ≡ serial_form state →
+        result ≡ 0 × state_of_port port.new ≡ state }
+    ensures at_most_64 { result ≡ 0 → port.new.in_buffer.len ≤ 64 }
     ensures refused { result ≢ 0 → port.new ≡ port.old }
 {
-    match SerialFields::from_bytes(bytes) {
+    match SerialPort::from_bytes(bytes) {
         Ok(loaded) => {
             *port = loaded;
             LOADED
@@ -62,7 +63,7 @@ pub extern "C" fn superio_serial_load(port: &mut SerialFields, bytes: &[u8]) -> 
 
 /// Writes the clock's saved form.
 #[unsafe(no_mangle)]
-pub extern "C" fn superio_rtc_save(clock: &RtcFields, bytes: &mut [u8; SAVED_SIZE])
+pub extern "C" fn superio_rtc_save(clock: &Clock, bytes: &mut [u8; SAVED_SIZE])
     ensures { bytes.new ≡ clock_form (state_of_clock clock.now) }
 {
     *bytes = clock.state().to_bytes();
@@ -71,14 +72,14 @@ pub extern "C" fn superio_rtc_save(clock: &RtcFields, bytes: &mut [u8; SAVED_SIZ
 /// Loads a saved clock and returns 0. If the bytes are invalid, nothing changes, and the result says which check
 /// failed.
 #[unsafe(no_mangle)]
-pub extern "C" fn superio_rtc_load(clock: &mut RtcFields, bytes: &[u8]) -> u32
+pub extern "C" fn superio_rtc_load(clock: &mut Clock, bytes: &[u8]) -> u32
     ensures status { result ≡ load_status (clock_fault bytes.now) }
     ensures loaded { result ≡ 0 → bytes.now ≡ clock_form (state_of_clock clock.new) }
     ensures refused { result ≢ 0 → clock.new ≡ clock.old }
 {
     match RtcState::from_bytes(bytes) {
         Ok(state) => {
-            *clock = RtcFields::from_state(&state);
+            *clock = Clock::from_state(&state);
             LOADED
         }
         Err(error) => load_status(error),

@@ -1,83 +1,84 @@
 //! The serial port. Its struct is `superio_serial` in the header: nine registers, then the received bytes.
 ghost use Rattle.std.specs.Prelude.{◌≡◌, ◌↔◌, ◌≤◌, ◌-◌, length, IsTrue};
-ghost use Rattle.vm_superio.specs.Serial.Port.Fields.{state_of_fields, CoherentFields};
-ghost use Rattle.vm_superio.specs.Serial.Port.State.{fresh_state};
-ghost use Rattle.vm_superio.specs.Serial.Step.FieldsStep.{IsFieldsRead, IsFieldsWrite, IsFieldsEnqueue, IsFirstRefused, without_thre};
-ghost use Rattle.vm_superio.specs.Serial.Step.Restore.{restore_calls};
+ghost use Rattle.superio_core.specs.Serial.Port.SerialPort.{state_of_port, CoherentPort};
+ghost use Rattle.superio_core.specs.Serial.Port.State.{fresh_state};
+ghost use Rattle.superio_core.specs.Serial.Step.Calls.{IsPortRead, IsPortWrite, IsPortEnqueue, IsPortTimeout};
+ghost use Rattle.superio_core.specs.Serial.Port.Coherent.{ShowsHeldBytes};
+ghost use Rattle.superio_core.specs.Serial.Step.Restore.{restore_calls};
 
-use vm_superio::serial::fields::{EnqueueEffects, ReadEffects, SerialFields, WriteEffects};
+use superio_core::serial::{EnqueueEffects, ReadEffects, SerialPort, WriteEffects};
 
 /// A fresh port.
 #[unsafe(no_mangle)]
-pub extern "C" fn superio_serial_new() -> SerialFields
-    ensures state { state_of_fields result ≡ fresh_state }
-    ensures coherent { CoherentFields result }
+pub extern "C" fn superio_serial_new() -> SerialPort
+    ensures state { state_of_port result ≡ fresh_state }
+    ensures coherent { CoherentPort result }
 {
-    SerialFields::new()
+    SerialPort::new()
 }
 
 /// The guest reads at `offset`.
 #[unsafe(no_mangle)]
-pub extern "C" fn superio_serial_read(port: &mut SerialFields, offset: u8) -> ReadEffects
-    ensures step { IsFieldsRead offset result (state_of_fields port.old) (state_of_fields port.new) }
-    ensures coherent { CoherentFields port.old → CoherentFields port.new }
+pub extern "C" fn superio_serial_read(port: &mut SerialPort, offset: u8) -> ReadEffects
+    ensures step { IsPortRead offset result (state_of_port port.old) (state_of_port port.new) }
+    ensures coherent { CoherentPort port.old → CoherentPort port.new }
 {
     port.read(offset)
 }
 
 /// The guest writes `value` at `offset`.
 #[unsafe(no_mangle)]
-pub extern "C" fn superio_serial_write(
-    port: &mut SerialFields,
-    offset: u8,
-    value: u8,
-) -> WriteEffects
-    ensures step { IsFieldsWrite offset value result (state_of_fields port.old) (state_of_fields port.new) }
-    ensures coherent { CoherentFields port.old → CoherentFields port.new }
+pub extern "C" fn superio_serial_write(port: &mut SerialPort, offset: u8, value: u8) -> WriteEffects
+    ensures step { IsPortWrite offset value result (state_of_port port.old) (state_of_port port.new) }
+    ensures at_most_2 { result.interrupts ≤ 2 }
+    ensures coherent { CoherentPort port.old → CoherentPort port.new }
 {
     port.write(offset, value)
 }
 
-/// Call it after a write that asked for two interrupts, if the first was refused.
-#[unsafe(no_mangle)]
-pub extern "C" fn superio_serial_first_refused(port: &mut SerialFields)
-    ensures step { IsFirstRefused (state_of_fields port.old) (state_of_fields port.new) }
-    ensures state { state_of_fields port.new ≡ without_thre (state_of_fields port.old) }
-    ensures coherent { CoherentFields port.old → CoherentFields port.new }
-{
-    port.first_refused();
-}
-
 /// Bytes arrive for the guest.
 #[unsafe(no_mangle)]
-pub extern "C" fn superio_serial_enqueue(port: &mut SerialFields, bytes: &[u8]) -> EnqueueEffects
-    ensures step { IsFieldsEnqueue bytes.now result (state_of_fields port.old) (state_of_fields port.new) }
-    ensures coherent { CoherentFields port.old → CoherentFields port.new }
+pub extern "C" fn superio_serial_enqueue(port: &mut SerialPort, bytes: &[u8]) -> EnqueueEffects
+    ensures step { IsPortEnqueue bytes.now result (state_of_port port.old) (state_of_port port.new) }
+    ensures at_most_1 { result.interrupts ≤ 1 }
+    ensures coherent { CoherentPort port.old → CoherentPort port.new }
 {
     port.enqueue_raw_bytes(bytes)
 }
 
+/// The time of a few characters has passed without a read or a new byte. Returns how often to ask for the interrupt.
+#[unsafe(no_mangle)]
+pub extern "C" fn superio_serial_character_timeout(port: &mut SerialPort) -> u8
+    ensures step { IsPortTimeout result (state_of_port port.old) (state_of_port port.new) }
+    ensures at_most_1 { result ≤ 1 }
+    ensures pending { ShowsHeldBytes (state_of_port port.new) }
+    ensures coherent { CoherentPort port.old → CoherentPort port.new }
+{
+    port.character_timeout()
+}
+
 /// How many bytes fit.
 #[unsafe(no_mangle)]
-pub extern "C" fn superio_serial_fifo_capacity(port: &SerialFields) -> usize
-    ensures value { result ≡ 64 - length (state_of_fields port.now).in_buffer }
-    ensures bound { length (state_of_fields port.now).in_buffer ≤ 64 }
+pub extern "C" fn superio_serial_fifo_capacity(port: &SerialPort) -> usize
+    ensures value { result ≡ 64 - length (state_of_port port.now).in_buffer }
+    ensures bound { length (state_of_port port.now).in_buffer ≤ 64 }
 {
     port.fifo_capacity()
 }
 
 /// How often to ask for the interrupt after a restore or a refusal.
 #[unsafe(no_mangle)]
-pub extern "C" fn superio_serial_interrupts_due(port: &SerialFields) -> u8
-    ensures { result ≡ length (restore_calls (state_of_fields port.now)) }
+pub extern "C" fn superio_serial_interrupts_due(port: &SerialPort) -> u8
+    ensures calls { result ≡ length (restore_calls (state_of_port port.now)) }
+    ensures at_most_2 { result ≤ 2 }
 {
     port.interrupts_due()
 }
 
 /// Whether the port is coherent.
 #[unsafe(no_mangle)]
-pub extern "C" fn superio_serial_is_coherent(port: &SerialFields) -> bool
-    ensures { IsTrue result ↔ CoherentFields port.now }
+pub extern "C" fn superio_serial_is_coherent(port: &SerialPort) -> bool
+    ensures { IsTrue result ↔ CoherentPort port.now }
 {
     port.is_coherent()
 }

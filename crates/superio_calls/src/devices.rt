@@ -137,6 +137,7 @@ impl<'a> Devices<'a> {
             ["sr", at] => self.read(alloc, at),
             ["sw", at, value] => self.write(alloc, at, value),
             ["sq", digits] => self.enqueue(alloc, digits),
+            ["si"] => self.character_timeout(alloc),
             ["sc"] => text(alloc, format_args!("{:02x}", self.serial.fifo_capacity())),
             ["ss"] => self.restore_own(alloc),
             ["sl", registers, held] => self.load(alloc, registers, held),
@@ -168,6 +169,13 @@ impl<'a> Devices<'a> {
         let bytes = bytes_of(alloc, digits)?;
         match self.serial.enqueue_raw_bytes(&bytes) {
             Ok(count) => text(alloc, format_args!("{count:02x}")),
+            Err(error) => failure(alloc, error),
+        }
+    }
+
+    fn character_timeout(&mut self, alloc: Global) -> Result<String> {
+        match self.serial.character_timeout() {
+            Ok(()) => text(alloc, "ok"),
             Err(error) => failure(alloc, error),
         }
     }

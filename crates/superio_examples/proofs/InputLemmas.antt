@@ -5,9 +5,9 @@ use Rattle.std.proofs.lemmas.List.{take-append-drop, length-take, drop_min}
 use Rattle.circular_buffer.specs.Buffer.{keep_last}
 use Rattle.vm_superio.specs.declared.serial.errors.Error.{Error}
 use Rattle.vm_superio.specs.declared.serial.errors.Error.TheVariants.{Trigger, IOError, FullFifo, Memory}
-use Rattle.vm_superio.specs.Serial.Port.State.{State}
-use Rattle.vm_superio.specs.Serial.Port.Registers.{is_loopback}
-use Rattle.vm_superio.specs.Serial.Step.Raising.{enqueued_bytes, receive_bytes}
+use Rattle.superio_core.specs.Serial.Port.State.{State}
+use Rattle.superio_core.specs.Serial.Port.Registers.{is_loopback}
+use Rattle.superio_core.specs.Serial.Step.Raising.{enqueued_bytes, receive_bytes}
 use Rattle.vm_superio.specs.Serial.Port.Model.{refusal_in_error}
 use Rattle.vm_superio.specs.Serial.Laws.OneCall.{ReceivedLaw}
 use Rattle.superio_examples.specs.Input.{room_in}

@@ -1,3 +1,4 @@
 pub mod InputLemmas
+pub mod InterruptLemmas
 pub mod OutputLemmas
 pub mod PortIoLemmas

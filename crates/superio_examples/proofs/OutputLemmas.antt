@@ -1,8 +1,8 @@
 -- The bits of a byte that a read gives, and the order of what goes through an output.
 use Rattle.std.proofs.Common.{arith, ◌≡◌, inl, inr, ℕ, ◌+◌, ◌-◌, ◌^◌, ◌<◌, ◌==◌, Bool, true, false, nat_lt, min, suc, if◌then◌else◌, List, [], ◌∷◌, ◌++◌, length, take, drop, bit_and, refl, sym, ap, ◌∙◌}
 use Rattle.std.proofs.lemmas.List.{append_assoc, append-nil, take-append-drop}
-use Rattle.vm_superio.specs.Bits.{has_bits}
-use Rattle.vm_superio.specs.Serial.Port.Operations.{Response, ByteRead}
+use Rattle.superio_core.specs.Bits.{has_bits}
+use Rattle.superio_core.specs.Serial.Port.Operations.{Response, ByteRead}
 use Rattle.superio_examples.specs.Output.{Waiting, Turn, Sends, Takes, OutputLaw, IsInOrder, after_byte, after_turns, taken_in}
 
 abbrev byte_in : (response : Response) → ℕ

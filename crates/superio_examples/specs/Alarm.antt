@@ -1,8 +1,8 @@
 -- What a monitor sets for a clock's alarm.
 use Rattle.std.specs.Prelude.{◌≡◌, ℕ, ◌+◌, ◌-◌, ◌^◌, min, Option}
 use Rattle.std.specs.Option.{option_map}
-use Rattle.vm_superio.specs.declared.rtc_pl031.RtcState.{RtcState}
-use Rattle.vm_superio.specs.Rtc.Alarm.{is_line_up, IsAlarmDue}
+use Rattle.superio_core.specs.declared.rtc_pl031.state.RtcState.{RtcState}
+use Rattle.superio_core.specs.Rtc.Alarm.{is_line_up, IsAlarmDue}
 use Rattle.superio_examples.specs.declared.alarm.Alarm.{Alarm}
 
 -- the moment so many seconds after another. Moments end at the largest of 64 bits

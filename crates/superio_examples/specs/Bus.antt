@@ -1,7 +1,8 @@
 -- The ports of a PC's bus: which device each belongs to, and what an access does there.
 use Rattle.std.specs.Prelude.{ℕ, ◌+◌, Bool, ◌&&◌, ◌||◌, ◌==◌, not, nat_le, nat_lt, [], ◌∷◌, Result, Ok, Err}
-use Rattle.vm_superio.specs.Serial.Port.Operations.{Event}
-use Rattle.vm_superio.specs.Links.Objects.{Link, TriggerAnswer, Contents}
+use Rattle.superio_core.specs.Serial.Port.Operations.{Event}
+use Rattle.vm_superio.specs.Links.Objects.{Link, TriggerAnswer}
+use Rattle.vm_superio.specs.Links.OutCalls.{OutCall}
 use Rattle.vm_superio.specs.Serial.Port.Model.{Port}
 use Rattle.vm_superio.specs.Serial.Step.PortStep.{IsWriteStep}
 use Rattle.superio_examples.specs.declared.bus.Keyboard.{Keyboard}
@@ -32,13 +33,13 @@ is_reset base port value = is_i8042 base port && (port == 0x64) && (value == 0xF
 
 -- the bus forwards a write to the serial port, and returns its result: an error is the serial port's
 abbrev pub ForwardsWrite :
-    {T E EV W F : Type 0} → (trigger : Link T (TriggerAnswer E)) (events : Link EV Event) (contents : Contents W)
+    {T E EV W F : Type 0} → (trigger : Link T (TriggerAnswer E)) (events : Link EV Event) (out : Link W OutCall)
     (offset value : ℕ) (result : Result (Unit {0}) (BusError E F)) (old new : Port T EV W) → Type 0
-ForwardsWrite trigger events contents offset value (Ok done) old new =
-    IsWriteStep trigger events contents offset value (Ok tt) old new
-ForwardsWrite trigger events contents offset value (Err (Serial error)) old new =
-    IsWriteStep trigger events contents offset value (Err error) old new
-ForwardsWrite trigger events contents offset value (Err (Reset refusal)) old new = ⊥
+ForwardsWrite trigger events out offset value (Ok done) old new =
+    IsWriteStep trigger events out offset value (Ok tt) old new
+ForwardsWrite trigger events out offset value (Err (Serial error)) old new =
+    IsWriteStep trigger events out offset value (Err error) old new
+ForwardsWrite trigger events out offset value (Err (Reset refusal)) old new = ⊥
 
 -- the reset trigger is called once, and the bus returns its result: an error is the trigger's refusal
 abbrev pub ForwardsReset :

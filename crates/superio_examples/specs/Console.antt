@@ -4,22 +4,24 @@ use Rattle.std.specs.Bool.{OnTrue, OnFalse}
 use Rattle.circular_buffer.specs.Buffer.{buffer}
 use Rattle.vm_superio.specs.declared.serial.errors.Error.{Error}
 use Rattle.vm_superio.specs.declared.serial.errors.Error.TheVariants.{Trigger}
-use Rattle.vm_superio.specs.Serial.Port.Operations.{Event, Write}
-use Rattle.vm_superio.specs.Serial.Port.OpKinds.{sent_by}
-use Rattle.vm_superio.specs.declared.serial.registers.Condition.{Condition}
-use Rattle.vm_superio.specs.Links.Objects.{Link, TriggerAnswer, Contents, RefusesOwnState}
+use Rattle.superio_core.specs.Serial.Port.Operations.{Event, Write}
+use Rattle.superio_core.specs.Serial.Port.OpKinds.{sent_by}
+use Rattle.superio_core.specs.declared.serial.registers.Condition.{Condition}
+use Rattle.vm_superio.specs.Links.Objects.{Link, TriggerAnswer, RefusesOwnState}
+use Rattle.vm_superio.specs.Links.OutCalls.{OutCall}
 use Rattle.vm_superio.specs.Serial.Port.Model.{refusal_in_result}
-use Rattle.vm_superio.specs.Serial.Step.Admissible.{kind_in_state}
-use Rattle.vm_superio.specs.Serial.Step.PortStep.{IsReadStep, IsWriteStep}
+use Rattle.superio_core.specs.Serial.Step.Admissible.{kind_in_state}
+use Rattle.vm_superio.specs.Serial.Step.PortStep.{IsReadStep, IsWriteStep, IsTimeoutStep}
 use Rattle.superio_examples.specs.declared.console.Console.{Console}
+use Rattle.superio_examples.specs.Interrupts.{answers_none}
 use Rattle.superio_examples.specs.Input.{room_in, ForwardsEnqueue}
 use Rattle.superio_examples.specs.Output.{after_sent}
 
-module _ {T E EV W : Type 0} (trigger : Link T (TriggerAnswer E)) (events : Link EV Event) (contents : Contents W) where
+module _ {T E EV W : Type 0} (trigger : Link T (TriggerAnswer E)) (events : Link EV Event) (out : Link W OutCall) where
   -- the port is given the waiting bytes, as far as it has room, and a refusal of its trigger is remembered
   pub record Feeds (old new : Console T EV W E) : Type 0 where
     pub answer : Result ℕ E
-    pub step : ForwardsEnqueue trigger events contents old.input.items answer old.serial new.serial
+    pub step : ForwardsEnqueue trigger events out old.input.items answer old.serial new.serial
     pub left : new.input ≡ buffer (drop (room_in old.serial.state) old.input.items) old.input.capacity
     pub kept : new.serial.state.in_buffer ++ new.input.items ≡ old.serial.state.in_buffer ++ old.input.items
     pub output : new.output ≡ old.output
@@ -29,19 +31,33 @@ module _ {T E EV W : Type 0} (trigger : Link T (TriggerAnswer E)) (events : Link
   abbrev pub FeedsIf : (starts : Bool) (old new : Console T EV W E) → Type 0
   FeedsIf starts old new = OnTrue starts (Feeds old new) × OnFalse starts (new ≡ old)
 
-  -- the guest's read is the port's; then input goes in, if no byte is held
+  -- a character timeout, whose refusal is remembered
+  pub record TimesOut (old new : Console T EV W E) : Type 0 where
+    pub answer : Result (Unit {0}) (Error E)
+    pub step : IsTimeoutStep trigger events out answer old.serial new.serial
+    pub rest_unchanged :
+        new ≡ record old { serial = new.serial; is_refused = old.is_refused || is_some (refusal_in_result answer) }
+
+  -- so if it `is_due`; otherwise nothing changes
+  abbrev pub TimesOutIf : (is_due : Bool) (old new : Console T EV W E) → Type 0
+  TimesOutIf is_due old new = OnTrue is_due (TimesOut old new) × OnFalse is_due (new ≡ old)
+
+  -- the guest's read is the port's; then input goes in, if no byte is held; then a character timeout follows, if the
+  -- guest read IIR and found nothing pending
   pub record ReadsThenFeeds (offset byte : ℕ) (old new : Console T EV W E) : Type 0 where
     pub between : Console T EV W E
-    pub step : IsReadStep trigger events contents offset byte old.serial between.serial
+    pub step : IsReadStep trigger events out offset byte old.serial between.serial
     pub rest_unchanged : between ≡ record old { serial = between.serial }
-    pub fed : FeedsIf (length between.serial.state.in_buffer == 0) between new
+    pub filled : Console T EV W E
+    pub fed : FeedsIf (length between.serial.state.in_buffer == 0) between filled
+    pub timed : TimesOutIf (answers_none offset byte) filled new
 
   -- its write too. A byte that it sends waits in the output, or is dropped, and a refusal is remembered. Then input
   -- goes in, if MCR was written
   pub record WritesThenFeeds (offset value : ℕ) (answer : Result (Unit {0}) (Error E)) (old new : Console T EV W E) :
       Type 0 where
     pub between : Console T EV W E
-    pub step : IsWriteStep trigger events contents offset value answer old.serial between.serial
+    pub step : IsWriteStep trigger events out offset value answer old.serial between.serial
     pub rest_unchanged :
         between ≡ record old {
           serial = between.serial;

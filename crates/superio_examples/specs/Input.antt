@@ -1,11 +1,12 @@
 -- Input that waits for room in a serial port.
 use Rattle.std.specs.Prelude.{◌≡◌, ℕ, ◌-◌, if◌then◌else◌, List, length, Result}
 use Rattle.std.specs.Result.{result_err}
-use Rattle.vm_superio.specs.Serial.Port.State.{State}
-use Rattle.vm_superio.specs.Serial.Port.Registers.{is_loopback}
+use Rattle.superio_core.specs.Serial.Port.State.{State}
+use Rattle.superio_core.specs.Serial.Port.Registers.{is_loopback}
 use Rattle.vm_superio.specs.declared.serial.errors.Error.{Error}
-use Rattle.vm_superio.specs.Serial.Port.Operations.{Event}
-use Rattle.vm_superio.specs.Links.Objects.{Link, TriggerAnswer, Contents}
+use Rattle.superio_core.specs.Serial.Port.Operations.{Event}
+use Rattle.vm_superio.specs.Links.Objects.{Link, TriggerAnswer}
+use Rattle.vm_superio.specs.Links.OutCalls.{OutCall}
 use Rattle.vm_superio.specs.Serial.Port.Model.{Port, refusal_in_result}
 use Rattle.vm_superio.specs.Serial.Step.PortStep.{IsEnqueueStep}
 
@@ -15,8 +16,8 @@ room_in s = if is_loopback s.modem_control then 0 else 64 - length s.in_buffer
 
 -- an enqueue of these bytes, and its result without the count: an error is the trigger's refusal
 abbrev pub ForwardsEnqueue :
-    {T E EV W : Type 0} → (trigger : Link T (TriggerAnswer E)) (events : Link EV Event) (contents : Contents W)
+    {T E EV W : Type 0} → (trigger : Link T (TriggerAnswer E)) (events : Link EV Event) (out : Link W OutCall)
     (bytes : List ℕ) (result : Result ℕ E) (old new : Port T EV W) → Type 0
-ForwardsEnqueue {E = E} trigger events contents bytes result old new =
-    (answer : Result ℕ (Error E)) × IsEnqueueStep trigger events contents bytes answer old new
+ForwardsEnqueue {E = E} trigger events out bytes result old new =
+    (answer : Result ℕ (Error E)) × IsEnqueueStep trigger events out bytes answer old new
     × (refusal_in_result answer ≡ result_err result)

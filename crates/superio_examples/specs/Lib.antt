@@ -3,7 +3,9 @@ pub mod Bus
 pub mod Console
 pub mod Counter
 pub mod Input
+pub mod Interrupts
 pub mod Migration
 pub mod Mmio
 pub mod Output
 pub mod PortIo
+pub mod LastByte

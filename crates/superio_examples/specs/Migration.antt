@@ -1,13 +1,15 @@
 -- What a restore of saved devices makes, and what it returns if it is refused.
 use Rattle.std.specs.Prelude.{◌≡◌, List, Option, Some, None, Result}
 use Rattle.std.specs.Option.{option_or}
-use Rattle.vm_superio.specs.Serial.Step.Restore.{restore_calls, RefusesRestore}
+use Rattle.superio_core.specs.Serial.Step.Restore.{restore_calls}
+use Rattle.vm_superio.specs.Serial.Step.Restore.{RefusesRestore}
 use Rattle.vm_superio.specs.Links.Objects.{all_ok}
-use Rattle.vm_superio.specs.Serial.Port.State.{State}
-use Rattle.vm_superio.specs.Saved.Form.{serial_form, clock_form}
-use Rattle.vm_superio.specs.Saved.Faults.{serial_fault, clock_fault}
+use Rattle.superio_core.specs.Serial.Port.State.{State}
+use Rattle.superio_core.specs.Saved.Form.{serial_form, clock_form}
+use Rattle.superio_core.specs.Saved.Faults.{serial_fault, clock_fault}
+use Rattle.superio_core.specs.declared.saved.Error.{Error as Fault}
 use Rattle.vm_superio.specs.declared.saved.Error.{Error}
-use Rattle.vm_superio.specs.declared.saved.Error.TheVariants.{Memory}
+use Rattle.vm_superio.specs.declared.saved.Error.TheVariants as read
 use Rattle.superio_examples.specs.declared.migration.Saved.{Saved}
 use Rattle.superio_examples.specs.declared.migration.Restored.{Restored}
 use Rattle.superio_examples.specs.declared.migration.NotRestored.{NotRestored}
@@ -15,7 +17,7 @@ use Rattle.superio_examples.specs.declared.migration.RestoreError.{RestoreError}
 use Rattle.superio_examples.specs.declared.migration.RestoreError.TheVariants.{Bytes, Serial}
 
 -- the first check that fails, of the clock's bytes and then of the serial port's
-abbrev pub first_fault : (saved : Saved) → Option Error
+abbrev pub first_fault : (saved : Saved) → Option Fault
 first_fault saved = option_or (clock_fault saved.clock.items) (serial_fault saved.serial.items)
 
 -- both devices have the saved states. The trigger was called once for each condition that is pending and enabled, and
@@ -31,9 +33,9 @@ pub record IsRestoredFrom
   pub clock_events_kept : made.clock.events ≡ clock_events
 
 -- bytes were not read: for the first check that fails, or else since memory was refused
-abbrev pub IsFaultOf : (error : Error) (fault : Option Error) → Type 0
-IsFaultOf error (Some fault) = error ≡ fault
-IsFaultOf error None = error ≡ Memory
+abbrev pub IsFaultOf : (error : Error) (fault : Option Fault) → Type 0
+IsFaultOf error (Some fault) = error ≡ read.Bytes fault
+IsFaultOf error None = error ≡ read.Memory
 
 -- why a restore was refused, and what became of the trigger
 abbrev pub RefusesSaved :

@@ -2,8 +2,9 @@
 use Rattle.std.specs.Prelude.{◌≡◌, ℕ, ◌+◌, ◌-◌, ◌%◌, Bool, ◌&&◌, ◌||◌, ◌==◌, nat_le, nat_lt, not, if◌then◌else◌, List, [], ◌∷◌, length, take, drop, replicate}
 use Rattle.vm_superio.specs.Links.Objects.{Link}
 use Rattle.vm_superio.specs.Rtc.Events.{RtcEvent, invalid_read, invalid_write}
-use Rattle.vm_superio.specs.Rtc.Registers.{read, write_of, host_time, bytes_left}
-use Rattle.vm_superio.specs.Rtc.Step.{ClockDevice, after_alarm, clock_response, clock_step, clock_events}
+use Rattle.superio_core.specs.Rtc.Registers.{read, write_of, host_time, bytes_left}
+use Rattle.vm_superio.specs.Rtc.Device.{ClockDevice, clock_events}
+use Rattle.superio_core.specs.Rtc.Step.{after_alarm, clock_response, clock_step}
 
 -- in the 4096 bytes from `base` on
 abbrev pub is_inside : (base address : ℕ) → Bool

@@ -2,8 +2,9 @@
 use Rattle.std.specs.Prelude.{◌≡◌, ℕ, ◌+◌, ◌-◌, ◌%◌, Bool, ◌||◌, ◌==◌, List, [], ◌∷◌, Result, Ok}
 use Rattle.std.specs.Result.{result_and}
 use Rattle.std.specs.Bool.{OnTrue, OnFalse}
-use Rattle.vm_superio.specs.Serial.Port.Operations.{Event}
-use Rattle.vm_superio.specs.Links.Objects.{Link, TriggerAnswer, Contents}
+use Rattle.superio_core.specs.Serial.Port.Operations.{Event}
+use Rattle.vm_superio.specs.Links.Objects.{Link, TriggerAnswer}
+use Rattle.vm_superio.specs.Links.OutCalls.{OutCall}
 use Rattle.vm_superio.specs.Serial.Step.PortStep.{IsReadStep}
 use Rattle.superio_examples.specs.declared.bus.Bus.{Bus}
 use Rattle.superio_examples.specs.declared.bus.BusError.{BusError}
@@ -17,13 +18,13 @@ is_width length = (length == 1) || (length == 2) || (length == 4)
 abbrev pub next_port : (port : ℕ) → ℕ
 next_port port = (port + 1) % 0x10000
 
-module _ {T E EV W R F : Type 0} (trigger : Link T (TriggerAnswer E)) (events : Link EV Event) (contents : Contents W)
+module _ {T E EV W R F : Type 0} (trigger : Link T (TriggerAnswer E)) (events : Link EV Event) (out : Link W OutCall)
     (reset : Link R (TriggerAnswer F)) where
   -- a byte is read at a port
   pub record ReadsByte (port byte : ℕ) (old new : Bus T EV W R E F) : Type 0 where
     pub serial :
         OnTrue (is_serial old.base port)
-        (IsReadStep trigger events contents (port - old.base) byte old.serial new.serial)
+        (IsReadStep trigger events out (port - old.base) byte old.serial new.serial)
     pub serial_alone : OnFalse (is_serial old.base port) (new.serial ≡ old.serial)
     pub controller : OnTrue (is_i8042 old.base port) (byte ≡ controller_byte old.keyboard)
     pub controller_alone : new.controller ≡ old.controller
@@ -42,7 +43,7 @@ module _ {T E EV W R F : Type 0} (trigger : Link T (TriggerAnswer E)) (events : 
       (port value : ℕ) (result : Result (Unit {0}) (BusError E F)) (old new : Bus T EV W R E F) : Type 0 where
     pub serial :
         OnTrue (is_serial old.base port)
-        (ForwardsWrite trigger events contents (port - old.base) value result old.serial new.serial)
+        (ForwardsWrite trigger events out (port - old.base) value result old.serial new.serial)
     pub serial_alone : OnFalse (is_serial old.base port) (new.serial ≡ old.serial)
     pub reset_called : OnTrue (is_reset old.base port value) (ForwardsReset reset result old.controller new.controller)
     pub controller_alone : OnFalse (is_reset old.base port value) (new.controller ≡ old.controller)

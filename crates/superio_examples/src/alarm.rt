@@ -1,7 +1,7 @@
 //! A clock's interrupt line, and the moment at which a monitor's timer finds its alarm.
 ghost use Rattle.std.specs.Prelude.{◌≡◌};
-ghost use Rattle.vm_superio.specs.Rtc.Registers.{host_time};
-ghost use Rattle.vm_superio.specs.Rtc.Step.{after_alarm};
+ghost use Rattle.superio_core.specs.Rtc.Registers.{host_time};
+ghost use Rattle.superio_core.specs.Rtc.Step.{after_alarm};
 ghost use Rattle.superio_examples.specs.Alarm.{ShowsAlarm};
 
 use vm_superio::Rtc;

@@ -1,7 +1,8 @@
 //! A bus that forwards a guest's port I/O to a serial port and a reset controller, by port number.
+ghost use Rattle.vm_superio.specs.Links.OutCalls.{WriterCalls};
 ghost use Rattle.std.specs.Prelude.{◌≡◌, ◌-◌, ◌||◌, if◌then◌else◌, Some, None};
 ghost use Rattle.std.specs.Bool.{OnTrue, OnFalse};
-ghost use Rattle.vm_superio.specs.Serial.Port.Coherent.{Coherent};
+ghost use Rattle.superio_core.specs.Serial.Port.Coherent.{Coherent};
 ghost use Rattle.vm_superio.specs.Serial.Step.PortStep.{IsReadStep};
 ghost use Rattle.superio_examples.specs.Bus.{is_serial, is_i8042, is_vacant, is_reset, controller_byte};
 ghost use Rattle.superio_examples.specs.Bus.{ForwardsWrite, ForwardsReset};
@@ -64,7 +65,7 @@ impl<T: Trigger, EV: SerialEvents, W: Write, R: Trigger> Bus<T, EV, W, R> {
     /// Linux waits for its bit 0x20 when it measures the processor's clock.
     pub fn read(&mut self, port: u16) -> u8
         ensures serial { OnTrue (is_serial self.old.base port)
-            (IsReadStep T.link EV.link W.contents (port - self.old.base) result self.old.serial self.new.serial) }
+            (IsReadStep T.link EV.link (WriterCalls W.contents) (port - self.old.base) result self.old.serial self.new.serial) }
         ensures serial_alone { OnFalse (is_serial self.old.base port) (self.new.serial ≡ self.old.serial) }
         ensures controller { OnTrue (is_i8042 self.old.base port) (result ≡ controller_byte self.old.keyboard) }
         ensures controller_alone { self.new.controller ≡ self.old.controller }
@@ -92,7 +93,7 @@ impl<T: Trigger, EV: SerialEvents, W: Write, R: Trigger> Bus<T, EV, W, R> {
     /// command: nobody was notified of the reset.
     pub fn write(&mut self, port: u16, value: u8) -> Result<(), BusError<T::E, R::E>>
         ensures serial { OnTrue (is_serial self.old.base port)
-            (ForwardsWrite T.link EV.link W.contents (port - self.old.base) value result
+            (ForwardsWrite T.link EV.link (WriterCalls W.contents) (port - self.old.base) value result
             self.old.serial self.new.serial) }
         ensures serial_alone { OnFalse (is_serial self.old.base port) (self.new.serial ≡ self.old.serial) }
         ensures reset { OnTrue (is_reset self.old.base port value)

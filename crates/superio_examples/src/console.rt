@@ -1,19 +1,25 @@
-//! A serial port in a monitor's event loop. The loop stops reading its source while the input is full, and retries a
-//! refused interrupt.
+//! A serial port in a monitor's event loop. The loop stops reading its source while the input is full, retries a refused
+//! interrupt, and lets no received byte wait without one.
+ghost use Rattle.vm_superio.specs.Links.OutCalls.{WriterCalls};
 ghost use Rattle.std.specs.Prelude.{◌≡◌, ◌-◌, ◌==◌, ◌++◌, length, take, min, is_some, false, true};
 ghost use Rattle.circular_buffer.specs.Buffer.{buffer};
-ghost use Rattle.vm_superio.specs.Serial.Port.Coherent.{Coherent};
+ghost use Rattle.superio_core.specs.Serial.Port.Coherent.{Coherent, ShowsHeldBytes};
 ghost use Rattle.vm_superio.specs.Links.Objects.{all_ok};
 ghost use Rattle.vm_superio.specs.Serial.Port.Model.{refusal_in_result};
-ghost use Rattle.vm_superio.specs.Serial.Step.Restore.{restore_calls};
+ghost use Rattle.superio_core.specs.Serial.Step.Restore.{restore_calls};
 ghost use Rattle.vm_superio.specs.Serial.Step.PortStep.{with_trigger};
-ghost use Rattle.superio_examples.specs.Console.{Feeds, ReadsThenFeeds, RefusesAgain, WritesThenFeeds};
+ghost use Rattle.superio_examples.specs.Console.{Feeds, FeedsIf, TimesOut, TimesOutIf, ReadsThenFeeds, RefusesAgain, WritesThenFeeds};
+ghost use Rattle.superio_examples.specs.Interrupts.{answers_none};
 
 use crate::input::Input;
+use crate::interrupts::shows_none;
 use crate::output::Output;
 use std::io::Write;
 use vm_superio::serial::{Error, SerialEvents};
 use vm_superio::{Serial, Trigger};
+
+/// The offset of IIR.
+const IIR: u8 = 2;
 
 /// The offset of MCR, which has the loopback bit.
 const MCR: u8 = 4;
@@ -24,6 +30,7 @@ const MCR: u8 = 4;
 /// - polls its source while `input.room()` is above 0, reads at most that many bytes, passes them to `receive`;
 /// - polls its sink unless `output.is_empty()`, and passes it to `output.drain_into`;
 /// - passes each access of the guest to `read` or `write`, which may make room;
+/// - calls `character_timeout` once in each turn, for a guest that took some bytes and does not read IIR again;
 /// - calls `retry` on a timer while `is_refused`.
 #[derive(Drop)]
 pub struct Console<T: Trigger, EV: SerialEvents, W: Write> {
@@ -42,7 +49,7 @@ impl<T: Trigger, EV: SerialEvents, W: Write> Console<T, EV, W> {
         ensures kept { self.new.serial.state.in_buffer ++ self.new.input.items
             ≡ self.old.serial.state.in_buffer ++ (self.old.input.items ++ take result bytes.now) }
         ensures fed { let waiting = buffer (self.old.input.items ++ take result bytes.now) self.old.input.capacity in
-            Feeds T.link EV.link W.contents (record self.old { input = waiting }) self.new }
+            Feeds T.link EV.link (WriterCalls W.contents) (record self.old { input = waiting }) self.new }
         ensures coherent { Coherent self.old.serial.state → Coherent self.new.serial.state }
     {
         let count = self.input.push(bytes);
@@ -51,16 +58,29 @@ impl<T: Trigger, EV: SerialEvents, W: Write> Console<T, EV, W> {
     }
 
     /// Reads a byte at `offset`, as the guest does. Feeds the port after each read that leaves no byte held: the one
-    /// that takes the last byte, which the port reports as `in_buffer_empty`, and any later one, at any offset.
+    /// that takes the last byte, which the port reports as `in_buffer_empty`, and any later one, at any offset. After a
+    /// read of IIR that shows nothing pending, a character timeout follows, so that bytes which the guest has left in the
+    /// FIFO interrupt it again.
     pub fn read(&mut self, offset: u8) -> u8
-        ensures step { ReadsThenFeeds T.link EV.link W.contents offset result self.old self.new }
+        ensures step { ReadsThenFeeds T.link EV.link (WriterCalls W.contents) offset result self.old self.new }
+        ensures shown { answers_none offset result ≡ true → ShowsHeldBytes self.new.serial.state }
         ensures coherent { Coherent self.old.serial.state → Coherent self.new.serial.state }
     {
         let byte = self.serial.read(offset);
-        if self.serial.fifo_capacity() == 64 {
-            self.feed();
-        }
+        let is_empty = self.holds_none();
+        self.feed_if(is_empty);
+        self.time_out_if(finds_none(offset, byte));
         byte
+    }
+
+    /// Raises the interrupt again if the guest has left bytes in the FIFO: a character timeout.
+    pub fn character_timeout(&mut self)
+        ensures step { TimesOut T.link EV.link (WriterCalls W.contents) self.old self.new }
+        ensures shown { ShowsHeldBytes self.new.serial.state }
+        ensures coherent { Coherent self.old.serial.state → Coherent self.new.serial.state }
+    {
+        let raised = self.serial.character_timeout();
+        self.is_refused |= is_refusal(&raised);
     }
 
     /// Writes `value` at `offset`, as the guest does. A byte that the guest sends waits in the output, or is dropped and
@@ -70,14 +90,12 @@ impl<T: Trigger, EV: SerialEvents, W: Write> Console<T, EV, W> {
     ///
     /// Returns the error of the port's `write`. The monitor can log it. The guest goes on.
     pub fn write(&mut self, offset: u8, value: u8) -> Result<(), Error<T::E>>
-        ensures step { WritesThenFeeds T.link EV.link W.contents offset value result self.old self.new }
+        ensures step { WritesThenFeeds T.link EV.link (WriterCalls W.contents) offset value result self.old self.new }
         ensures coherent { Coherent self.old.serial.state → Coherent self.new.serial.state }
     {
         let written = self.output.forward(&mut self.serial, offset, value);
         self.is_refused |= is_refusal(&written);
-        if offset == MCR {
-            self.feed();
-        }
+        self.feed_if(offset == MCR);
         written
     }
 
@@ -99,9 +117,37 @@ impl<T: Trigger, EV: SerialEvents, W: Write> Console<T, EV, W> {
         }
     }
 
+    /// Whether the port holds no byte.
+    fn holds_none(&self) -> bool
+        ensures { result ≡ (length self.now.serial.state.in_buffer == 0) }
+    {
+        self.serial.fifo_capacity() == 64
+    }
+
+    /// A character timeout, if it is due.
+    fn time_out_if(&mut self, is_due: bool)
+        ensures timed { TimesOutIf T.link EV.link (WriterCalls W.contents) is_due self.old self.new }
+        ensures shown { is_due ≡ true → ShowsHeldBytes self.new.serial.state }
+        ensures coherent { Coherent self.old.serial.state → Coherent self.new.serial.state }
+    {
+        if is_due {
+            self.character_timeout();
+        }
+    }
+
+    /// Gives the port input as far as it has room, if that `starts`.
+    fn feed_if(&mut self, starts: bool)
+        ensures fed { FeedsIf T.link EV.link (WriterCalls W.contents) starts self.old self.new }
+        ensures coherent { Coherent self.old.serial.state → Coherent self.new.serial.state }
+    {
+        if starts {
+            self.feed();
+        }
+    }
+
     /// Gives the port input as far as it has room.
     fn feed(&mut self)
-        ensures fed { Feeds T.link EV.link W.contents self.old self.new }
+        ensures fed { Feeds T.link EV.link (WriterCalls W.contents) self.old self.new }
         ensures coherent { Coherent self.old.serial.state → Coherent self.new.serial.state }
     {
         if self.input.feed(&mut self.serial).is_err() {
@@ -110,9 +156,16 @@ impl<T: Trigger, EV: SerialEvents, W: Write> Console<T, EV, W> {
     }
 }
 
-/// Whether a write failed with a trigger refusal.
-fn is_refusal<E>(written: &Result<(), Error<E>>) -> bool
-    ensures { result ≡ is_some (refusal_in_result written.now) }
+/// Whether a guest read IIR and found nothing pending.
+fn finds_none(offset: u8, byte: u8) -> bool
+    ensures { result ≡ answers_none offset byte }
 {
-    matches!(written, Err(Error::Trigger(_)))
+    offset == IIR && shows_none(byte)
+}
+
+/// Whether a call failed with a trigger refusal.
+fn is_refusal<E>(answer: &Result<(), Error<E>>) -> bool
+    ensures { result ≡ is_some (refusal_in_result answer.now) }
+{
+    matches!(answer, Err(Error::Trigger(_)))
 }

@@ -27,6 +27,13 @@ impl Counter {
     {
         self.calls
     }
+
+    /// Forgets the calls so far, as a monitor does that injects one interrupt for all of them.
+    pub fn clear(&mut self)
+        ensures { self.new.calls ≡ 0 }
+    {
+        *self = Counter::new();
+    }
 }
 
 impl Trigger for Counter {

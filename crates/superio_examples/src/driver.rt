@@ -2,7 +2,7 @@
 ghost use Rattle.std.specs.Prelude.{◌≡◌, [], ◌++◌, false, IfOk, OnErr, IsTrue};
 ghost use Rattle.vm_superio.specs.Serial.History.Registers.{accepted_bytes};
 ghost use Rattle.vm_superio.specs.Serial.Laws.PollingDriver.{driver_bytes, polls_after_data_ready};
-ghost use Rattle.vm_superio.specs.Serial.Port.Coherent.{Coherent};
+ghost use Rattle.superio_core.specs.Serial.Port.Coherent.{Coherent};
 ghost use Rattle.vm_superio.specs.Serial.Run.HistoryTheorem.{HistoryTheorem};
 ghost use Rattle.vm_superio.specs.Serial.Run.Trace.{entries_of, trace_of};
 

@@ -1,8 +1,8 @@
 //! First claims: a guest reads the bytes that were enqueued, in order, and its byte reaches the writer.
 ghost use Rattle.std.specs.Prelude.{◌≡◌, [], ◌∷◌, take, false, IfOk, OnOk};
 ghost use Rattle.std.specs.Io.KnownBytes.{Appends};
-ghost use Rattle.vm_superio.specs.Serial.Port.Registers.{is_dlab, is_loopback};
-ghost use Rattle.vm_superio.specs.Serial.Port.State.{fresh_state};
+ghost use Rattle.superio_core.specs.Serial.Port.Registers.{is_dlab, is_loopback};
+ghost use Rattle.superio_core.specs.Serial.Port.State.{fresh_state};
 
 use std::alloc::Global;
 use std::io::Write;
@@ -58,6 +58,5 @@ pub fn send_byte<T: Trigger, EV: SerialEvents, W: Write>(
     ensures taken { is_dlab serial.old.state.line_control ≡ false → is_loopback serial.old.state.modem_control ≡ false →
         OnOk result (Appends (W.contents serial.old.out) (W.contents serial.new.out) (byte ∷ [])) }
 {
-    laws::one_call();
     serial.write(0, byte)
 }

@@ -1,7 +1,8 @@
 //! Input for a guest. It waits until the serial port's FIFO has room, and no byte of it is lost.
+ghost use Rattle.vm_superio.specs.Links.OutCalls.{WriterCalls};
 ghost use Rattle.std.specs.Prelude.{◌≡◌, ◌+◌, ◌-◌, ℕ, List, [], ◌∷◌, ◌++◌, length, take, drop, min, OnOk, IfOk, IfErr};
 ghost use Rattle.circular_buffer.specs.Buffer.{Buffer, buffer};
-ghost use Rattle.vm_superio.specs.Serial.Port.Coherent.{Coherent};
+ghost use Rattle.superio_core.specs.Serial.Port.Coherent.{Coherent};
 ghost use Rattle.superio_examples.specs.Input.{room_in, ForwardsEnqueue};
 
 use circular_buffer::HeapCircularBuffer;
@@ -78,7 +79,7 @@ impl Input {
         ensures room { self.new ≡ buffer (drop (room_in serial.old.state) self.old.items) self.old.capacity }
         ensures count { IfOk result (λ count. length self.old.items ≡ count + length self.new.items) }
         ensures refused { IfErr result (λ refusal. T.link serial.old.trigger (Err refusal ∷ []) serial.new.trigger) }
-        ensures step { ForwardsEnqueue T.link EV.link W.contents self.old.items result serial.old serial.new }
+        ensures step { ForwardsEnqueue T.link EV.link (WriterCalls W.contents) self.old.items result serial.old serial.new }
         ensures coherent { Coherent serial.old.state → Coherent serial.new.state }
     {
         laws::one_call();

@@ -4,8 +4,8 @@
 ghost use Rattle.std.specs.Prelude.{◌≡◌, length, max, Some, None, IfOk, IfErr, IfSome};
 ghost use Rattle.std.specs.Option.{option_or};
 ghost use Rattle.circular_buffer.specs.Buffer.{buffer};
-ghost use Rattle.vm_superio.specs.Serial.Port.State.{state_of};
-ghost use Rattle.vm_superio.specs.Saved.Form.{serial_form, clock_form};
+ghost use Rattle.vm_superio.specs.Serial.Port.SavedState.{state_of};
+ghost use Rattle.superio_core.specs.Saved.Form.{serial_form, clock_form};
 ghost use Rattle.superio_examples.specs.Migration.{first_fault, IsRestoredFrom, ReturnsObjects};
 
 use crate::input::Input;
@@ -71,7 +71,7 @@ pub fn save<T: Trigger, EV: SerialEvents, W: Write, CE: RtcEvents>(
     // A port holds no more bytes than its form takes.
     let form = serial.state(alloc)?.to_bytes().unwrap();
     Ok(Saved {
-        serial: form.as_slice().to_vec(alloc)?,
+        serial: form.as_bytes().to_vec(alloc)?,
         clock: clock.state().to_bytes().to_vec(alloc)?,
         input: input.waiting(alloc)?,
     })
@@ -145,7 +145,7 @@ pub fn restore<T: Trigger, EV: SerialEvents, W: Write, CE: RtcEvents>(
 fn states(alloc: Global, saved: &Saved) -> Result<(SerialState, RtcState), FormError>
     ensures serial { IfOk result (λ states. saved.now.serial.items ≡ serial_form (state_of states.0)) }
     ensures clock { IfOk result (λ states. saved.now.clock.items ≡ clock_form states.1) }
-    ensures fault { IfSome (first_fault saved.now) (λ fault. result ≡ Err fault) }
+    ensures fault { IfSome (first_fault saved.now) (λ fault. result ≡ Err (FormError.Bytes fault)) }
     ensures memory { first_fault saved.now ≡ None → IfErr result (λ error. error ≡ FormError.Memory) }
 {
     let clock = RtcState::from_bytes(&saved.clock)?;

@@ -1,12 +1,13 @@
 //! Output of a guest. It waits until the monitor's sink takes it, and the guest never waits for the sink.
+ghost use Rattle.vm_superio.specs.Links.OutCalls.{WriterCalls};
 ghost use Rattle.std.specs.Prelude.{◌≡◌, ◌-◌, ◌==◌, ◌++◌, ℕ, [], ◌∷◌, if◌then◌else◌, length, drop, min, Some, IfOk, OnErr};
 ghost use Rattle.std.specs.Io.{WritesAtMost};
 ghost use Rattle.std.specs.Io.KnownBytes.{WriteAppends, Appends, Keeps};
-ghost use Rattle.vm_superio.specs.Serial.Port.Coherent.{Coherent};
-ghost use Rattle.vm_superio.specs.Serial.Port.OpKinds.{sent_by};
-ghost use Rattle.vm_superio.specs.Serial.Port.Operations.{Write};
-ghost use Rattle.vm_superio.specs.Serial.Port.Registers.{is_dlab, is_loopback};
-ghost use Rattle.vm_superio.specs.Serial.Step.Admissible.{kind_in_state};
+ghost use Rattle.superio_core.specs.Serial.Port.Coherent.{Coherent};
+ghost use Rattle.superio_core.specs.Serial.Port.OpKinds.{sent_by};
+ghost use Rattle.superio_core.specs.Serial.Port.Operations.{Write};
+ghost use Rattle.superio_core.specs.Serial.Port.Registers.{is_dlab, is_loopback};
+ghost use Rattle.superio_core.specs.Serial.Step.Admissible.{kind_in_state};
 ghost use Rattle.vm_superio.specs.Serial.Step.PortStep.{IsWriteStep};
 ghost use Rattle.superio_examples.specs.Output.{Waiting, OutputLaw, after_sent, dropped_by};
 
@@ -106,7 +107,7 @@ impl Output {
         value: u8,
     ) -> Result<(), Error<T::E>>
         ensures sent { self.new ≡ after_sent (sent_by (kind_in_state serial.old.state (Write offset value))) self.old }
-        ensures step { IsWriteStep T.link EV.link W.contents offset value result serial.old serial.new }
+        ensures step { IsWriteStep T.link EV.link (WriterCalls W.contents) offset value result serial.old serial.new }
         ensures coherent { Coherent serial.old.state → Coherent serial.new.state }
     {
         if sends(serial, offset) {

@@ -1,7 +1,8 @@
 //! Serves a guest's port accesses of any width byte by byte, as the bus of a PC does for 8-bit devices.
+ghost use Rattle.vm_superio.specs.Links.OutCalls.{WriterCalls};
 ghost use Rattle.std.specs.Prelude.{◌≡◌, [], ◌∷◌, length, replicate};
 ghost use Rattle.std.specs.Bool.{OnTrue, OnFalse};
-ghost use Rattle.vm_superio.specs.Serial.Port.Coherent.{Coherent};
+ghost use Rattle.superio_core.specs.Serial.Port.Coherent.{Coherent};
 ghost use Rattle.superio_examples.specs.PortIo.{is_width, ReadsBytes, WritesBytes};
 
 use crate::bus::{Bus, BusError};
@@ -14,7 +15,7 @@ impl<T: Trigger, EV: SerialEvents, W: Write, R: Trigger> Bus<T, EV, W, R> {
     /// guest access has, gives 0xFF in each byte and changes nothing.
     pub fn port_in(&mut self, port: u16, bytes: &mut [u8])
         ensures bytes { OnTrue (is_width (length bytes.old))
-            (ReadsBytes T.link EV.link W.contents R.link port bytes.new self.old self.new) }
+            (ReadsBytes T.link EV.link (WriterCalls W.contents) R.link port bytes.new self.old self.new) }
         ensures other_lengths { OnFalse (is_width (length bytes.old)) (bytes.new ≡ replicate (length bytes.old) 0xFF) }
         ensures alone { OnFalse (is_width (length bytes.old)) (self.new ≡ self.old) }
         ensures coherent { Coherent self.old.serial.state → Coherent self.new.serial.state }
@@ -35,7 +36,7 @@ impl<T: Trigger, EV: SerialEvents, W: Write, R: Trigger> Bus<T, EV, W, R> {
     /// Returns the first error of a byte's `write`. The monitor can log it. The guest goes on.
     pub fn port_out(&mut self, port: u16, bytes: &[u8]) -> Result<(), BusError<T::E, R::E>>
         ensures bytes { OnTrue (is_width (length bytes.now))
-            (WritesBytes T.link EV.link W.contents R.link port bytes.now result self.old self.new) }
+            (WritesBytes T.link EV.link (WriterCalls W.contents) R.link port bytes.now result self.old self.new) }
         ensures other_lengths { OnFalse (is_width (length bytes.now)) (result ≡ Ok tt) }
         ensures alone { OnFalse (is_width (length bytes.now)) (self.new ≡ self.old) }
         ensures coherent { Coherent self.old.serial.state → Coherent self.new.serial.state }
@@ -55,7 +56,7 @@ impl<T: Trigger, EV: SerialEvents, W: Write, R: Trigger> Bus<T, EV, W, R> {
 
     /// Reads at four consecutive ports.
     fn read_four(&mut self, port: u16) -> [u8; 4]
-        ensures bytes { ReadsBytes T.link EV.link W.contents R.link port result self.old self.new }
+        ensures bytes { ReadsBytes T.link EV.link (WriterCalls W.contents) R.link port result self.old self.new }
         ensures coherent { Coherent self.old.serial.state → Coherent self.new.serial.state }
     {
         let second = port.wrapping_add(1);
@@ -78,7 +79,7 @@ impl<T: Trigger, EV: SerialEvents, W: Write, R: Trigger> Bus<T, EV, W, R> {
         byte_3: u8,
     ) -> Result<(), BusError<T::E, R::E>>
         ensures bytes { let bytes = byte_0 ∷ byte_1 ∷ byte_2 ∷ byte_3 ∷ [] in
-            WritesBytes T.link EV.link W.contents R.link port bytes result self.old self.new }
+            WritesBytes T.link EV.link (WriterCalls W.contents) R.link port bytes result self.old self.new }
         ensures coherent { Coherent self.old.serial.state → Coherent self.new.serial.state }
     {
         let second = port.wrapping_add(1);

@@ -11,7 +11,7 @@ use superio_examples::output::Output;
 use superio_tests::objects::{Log, Object, port};
 use vm_superio::Rtc;
 use vm_superio::run::{Call, Done, Reply};
-use vm_superio::saved::Error as FormError;
+use vm_superio::saved::{Error as FormError, Fault};
 
 /// A hundred bytes.
 const INPUT: [u8; 100] = *b"\
@@ -265,7 +265,12 @@ fn devices_go_on_on_another_machine(rt: HostRuntime) -> Result<(), Fail> {
     saved.serial = saved.clock.clone()?;
     let refused = restore(rt.alloc(), &saved, object, object, object, object);
     let error = refused.err().map(|refused| refused.error);
-    assert!(rt; matches!(error, Some(RestoreError::Bytes(FormError::OtherDevice))));
+    assert!(rt;
+        matches!(
+            error,
+            Some(RestoreError::Bytes(FormError::Bytes(Fault::OtherDevice)))
+        )
+    );
     Ok(())
 }
 

@@ -4,6 +4,8 @@
 #[cfg(test)]
 mod input;
 #[cfg(test)]
+mod interrupts;
+#[cfg(test)]
 mod output;
 #[cfg(test)]
 mod ports;

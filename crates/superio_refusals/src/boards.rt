@@ -63,14 +63,15 @@ pub fn restore_line(alloc: Global) -> Result<&'static str, AllocError> {
 
 /// A script of all forms. Its mask refuses the second call of the interrupt line.
 const EVERY_FORM: &[u8] = b"\
-refuse 0000000000000002\nsw 01 01\nsq 48656c6c6f\nsr 02\nsr 00\nsc\nsq\nsw 00 21\nso\nsw 01 01\nss\nst\nse\nsd\n\
+refuse 0000000000000002\nsw 01 01\nsq 48656c6c6f\nsi\nsr 02\nsr 00\nsc\nsq\nsw 00 21\nso\nsw 01 01\nss\nst\nse\nsd\n\
 cw 00000000000003e8 0008 00000064\ncr 00000000000003ef 0000\ncr 00000000000003ef 0020\nkw 04 fe\n\
 sl 53494f5301010a000c000101036108b05a61\nsb\ncb\ncl 53\nkr 04\n";
 
 /// The replies to its lines, except `refuse`.
-const EVERY_REPLY: [&[u8]; 22] = [
+const EVERY_REPLY: [&[u8]; 23] = [
     b"ok\n",
     b"05\n",
+    b"ok\n",
     b"c4\n",
     b"48\n",
     b"3c\n",
@@ -111,11 +112,11 @@ pub fn script(alloc: Global) -> &'static str {
     let end = run_script(alloc, &mut reader, &mut writer);
     let printed = 512usize.saturating_sub(writer.len());
     match (end, reply_count(&room[..printed])) {
-        (Ok(()), Some(22)) => "each reply",
+        (Ok(()), Some(23)) => "each reply",
         (Err(ScriptFault::Memory), Some(0)) => "Memory, and no reply",
-        (Err(ScriptFault::Memory), Some(9)) => "Memory, and the replies before `ss`",
-        (Err(ScriptFault::Memory), Some(17)) => "Memory, and the replies before `sl`",
-        (Err(ScriptFault::Memory), Some(18)) => "Memory, and the replies before `sb`",
+        (Err(ScriptFault::Memory), Some(10)) => "Memory, and the replies before `ss`",
+        (Err(ScriptFault::Memory), Some(18)) => "Memory, and the replies before `sl`",
+        (Err(ScriptFault::Memory), Some(19)) => "Memory, and the replies before `sb`",
         _ => "other replies",
     }
 }

@@ -124,7 +124,7 @@ pub fn from_bytes(alloc: Global) -> Result<&'static str, AllocError> {
     let Ok(form) = state.to_bytes() else {
         return Ok("no form");
     };
-    match SerialState::from_bytes(alloc, &form) {
+    match SerialState::from_bytes(alloc, form.as_bytes()) {
         Ok(copy) => Ok(copied(Ok(copy), &state)),
         Err(saved::Error::Memory) => Ok("Memory"),
         Err(_) => Ok("another refusal"),

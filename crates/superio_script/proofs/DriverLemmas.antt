@@ -4,17 +4,18 @@ use Rattle.std.proofs.Math.Nat.{mod-lt}
 use Rattle.std.proofs.lemmas.Bool.{false≢true}
 use Rattle.std.specs.Int.Bits.{and_mask}
 use Rattle.std.specs.Prelude.{◌↔◌, IsTrue, bit_and, drop, slice_index, if◌then◌else◌, ◌&&◌}
-use Rattle.vm_superio.specs.declared.trace.Asked.TheVariants.{Nothing}
-use Rattle.vm_superio.specs.Bits.{has_bits, without_bits}
-use Rattle.vm_superio.specs.Serial.Port.State.{State, not_empty}
-use Rattle.vm_superio.specs.Serial.Port.Coherent.{Coherent}
-use Rattle.vm_superio.specs.declared.serial.registers.Register.TheVariants.{RbrThr}
-use Rattle.vm_superio.specs.Serial.Port.Registers.{register_at, is_dlab, register_read, identification_of}
-use Rattle.vm_superio.specs.Serial.Port.Operations.{Read, Response, ByteRead, Event, buffer_read, in_buffer_empty}
-use Rattle.vm_superio.specs.Links.Objects.{Link, TriggerAnswer, Contents}
+use Rattle.superio_core.specs.declared.trace.Asked.TheVariants.{Nothing}
+use Rattle.superio_core.specs.Bits.{has_bits, without_bits}
+use Rattle.superio_core.specs.Serial.Port.State.{State, not_empty}
+use Rattle.superio_core.specs.Serial.Port.Coherent.{Coherent}
+use Rattle.superio_core.specs.declared.serial.registers.Register.TheVariants.{RbrThr}
+use Rattle.superio_core.specs.Serial.Port.Registers.{register_at, is_dlab, register_read, identification_of}
+use Rattle.superio_core.specs.Serial.Port.Operations.{Read, Response, ByteRead, Event, buffer_read, in_buffer_empty}
+use Rattle.vm_superio.specs.Links.Objects.{Link, TriggerAnswer}
+use Rattle.vm_superio.specs.Links.OutCalls.{OutCall}
 use Rattle.vm_superio.specs.Serial.Port.Model.{Port}
 use Rattle.vm_superio.specs.Serial.Step.PortStep.{IsReadStep}
-use Rattle.vm_superio.specs.Serial.Step.Transition.{rbr_read, read_step, step, read_events}
+use Rattle.superio_core.specs.Serial.Step.Transition.{rbr_read, read_step, step, read_events}
 use Rattle.vm_superio.specs.Serial.Laws.Agreement.{CoherenceLaw}
 use Rattle.vm_superio.specs.Serial.Laws.OneCall.{RbrDataReadyLaw}
 use Rattle.superio_script.specs.Driver.{IsReady, ReadsWhileReady, bytes_while_ready, without_bytes, drain_events, TakesAll}
@@ -44,13 +45,13 @@ abbrev byte_in : (response : Response) → ℕ
 byte_in (ByteRead byte) = byte
 byte_in _ = 0
 
-module _ {T E EV W : Type 0} (trigger : Link T (TriggerAnswer E)) (events : Link EV Event) (contents : Contents W) where
+module _ {T E EV W : Type 0} (trigger : Link T (TriggerAnswer E)) (events : Link EV Event) (out : Link W OutCall) where
   -- a read of LCR, and of LSR, gives its byte
-  pub lcr_read : (byte : ℕ) (old new : Port T EV W) → IsReadStep trigger events contents 3 byte old new
+  pub lcr_read : (byte : ℕ) (old new : Port T EV W) → IsReadStep trigger events out 3 byte old new
       → byte ≡ old.state.line_control
   lcr_read byte old new made = ap byte_in made.response
 
-  pub lsr_read : (byte : ℕ) (old new : Port T EV W) → IsReadStep trigger events contents 5 byte old new
+  pub lsr_read : (byte : ℕ) (old new : Port T EV W) → IsReadStep trigger events out 5 byte old new
       → byte ≡ old.state.line_status
   lsr_read byte old new made = ap byte_in made.response
 
@@ -61,7 +62,7 @@ module _ {T E EV W : Type 0} (trigger : Link T (TriggerAnswer E)) (events : Link
     pub reported : events old.events (read_events RbrThr old.state.in_buffer) new.events
 
   pub rbr_read-from_step : (byte : ℕ) (old new : Port T EV W) → is_dlab old.state.line_control ≡ false
-      → IsReadStep trigger events contents 0 byte old new → IsRbrRead byte old new
+      → IsReadStep trigger events out 0 byte old new → IsRbrRead byte old new
   rbr_read-from_step byte old new hidden made = record {
     value = ap byte_in made.response ∙ ap (λ latch. register_read (register_at latch 0) old.state) hidden;
     state = made.state ∙ ap (λ latch. read_step (register_at latch 0) old.state) hidden;
@@ -71,7 +72,7 @@ module _ {T E EV W : Type 0} (trigger : Link T (TriggerAnswer E)) (events : Link
 
   pub reads_left-after_read : RbrDataReadyLaw → (byte : ℕ) (old new : Port T EV W)
       → is_dlab old.state.line_control ≡ false → IsReady old.state
-      → IsReadStep trigger events contents 0 byte old new → reads_left new.state + 1 ≡ reads_left old.state
+      → IsReadStep trigger events out 0 byte old new → reads_left new.state + 1 ≡ reads_left old.state
   reads_left-after_read law byte old new hidden ready made =
       let read = rbr_read-from_step byte old new hidden made in
       let left = ap (λ (s : State). s.in_buffer) read.state in
@@ -85,16 +86,16 @@ module _ {T E EV W : Type 0} (trigger : Link T (TriggerAnswer E)) (events : Link
   -- a read of LSR that shows data ready, and then one of RBR
   pub record IsPass (byte : ℕ) (old new : Port T EV W) : Type 0 where
     pub ready : IsReady old.state
-    pub made : IsReadStep trigger events contents 0 byte old new
+    pub made : IsReadStep trigger events out 0 byte old new
     pub hidden : is_dlab new.state.line_control ≡ false
     pub less : reads_left new.state + 1 ≡ reads_left old.state
 
   pub pass : RbrDataReadyLaw → (status byte : ℕ) (old seen new : Port T EV W) → is_dlab old.state.line_control ≡ false
-      → IsReadStep trigger events contents 5 status old seen → seen ≡ old → has_bits status 0x01 ≡ true
-      → IsReadStep trigger events contents 0 byte seen new → IsPass byte old new
+      → IsReadStep trigger events out 5 status old seen → seen ≡ old → has_bits status 0x01 ≡ true
+      → IsReadStep trigger events out 0 byte seen new → IsPass byte old new
   pass law status byte old seen new hidden looked same shows made =
       let ready = ap (λ lsr. has_bits lsr 0x01) (sym (ap byte_in looked.response)) ∙ shows in
-      let step = subst (λ (port : Port T EV W). IsReadStep trigger events contents 0 byte port new) same made in record {
+      let step = subst (λ (port : Port T EV W). IsReadStep trigger events out 0 byte port new) same made in record {
         ready = ready;
         made = step;
         hidden = ap (λ (s : State). is_dlab s.line_control) (rbr_read-from_step byte old new hidden step).state ∙ hidden;
@@ -103,7 +104,7 @@ module _ {T E EV W : Type 0} (trigger : Link T (TriggerAnswer E)) (events : Link
 
   -- a driver reads what the steps say, if its reads end because LSR does not show data ready
   pub reads-are_stepped : (most : ℕ) (bytes : List ℕ) (old new : Port T EV W) → is_dlab old.state.line_control ≡ false
-      → ReadsWhileReady trigger events contents bytes old new → has_bits new.state.line_status 0x01 ≡ false
+      → ReadsWhileReady trigger events out bytes old new → has_bits new.state.line_status 0x01 ≡ false
       → length bytes ≤ most → bytes ≡ bytes_while_ready most old.state
   reads-are_stepped zero [] old new hidden same ended few = refl
   reads-are_stepped (suc most) [] old new hidden same ended few =
@@ -197,18 +198,18 @@ events-of_all [] = refl
 events-of_all (byte ∷ left) = refl
 
 module _
-    {T E EV W : Type 0} (trigger : Link T (TriggerAnswer E)) (events : Link EV Event) (contents : Contents W)
+    {T E EV W : Type 0} (trigger : Link T (TriggerAnswer E)) (events : Link EV Event) (out : Link W OutCall)
     (no_event : (x y : EV) → events x [] y ↔ (x ≡ y))
     (joined : (x y z : EV) (first second : List Event) → events x first y → events y second z → events x (first ++ second) z)
     (coherence : CoherenceLaw) where
   pub coherent_after : (bytes : List ℕ) (old new : Port T EV W) → Coherent old.state
-      → ReadsWhileReady trigger events contents bytes old new → Coherent new.state
+      → ReadsWhileReady trigger events out bytes old new → Coherent new.state
   coherent_after [] old new is same = subst (λ (port : Port T EV W). Coherent port.state) (sym same) is
   coherent_after (byte ∷ bytes) old new is (ready, (middle, made, later)) =
       coherent_after bytes middle new (subst Coherent (sym made.state) (coherence old.state (Read 0) Nothing is)) later
 
   pub takes_all : (bytes : List ℕ) (old new : Port T EV W) → Coherent old.state → is_dlab old.state.line_control ≡ false
-      → ReadsWhileReady trigger events contents bytes old new → has_bits new.state.line_status 0x01 ≡ false
+      → ReadsWhileReady trigger events out bytes old new → has_bits new.state.line_status 0x01 ≡ false
       → TakesAll events bytes old new
   takes_all [] old new is hidden same clear =
       let clear_before = ap (λ (port : Port T EV W). has_bits port.state.line_status 0x01) (sym same) ∙ clear in record {
@@ -217,7 +218,7 @@ module _
         events = (no_event old.events new.events).1 (ap (λ (port : Port T EV W). port.events) (sym same));
       }
   takes_all (byte ∷ bytes) old new is hidden (ready, (middle, made, later)) clear =
-      let read = rbr_read-from_step trigger events contents byte old middle hidden made in
+      let read = rbr_read-from_step trigger events out byte old middle hidden made in
       let after = subst Coherent read.state
       (subst Coherent (sym made.state) (coherence old.state (Read 0) Nothing is)) in
       let is_middle = subst Coherent (sym read.state) after in

@@ -6,21 +6,21 @@ use Rattle.std.specs.Cmp.Derive.{both_true}
 use Rattle.std.specs.Prelude.{IsTrue, ◌==◌, ◌||◌, nat_le, if◌then◌else◌}
 use Rattle.std.proofs.lemmas.Bool.{and_parts, false≢true, eqb-true}
 use Rattle.std.proofs.lemmas.Bool.Decides.{nat_tests}
-use Rattle.vm_superio.specs.declared.trace.Asked.{Asked}
-use Rattle.vm_superio.specs.declared.trace.Sent.{Sent}
-use Rattle.vm_superio.specs.declared.trace.Sent.TheVariants as sent
-use Rattle.vm_superio.specs.Bits.{has_bits}
-use Rattle.vm_superio.specs.Serial.Port.Coherent.{Coherent}
-use Rattle.vm_superio.specs.declared.serial.registers.Register.{Register}
-use Rattle.vm_superio.specs.declared.serial.registers.Register.TheVariants.{RbrThr, Ier, Iir}
-use Rattle.vm_superio.specs.Serial.Port.Registers.{register_at, is_dlab, is_loopback, identification_of}
-use Rattle.vm_superio.specs.Serial.Port.State.{State, not_empty}
-use Rattle.vm_superio.specs.Serial.Port.Operations.{Op, Read, Write, Enqueue, Restore, TraceEntry, Trace, is_sent, is_lost}
-use Rattle.vm_superio.specs.Serial.Port.OpKinds.{read_kind, write_kind, kind_of, sent_by}
-use Rattle.vm_superio.specs.Links.Writer.{bytes_written}
-use Rattle.vm_superio.specs.Serial.Step.Admissible.{step_calls, kind_in_state, is_admissible}
-use Rattle.vm_superio.specs.Serial.Step.Restore.{restore_calls}
-use Rattle.vm_superio.specs.Serial.Step.Transition.{step_response, step_events}
+use Rattle.superio_core.specs.declared.trace.Asked.{Asked}
+use Rattle.superio_core.specs.declared.trace.Sent.{Sent}
+use Rattle.superio_core.specs.declared.trace.Sent.TheVariants as sent
+use Rattle.superio_core.specs.Bits.{has_bits}
+use Rattle.superio_core.specs.Serial.Port.Coherent.{Coherent}
+use Rattle.superio_core.specs.declared.serial.registers.Register.{Register}
+use Rattle.superio_core.specs.declared.serial.registers.Register.TheVariants.{RbrThr, Ier, Iir}
+use Rattle.superio_core.specs.Serial.Port.Registers.{register_at, is_dlab, is_loopback, identification_of}
+use Rattle.superio_core.specs.Serial.Port.State.{State, not_empty}
+use Rattle.superio_core.specs.Serial.Port.Operations.{Op, Read, Write, Enqueue, CharacterTimeout, Restore, TraceEntry, Trace, is_sent, is_lost}
+use Rattle.superio_core.specs.Serial.Port.OpKinds.{read_kind, write_kind, kind_of, sent_by}
+use Rattle.vm_superio.specs.Links.Writer.{bytes_sent}
+use Rattle.superio_core.specs.Serial.Step.Admissible.{step_calls, kind_in_state, is_admissible}
+use Rattle.superio_core.specs.Serial.Step.Restore.{restore_calls}
+use Rattle.superio_core.specs.Serial.Step.Transition.{step_response, step_events}
 use Rattle.vm_superio.specs.Serial.History.Registers.{modem_control}
 use Rattle.vm_superio.specs.Serial.Laws.Agreement.{state_after, RegisterLaw, HeldBytesLaw, StateLaw, ResponseLaw, StepLaw, CoherenceLaw}
 use Rattle.superio_script.specs.PortSession.{Session, shows_conditions, is_coherent, CoherenceIsDecided, output_since, known_output, session_from, session_dlab, session_kind, session_held_bytes, session_state, stepped_state, session_calls_due, session_response, session_events, session_restore_calls}
@@ -189,19 +189,19 @@ known_output-from session start = kept (known_output session)
 abbrev IsOutcome : (bytes : List ℕ) (outcome : Sent) → Type 0
 IsOutcome bytes outcome = IsTrue (beq (is_sent outcome) (not_empty bytes))
 
-written-none : (offset value : ℕ) (outcome : Sent) → IsOutcome [] outcome → bytes_written (Write offset value) outcome ≡ []
+written-none : (offset value : ℕ) (outcome : Sent) → IsOutcome [] outcome → bytes_sent (Write offset value) outcome ≡ []
 written-none offset value sent.Nothing fits = refl
 written-none offset value sent.Out fits = absurd (false≢true fits)
 written-none offset value sent.Lost fits = absurd (false≢true fits)
 
 written-one : (offset value : ℕ) (outcome : Sent) → IsTrue (not (is_lost outcome)) → IsOutcome (value ∷ []) outcome →
-    bytes_written (Write offset value) outcome ≡ value ∷ []
+    bytes_sent (Write offset value) outcome ≡ value ∷ []
 written-one offset value sent.Nothing kept fits = absurd (false≢true fits)
 written-one offset value sent.Out kept fits = refl
 written-one offset value sent.Lost kept fits = absurd (false≢true kept)
 
 write-written : (r : Register) (loopback : Bool) (offset value : ℕ) (outcome : Sent) → IsTrue (not (is_lost outcome)) →
-    IsOutcome (sent_by (write_kind r loopback value)) outcome → bytes_written (Write offset value) outcome ≡ sent_by (write_kind r loopback value)
+    IsOutcome (sent_by (write_kind r loopback value)) outcome → bytes_sent (Write offset value) outcome ≡ sent_by (write_kind r loopback value)
 write-written RbrThr true offset value outcome kept fits = written-none offset value outcome fits
 write-written RbrThr false offset value outcome kept fits = written-one offset value outcome kept fits
 write-written Ier loopback offset value outcome kept fits = written-none offset value outcome fits
@@ -218,8 +218,9 @@ enqueue-sends_none latch false bytes = refl
 
 -- if no byte is lost, the writer took the one that the call sends
 pub written-is_sent : (latch loopback : Bool) (op : Op) (outcome : Sent) → IsTrue (not (is_lost outcome)) →
-    IsOutcome (sent_by (kind_of latch loopback op)) outcome → bytes_written op outcome ≡ sent_by (kind_of latch loopback op)
+    IsOutcome (sent_by (kind_of latch loopback op)) outcome → bytes_sent op outcome ≡ sent_by (kind_of latch loopback op)
 written-is_sent latch loopback (Read offset) outcome kept fits = read-sends_none (register_at latch offset)
 written-is_sent latch loopback (Write offset value) outcome kept fits = write-written (register_at latch offset) loopback offset value outcome kept fits
 written-is_sent latch loopback (Enqueue bytes) outcome kept fits = enqueue-sends_none latch loopback bytes
+written-is_sent latch loopback CharacterTimeout outcome kept fits = refl
 written-is_sent latch loopback Restore outcome kept fits = refl

@@ -5,13 +5,13 @@ use Rattle.std.proofs.lemmas.Bool.{and_parts, false≢true}
 use Rattle.std.specs.Io.KnownBytes.{Appends}
 use Rattle.std.specs.Prelude.{IsTrue, IsSomeAnd, IfSome, is_some, if◌then◌else◌}
 use Rattle.std.specs.List.{list_all}
-use Rattle.vm_superio.specs.declared.trace.Sent.{Sent}
-use Rattle.vm_superio.specs.declared.trace.Sent.TheVariants as sent
-use Rattle.vm_superio.specs.declared.saved.Error.{Error as Fault}
-use Rattle.vm_superio.specs.Serial.Port.State.{State, not_empty}
-use Rattle.vm_superio.specs.Serial.Port.Operations.{Op, Read, Write, Enqueue, is_sent}
-use Rattle.vm_superio.specs.Serial.Port.OpKinds.{OpKind, ThrWrite, sent_by}
-use Rattle.vm_superio.specs.Rtc.Step.{ClockDevice}
+use Rattle.superio_core.specs.declared.trace.Sent.{Sent}
+use Rattle.superio_core.specs.declared.trace.Sent.TheVariants as sent
+use Rattle.superio_core.specs.declared.saved.Error.{Error as Fault}
+use Rattle.superio_core.specs.Serial.Port.State.{State, not_empty}
+use Rattle.superio_core.specs.Serial.Port.Operations.{Op, Read, Write, Enqueue, CharacterTimeout, is_sent}
+use Rattle.superio_core.specs.Serial.Port.OpKinds.{OpKind, ThrWrite, sent_by}
+use Rattle.vm_superio.specs.Rtc.Device.{ClockDevice}
 use Rattle.vm_superio.specs.Serial.Port.Model.{Port}
 use Rattle.vm_superio.proofs.Lemmas.Links.Writer.{Appends-nothing, Appends-append}
 use Rattle.vm_superio.proofs.Lemmas.Rtc.FreshClock.{fresh_clock-history}
@@ -167,6 +167,7 @@ module _ (environment later : Environment) (possible : IsPossible environment) w
         let found = write-joins (session_sends before op) (known_output before) (sent_by k) (one-sent k) few (after-joins before op _ rest_possible) in
         (found.0, found.1, ap (call_reply before op) found.2, ap (session_after_call before op) found.2, found.3)
     line-joins (line.Enqueue bytes) rest_possible = (later, unsent-joins before (Enqueue bytes) rest_possible, refl, refl, refl)
+    line-joins line.CharacterTimeout rest_possible = (later, unsent-joins before CharacterTimeout rest_possible, refl, refl, refl)
     line-joins line.Capacity rest_possible = (later, rest_possible, refl, refl, refl)
     line-joins line.Drain rest_possible = (later, reads-join (length (drained_bytes before)) before rest_possible, refl, refl, refl)
     line-joins line.Restore rest_possible =

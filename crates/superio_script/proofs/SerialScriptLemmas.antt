@@ -6,27 +6,29 @@ use Rattle.std.specs.Prelude.{◌⊎◌, ◌≢◌, IsTrue, IsSome, IfSome, IfOk
 use Rattle.std.specs.Bool.{beq}
 use Rattle.std.proofs.lemmas.Bool.{and_parts, false≢true}
 use Rattle.std.proofs.lemmas.Bool.Decides.{nat_tests}
-use Rattle.vm_superio.specs.declared.saved.Error.{Error as Fault}
-use Rattle.vm_superio.specs.declared.trace.Asked.{Asked}
-use Rattle.vm_superio.specs.declared.trace.Asked.TheVariants.{Nothing, Took, Refused, TookTook, TookRefused}
-use Rattle.vm_superio.specs.declared.trace.Sent.{Sent}
-use Rattle.vm_superio.specs.declared.trace.Sent.TheVariants as sent
-use Rattle.vm_superio.specs.Serial.Port.State.{State, not_empty, fresh_state}
-use Rattle.vm_superio.specs.Bits.{has_bits, only_bits}
-use Rattle.vm_superio.specs.Serial.Port.Coherent.{Coherent}
-use Rattle.vm_superio.specs.declared.serial.registers.Condition.{Condition}
-use Rattle.vm_superio.specs.Serial.Port.Registers.{is_dlab, pending_in_order}
-use Rattle.vm_superio.specs.Serial.Port.Operations.{Op, Read, Write, Enqueue, TraceEntry, Response, ByteRead, is_sent, is_lost, ends_in_refusal}
-use Rattle.vm_superio.specs.Serial.Port.OpKinds.{OpKind, Arrival, Other, sent_by}
-use Rattle.vm_superio.specs.Serial.Step.Admissible.{answers_all, step_calls, sends_byte, is_admissible}
-use Rattle.vm_superio.specs.Serial.Step.Restore.{restore_calls, RefusesRestore}
+use Rattle.superio_core.specs.declared.saved.Error.{Error as Fault}
+use Rattle.superio_core.specs.declared.trace.Asked.{Asked}
+use Rattle.superio_core.specs.declared.trace.Asked.TheVariants.{Nothing, Took, Refused, TookTook, TookRefused}
+use Rattle.superio_core.specs.declared.trace.Sent.{Sent}
+use Rattle.superio_core.specs.declared.trace.Sent.TheVariants as sent
+use Rattle.superio_core.specs.Serial.Port.State.{State, not_empty, fresh_state}
+use Rattle.superio_core.specs.Bits.{has_bits, only_bits}
+use Rattle.superio_core.specs.Serial.Port.Coherent.{Coherent}
+use Rattle.superio_core.specs.declared.serial.registers.Condition.{Condition}
+use Rattle.superio_core.specs.Serial.Port.Registers.{is_dlab, pending_in_order}
+use Rattle.superio_core.specs.Serial.Port.Operations.{Op, Read, Write, Enqueue, CharacterTimeout, TraceEntry, Response, ByteRead, is_sent, is_lost, ends_in_refusal}
+use Rattle.superio_core.specs.Serial.Port.OpKinds.{OpKind, Arrival, Other, sent_by}
+use Rattle.superio_core.specs.Serial.Step.Admissible.{answers_all, step_calls, sends_byte, is_admissible}
+use Rattle.superio_core.specs.Serial.Step.Restore.{restore_calls}
+use Rattle.vm_superio.specs.Serial.Step.Restore.{RefusesRestore}
 use Rattle.vm_superio.specs.Serial.History.Registers.{kind_at, loopback}
 use Rattle.vm_superio.specs.Serial.History.Reads.{none_lost, output}
 use Rattle.vm_superio.specs.Serial.Laws.Agreement.{StateLaw, StepLaw}
-use Rattle.vm_superio.specs.Links.Objects.{answers_of, all_ok, StopsAtRefusal}
-use Rattle.vm_superio.specs.Links.Writer.{PortLinks, port_links, bytes_written, WriterLink}
+use Rattle.vm_superio.specs.Links.Objects.{Link, answers_of, all_ok, StopsAtRefusal}
+use Rattle.vm_superio.specs.Links.Writer.{PortLinks, port_links, bytes_sent, outcome_of, AreSendings, OutLink}
+use Rattle.vm_superio.specs.Links.OutCalls.{OutCall, Put, Flush, WriterCalls}
 use Rattle.vm_superio.specs.Serial.Port.Model.{Port, failure_response}
-use Rattle.vm_superio.specs.Saved.Form.{serial_form}
+use Rattle.superio_core.specs.Saved.Form.{serial_form}
 use Rattle.vm_superio.specs.Serial.Step.PortStep.{IsPortStep}
 use Rattle.vm_superio.specs.declared.serial.errors.Error.{Error}
 use Rattle.vm_superio.specs.declared.serial.errors.Error.TheVariants.{Trigger, IOError, FullFifo, Memory}
@@ -175,15 +177,33 @@ known_output-after session entry =
     (ap (λ (before : List TraceEntry). sent_by (kind_at session.start before entry.op)) (append-nil session.trace))
 
 -- it is what the writer holds, if the writer is linked by the byte's outcome, and took what was sent
+abbrev output_link : Link Output OutCall
+output_link = WriterCalls (λ output. Some (written_bytes output))
+
+after_nothing :
+    (accepted : List ℕ) (calls : List OutCall) (old new : Output) →
+    AreSendings [] accepted calls → output_link old calls new → written_bytes new ≡ written_bytes old ++ accepted
+after_nothing [] [] old new sends linked = ap written_bytes (sym linked) ∙ sym (append-nil (written_bytes old))
+after_nothing _ _ old new sends linked = absurd sends
+
+after_out :
+    (accepted : List ℕ) (calls : List OutCall) (old new : Output) →
+    AreSendings (sent.Out ∷ []) accepted calls → output_link old calls new → written_bytes new ≡ written_bytes old ++ accepted
+after_out (byte ∷ bytes) (Put put (Ok done) ∷ Flush (Ok flushed) ∷ calls) old new sends linked =
+    let after : Output = linked.2.0 in
+    let one = linked.2.1 ∙ linked.1 ∙ ap (λ byte. written_bytes old ++ byte ∷ []) sends.0 in
+    after_nothing bytes calls after new sends.1 linked.2.2 ∙ ap (λ xs. xs ++ bytes) one ∙ append_assoc (written_bytes old) (byte ∷ []) bytes
+after_out _ _ old new sends linked = absurd sends
+
 written_bytes-after_call :
     (known : Option (List ℕ)) (outcome : Sent) (accepted bytes : List ℕ) (old new : Output) →
-    WriterLink (λ output. Some (written_bytes output)) (outcome ∷ []) accepted old new → (IsTrue (not (is_lost outcome)) → accepted ≡ bytes) →
+    OutLink output_link (outcome_of outcome) accepted old new → (IsTrue (not (is_lost outcome)) → accepted ≡ bytes) →
     IfSome known (λ all. written_bytes old ≡ all) → IfSome (output_after known outcome bytes) (λ all. written_bytes new ≡ all)
 written_bytes-after_call None outcome accepted bytes old new link same was = tt
 written_bytes-after_call (Some all) sent.Nothing accepted bytes old new link same was =
-    link.grown refl ∙ ap (λ xs. xs ++ accepted) was ∙ ap (λ xs. all ++ xs) (same refl)
+    after_nothing accepted link.calls old new link.sends link.linked ∙ ap (λ xs. xs ++ accepted) was ∙ ap (λ xs. all ++ xs) (same refl)
 written_bytes-after_call (Some all) sent.Out accepted bytes old new link same was =
-    link.grown refl ∙ ap (λ xs. xs ++ accepted) was ∙ ap (λ xs. all ++ xs) (same refl)
+    after_out accepted link.calls old new link.sends link.linked ∙ ap (λ xs. xs ++ accepted) was ∙ ap (λ xs. all ++ xs) (same refl)
 written_bytes-after_call (Some all) sent.Lost accepted bytes old new link same was = tt
 
 -- ---- a port at a session
@@ -205,7 +225,7 @@ session_after before entry = record before {
 
 -- the links of the board's objects
 abbrev pub board_links : PortLinks InterruptLine LineRefused EventCounts Output
-board_links = port_links InterruptLineLink (FoldsEvents counts_after_event) (λ output. Some (written_bytes output))
+board_links = port_links InterruptLineLink (FoldsEvents counts_after_event) (WriterCalls (λ output. Some (written_bytes output)))
 
 -- the state of a port at a session is the one that the steps lead to
 pub stepped-at : StateLaw → (session : Session) (port : Port InterruptLine EventCounts Output) → IsAt session port → port.state ≡ stepped_state session
@@ -253,7 +273,7 @@ module _ (laws : PortLaws) where
             interrupt_line = so.1;
             counts = made.events.folds ∙ ap (fold counts_after_event before.counts) (sym (events-are_stepped laws before entry made.admissible));
             output = subst (λ (known : Option (List ℕ)). IfSome known (λ all. written_bytes new.out ≡ all)) (sym (known_output-after before entry))
-                (written_bytes-after_call (known_output before) outcome (bytes_written op outcome) sent_bytes old.out new.out made.out
+                (written_bytes-after_call (known_output before) outcome (bytes_sent op outcome) sent_bytes old.out new.out made.out
                 (λ kept. written-is_sent (session_dlab before) (loopback before.start before.trace) op outcome kept fits) at.output);
           },
         )
@@ -294,6 +314,15 @@ module _ (laws : PortLaws) where
         let found = subst (IsSessionStep op asked outcome response refusal old new before) none step in
         (no_environment, IsPossible-no_environment, found.0, found.1)
 
+    pub timeout-step :
+        (asked : Asked) →
+        IsPortStep board_links CharacterTimeout asked sent.Nothing response refusal old new →
+        IsSerialLineStep line.CharacterTimeout (response_reply response) old new
+    timeout-step asked made before at =
+        let here = port_step-at CharacterTimeout asked sent.Nothing response refusal old new before at made in
+        let found = session_step-from_port_step CharacterTimeout asked sent.Nothing response refusal old new before at here in
+        (no_environment, IsPossible-no_environment, found.0, found.1)
+
     pub read-step :
         (offset : ℕ) →
         IsPortStep board_links (Read offset) Nothing sent.Nothing response refusal old new →
@@ -315,7 +344,7 @@ drained false false bytes held stepped set history steps = steps refl
 
 module _ (laws : PortLaws) where
   reads-step : (bytes : List ℕ) (old new : Port InterruptLine EventCounts Output) (before : Session) → IsAt before old
-      → ReadsWhileReady InterruptLineLink (FoldsEvents counts_after_event) (λ output. Some (written_bytes output)) bytes old new
+      → ReadsWhileReady InterruptLineLink (FoldsEvents counts_after_event) (WriterCalls (λ output. Some (written_bytes output))) bytes old new
       → IsAt (session_after_reads (length bytes) before) new
   reads-step [] old new before at same = subst (IsAt before) (sym same) at
   reads-step (byte ∷ bytes) old new before at (ready, (middle, made, later)) =
@@ -324,7 +353,7 @@ module _ (laws : PortLaws) where
 
   pub drain-step :
       (bytes : List ℕ) (old new : Port InterruptLine EventCounts Output)
-      → ReadsWhileReady InterruptLineLink (FoldsEvents counts_after_event) (λ output. Some (written_bytes output)) bytes old new
+      → ReadsWhileReady InterruptLineLink (FoldsEvents counts_after_event) (WriterCalls (λ output. Some (written_bytes output))) bytes old new
       → length bytes ≤ 64
       → (IsTrue (is_dlab old.state.line_control) → bytes ≡ [])
       → (is_dlab old.state.line_control ≡ false → has_bits new.state.line_status 0x01 ≡ false)
@@ -342,7 +371,7 @@ module _ (laws : PortLaws) where
       (λ clear is. (all (subst Coherent (sym here) (session-coherent laws before is)) (sym shows ∙ clear)).bytes ∙ held)
       (λ clear.
       let hidden = sym shows ∙ clear in
-      reads-are_stepped InterruptLineLink (FoldsEvents counts_after_event) (λ output. Some (written_bytes output)) 64 bytes old new hidden reads (ends hidden) few
+      reads-are_stepped InterruptLineLink (FoldsEvents counts_after_event) (WriterCalls (λ output. Some (written_bytes output))) 64 bytes old new hidden reads (ends hidden) few
       ∙ ap (bytes_while_ready 64) here) in (
         no_environment,
         IsPossible-no_environment,

@@ -30,6 +30,7 @@ serial_forms =
     (codes "sr", number w8 (λ offset. end (serial.Read offset)))
     ∷ (codes "sw", number w8 (λ offset. number w8 (λ value. end (serial.Write offset value))))
     ∷ (codes "sq", bytes (λ value. end (serial.Enqueue value)))
+    ∷ (codes "si", end serial.CharacterTimeout)
     ∷ (codes "sc", end serial.Capacity)
     ∷ (codes "sd", end serial.Drain)
     ∷ (codes "ss", end serial.Restore)

@@ -1,29 +1,30 @@
 -- A driver on the guest's side of a serial port, which polls.
 use Rattle.std.specs.Prelude.{◌≡◌, ◌++◌, ℕ, zero, suc, false, if◌then◌else◌, List, [], ◌∷◌, length, IsTrue}
 use Rattle.std.specs.List.{repeat}
-use Rattle.vm_superio.specs.Bits.{has_bits, without_bits}
-use Rattle.vm_superio.specs.Serial.Port.Bits.{lsr_dr_bit}
-use Rattle.vm_superio.specs.Serial.Port.State.{State}
-use Rattle.vm_superio.specs.declared.serial.registers.Register.TheVariants.{RbrThr}
-use Rattle.vm_superio.specs.Serial.Port.Registers.{register_read, iir_bit, identification_of}
-use Rattle.vm_superio.specs.declared.serial.registers.Condition.TheVariants.{Thre}
-use Rattle.vm_superio.specs.Serial.Port.Operations.{Event, buffer_read, in_buffer_empty}
-use Rattle.vm_superio.specs.Links.Objects.{Link, TriggerAnswer, Contents}
+use Rattle.superio_core.specs.Bits.{has_bits, without_bits}
+use Rattle.superio_core.specs.Serial.Port.Bits.{lsr_dr_bit}
+use Rattle.superio_core.specs.Serial.Port.State.{State}
+use Rattle.superio_core.specs.declared.serial.registers.Register.TheVariants.{RbrThr}
+use Rattle.superio_core.specs.Serial.Port.Registers.{register_read, iir_bit, identification_of}
+use Rattle.superio_core.specs.declared.serial.registers.Condition.TheVariants.{Thre}
+use Rattle.superio_core.specs.Serial.Port.Operations.{Event, buffer_read, in_buffer_empty}
+use Rattle.vm_superio.specs.Links.Objects.{Link, TriggerAnswer}
+use Rattle.vm_superio.specs.Links.OutCalls.{OutCall}
 use Rattle.vm_superio.specs.Serial.Port.Model.{Port}
 use Rattle.vm_superio.specs.Serial.Step.PortStep.{IsReadStep}
-use Rattle.vm_superio.specs.Serial.Step.Transition.{rbr_read}
+use Rattle.superio_core.specs.Serial.Step.Transition.{rbr_read}
 
 -- LSR shows data ready
 abbrev pub IsReady : (s : State) → Type 0
 IsReady s = IsTrue (has_bits s.line_status lsr_dr_bit)
 
 -- reads at offset 0 that give these bytes, in order, each while LSR shows data ready, take a port from `old` to `new`
-module _ {T E EV W : Type 0} (trigger : Link T (TriggerAnswer E)) (events : Link EV Event) (contents : Contents W) where
+module _ {T E EV W : Type 0} (trigger : Link T (TriggerAnswer E)) (events : Link EV Event) (out : Link W OutCall) where
   abbrev pub ReadsWhileReady : (bytes : List ℕ) (old new : Port T EV W) → Type 0
   ReadsWhileReady [] old new = new ≡ old
   ReadsWhileReady (byte ∷ bytes) old new =
       IsReady old.state
-      × ((middle : Port T EV W) × IsReadStep trigger events contents 0 byte old middle
+      × ((middle : Port T EV W) × IsReadStep trigger events out 0 byte old middle
       × ReadsWhileReady bytes middle new)
 
 -- the bytes that at most so many reads of RBR give, each while LSR shows data ready

@@ -2,13 +2,13 @@
 use Rattle.std.specs.Prelude.{◌≡◌, ℕ, ◌==◌, ◌≤◌, List, [], ◌∷◌, ◌++◌, length, drop, slice_index, codes, Option, Some, None, Result, Ok, Err}
 use Rattle.std.specs.Int.{w32, w64, from_le_bytes, cast_signed}
 use Rattle.hex.specs.Hex.{encode_lower}
-use Rattle.vm_superio.specs.declared.rtc_pl031.RtcState.{RtcState}
-use Rattle.vm_superio.specs.declared.saved.Error.{Error}
-use Rattle.vm_superio.specs.declared.saved.Error.TheVariants.{TooShort, NotASavedState, OtherDevice, UnknownVersion, WrongLength, TooManyBytes, InvalidArmed, Memory}
-use Rattle.vm_superio.specs.Serial.Port.State.{State, state_of_bytes}
-use Rattle.vm_superio.specs.Saved.Form.{serial_form, clock_form}
-use Rattle.vm_superio.specs.Saved.Faults.{serial_fault, clock_fault}
-use Rattle.vm_superio.specs.Saved.Laws.{IsClock}
+use Rattle.superio_core.specs.declared.rtc_pl031.state.RtcState.{RtcState}
+use Rattle.superio_core.specs.declared.saved.Error.{Error}
+use Rattle.superio_core.specs.declared.saved.Error.TheVariants.{TooShort, NotASavedState, OtherDevice, UnknownVersion, WrongLength, TooManyBytes, InvalidArmed}
+use Rattle.superio_core.specs.Serial.Port.State.{State, state_of_bytes}
+use Rattle.superio_core.specs.Saved.Form.{serial_form, clock_form}
+use Rattle.superio_core.specs.Saved.Faults.{serial_fault, clock_fault}
+use Rattle.superio_core.specs.Saved.Laws.{IsClock}
 
 -- ---- the states
 
@@ -56,5 +56,3 @@ fault_words (UnknownVersion version) = codes "unknown version " ++ encode_lower 
 fault_words WrongLength = codes "wrong length"
 fault_words TooManyBytes = codes "too many bytes"
 fault_words InvalidArmed = codes "invalid armed"
--- no check of bytes fails with this
-fault_words Memory = []

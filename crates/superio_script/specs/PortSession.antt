@@ -2,18 +2,18 @@
 use Rattle.std.specs.Prelude.{◌↔◌, ℕ, Bool, ◌==◌, ◌&&◌, ◌||◌, nat_le, if◌then◌else◌, List, [], ◌++◌, length, Option, Some, None, IsTrue}
 use Rattle.std.specs.Bool.{beq}
 use Rattle.std.specs.Option.{option_map}
-use Rattle.vm_superio.specs.declared.trace.Asked.{Asked}
-use Rattle.vm_superio.specs.declared.trace.Sent.{Sent}
-use Rattle.vm_superio.specs.Bits.{has_bits}
-use Rattle.vm_superio.specs.Serial.Port.Bits.{lsr_dr_bit}
-use Rattle.vm_superio.specs.Serial.Port.Coherent.{Coherent}
-use Rattle.vm_superio.specs.Serial.Port.State.{fresh_state, State, not_empty}
-use Rattle.vm_superio.specs.declared.serial.registers.Condition.{Condition}
-use Rattle.vm_superio.specs.Serial.Port.Operations.{Op, TraceEntry, Trace, Response, Event}
-use Rattle.vm_superio.specs.Serial.Port.OpKinds.{OpKind}
-use Rattle.vm_superio.specs.Serial.Step.Transition.{step_response, step_events}
-use Rattle.vm_superio.specs.Serial.Step.Admissible.{step_calls}
-use Rattle.vm_superio.specs.Serial.Step.Restore.{restore_calls}
+use Rattle.superio_core.specs.declared.trace.Asked.{Asked}
+use Rattle.superio_core.specs.declared.trace.Sent.{Sent}
+use Rattle.superio_core.specs.Bits.{has_bits}
+use Rattle.superio_core.specs.Serial.Port.Bits.{lsr_dr_bit}
+use Rattle.superio_core.specs.Serial.Port.Coherent.{Coherent}
+use Rattle.superio_core.specs.Serial.Port.State.{fresh_state, State, not_empty}
+use Rattle.superio_core.specs.declared.serial.registers.Condition.{Condition}
+use Rattle.superio_core.specs.Serial.Port.Operations.{Op, TraceEntry, Trace, Response, Event}
+use Rattle.superio_core.specs.Serial.Port.OpKinds.{OpKind}
+use Rattle.superio_core.specs.Serial.Step.Transition.{step_response, step_events}
+use Rattle.superio_core.specs.Serial.Step.Admissible.{step_calls}
+use Rattle.superio_core.specs.Serial.Step.Restore.{restore_calls}
 use Rattle.vm_superio.specs.Serial.History.Registers.{kind_at, dlab, held_bytes}
 use Rattle.vm_superio.specs.Serial.History.Calls.{calls_due, history_events}
 use Rattle.vm_superio.specs.Serial.History.Interrupts.{restore_calls_due}

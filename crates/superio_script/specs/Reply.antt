@@ -2,8 +2,8 @@
 use Rattle.std.specs.Prelude.{ℕ, List, [], ◌∷◌, ◌++◌, if◌then◌else◌, codes}
 use Rattle.std.specs.Int.{w64, to_be_bytes}
 use Rattle.hex.specs.Hex.{encode_lower}
-use Rattle.vm_superio.specs.Serial.Port.Operations.{Response, ByteRead, WriteOk, EnqueueOk, TriggerRefused, WriterFailed, FifoFull, OutOfMemory, NoResponse}
-use Rattle.vm_superio.specs.I8042.{is_reset_command}
+use Rattle.superio_core.specs.Serial.Port.Operations.{Response, ByteRead, WriteOk, EnqueueOk, TimeoutOk, TriggerRefused, WriterFailed, FifoFull, OutOfMemory, NoResponse}
+use Rattle.superio_core.specs.I8042.{is_reset_command}
 use Rattle.superio_script.specs.Counts.{EventCounts}
 use Rattle.superio_script.specs.declared.command.ControllerCommand.{ControllerCommand}
 use Rattle.superio_script.specs.declared.command.ControllerCommand.TheVariants as controller
@@ -29,6 +29,7 @@ abbrev pub response_reply : (response : Response) → List ℕ
 response_reply (ByteRead byte) = digits_reply (byte ∷ [])
 response_reply WriteOk = with_lf (codes "ok")
 response_reply (EnqueueOk count) = digits_reply (count ∷ [])
+response_reply TimeoutOk = with_lf (codes "ok")
 response_reply TriggerRefused = with_lf (codes "trigger")
 response_reply WriterFailed = with_lf (codes "io")
 response_reply FifoFull = with_lf (codes "full")

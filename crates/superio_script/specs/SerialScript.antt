@@ -2,13 +2,13 @@
 -- the port's calls.
 use Rattle.std.specs.Prelude.{ℕ, zero, suc, ◌+◌, ◌-◌, ◌≤◌, Bool, nat_le, if◌then◌else◌, List, [], ◌∷◌, length, drop, fold, codes, Option, Some, None, Result, Ok, Err, IsTrue}
 use Rattle.std.specs.List.{list_all}
-use Rattle.vm_superio.specs.declared.saved.Error.{Error}
-use Rattle.vm_superio.specs.declared.trace.Asked.{Asked}
-use Rattle.vm_superio.specs.declared.trace.Sent.{Sent}
-use Rattle.vm_superio.specs.Serial.Port.State.{State, not_empty}
-use Rattle.vm_superio.specs.Serial.Port.Operations.{Op, Read, Write, Enqueue, TraceEntry, is_sent, ends_in_refusal}
-use Rattle.vm_superio.specs.Serial.Port.OpKinds.{sent_by}
-use Rattle.vm_superio.specs.Saved.Form.{serial_form}
+use Rattle.superio_core.specs.declared.saved.Error.{Error}
+use Rattle.superio_core.specs.declared.trace.Asked.{Asked}
+use Rattle.superio_core.specs.declared.trace.Sent.{Sent}
+use Rattle.superio_core.specs.Serial.Port.State.{State, not_empty}
+use Rattle.superio_core.specs.Serial.Port.Operations.{Op, Read, Write, Enqueue, CharacterTimeout, TraceEntry, is_sent, ends_in_refusal}
+use Rattle.superio_core.specs.Serial.Port.OpKinds.{sent_by}
+use Rattle.superio_core.specs.Saved.Form.{serial_form}
 use Rattle.superio_script.specs.InterruptLine.{InterruptLine, is_call_refused, interrupt_line_after_call}
 use Rattle.superio_script.specs.Counts.{counts_after_event}
 use Rattle.superio_script.specs.PortSession.{Session, session_kind, session_held_bytes, known_output, session_from, session_state, session_calls_due, session_response, session_events, session_restore_calls, drained_bytes}
@@ -168,6 +168,7 @@ serial_reply session environment (serial.Read offset) = call_reply session (Read
 serial_reply session environment (serial.Write offset value) =
     call_reply session (Write offset value) (session_write_outcome session environment offset value)
 serial_reply session environment (serial.Enqueue bytes) = call_reply session (Enqueue bytes) Sent.Nothing
+serial_reply session environment serial.CharacterTimeout = call_reply session CharacterTimeout Sent.Nothing
 serial_reply session environment serial.Capacity = digits_reply ((64 - length (session_held_bytes session)) ∷ [])
 serial_reply session environment serial.Drain = digits_reply (drained_bytes session)
 serial_reply session environment serial.Restore = restore_reply session
@@ -182,6 +183,8 @@ session_after_line session environment (serial.Read offset) = session_after_call
 session_after_line session environment (serial.Write offset value) =
     session_after_call session (Write offset value) (session_write_outcome session environment offset value)
 session_after_line session environment (serial.Enqueue bytes) = session_after_call session (Enqueue bytes) Sent.Nothing
+session_after_line session environment serial.CharacterTimeout =
+    session_after_call session CharacterTimeout Sent.Nothing
 session_after_line session environment serial.Drain = session_after_drain session
 session_after_line session environment serial.Restore = session_after_restore session
 session_after_line session environment (serial.Load bytes) = session_after_load session (loaded_port bytes)

@@ -26,6 +26,8 @@ pub(crate) enum SerialCommand {
     Write { offset: u8, value: u8 },
     /// Bytes come in for the guest.
     Enqueue { bytes: FieldBytes },
+    /// The line is idle: a character timeout.
+    CharacterTimeout,
     /// How many more bytes the FIFO has room for.
     Capacity,
     /// A driver reads the bytes that the port holds.
@@ -90,6 +92,7 @@ fn serial_form(name: &[u8], mut fields: Fields) -> Option<SerialCommand>
         b"sq" => SerialCommand::Enqueue {
             bytes: fields.bytes()?,
         },
+        b"si" => SerialCommand::CharacterTimeout,
         b"sc" => SerialCommand::Capacity,
         b"sd" => SerialCommand::Drain,
         b"ss" => SerialCommand::Restore,

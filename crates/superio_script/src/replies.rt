@@ -1,13 +1,13 @@
 //! The reply to a line, with its LF.
 ghost use Rattle.std.specs.Prelude.{◌≡◌, ◌+◌, ◌*◌, ◌<◌, ◌≤◌, [], ◌∷◌, ◌++◌, length};
 ghost use Rattle.hex.specs.Hex.{encode_lower};
-ghost use Rattle.vm_superio.specs.declared.saved.Error.TheVariants.{UnknownVersion};
+ghost use Rattle.superio_core.specs.declared.saved.Error.TheVariants.{UnknownVersion};
 ghost use Rattle.superio_script.specs.Loading.{fault_words};
 ghost use Rattle.superio_script.specs.Reply.{with_lf, digits_reply, count_digits, counts_reply};
 
 use crate::counts::Counts;
 use arrayvec::ArrayVec;
-use vm_superio::saved;
+use vm_superio::saved::Fault;
 
 /// A reply with its LF. The longest has 512 digits, for the 256 bytes that the serial port's output can hold.
 pub type Reply = ArrayVec<u8, 513>;
@@ -55,19 +55,17 @@ pub(crate) fn reply_byte(value: u8) -> Reply
 }
 
 /// The name of a saved state's error in words, and LF.
-pub(crate) fn reply_fault(error: saved::Error) -> Reply
+pub(crate) fn reply_fault(error: Fault) -> Reply
     ensures { result.items ≡ with_lf (fault_words error) }
 {
     match error {
-        saved::Error::TooShort => reply_text(b"too short"),
-        saved::Error::NotASavedState => reply_text(b"not a saved state"),
-        saved::Error::OtherDevice => reply_text(b"other device"),
-        saved::Error::UnknownVersion(version) => reply_unknown_version(version),
-        saved::Error::WrongLength => reply_text(b"wrong length"),
-        saved::Error::TooManyBytes => reply_text(b"too many bytes"),
-        saved::Error::InvalidArmed => reply_text(b"invalid armed"),
-        // A line for which memory is refused has no reply.
-        saved::Error::Memory => reply_text(b""),
+        Fault::TooShort => reply_text(b"too short"),
+        Fault::NotASavedState => reply_text(b"not a saved state"),
+        Fault::OtherDevice => reply_text(b"other device"),
+        Fault::UnknownVersion(version) => reply_unknown_version(version),
+        Fault::WrongLength => reply_text(b"wrong length"),
+        Fault::TooManyBytes => reply_text(b"too many bytes"),
+        Fault::InvalidArmed => reply_text(b"invalid armed"),
     }
 }
 

@@ -1,7 +1,7 @@
 //! The lines of the serial port.
 ghost use Rattle.std.specs.Prelude.{◌≡◌, ◌<◌, ◌≤◌, length, IfOk, IfErr, OnErr, IsTrue};
-ghost use Rattle.vm_superio.specs.Serial.Port.Model.{write_response, enqueue_response, failure_response};
-ghost use Rattle.vm_superio.specs.Serial.Port.State.{state_of};
+ghost use Rattle.vm_superio.specs.Serial.Port.Model.{write_response, enqueue_response, timeout_response, failure_response};
+ghost use Rattle.vm_superio.specs.Serial.Port.SavedState.{state_of};
 ghost use Rattle.superio_script.specs.Reply.{response_reply};
 ghost use Rattle.superio_script.specs.Board.{IsSerialLineStep, IsRestore};
 ghost use Rattle.superio_script.specs.Command.{takes_memory};
@@ -44,12 +44,11 @@ pub(crate) fn serial_line(
     laws::coherence();
     match line {
         SerialCommand::Read { offset } => Ok(reply_byte(serial.read(offset))),
-        SerialCommand::Write { offset, value } => Ok(write_result_reply(serial.write(
-            offset, value,
-        ))),
+        SerialCommand::Write { offset, value } => Ok(result_reply(serial.write(offset, value))),
         SerialCommand::Enqueue { bytes } => {
             Ok(enqueue_result_reply(serial.enqueue_raw_bytes(bytes.as_slice())))
         }
+        SerialCommand::CharacterTimeout => Ok(result_reply(serial.character_timeout())),
         SerialCommand::Capacity => Ok(reply_byte(serial.fifo_capacity() as u8)),
         SerialCommand::Drain => Ok(reply_digits(&drain(serial))),
         SerialCommand::Restore => restore(alloc, serial),
@@ -81,7 +80,7 @@ fn save(alloc: Global, serial: &Port) -> Result<Reply, LineFault>
     let Ok(state) = serial.state(alloc) else {
         return Err(LineFault::Memory);
     };
-    Ok(reply_digits(&state.to_bytes().unwrap()))
+    Ok(reply_digits(state.to_bytes().unwrap().as_bytes()))
 }
 
 /// Restores the port from the state that these bytes are. Other bytes change nothing.
@@ -93,10 +92,8 @@ fn load(alloc: Global, serial: &mut Port, bytes: &[u8]) -> Result<Reply, LineFau
     laws::states_of_history();
     match SerialState::from_bytes(alloc, bytes) {
         Ok(state) => restore_from(alloc, serial, &state),
-        Err(error) => match error {
-            saved::Error::Memory => Err(LineFault::Memory),
-            error => Ok(reply_fault(error)),
-        },
+        Err(saved::Error::Memory) => Err(LineFault::Memory),
+        Err(saved::Error::Bytes(fault)) => Ok(reply_fault(fault)),
     }
 }
 
@@ -124,11 +121,12 @@ fn restore_from(alloc: Global, serial: &mut Port, state: &SerialState) -> Result
     }
 }
 
-/// The reply to a write with this result.
-fn write_result_reply(written: Result<(), Error<LineRefused>>) -> Reply
-    ensures { result.items ≡ response_reply (write_response written) }
+/// The reply to a write or a character timeout with this result.
+fn result_reply(answer: Result<(), Error<LineRefused>>) -> Reply
+    ensures write { result.items ≡ response_reply (write_response answer) }
+    ensures timeout { result.items ≡ response_reply (timeout_response answer) }
 {
-    match written {
+    match answer {
         Ok(()) => reply_text(b"ok"),
         Err(error) => error_reply(error),
     }

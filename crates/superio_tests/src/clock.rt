@@ -1,7 +1,6 @@
 //! The saved state of a clock, and what each form of a clock says of its interrupt.
 use std::test::Fail;
-use vm_superio::rtc_pl031::NoEvents;
-use vm_superio::rtc_pl031::fields::RtcFields;
+use vm_superio::rtc_pl031::{Clock, NoEvents};
 use vm_superio::{Rtc, RtcState, laws};
 
 /// The form of docs/SAVED-STATES.md.
@@ -41,16 +40,16 @@ fn each_form_of_a_clock_says_the_same(rt: HostRuntime) {
         armed: true,
         ..RtcState::from_five(0, 0, 105, 1, 1)
     };
-    let clock = Rtc::from_state(&state, NoEvents);
-    let fields = RtcFields::from_state(&state);
+    let device = Rtc::from_state(&state, NoEvents);
+    let clock = Clock::from_state(&state);
     for due in [
         state.alarm_due(100),
+        device.alarm_due(100),
         clock.alarm_due(100),
-        fields.alarm_due(100),
     ] {
         assert!(rt; due == Some(5));
     }
-    assert!(rt; state.interrupt_line() && clock.interrupt_line() && fields.interrupt_line());
+    assert!(rt; state.interrupt_line() && device.interrupt_line() && clock.interrupt_line());
     assert!(rt; RtcState::default() == RtcState::from_five(0, 0, 0, 0, 0));
 }
 

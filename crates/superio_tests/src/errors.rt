@@ -33,29 +33,30 @@ fn errors_print_what_failed_and_why(rt: HostRuntime) {
 #[test]
 fn errors_of_saved_forms_print_the_check_that_failed(rt: HostRuntime) {
     for (error, text) in [
-        (saved::Error::TooShort, "Too short for a saved state"),
-        (saved::Error::NotASavedState, "Not a saved state"),
+        (saved::Fault::TooShort, "Too short for a saved state"),
+        (saved::Fault::NotASavedState, "Not a saved state"),
         (
-            saved::Error::OtherDevice,
+            saved::Fault::OtherDevice,
             "The saved state of another device",
         ),
         (
-            saved::Error::UnknownVersion(2),
+            saved::Fault::UnknownVersion(2),
             "A saved state of an unknown version",
         ),
         (
-            saved::Error::WrongLength,
+            saved::Fault::WrongLength,
             "A saved state of the wrong length",
         ),
-        (saved::Error::TooManyBytes, "More than 64 received bytes"),
+        (saved::Fault::TooManyBytes, "More than 64 received bytes"),
         (
-            saved::Error::InvalidArmed,
+            saved::Fault::InvalidArmed,
             "An alarm that is neither set nor clear",
         ),
-        (saved::Error::Memory, "Out of memory"),
     ] {
         assert!(rt; prints(rt.alloc(), &error, text));
+        assert!(rt; prints(rt.alloc(), &saved::Error::from(error), text));
     }
+    assert!(rt; prints(rt.alloc(), &saved::Error::Memory, "Out of memory"));
 }
 
 /// Allocates this much, as a monitor that returns the port's own error does.

@@ -23,3 +23,5 @@ mod saved;
 mod script;
 #[cfg(test)]
 mod sending;
+#[cfg(test)]
+mod values;

@@ -1,5 +1,3 @@
-pub mod Bits
 pub mod Links
 pub mod Rtc
-pub mod Saved
 pub mod Serial

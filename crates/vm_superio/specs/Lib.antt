@@ -1,6 +1,6 @@
 pub mod Serial
 pub mod Rtc
-pub mod I8042
-pub mod Saved
 pub mod Links
-pub mod Bits
+pub use Rattle.superio_core.specs.I8042
+pub use Rattle.superio_core.specs.Saved
+pub use Rattle.superio_core.specs.Bits

@@ -1,8 +1,9 @@
 -- The PL031 clock: its registers, the step of one access, its history, and the laws that join the two.
 pub mod Events
-pub mod Registers
-pub mod Step
-pub mod Fields
-pub mod Alarm
+pub mod Device
 pub mod History
 pub mod Laws
+pub use Rattle.superio_core.specs.Rtc.Registers
+pub use Rattle.superio_core.specs.Rtc.Step
+pub use Rattle.superio_core.specs.Rtc.Clock
+pub use Rattle.superio_core.specs.Rtc.Alarm

@@ -1,24 +1,11 @@
 //! The i8042 controller, reduced to the CPU reset command.
 ghost use Rattle.std.specs.Prelude.{◌≡◌, [], ◌∷◌};
 ghost use Rattle.std.specs.Bool.{OnTrue, OnFalse};
-ghost use Rattle.vm_superio.specs.I8042.{is_reset_command};
+ghost use Rattle.superio_core.specs.I8042.{is_reset_command};
 
 use crate::Trigger;
 use std::marker::Model;
-
-/// The command register, port 0x64: offset 4 from the controller's base at 0x60.
-const COMMAND_OFFSET: u8 = 4;
-
-/// The command that pulses the CPU's reset line.
-const CMD_RESET_CPU: u8 = 0xFE;
-
-/// Whether a write of `value` at `offset` is the reset command. For a monitor that resets the machine without a
-/// trigger.
-pub fn is_reset_command(offset: u8, value: u8) -> bool
-    ensures { result ≡ is_reset_command offset value }
-{
-    offset == COMMAND_OFFSET && value == CMD_RESET_CPU
-}
+pub use superio_core::i8042::is_reset_command;
 
 /// An i8042 keyboard controller that knows one command: reset the CPU.
 ///
@@ -71,8 +58,8 @@ impl<T: Trigger> I8042Device<T> {
 
     /// Writes `value` at `offset`.
     ///
-    /// The reset command, 0xFE at offset 4, calls the trigger once and returns its answer. Any other write returns `Ok`
-    /// and has no effect.
+    /// The reset command, 0xFE at offset 4, calls the trigger once and returns its answer. No access makes another call.
+    /// Any other write returns `Ok` and has no effect.
     pub fn write(&mut self, offset: u8, value: u8) -> Result<(), T::E>
         ensures reset { OnTrue (is_reset_command offset value) (T.link self.old (result ∷ []) self.new) }
         ensures otherwise_ok { OnFalse (is_reset_command offset value) (result ≡ Ok tt) }

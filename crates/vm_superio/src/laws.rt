@@ -5,14 +5,18 @@
 //! acknowledged. The first laws state that both describe the same port. The others follow from one of the two alone.
 ghost use Rattle.vm_superio.specs.Serial.Laws.Agreement.{RegisterLaw, HeldBytesLaw, LineStatusLaw, InterruptLaw, CoherenceLaw, StateLaw, ResponseLaw, StepLaw, CallLaw, RetryLaw, WholeRunLaw};
 ghost use Rattle.vm_superio.specs.Serial.Laws.Consequences.{PendingByPrefixesLaw, TriggerBoundLaw, WaitingBytesLaw, SameReadsLaw, TakenThenHeldLaw, ReadsAreTakenLaw, ReadThenHeldLaw, OutputLaw};
+ghost use Rattle.vm_superio.specs.Serial.Laws.CharacterTimeout.{NoByteWaitsLaw, TimeoutCallsLaw, TimeoutsShowLaw};
+ghost use Rattle.vm_superio.specs.Serial.Laws.InterruptDriver.{OwedAfterRunLaw, TakenAfterRunsLaw};
 ghost use Rattle.vm_superio.specs.Serial.Laws.PollingDriver.{PollingDriverLaw, DriverGetsAllLaw, PollsAfterDataReadyLaw};
-ghost use Rattle.vm_superio.specs.Serial.Laws.FieldsRun.{FieldsRunLaw};
+ghost use Rattle.vm_superio.specs.Links.Writer.{KnownOutputLaw};
+ghost use Rattle.vm_superio.specs.Serial.Laws.PortRun.{PortRunLaw, PortOutputLaw, PortBoundLaw};
 ghost use Rattle.vm_superio.specs.Serial.Laws.OneCall.{OneCallLaw, OneReadLaw, ReceivedLaw, RbrReadLaw, RbrDataReadyLaw, ThrWriteLaw, OutcomeEventsLaw, TurnedBitsLaw};
 
 mod clock;
 pub mod saved;
 
 pub use clock::{alarm_due_by_history, clock_is_history, raw_bits_by_history};
+use std::io::Write;
 
 /// From any start, each register that stores writes holds its last effective one, and MSR never changes.
 #[tactic(auto, using(crate::proofs::Lemmas::Serial::Laws::Registers::register_law))]
@@ -36,7 +40,7 @@ pub fn interrupts()
 {}
 
 /// Every step, even a refused call, keeps a coherent state coherent.
-#[tactic(auto, using(crate::proofs::Lemmas::Serial::Laws::Coherence::coherence_law))]
+#[tactic(auto, using(superio_core::proofs::Lemmas::Serial::Laws::Coherence::coherence_law))]
 pub fn coherence()
     ensures { CoherenceLaw }
 {}
@@ -75,11 +79,15 @@ pub fn whole_runs()
     ensures { WholeRunLaw }
 {}
 
-/// Calls of a coherent port in a plain struct, each with what the caller found when it carried out the effects, form a
-/// well-formed trace with these responses. They end in the state that it leads to, which is coherent.
-#[tactic(auto, using(crate::proofs::Lemmas::Serial::Laws::WholeRunsOfFields::fields_run_law))]
-pub fn whole_runs_of_fields()
-    ensures { FieldsRunLaw }
+/// Calls of a coherent `SerialPort` have the effects that the history says, by the start and the operations
+/// alone: the byte and events of each read, the bytes taken, and how often to ask for the interrupt. They end in the state
+/// of the history, which is coherent. The bytes that the caller is told to send are the output. It is told to ask for the
+/// interrupt at most twice, plus twice for each IIR read and once for each RBR read; restores do not count.
+#[tactic(auto, using(crate::proofs::Lemmas::Serial::Laws::WholeRunsOfPorts::port_run_laws))]
+pub fn whole_runs_of_ports()
+    ensures run { PortRunLaw }
+    ensures output { PortOutputLaw }
+    ensures bound { PortBoundLaw }
 {}
 
 /// From any start, a condition is pending exactly if it was raised at some point or pending at the start, and no later
@@ -101,6 +109,24 @@ pub fn trigger_bound()
 #[tactic(auto, using(crate::proofs::Lemmas::Serial::Laws::WaitingBytes::waiting_bytes_law))]
 pub fn waiting_bytes()
     ensures { WaitingBytesLaw }
+{}
+
+/// From any start, right after a character timeout no byte waits without an interrupt: if bytes are held and IER
+/// enables RDA, it is pending. If it was not pending before, the trigger is called once, and otherwise not at all.
+#[tactic(auto, using(crate::proofs::Lemmas::Serial::Laws::CharacterTimeout::no_byte_waits_laws))]
+pub fn no_byte_waits()
+    ensures pending { NoByteWaitsLaw }
+    ensures called { TimeoutCallsLaw }
+    ensures in_a_trace { TimeoutsShowLaw }
+{}
+
+/// From any start, for any driver that takes at least one held byte at each interrupt and ends its run with a read of
+/// IIR: if a character timeout follows the run, and bytes are held, the interrupt is asked for again. After as many runs
+/// as bytes are held, the driver has taken all of these, in order, whatever arrives meanwhile.
+#[tactic(auto, using(crate::proofs::Lemmas::Serial::Laws::InterruptDriver::interrupt_driver_laws))]
+pub fn interrupt_driver()
+    ensures owed { OwedAfterRunLaw }
+    ensures taken { TakenAfterRunsLaw }
 {}
 
 /// From any start, two traces with the same operations and trigger answers, restores left out, give the same guest
@@ -135,8 +161,13 @@ pub fn polling_driver()
     ensures after_data_ready { PollsAfterDataReadyLaw }
 {}
 
-/// From any start, if the newest entries of a well-formed trace lose no byte, the bytes that they record as taken are
-/// the output.
+/// A writer of known contents that lost no byte has grown by the bytes that were sent to it.
+#[tactic(auto, using(crate::proofs::Lemmas::Links::Writer::known_output_law))]
+pub fn known_output<W: Write>()
+    ensures { KnownOutputLaw W.contents }
+{}
+
+/// From any start, the bytes that the newest entries of a well-formed trace record as sent are the output.
 #[tactic(auto, using(crate::proofs::Lemmas::Serial::Laws::Output::output_law))]
 pub fn output()
     ensures { OutputLaw }
@@ -145,7 +176,7 @@ pub fn output()
 /// One call in any state: the bytes that it takes, then those held after, are those held before, then those it accepts.
 /// It gives a guest the byte that it takes. Received bytes, and an RBR read of a held byte, change only the FIFO, LSR
 /// and IIR. After an RBR read, LSR shows data ready if it did before and a byte is left. A THR write outside loopback
-/// sends its byte and changes only IIR. If it returns `Ok`, a writer of known contents has grown by the byte.
+/// sends its byte and changes only IIR. If it returns `Ok`, the byte is out.
 #[tactic(auto, using(crate::proofs::Lemmas::Serial::Laws::OneCall::one_call_laws))]
 pub fn one_call()
     ensures taken { OneCallLaw }

@@ -6,26 +6,21 @@
 //!
 //! The match register is an alarm. It raises bit 0 of the raw interrupt status at the first access at which guest time
 //! has reached a match that was not past when written. The clock calls no trigger: ask [`Rtc::interrupt_line`].
-ghost use Rattle.std.specs.Prelude.{◌≡◌, ◌↔◌, ◌<◌, ◌^◌, List, [], ◌∷◌, ◌++◌, false, IfSome};
+ghost use Rattle.std.specs.Prelude.{◌≡◌, ◌↔◌, ◌<◌, ◌^◌, List, [], ◌∷◌, ◌++◌, IfSome};
 ghost use Rattle.std.specs.Bool.{OnTrue, OnFalse};
 ghost use Rattle.std.proofs.Common.{◌∙◌};
-ghost use Rattle.vm_superio.specs.Rtc.Alarm.{is_line_up, IsAlarmDue};
+ghost use Rattle.superio_core.specs.Rtc.Alarm.{is_line_up, IsAlarmDue};
 ghost use Rattle.vm_superio.specs.Rtc.Events.{RtcEvent, invalid_read, invalid_write};
-ghost use Rattle.vm_superio.specs.Rtc.Fields.{state_of_clock};
-ghost use Rattle.vm_superio.specs.Rtc.Registers.{read, write, write_of, clock_register_at, is_readable, is_writable};
-ghost use Rattle.vm_superio.specs.Rtc.Registers.{host_time, bytes_left};
-ghost use Rattle.vm_superio.specs.Rtc.Step.{ClockDevice, after_alarm, clock_response, clock_step, clock_events};
-ghost use Rattle.vm_superio.specs.Rtc.Registers.{fresh_clock};
+ghost use Rattle.superio_core.specs.Rtc.Clock.{state_of_clock};
+ghost use Rattle.superio_core.specs.Rtc.Registers.{read, write, write_of, clock_register_at, is_readable, is_writable};
+ghost use Rattle.superio_core.specs.Rtc.Registers.{host_time, bytes_left};
+ghost use Rattle.vm_superio.specs.Rtc.Device.{ClockDevice, clock_events};
+ghost use Rattle.superio_core.specs.Rtc.Step.{after_alarm, clock_response, clock_step};
+ghost use Rattle.superio_core.specs.Rtc.Registers.{fresh_clock};
 ghost use Rattle.vm_superio.specs.Rtc.Laws.{ReadsByHistory, GoesOnByHistory};
 
-mod alarm;
-pub mod fields;
-mod registers;
-pub mod saved_form;
-
-use fields::RtcFields;
-pub use registers::ClockRegister;
 use std::marker::Model;
+pub use superio_core::rtc_pl031::{Clock, ClockRegister, RtcState, saved_form};
 
 /// Receives a clock's invalid accesses.
 ///
@@ -69,93 +64,19 @@ impl RtcEvents for NoEvents {
     fn invalid_write(&mut self) {}
 }
 
-/// The contents of a clock's registers: enough to recreate the clock.
-///
-/// Any values may be restored, and reads show them unchanged. The default is all zeros, and no alarm.
-#[derive(Clone, Copy, Debug, Default, Eq, PartialEq)]
-pub struct RtcState {
-    /// The load register, RTCLR: the last loaded value, or 0 after a reset.
-    pub lr: u32,
-    /// How far guest time is ahead of the host's time, in seconds.
-    pub offset: i64,
-    /// The match register, RTCMR: the guest time that an alarm waits for.
-    pub mr: u32,
-    /// The interrupt mask, RTCIMSC. A write stores bit 0 of its value, and clears the others.
-    pub imsc: u32,
-    /// The raw interrupt status, RTCRIS. The alarm sets bit 0; nothing sets other bits.
-    pub ris: u32,
-    /// Whether an alarm is set and has not fired.
-    pub armed: bool,
-}
-
-impl RtcState {
-    /// A state with these five fields, as saved by a clock without an alarm. No alarm is set.
-    pub fn from_five(lr: u32, offset: i64, mr: u32, imsc: u32, ris: u32) -> RtcState
-        ensures { result ≡ record { lr = lr; offset = offset; mr = mr; imsc = imsc; ris = ris; armed = false } }
-    {
-        RtcState {
-            lr,
-            offset,
-            mr,
-            imsc,
-            ris,
-            armed: false,
-        }
-    }
-
-    /// Whether the interrupt line is up; see [`Rtc::interrupt_line`].
-    pub fn interrupt_line(&self) -> bool
-        ensures { result ≡ is_line_up self.now }
-    {
-        RtcFields::from_state(self).interrupt_line()
-    }
-
-    /// The seconds from the moment `now` until the alarm is due; see [`Rtc::alarm_due`].
-    pub fn alarm_due(&self, now: u64) -> Option<u64>
-        ensures due { IsAlarmDue self.now now result }
-        ensures bound { IfSome result (λ seconds. seconds < 2 ^ 32) }
-    {
-        RtcFields::from_state(self).alarm_due(now)
-    }
-
-    /// Reads at `offset` as [`Rtc::read`] does, for a monitor that keeps the state itself. Returns the value read, or
-    /// `None` if the read is invalid.
-    pub fn read(&mut self, offset: u16, now: u64) -> Option<u32>
-        ensures response { result ≡ clock_response self.old (read offset now) }
-        ensures state { self.new ≡ clock_step self.old (read offset now) }
-    {
-        let mut clock = RtcFields::from_state(self);
-        let shown = clock.read(offset, now);
-        *self = clock.state();
-        shown
-    }
-
-    /// Writes `value` at `offset` as [`Rtc::write`] does, for a monitor that keeps the state itself. Returns whether
-    /// this offset takes a write.
-    pub fn write(&mut self, offset: u16, value: u32, now: u64) -> bool
-        ensures taken { result ≡ is_writable (clock_register_at offset) }
-        ensures state { self.new ≡ clock_step self.old (write offset value now) }
-    {
-        let mut clock = RtcFields::from_state(self);
-        let is_taken = clock.write(offset, value, now);
-        *self = clock.state();
-        is_taken
-    }
-}
-
 /// A PL031 real-time clock, which reports to an events object.
 ///
 /// An access is four bytes, lowest byte first. Contracts see the clock as its state and its events object.
 #[derive(Drop)]
 pub struct Rtc<EV: RtcEvents> {
-    fields: RtcFields,
+    clock: Clock,
     events: EV,
 }
 
 impl<EV: RtcEvents> Model for Rtc<EV> {
     ghost Value = { ClockDevice EV };
 
-    ghost view = { λ clock. record { state = state_of_clock clock.fields; events = clock.events } };
+    ghost view = { λ device. record { state = state_of_clock device.clock; events = device.events } };
 }
 
 impl Default for Rtc<NoEvents> {
@@ -179,7 +100,7 @@ impl Rtc<NoEvents> {
 impl<EV: RtcEvents> Rtc<EV> {
     ghost use Rattle.std.specs.Borrow.{Lends, sem};
     ghost use Rattle.vm_superio.specs.contracts.rtc_pl031.Rtc.{the_row};
-    ghost use Rattle.vm_superio.specs.Rtc.Step.{with_clock_events};
+    ghost use Rattle.vm_superio.specs.Rtc.Device.{with_clock_events};
 
     /// Makes a clock from `state`, whatever its values, that owns the events object `rtc_events`. Does not call the
     /// object.
@@ -188,7 +109,7 @@ impl<EV: RtcEvents> Rtc<EV> {
         ensures events { result.events ≡ rtc_events }
     {
         Rtc {
-            fields: RtcFields::from_state(state),
+            clock: Clock::from_state(state),
             events: rtc_events,
         }
     }
@@ -205,7 +126,7 @@ impl<EV: RtcEvents> Rtc<EV> {
     pub fn state(&self) -> RtcState
         ensures { result ≡ self.now.state }
     {
-        self.fields.state()
+        self.clock.state()
     }
 
     /// The events object.
@@ -229,7 +150,7 @@ impl<EV: RtcEvents> Rtc<EV> {
     pub fn interrupt_line(&self) -> bool
         ensures { result ≡ is_line_up self.now.state }
     {
-        self.fields.interrupt_line()
+        self.clock.interrupt_line()
     }
 
     /// The seconds from the moment `now`, in seconds since 1970, until the alarm is due if the guest makes no access.
@@ -245,7 +166,7 @@ impl<EV: RtcEvents> Rtc<EV> {
         ensures due { IsAlarmDue self.now.state now result }
         ensures bound { IfSome result (λ seconds. seconds < 2 ^ 32) }
     {
-        self.fields.alarm_due(now)
+        self.clock.alarm_due(now)
     }
 
     /// Writes `bytes`, lowest byte first, at `offset` from the clock's base address, at `now`, in seconds since 1970.
@@ -260,7 +181,8 @@ impl<EV: RtcEvents> Rtc<EV> {
     /// values have no effect. RTCIMSC (0x010) stores bit 0 only. RTCICR (0x01C) clears the raw interrupt status bits
     /// that the value has set.
     ///
-    /// A write at any other offset stores nothing and calls the events object's `invalid_write` once.
+    /// A write at any other offset stores nothing and calls the events object's `invalid_write` once, before it returns.
+    /// No write makes another call.
     pub fn write(&mut self, offset: u16, bytes: &[u8; 4], now: u64)
         ensures state { self.new.state ≡ clock_step self.old.state (write_of offset bytes.now now) }
         ensures invalid { OnFalse (is_writable (clock_register_at offset))
@@ -272,7 +194,7 @@ impl<EV: RtcEvents> Rtc<EV> {
         ensures quiet { OnTrue (is_writable (clock_register_at offset)) (self.new.events ≡ self.old.events) }
     {
         let value = u32::from_le_bytes(*bytes);
-        if !self.fields.write(offset, value, now) {
+        if !self.clock.write(offset, value, now) {
             self.events.invalid_write();
         }
     }
@@ -286,7 +208,7 @@ impl<EV: RtcEvents> Rtc<EV> {
     /// 0xFFF show the identification, each byte at four offsets.
     ///
     /// A read at any other offset, including RTCICR (0x01C), leaves `bytes` unchanged and calls the events object's
-    /// `invalid_read` once.
+    /// `invalid_read` once, before it returns. No read makes another call.
     pub fn read(&mut self, offset: u16, bytes: &mut [u8; 4], now: u64)
         ensures response { bytes.new ≡ bytes_left (clock_response self.old.state (read offset now)) bytes.old }
         ensures invalid { OnFalse (is_readable (clock_register_at offset)) (bytes.new ≡ bytes.old) }
@@ -299,7 +221,7 @@ impl<EV: RtcEvents> Rtc<EV> {
         ensures events { EV.link self.old.events (clock_events (read offset now)) self.new.events }
         ensures quiet { OnTrue (is_readable (clock_register_at offset)) (self.new.events ≡ self.old.events) }
     {
-        match self.fields.read(offset, now) {
+        match self.clock.read(offset, now) {
             Some(number) => *bytes = number.to_le_bytes(),
             None => self.events.invalid_read(),
         }

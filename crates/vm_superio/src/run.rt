@@ -1,10 +1,11 @@
 //! Runs: a list of calls to a serial port as one call, with a record of each.
+ghost use Rattle.vm_superio.specs.Links.OutCalls.{WriterCalls};
 ghost use Rattle.std.specs.Prelude.{◌≡◌, IfOk, OnErr};
 ghost use Rattle.vm_superio.specs.Links.Writer.{port_links};
 ghost use Rattle.vm_superio.specs.Serial.Run.Segments.{first_segment};
 ghost use Rattle.vm_superio.specs.Serial.Run.Steps.{IsCallStep, IsRun};
 ghost use Rattle.vm_superio.specs.Serial.Run.Trace.{act_of};
-ghost use Rattle.vm_superio.specs.Serial.Port.Coherent.{Coherent};
+ghost use Rattle.superio_core.specs.Serial.Port.Coherent.{Coherent};
 ghost use Rattle.vm_superio.specs.Serial.Run.HistoryTheorem.{HistoryTheorem};
 
 use crate::Trigger;
@@ -25,6 +26,8 @@ pub enum Call<T, EV, W> {
     Write(u8, u8),
     /// `enqueue_raw_bytes` of these bytes.
     Enqueue(Vec<u8>),
+    /// `character_timeout`.
+    CharacterTimeout,
     /// Recreates the port from its own state, with this trigger, events object and writer.
     Restore(T, EV, W),
 }
@@ -38,6 +41,8 @@ pub enum Act {
     Write(u8, u8),
     /// `enqueue_raw_bytes` of these bytes.
     Enqueue(Vec<u8>),
+    /// `character_timeout`.
+    CharacterTimeout,
     /// A restore of the port.
     Restore,
 }
@@ -51,6 +56,8 @@ pub enum Reply<T: Trigger, EV: SerialEvents, W: Write> {
     Wrote(Result<(), Error<T::E>>),
     /// What `enqueue_raw_bytes` returned.
     Enqueued(Result<usize, Error<T::E>>),
+    /// What `character_timeout` returned.
+    TimedOut(Result<(), Error<T::E>>),
     /// The port was recreated: the old port, with its own objects.
     Restored(Serial<T, EV, W>),
     /// The port stayed: why, and the objects of the restore.
@@ -89,7 +96,7 @@ pub fn run<T: Trigger + Drop, EV: SerialEvents + Drop, W: Write + Drop>(
     calls: Vec<Call<T, EV, W>>,
 ) -> Result<Vec<Done<T, EV, W>>, AllocError>
     ensures run { IfOk result (λ done.
-        IsRun (port_links T.link EV.link W.contents) serial.old.state (first_segment serial.old) calls.items done.items
+        IsRun (port_links T.link EV.link (WriterCalls W.contents)) serial.old.state (first_segment serial.old) calls.items done.items
         serial.new) }
     ensures history { IfOk result (λ done.
         Coherent serial.old.state →
@@ -111,13 +118,14 @@ fn make<T: Trigger, EV: SerialEvents, W: Write>(
     call: Call<T, EV, W>,
 ) -> Done<T, EV, W>
     ensures act { result.act ≡ act_of call }
-    ensures made { IsCallStep (port_links T.link EV.link W.contents) call result.asked result.sent result.reply
+    ensures made { IsCallStep (port_links T.link EV.link (WriterCalls W.contents)) call result.asked result.sent result.reply
         serial.old serial.new }
 {
     match call {
         Call::Read(offset) => read(serial, offset),
         Call::Write(offset, value) => write(serial, offset, value),
         Call::Enqueue(bytes) => enqueue(serial, bytes),
+        Call::CharacterTimeout => character_timeout(serial),
         Call::Restore(trigger, events, out) => Done {
             act: Act::Restore,
             asked: Asked::Nothing,
@@ -133,7 +141,7 @@ fn read<T: Trigger, EV: SerialEvents, W: Write>(
     offset: u8,
 ) -> Done<T, EV, W>
     ensures act { result.act ≡ Act.Read offset }
-    ensures made { IsCallStep (port_links T.link EV.link W.contents) (Call.Read offset) result.asked result.sent
+    ensures made { IsCallStep (port_links T.link EV.link (WriterCalls W.contents)) (Call.Read offset) result.asked result.sent
         result.reply serial.old serial.new }
 {
     let Recorded { reply, asked, sent } = serial.recorded_read(offset);
@@ -152,7 +160,7 @@ fn write<T: Trigger, EV: SerialEvents, W: Write>(
     value: u8,
 ) -> Done<T, EV, W>
     ensures act { result.act ≡ Act.Write offset value }
-    ensures made { IsCallStep (port_links T.link EV.link W.contents) (Call.Write offset value) result.asked result.sent
+    ensures made { IsCallStep (port_links T.link EV.link (WriterCalls W.contents)) (Call.Write offset value) result.asked result.sent
         result.reply serial.old serial.new }
 {
     let Recorded { reply, asked, sent } = serial.recorded_write(offset, value);
@@ -170,7 +178,7 @@ fn enqueue<T: Trigger, EV: SerialEvents, W: Write>(
     bytes: Vec<u8>,
 ) -> Done<T, EV, W>
     ensures act { result.act ≡ Act.Enqueue bytes }
-    ensures made { IsCallStep (port_links T.link EV.link W.contents) (Call.Enqueue bytes) result.asked result.sent
+    ensures made { IsCallStep (port_links T.link EV.link (WriterCalls W.contents)) (Call.Enqueue bytes) result.asked result.sent
         result.reply serial.old serial.new }
 {
     let Recorded { reply, asked, sent } = serial.recorded_enqueue(&bytes);
@@ -182,6 +190,23 @@ fn enqueue<T: Trigger, EV: SerialEvents, W: Write>(
     }
 }
 
+/// Makes a character timeout.
+fn character_timeout<T: Trigger, EV: SerialEvents, W: Write>(
+    serial: &mut Serial<T, EV, W>,
+) -> Done<T, EV, W>
+    ensures act { result.act ≡ Act.CharacterTimeout }
+    ensures made { IsCallStep (port_links T.link EV.link (WriterCalls W.contents)) Call.CharacterTimeout result.asked result.sent
+        result.reply serial.old serial.new }
+{
+    let Recorded { reply, asked, sent } = serial.recorded_timeout();
+    Done {
+        act: Act::CharacterTimeout,
+        asked,
+        sent,
+        reply: Reply::TimedOut(reply),
+    }
+}
+
 /// Recreates the port from its own state, with these objects.
 fn restore<T: Trigger, EV: SerialEvents, W: Write>(
     alloc: Global,
@@ -190,7 +215,7 @@ fn restore<T: Trigger, EV: SerialEvents, W: Write>(
     events: EV,
     out: W,
 ) -> Reply<T, EV, W>
-    ensures { IsCallStep (port_links T.link EV.link W.contents) (Call.Restore trigger events out)
+    ensures { IsCallStep (port_links T.link EV.link (WriterCalls W.contents)) (Call.Restore trigger events out)
         Asked.Nothing Sent.Nothing result serial.old serial.new }
 {
     let Ok(state) = serial.state(alloc) else {

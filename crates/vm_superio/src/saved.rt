@@ -1,68 +1,25 @@
-//! A saved state as bytes: its header, and why bytes are refused.
-//!
-//! A monitor writes what [`SerialState::to_bytes`](crate::SerialState::to_bytes) and
-//! [`RtcState::to_bytes`](crate::RtcState::to_bytes) return, and `from_bytes` reads it back. The form is the same on
-//! every machine. A state has at most one form, and no two states share one.
-ghost use Rattle.std.specs.Prelude.{◌≡◌, IfOk};
-ghost use Rattle.std.specs.Result.{result_err};
-ghost use Rattle.vm_superio.specs.Saved.Form.{form, header};
-ghost use Rattle.vm_superio.specs.Saved.Faults.{header_fault};
-
-use std::alloc::{AllocError, AllocFailed};
+//! Why the bytes of a saved state were not read.
 use std::error::Error as StdError;
 use std::fmt;
+pub use superio_core::saved::Error as Fault;
 
-/// The first bytes of a saved state.
-const MAGIC: [u8; 4] = *b"SIOS";
-
-/// The version of the form.
-const VERSION: u8 = 1;
-
-/// The length of the header.
-pub(crate) const HEADER_SIZE: usize = 8;
-
-/// The kind of the serial port.
-pub(crate) const SERIAL_KIND: u8 = 1;
-
-/// The kind of the clock.
-pub(crate) const CLOCK_KIND: u8 = 2;
-
-/// Why a state was not written or bytes were not read. Bytes are checked in the order of the cases; the first check
-/// that fails is the error.
+/// Why a serial port's state was not read.
 #[derive(Clone, Copy, Debug, Eq, PartialEq)]
 pub enum Error {
-    /// Fewer bytes than a header.
-    TooShort,
-    /// The bytes do not begin with the magic.
-    NotASavedState,
-    /// The state belongs to another device.
-    OtherDevice,
-    /// The form has this version, which is not 1.
-    UnknownVersion(u8),
-    /// The length in the header is not that of the rest, or no state of the device has it.
-    WrongLength,
-    /// The port would hold more than 64 received bytes.
-    TooManyBytes,
-    /// The clock's alarm byte is neither 0 nor 1.
-    InvalidArmed,
+    /// The first check of the bytes that failed.
+    Bytes(Fault),
     /// Memory was refused.
     Memory,
 }
 
 impl fmt::Display for Error {
-    ghost use Rattle.vm_superio.specs.Saved.ErrorText.{text_of};
+    ghost use Rattle.vm_superio.specs.Serial.Port.SavedText.{text_of};
 
     ghost output = { text_of };
 
     fn fmt<W: fmt::Write>(&self, f: &mut fmt::Formatter<W>) -> fmt::Result {
         match self {
-            Error::TooShort => write!(f, "Too short for a saved state"),
-            Error::NotASavedState => write!(f, "Not a saved state"),
-            Error::OtherDevice => write!(f, "The saved state of another device"),
-            Error::UnknownVersion(_) => write!(f, "A saved state of an unknown version"),
-            Error::WrongLength => write!(f, "A saved state of the wrong length"),
-            Error::TooManyBytes => write!(f, "More than 64 received bytes"),
-            Error::InvalidArmed => write!(f, "An alarm that is neither set nor clear"),
+            Error::Bytes(fault) => write!(f, "{fault}"),
             Error::Memory => write!(f, "Out of memory"),
         }
     }
@@ -70,61 +27,14 @@ impl fmt::Display for Error {
 
 impl StdError for Error {}
 
-/// Lets `?` turn a refused allocation into [`Error::Memory`].
-impl From<AllocError> for Error {
-    ghost use Rattle.vm_superio.specs.declared.saved.Error.TheVariants.{Memory};
+/// Lets `?` turn a failed check into [`Error::Bytes`].
+impl From<Fault> for Error {
+    ghost use Rattle.std.specs.Prelude.{◌≡◌};
+    ghost use Rattle.vm_superio.specs.declared.saved.Error.TheVariants.{Bytes};
 
-    ghost from_gives = { λ _ error. error ≡ Memory };
+    ghost from_gives = { λ fault error. error ≡ Bytes fault };
 
-    fn from(_refused: AllocError) -> Self {
-        Self::Memory
+    fn from(fault: Fault) -> Self {
+        Self::Bytes(fault)
     }
-}
-
-/// The header of a state of this kind, before `length` bytes.
-pub(crate) fn header(kind: u8, length: u16) -> [u8; 8]
-    ensures { result ≡ header kind length }
-{
-    let [m0, m1, m2, m3] = MAGIC;
-    let [low, high] = length.to_le_bytes();
-    [m0, m1, m2, m3, kind, VERSION, low, high]
-}
-
-/// The bytes after the header of a state of this kind.
-///
-/// # Errors
-///
-/// The first header check that fails: [`Error::TooShort`], [`Error::NotASavedState`], [`Error::OtherDevice`],
-/// [`Error::UnknownVersion`] or [`Error::WrongLength`].
-pub(crate) fn contents_of(kind: u8, bytes: &[u8]) -> Result<&[u8], Error>
-    ensures form { IfOk result (λ contents. bytes.now ≡ form kind contents.now) }
-    ensures fault { result_err result ≡ header_fault kind bytes.now }
-{
-    let [
-        m0,
-        m1,
-        m2,
-        m3,
-        its_kind,
-        its_version,
-        low,
-        high,
-        contents @ ..,
-    ] = bytes
-    else {
-        return Err(Error::TooShort);
-    };
-    if [*m0, *m1, *m2, *m3] != MAGIC {
-        return Err(Error::NotASavedState);
-    }
-    if *its_kind != kind {
-        return Err(Error::OtherDevice);
-    }
-    if *its_version != VERSION {
-        return Err(Error::UnknownVersion(*its_version));
-    }
-    if usize::from(u16::from_le_bytes([*low, *high])) != contents.len() {
-        return Err(Error::WrongLength);
-    }
-    Ok(contents)
 }

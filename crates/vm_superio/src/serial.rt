@@ -1,34 +1,39 @@
 //! A serial port with the registers of a 16550.
-ghost use Rattle.std.specs.Prelude.{◌≡◌, ◌<◌, ◌≤◌, ◌+◌, ◌-◌, length, vec_len, IsErr, IfOk, OnOk, IfErr};
-ghost use Rattle.vm_superio.specs.Serial.Port.Coherent.{Coherent};
+ghost use Rattle.vm_superio.specs.Links.OutCalls.{WriterCalls};
+ghost use Rattle.std.specs.Prelude.{◌≡◌, ◌<◌, ◌≤◌, ◌+◌, ◌-◌, ◌∷◌, ◌++◌, false, length, vec_len, IsErr, IfOk, OnOk, IfErr};
+ghost use Rattle.superio_core.specs.Serial.Port.Coherent.{Coherent};
 ghost use Rattle.vm_superio.specs.Links.Objects.{all_ok, RefusesOwnState};
-ghost use Rattle.vm_superio.specs.Serial.Port.State.{fresh_state, state_of};
-ghost use Rattle.vm_superio.specs.Serial.Step.Restore.{restore_calls, RefusesRestore};
+ghost use Rattle.superio_core.specs.Serial.Port.State.{fresh_state};
+ghost use Rattle.vm_superio.specs.Serial.Port.SavedState.{state_of};
+ghost use Rattle.superio_core.specs.Serial.Step.Restore.{restore_calls};
+ghost use Rattle.vm_superio.specs.Serial.Step.Restore.{RefusesRestore};
 
-mod bits;
-mod effects;
 mod errors;
 mod events;
-pub mod fields;
+mod objects;
+mod out;
+mod port;
 mod recorded;
-mod registers;
 mod restoring;
-mod rx_ring;
 pub mod saved_form;
 mod state;
-mod steps;
 
 use crate::Trigger;
-use crate::fifo::{FIFO_SIZE, Fifo, ReceiveFifo};
+use crate::fifo::Fifo;
 pub use errors::{Error, Refused};
 pub use events::{NoEvents, SerialEvents};
-use registers::Registers;
-pub use registers::{Condition, Register};
-use restoring::restored;
+pub use objects::{Objects, Three};
+pub use out::{SerialOut, WriterOut};
+pub use port::{Port, RefusedObject};
+use restoring::{reassert, restored};
 pub use state::SerialState;
 use std::alloc::{AllocError, Global};
 use std::io::Write;
 use std::marker::Model;
+use superio_core::fifo::{FIFO_SIZE, ReceiveFifo};
+use superio_core::serial::registers::Registers;
+pub use superio_core::serial::registers::{Condition, Register};
+pub use superio_core::serial::{EnqueueEffects, ReadEffects, RxRing, SerialPort, WriteEffects};
 
 /// A 16550 serial port, reduced to what a guest's driver uses: its registers, a receive FIFO of 64 bytes that is always
 /// on, and two interrupt conditions.
@@ -38,22 +43,20 @@ use std::marker::Model;
 pub struct Serial<T: Trigger, EV: SerialEvents, W: Write> {
     registers: Registers,
     in_buffer: Fifo,
-    interrupt_evt: T,
-    events: EV,
-    out: W,
+    objects: Three<T, EV, WriterOut<W>>,
 }
 
 impl<T: Trigger, EV: SerialEvents, W: Write> Model for Serial<T, EV, W> {
     ghost use Rattle.vm_superio.specs.Serial.Port.Model.{Port};
-    ghost use Rattle.vm_superio.specs.Serial.Port.State.{state_with};
+    ghost use Rattle.superio_core.specs.Serial.Port.State.{state_with};
 
     ghost Value = { Port T EV W };
 
     ghost view = { λ serial. record {
       state = state_with serial.registers serial.in_buffer;
-      trigger = serial.interrupt_evt;
-      events = serial.events;
-      out = serial.out;
+      trigger = serial.objects.trigger;
+      events = serial.objects.events;
+      out = serial.objects.out.writer;
     } };
 }
 
@@ -87,12 +90,17 @@ impl<T: Trigger, W: Write> Serial<T, NoEvents, W> {
 
 impl<T: Trigger, EV: SerialEvents, W: Write> Serial<T, EV, W> {
     ghost use Rattle.std.specs.Borrow.{Lends, sem};
+    ghost use Rattle.vm_superio.specs.Links.Writer.{taken_calls};
     ghost use Rattle.vm_superio.specs.contracts.serial.Serial.{the_row};
     ghost use Rattle.vm_superio.specs.Serial.Step.PortStep.{with_trigger, with_events, with_writer};
-    ghost use Rattle.vm_superio.specs.Serial.Step.PortStep.{IsReadStep, IsWriteStep, IsEnqueueStep, IsRetryStep};
-    ghost use Rattle.vm_superio.specs.Serial.Step.Admissible.{kind_in_state};
-    ghost use Rattle.vm_superio.specs.Serial.Port.Operations.{Read};
-    ghost use Rattle.vm_superio.specs.Serial.Port.OpKinds.{Other};
+    ghost use Rattle.vm_superio.specs.Serial.Step.PortStep.{IsReadStep, IsWriteStep, IsEnqueueStep, IsTimeoutStep, IsRetryStep};
+    ghost use Rattle.superio_core.specs.Serial.Port.Coherent.{ShowsHeldBytes};
+    ghost use Rattle.superio_core.specs.Serial.Step.Admissible.{kind_in_state, sends_byte};
+    ghost use Rattle.superio_core.specs.Serial.Port.Operations.{Read, Write};
+    ghost use Rattle.superio_core.specs.Serial.Port.OpKinds.{Other, sent_by};
+    ghost use Rattle.superio_core.specs.Serial.Port.Registers.{is_dlab};
+    ghost use Rattle.superio_core.specs.Serial.Port.State.{SameSettings};
+    ghost use Rattle.superio_core.specs.Serial.Step.Raising.{enqueued_bytes};
 
     /// Makes a serial port as `new` does, but reports events to `serial_evts`. Calls neither the trigger nor the events
     /// object.
@@ -129,9 +137,11 @@ impl<T: Trigger, EV: SerialEvents, W: Write> Serial<T, EV, W> {
         Ok(Serial {
             registers: Registers::new(),
             in_buffer,
-            interrupt_evt: trigger,
-            events: serial_evts,
-            out,
+            objects: Three {
+                trigger,
+                events: serial_evts,
+                out: WriterOut { writer: out },
+            },
         })
     }
 
@@ -169,9 +179,11 @@ impl<T: Trigger, EV: SerialEvents, W: Write> Serial<T, EV, W> {
             Ok((registers, in_buffer)) => Ok(Serial {
                 registers,
                 in_buffer,
-                interrupt_evt: trigger,
-                events: serial_evts,
-                out,
+                objects: Three {
+                    trigger,
+                    events: serial_evts,
+                    out: WriterOut { writer: out },
+                },
             }),
             Err(error) => Err(Refused {
                 error,
@@ -200,7 +212,7 @@ impl<T: Trigger, EV: SerialEvents, W: Write> Serial<T, EV, W> {
     pub fn writer(&self) -> &W
         ensures { result.now ≡ self.now.out }
     {
-        &self.out
+        &self.objects.out.writer
     }
 
     /// The writer, mutably. Nothing else in the port changes.
@@ -210,7 +222,7 @@ impl<T: Trigger, EV: SerialEvents, W: Write> Serial<T, EV, W> {
             self.entry result (with_writer self.old)) }
         ensures value { result.now ≡ self.old.out }
     {
-        &mut self.out
+        &mut self.objects.out.writer
     }
 
     /// Returns the writer unchanged. Drops the trigger and the events object.
@@ -220,14 +232,16 @@ impl<T: Trigger, EV: SerialEvents, W: Write> Serial<T, EV, W> {
         EV: Drop,
         ensures { result ≡ self.out }
     {
-        self.out
+        let objects = self.objects;
+        let out = objects.out;
+        out.writer
     }
 
     /// The trigger of the interrupt line.
     pub fn interrupt_evt(&self) -> &T
         ensures { result.now ≡ self.now.trigger }
     {
-        &self.interrupt_evt
+        &self.objects.trigger
     }
 
     /// The trigger, mutably. Nothing else in the port changes.
@@ -237,14 +251,14 @@ impl<T: Trigger, EV: SerialEvents, W: Write> Serial<T, EV, W> {
             self.entry result (with_trigger self.old)) }
         ensures value { result.now ≡ self.old.trigger }
     {
-        &mut self.interrupt_evt
+        &mut self.objects.trigger
     }
 
     /// The events object.
     pub fn events(&self) -> &EV
         ensures { result.now ≡ self.now.events }
     {
-        &self.events
+        &self.objects.events
     }
 
     /// The events object, mutably. Nothing else in the port changes.
@@ -254,7 +268,7 @@ impl<T: Trigger, EV: SerialEvents, W: Write> Serial<T, EV, W> {
             self.entry result (with_events self.old)) }
         ensures value { result.now ≡ self.old.events }
     {
-        &mut self.events
+        &mut self.objects.events
     }
 
     /// Writes `value` at `offset`, as a guest does.
@@ -265,7 +279,14 @@ impl<T: Trigger, EV: SerialEvents, W: Write> Serial<T, EV, W> {
     /// if the writer fails to take the byte or to flush. The writer's failure has no effect on the registers. A refused
     /// condition stays pending: no access calls the trigger for it again until the guest has acknowledged it.
     pub fn write(&mut self, offset: u8, value: u8) -> Result<(), Error<T::E>>
-        ensures step { IsWriteStep T.link EV.link W.contents offset value result self.old self.new }
+        ensures step { IsWriteStep T.link EV.link (WriterCalls W.contents) offset value result self.old self.new }
+        // While IER is 0 the trigger is not called.
+        ensures quiet { self.new.state.interrupt_enable ≡ 0 → self.new.trigger ≡ self.old.trigger }
+        // `Ok` of a THR write outside loopback means that the writer took the byte.
+        ensures sends { OnOk result (WriterCalls W.contents self.old.out
+            (taken_calls (sent_by (kind_in_state self.old.state (Write offset value)))) self.new.out) }
+        // Only a THR write outside loopback reaches the writer.
+        ensures silent { sends_byte self.old.state (Write offset value) ≡ false → self.new.out ≡ self.old.out }
         ensures coherent { Coherent self.old.state → Coherent self.new.state }
     {
         self.recorded_write(offset, value).reply
@@ -273,7 +294,11 @@ impl<T: Trigger, EV: SerialEvents, W: Write> Serial<T, EV, W> {
 
     /// Reads the byte at `offset`, as a guest does. Neither calls the trigger nor uses the writer.
     pub fn read(&mut self, offset: u8) -> u8
-        ensures step { IsReadStep T.link EV.link W.contents offset result self.old self.new }
+        ensures step { IsReadStep T.link EV.link (WriterCalls W.contents) offset result self.old self.new }
+        // A read of RBR gives the oldest byte and leaves the others.
+        ensures data { offset ≡ 0 → is_dlab self.old.state.line_control ≡ false →
+            0 < length self.old.state.in_buffer → result ∷ self.new.state.in_buffer ≡ self.old.state.in_buffer }
+        ensures settings { SameSettings self.old.state self.new.state }
         // A read of any register but RBR and IIR.
         ensures rest_unchanged { kind_in_state self.old.state (Read offset) ≡ Other → self.new ≡ self.old }
         ensures at_most_64 { length self.new.state.in_buffer ≤ 64 }
@@ -302,10 +327,10 @@ impl<T: Trigger, EV: SerialEvents, W: Write> Serial<T, EV, W> {
         ensures refused { IfErr result (λ refusal. RefusesOwnState T.link (restore_calls self.old.state)
             (Error.Trigger refusal) self.old.trigger self.new.trigger) }
         ensures rest_unchanged { self.new ≡ with_trigger self.old self.new.trigger }
-        ensures step { IsRetryStep T.link EV.link W.contents self.old self.new }
+        ensures step { IsRetryStep T.link EV.link (WriterCalls W.contents) self.old self.new }
         ensures coherent { Coherent self.old.state → Coherent self.new.state }
     {
-        self.registers.reassert(&mut self.interrupt_evt)
+        reassert(&self.registers, &mut self.objects.trigger)
     }
 
     /// How many bytes may still be enqueued: 64 minus the number of held bytes.
@@ -326,11 +351,33 @@ impl<T: Trigger, EV: SerialEvents, W: Write> Serial<T, EV, W> {
     /// Returns [`Error::FullFifo`] if there are bytes, outside loopback, and 64 are held: nothing changes. Returns
     /// [`Error::Trigger`] if the trigger refuses: the bytes are kept, and the guest finds them when it looks.
     pub fn enqueue_raw_bytes(&mut self, input: &[u8]) -> Result<usize, Error<T::E>>
-        ensures step { IsEnqueueStep T.link EV.link W.contents input.now result self.old self.new }
+        ensures step { IsEnqueueStep T.link EV.link (WriterCalls W.contents) input.now result self.old self.new }
+        ensures held { self.new.state.in_buffer ≡ self.old.state.in_buffer ++ enqueued_bytes self.old.state input.now }
+        ensures settings { SameSettings self.old.state self.new.state }
         ensures full { result ≡ Err Error.FullFifo → self.new ≡ self.old }
+        ensures quiet { self.old.state.interrupt_enable ≡ 0 → self.new.trigger ≡ self.old.trigger }
         ensures out { self.new.out ≡ self.old.out }
         ensures coherent { Coherent self.old.state → Coherent self.new.state }
     {
         self.recorded_enqueue(input).reply
+    }
+
+    /// Tells the port that the time of a few characters has passed without a read or a new byte: it raises RDA again if
+    /// bytes are held. It calls the trigger if IER enables RDA and it is not pending already. So no byte waits without
+    /// an interrupt, even if the guest has read IIR and left bytes in the FIFO.
+    ///
+    /// # Errors
+    ///
+    /// Returns [`Error::Trigger`] if the trigger refuses: RDA is pending nonetheless.
+    pub fn character_timeout(&mut self) -> Result<(), Error<T::E>>
+        ensures step { IsTimeoutStep T.link EV.link (WriterCalls W.contents) result self.old self.new }
+        // No byte waits without an interrupt.
+        ensures pending { ShowsHeldBytes self.new.state }
+        ensures quiet { self.old.state.interrupt_enable ≡ 0 → self.new.trigger ≡ self.old.trigger }
+        ensures events { self.new.events ≡ self.old.events }
+        ensures out { self.new.out ≡ self.old.out }
+        ensures coherent { Coherent self.old.state → Coherent self.new.state }
+    {
+        self.recorded_timeout().reply
     }
 }

@@ -157,23 +157,18 @@ static void any_bytes(void) {
     CHECK(superio_serial_fifo_capacity(&port) == 64);
 }
 
-/* An IER write raises both conditions. A refusal of the first leaves RDA alone pending. */
+/* An IER write raises both conditions. If the first interrupt is refused, both are due: no call has to say so. */
 static void interrupts(void) {
     superio_serial port = superio_serial_new();
     CHECK(superio_serial_enqueue(&port, (const uint8_t *)"x", 1).interrupts == 0);
     CHECK(write_at(&port, 1, 0x03).interrupts == 2 && port.interrupt_identification == 0x06);
     CHECK(superio_serial_interrupts_due(&port) == 2);
-    superio_serial wanted = port;
-    wanted.interrupt_identification = 0x04;
-    superio_serial_first_refused(&port);
-    CHECK(memcmp(&port, &wanted, sizeof port) == 0 && superio_serial_interrupts_due(&port) == 1);
     superio_serial_write_effects done = write_at(&port, 0, '!');
-    CHECK(done.sends && done.interrupts == 1 && superio_serial_interrupts_due(&port) == 2);
+    CHECK(done.sends && done.interrupts == 0 && superio_serial_interrupts_due(&port) == 2);
     CHECK(read_at(&port, 2) == 0xC6 && superio_serial_interrupts_due(&port) == 0);
-    /* Told at another moment, it leaves nothing pending where THRE alone was. */
     done = write_at(&port, 0, '!');
-    superio_serial_first_refused(&port);
-    CHECK(done.interrupts == 1 && superio_serial_is_coherent(&port) && read_at(&port, 2) == 0xC1);
+    CHECK(done.sends && done.interrupts == 1 && superio_serial_interrupts_due(&port) == 1);
+    CHECK(read_at(&port, 2) == 0xC2 && superio_serial_is_coherent(&port));
     /* In loopback a byte is received, and none goes out. */
     CHECK(!write_at(&port, 4, 0x10).sends);
     done = write_at(&port, 0, 'b');
@@ -181,6 +176,48 @@ static void interrupts(void) {
     port.len = 65;
     CHECK(!superio_serial_is_coherent(&port) && superio_serial_fifo_capacity(&port) == 0);
     CHECK(read_at(&port, 0x80) == 0 && read_at(&port, 0xFF) == 0);
+}
+
+/* A timeout raises RDA if bytes are held, IER enables RDA and RDA is not pending. It changes nothing else. */
+static void character_timeout(void) {
+    static const struct { uint8_t held, enable, pending, latch, modem, asks, left; } ROWS[] = {
+        {1, 0x01, 0x01, 0x03, 0x08, 1, 0x04},
+        {1, 0x0F, 0x02, 0x03, 0x08, 1, 0x06}, /* THRE stays pending */
+        {0, 0x03, 0x01, 0x03, 0x08, 0, 0x01}, /* no byte is held */
+        {0, 0x03, 0x02, 0x03, 0x08, 0, 0x02},
+        {1, 0x00, 0x01, 0x03, 0x08, 0, 0x01}, /* IER does not enable RDA */
+        {1, 0x0E, 0x02, 0x03, 0x08, 0, 0x02},
+        {1, 0x01, 0x04, 0x03, 0x08, 0, 0x04}, /* RDA is pending */
+        {1, 0x03, 0x06, 0x03, 0x08, 0, 0x06},
+        {64, 0x01, 0x01, 0x83, 0x08, 1, 0x04}, /* DLAB */
+        {255, 0x01, 0x01, 0x03, 0x18, 1, 0x04}, /* loopback */
+    };
+    for (size_t i = 0; i < sizeof ROWS / sizeof *ROWS; i++) {
+        superio_serial port = superio_serial_new(), wanted;
+        port.len = ROWS[i].held;
+        port.interrupt_enable = ROWS[i].enable;
+        port.interrupt_identification = ROWS[i].pending;
+        port.line_control = ROWS[i].latch;
+        port.modem_control = ROWS[i].modem;
+        wanted = port;
+        wanted.interrupt_identification = ROWS[i].left;
+        CHECK(superio_serial_character_timeout(&port) == ROWS[i].asks && memcmp(&port, &wanted, sizeof port) == 0);
+        CHECK(superio_serial_character_timeout(&port) == 0 && memcmp(&port, &wanted, sizeof port) == 0);
+    }
+}
+
+/* A guest that takes one byte for each interrupt gets them all: the timeout after its IIR read interrupts it again. */
+static void bytes_left(void) {
+    static const uint8_t BYTES[BYTE_COUNT] = {0x11, 0x22, 0x33, 0x44, 0x55};
+    superio_serial port = superio_serial_new();
+    CHECK(write_at(&port, 1, 0x01).interrupts == 0);
+    unsigned interrupts = superio_serial_enqueue(&port, BYTES, BYTE_COUNT).interrupts;
+    for (int i = 0; i < BYTE_COUNT; i++) {
+        CHECK(interrupts == 1 && read_at(&port, 2) == 0xC4);
+        CHECK(read_at(&port, 0) == BYTES[i] && read_at(&port, 2) == 0xC1);
+        interrupts = superio_serial_character_timeout(&port);
+    }
+    CHECK(interrupts == 0 && read_at(&port, 2) == 0xC1 && superio_serial_is_coherent(&port));
 }
 
 /* ---- the clock and the controller */
@@ -343,6 +380,8 @@ int main(void) {
     ring();
     any_bytes();
     interrupts();
+    character_timeout();
+    bytes_left();
     clock_registers();
     clock_offsets();
     clock_alarm();

@@ -1,8 +1,9 @@
 /*
  * Makes random calls of each function of the library, and the same calls of the
  * model: `fuzz CALLS SEED`. Each struct and each string of bytes is beside
- * a page that nobody may touch, before or after it. Prints the first difference
- * and exits with 1, or prints how many calls were made.
+ * a page that nobody may touch, before or after it. Prints how many calls were
+ * made. Prints the first difference instead, or a kind of call that was made too
+ * rarely, and exits with 1.
  */
 #define _DEFAULT_SOURCE
 #include "model.h"
@@ -33,6 +34,37 @@ static void must(bool is_so, const char *what) {
         return;
     printf("%s differs from the model\n", what);
     exit(1);
+}
+
+/* The kinds of calls, by the function and by what it came to. Of `RAREST` calls at least one is of each kind. */
+enum { RAREST = 2000 };
+enum kind {
+    READ, READ_LAST, WRITE, WRITE_ASKS_ONCE, WRITE_ASKS_TWICE, ENQUEUE, ENQUEUE_ASKS, ENQUEUE_FULL, TIMEOUT,
+    TIMEOUT_ASKS, ASK_PORT, SAVE_PORT, LOAD_PORT, REFUSED_PORT, READ_CLOCK, WRITE_CLOCK, ASK_CLOCK, SAVE_CLOCK,
+    LOAD_CLOCK, REFUSED_CLOCK, CONTROLLER, KINDS
+};
+static const char *const NAMES[KINDS] = {
+    [READ] = "a read", [READ_LAST] = "a read that leaves no byte", [WRITE] = "a write that asks for nothing",
+    [WRITE_ASKS_ONCE] = "a write that asks once", [WRITE_ASKS_TWICE] = "a write that asks twice",
+    [ENQUEUE] = "an enqueue that asks for nothing", [ENQUEUE_ASKS] = "an enqueue that asks",
+    [ENQUEUE_FULL] = "a refused enqueue", [TIMEOUT] = "a timeout that does nothing",
+    [TIMEOUT_ASKS] = "a timeout that asks", [ASK_PORT] = "a question about a port", [SAVE_PORT] = "a save of a port",
+    [LOAD_PORT] = "a load of a port", [REFUSED_PORT] = "a refused load of a port", [READ_CLOCK] = "a read of a clock",
+    [WRITE_CLOCK] = "a write to a clock", [ASK_CLOCK] = "a question about a clock", [SAVE_CLOCK] = "a save of a clock",
+    [LOAD_CLOCK] = "a load of a clock", [REFUSED_CLOCK] = "a refused load of a clock",
+    [CONTROLLER] = "a call of the controller",
+};
+static uint64_t reached[KINDS];
+
+/* Whether each kind of call was made often enough among so many calls. */
+static bool has_tried_all(uint64_t calls) {
+    for (int kind = 0; kind < KINDS; kind++) {
+        if (reached[kind] >= calls / RAREST)
+            continue;
+        printf("only %llu of the calls are %s\n", (unsigned long long)reached[kind], NAMES[kind]);
+        return false;
+    }
+    return true;
 }
 
 /* A page between two that nobody may touch. */
@@ -84,16 +116,20 @@ static void read_port(uint8_t offset) {
     superio_serial_read_effects made = superio_serial_read(port, offset), wanted = model_read(&model, offset);
     must(made.byte == wanted.byte && made.buffer_read == wanted.buffer_read &&
          made.in_buffer_empty == wanted.in_buffer_empty, "the effects of superio_serial_read");
+    reached[made.in_buffer_empty ? READ_LAST : READ]++;
+}
+
+/* What a call asks for is still due if it is refused, and no call has to say so. */
+static void refuse(unsigned interrupts) {
+    must(superio_serial_interrupts_due(port) >= interrupts, "what is due after a refusal");
 }
 
 static void write_port(uint8_t offset, uint8_t value) {
     superio_serial_write_effects made = superio_serial_write(port, offset, value);
     superio_serial_write_effects wanted = model_write(&model, offset, value);
     must(made.sends == wanted.sends && made.interrupts == wanted.interrupts, "the effects of superio_serial_write");
-    if (made.interrupts == 2 && one_in(2)) {
-        superio_serial_first_refused(port);
-        model_first_refused(&model);
-    }
+    refuse(made.interrupts);
+    reached[WRITE + (enum kind)made.interrupts]++;
 }
 
 static void enqueue(void) {
@@ -105,6 +141,18 @@ static void enqueue(void) {
     superio_serial_enqueue_effects wanted = model_enqueue(&model, bytes, count);
     must(made.taken == wanted.taken && made.full == wanted.full && made.interrupts == wanted.interrupts,
          "the effects of superio_serial_enqueue");
+    refuse(made.interrupts);
+    reached[made.full ? ENQUEUE_FULL : made.interrupts > 0 ? ENQUEUE_ASKS : ENQUEUE]++;
+}
+
+/* After a timeout no byte waits without an interrupt. */
+static void time_out(void) {
+    uint8_t made = superio_serial_character_timeout(port);
+    must(made == model_character_timeout(&model), "the effects of superio_serial_character_timeout");
+    must(model.held == 0 || !(port->interrupt_enable & 0x01) || port->interrupt_identification & 0x04,
+         "what is pending after a timeout");
+    refuse(made);
+    reached[made > 0 ? TIMEOUT_ASKS : TIMEOUT]++;
 }
 
 static void ask_port(void) {
@@ -112,6 +160,7 @@ static void ask_port(void) {
     must(superio_serial_interrupts_due(port) == model_interrupts_due(&model), "superio_serial_interrupts_due");
     must(superio_serial_is_coherent(port) == (port->len <= 64 && model_is_coherent(&model)),
          "superio_serial_is_coherent");
+    reached[ASK_PORT]++;
 }
 
 /* Saved bytes, spoilt in one of several ways or as they are. Returns how many. */
@@ -139,12 +188,14 @@ static void save_and_load_port(void) {
     size_t count = model_save(&model, wanted);
     must(superio_serial_save(port, saved) == count && memcmp(saved, wanted, SUPERIO_SERIAL_SAVED_MAX) == 0,
          "superio_serial_save");
+    reached[SAVE_PORT]++;
     count = spoil(wanted, count);
     const uint8_t *bytes = placed(wanted, count);
     superio_serial before = *port;
     uint32_t status = superio_serial_load(port, bytes, count);
     must(status == model_load(&model, bytes, count), "the status of superio_serial_load");
     must(status == SUPERIO_LOAD_OK || memcmp(port, &before, sizeof before) == 0, "a port after a refused load");
+    reached[status == SUPERIO_LOAD_OK ? LOAD_PORT : REFUSED_PORT]++;
 }
 
 static void call_port(void) {
@@ -157,14 +208,12 @@ static void call_port(void) {
     case 0: case 1: case 2: read_port(offset); break;
     case 3: case 4: case 5: write_port(offset, value); break;
     case 6: enqueue(); break;
-    case 7: ask_port(); break;
+    case 7: time_out(); break;
     case 8:
         if (one_in(4))
             save_and_load_port();
-        else if (one_in(8)) {
-            superio_serial_first_refused(port);
-            model_first_refused(&model);
-        }
+        else
+            ask_port();
     }
     must(model_is_port(&model, port), "the port");
 }
@@ -195,10 +244,12 @@ static void access_clock(uint64_t now) {
         superio_rtc_read_effects wanted = model_clock_read(&copy, offset, now);
         must(made.value == wanted.value && made.invalid_read == wanted.invalid_read,
              "the effects of superio_rtc_read");
+        reached[READ_CLOCK]++;
     } else {
         uint32_t value = one_in(3) ? (uint32_t)below(4) : (uint32_t)moment();
         must(superio_rtc_write(device, offset, value, now).invalid_write ==
              model_clock_write(&copy, offset, value, now).invalid_write, "the effects of superio_rtc_write");
+        reached[WRITE_CLOCK]++;
     }
 }
 
@@ -207,10 +258,12 @@ static void save_and_load_clock(void) {
     model_clock_save(&copy, wanted);
     superio_rtc_save(device, saved);
     must(memcmp(saved, wanted, SUPERIO_RTC_SAVED_SIZE) == 0, "superio_rtc_save");
+    reached[SAVE_CLOCK]++;
     size_t count = spoil(wanted, SUPERIO_RTC_SAVED_SIZE);
     const uint8_t *bytes = placed(wanted, count);
-    must(superio_rtc_load(device, bytes, count) == model_clock_load(&copy, bytes, count),
-         "the status of superio_rtc_load");
+    uint32_t status = superio_rtc_load(device, bytes, count);
+    must(status == model_clock_load(&copy, bytes, count), "the status of superio_rtc_load");
+    reached[status == SUPERIO_LOAD_OK ? LOAD_CLOCK : REFUSED_CLOCK]++;
 }
 
 static void call_clock(void) {
@@ -220,6 +273,7 @@ static void call_clock(void) {
     else if (one_in(4)) {
         must(superio_rtc_line(device) == model_line(&copy), "superio_rtc_line");
         must(superio_rtc_due(device, now) == model_due(&copy, now), "superio_rtc_due");
+        reached[ASK_CLOCK]++;
     } else
         access_clock(now);
     must(device->lr == copy.lr && device->mr == copy.mr && device->imsc == copy.imsc && device->ris == copy.ris &&
@@ -230,6 +284,7 @@ static void call_controller(void) {
     uint8_t offset = (uint8_t)(one_in(2) ? 4 : draw()), value = (uint8_t)(one_in(2) ? 0xFE : draw());
     must(superio_i8042_write(offset, value).resets == (offset == 4 && value == 0xFE), "superio_i8042_write");
     must(superio_i8042_read(offset) == 0, "superio_i8042_read");
+    reached[CONTROLLER]++;
 }
 
 int main(int count, char **arguments) {
@@ -251,6 +306,8 @@ int main(int count, char **arguments) {
         else
             call_port();
     }
+    if (!has_tried_all(calls))
+        return 1;
     printf("%llu calls\n", (unsigned long long)calls);
     return 0;
 }

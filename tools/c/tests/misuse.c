@@ -15,10 +15,10 @@ void make(superio_serial *port, superio_rtc *clock, uint8_t *result) {
     *port = superio_serial_new();
     *clock = superio_rtc_new();
     superio_serial_read(port, 2);
-    superio_serial_first_refused(port);
     superio_rtc_read(clock, 0, 1);
     superio_rtc_write(clock, 0, 1, 1);
     *result = (uint8_t)(superio_serial_enqueue(port, NULL, 0).taken + superio_serial_load(port, few, sizeof few));
+    *result += superio_serial_character_timeout(port);
 #elif MISUSE == 1 /* a byte to send and interrupts to ask for are lost */
     superio_serial_write(port, 0, 'x');
 #elif MISUSE == 2 /* bytes that were not taken are lost */
@@ -54,6 +54,8 @@ void make(superio_serial *port, superio_rtc *clock, uint8_t *result) {
     *result = superio_serial_write(port, 0, 'x', false).sends;
 #elif MISUSE == 17 /* no bytes to load, but a count */
     *result = (uint8_t)superio_rtc_load(clock, NULL, sizeof few);
+#elif MISUSE == 18 /* an interrupt to ask for is lost */
+    superio_serial_character_timeout(port);
 #else
 #error "there is no such misuse"
 #endif

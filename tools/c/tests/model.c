@@ -119,8 +119,6 @@ superio_serial_write_effects model_write(struct model_port *port, uint8_t offset
     return effects;
 }
 
-void model_first_refused(struct model_port *port) { acknowledge(port, THRE); }
-
 superio_serial_enqueue_effects model_enqueue(struct model_port *port, const uint8_t *bytes, size_t count) {
     superio_serial_enqueue_effects effects = {0};
     if (count == 0 || port->registers[MCR] & 0x10)
@@ -132,6 +130,8 @@ superio_serial_enqueue_effects model_enqueue(struct model_port *port, const uint
         effects.interrupts = raised(port, RDA);
     return effects;
 }
+
+uint8_t model_character_timeout(struct model_port *port) { return port->held > 0 ? raised(port, RDA) : 0; }
 
 uint8_t model_interrupts_due(const struct model_port *port) {
     uint8_t enable = port->registers[IER], pending = port->registers[IIR];

@@ -1,10 +1,10 @@
 -- The relations that trigger and events types state, and how the trigger calls of a restore are answered.
-use Rattle.std.specs.Prelude.{◌≡◌, ◌⊎◌, ℕ, List, [], ◌∷◌, Option, Result, Ok, Err}
+use Rattle.std.specs.Prelude.{◌≡◌, ◌⊎◌, List, [], ◌∷◌, Option, Result, Ok, Err}
 use Rattle.std.specs.Option.{option_map, option_to_list}
-use Rattle.vm_superio.specs.declared.trace.Asked.{Asked}
+use Rattle.superio_core.specs.declared.trace.Asked.{Asked}
 use Rattle.vm_superio.specs.declared.serial.errors.Error.{Error}
 use Rattle.vm_superio.specs.declared.serial.errors.Error.TheVariants.{Trigger, Memory}
-use Rattle.vm_superio.specs.Serial.Port.Registers.{Condition}
+use Rattle.superio_core.specs.declared.serial.registers.Condition.{Condition}
 
 -- the relation that the type of a trigger, or of an events object, states: its value before some calls, what the calls
 -- answered (a trigger) or reported (an events object), in order, and its value after them
@@ -14,10 +14,6 @@ Link Object Call = Object → List Call → Object → Type 0
 -- the answer to one trigger call
 abbrev pub TriggerAnswer : (E : Type 0) → Type 0
 TriggerAnswer E = Result (Unit {0}) E
-
--- the bytes that a writer holds, if its type makes them known
-abbrev pub Contents : (W : Type 0) → Type 0
-Contents W = W → Option (List ℕ)
 
 -- the answers that a record stands for. A refusal among them is the one in the reply, which has one exactly in that
 -- case

@@ -1,32 +1,74 @@
--- How a writer is linked over calls, and the links of a port's three objects.
-use Rattle.std.specs.Prelude.{◌≡◌, ℕ, not, List, [], ◌∷◌, IsTrue}
+-- The calls of a port's output object, how a byte is sent by them, and the links of a port's three objects.
+use Rattle.std.specs.Prelude.{◌≡◌, ℕ, not, List, [], ◌∷◌, ⊤, IsTrue, Option, Some, None, Ok, Err}
 use Rattle.std.specs.List.{list_all}
 use Rattle.std.specs.Io.KnownBytes.{Appends}
-use Rattle.vm_superio.specs.declared.trace.Sent.{Sent}
-use Rattle.vm_superio.specs.Serial.Port.Operations.{Op, Write, Event, is_sent, is_lost}
-use Rattle.vm_superio.specs.Links.Objects.{Link, TriggerAnswer, Contents}
+use Rattle.std.specs.declared.io.Error.{Error}
+use Rattle.superio_core.specs.declared.trace.Sent.{Sent}
+use Rattle.superio_core.specs.Serial.Port.Operations.{Op, Write, Event, is_lost}
+use Rattle.vm_superio.specs.Links.OutCalls.{OutCall, Put, Flush, WriterCalls}
+use Rattle.vm_superio.specs.Links.Objects.{Link, TriggerAnswer}
 
--- what the types of a port's trigger, events object and writer state
+-- what the types of a port's trigger, events object and output state
 pub record PortLinks (T E EV W : Type 0) : Type 1 where
   pub trigger : Link T (TriggerAnswer E)
   pub events : Link EV Event
-  pub contents : Contents W
+  pub out : Link W OutCall
 
 abbrev pub port_links :
-    {T E EV W : Type 0} → (trigger : Link T (TriggerAnswer E)) (events : Link EV Event) (contents : Contents W)
+    {T E EV W : Type 0} → (trigger : Link T (TriggerAnswer E)) (events : Link EV Event) (out : Link W OutCall)
     → PortLinks T E EV W
-port_links trigger events contents = record { trigger = trigger; events = events; contents = contents }
+port_links trigger events out = record { trigger = trigger; events = events; out = out }
 
--- the byte that the writer took in a call: a write's value, if it went out
-abbrev pub bytes_written : (op : Op) (sent : Sent) → List ℕ
-bytes_written (Write offset value) Sent.Out = value ∷ []
-bytes_written _ _ = []
+-- the byte that a call sent: a write's value, if it was sent
+abbrev pub bytes_sent : (op : Op) (sent : Sent) → List ℕ
+bytes_sent (Write offset value) Sent.Nothing = []
+bytes_sent (Write offset value) _ = value ∷ []
+bytes_sent _ _ = []
 
--- a writer before and after calls with these outcomes, in order, in which it took `bytes`. It is unchanged if
--- nothing was sent. If nothing was lost and its contents are known, it grew by these bytes. Otherwise nothing is stated
--- about it
-pub record WriterLink
-    {W : Type 0} (contents : Contents W) (outcomes : List Sent) (bytes : List ℕ) (old new : W) : Type 0 where
-  pub unchanged : IsTrue (list_all (λ outcome. not (is_sent outcome)) outcomes) → new ≡ old
-  pub grown :
-      IsTrue (list_all (λ outcome. not (is_lost outcome)) outcomes) → Appends (contents old) (contents new) bytes
+-- its outcome, if there is one
+abbrev pub outcome_of : (sent : Sent) → List Sent
+outcome_of Sent.Nothing = []
+outcome_of sent = sent ∷ []
+
+-- the calls by which an output takes bytes, all of them
+abbrev pub taken_calls : (bytes : List ℕ) → List OutCall
+taken_calls [] = []
+taken_calls (byte ∷ bytes) = Put byte (Ok tt) ∷ Flush (Ok tt) ∷ taken_calls bytes
+
+-- these calls send these bytes, in order, with these outcomes. A byte is out exactly if it was put and flushed, and
+-- lost exactly if the output failed to take it, or took it and failed to flush
+abbrev pub AreSendings : (outcomes : List Sent) (bytes : List ℕ) (calls : List OutCall) → Type 0
+AreSendings [] [] [] = ⊤
+AreSendings (Sent.Out ∷ outcomes) (byte ∷ bytes) (Put put (Ok done) ∷ Flush (Ok flushed) ∷ calls) =
+    (put ≡ byte) × AreSendings outcomes bytes calls
+AreSendings (Sent.Lost ∷ outcomes) (byte ∷ bytes) (Put put (Err fault) ∷ calls) =
+    (put ≡ byte) × AreSendings outcomes bytes calls
+AreSendings (Sent.Lost ∷ outcomes) (byte ∷ bytes) (Put put (Ok done) ∷ Flush (Err fault) ∷ calls) =
+    (put ≡ byte) × AreSendings outcomes bytes calls
+AreSendings _ _ _ = ⊥
+
+-- the first fault that the output answered
+abbrev pub first_fault : (calls : List OutCall) → Option Error
+first_fault [] = None
+first_fault (Put byte (Err fault) ∷ calls) = Some fault
+first_fault (Flush (Err fault) ∷ calls) = Some fault
+first_fault (call ∷ calls) = first_fault calls
+
+-- a fault that is returned is the very value that the output answered
+abbrev pub AnsweredFault : (returned : Option Error) (calls : List OutCall) → Type 0
+AnsweredFault None calls = ⊤
+AnsweredFault (Some fault) calls = first_fault calls ≡ Some fault
+
+-- an output before and after sending these bytes with these outcomes
+pub record OutLink
+    {W : Type 0} (link : Link W OutCall) (outcomes : List Sent) (bytes : List ℕ) (old new : W) : Type 0 where
+  pub calls : List OutCall
+  pub sends : AreSendings outcomes bytes calls
+  pub linked : link old calls new
+
+-- if no byte is lost, a writer of known contents grew by the bytes that were sent
+abbrev pub KnownOutputLaw : {W : Type 0} → (contents : W → Option (List ℕ)) → Type 0
+KnownOutputLaw {W} contents = (old new : W) (outcomes : List Sent) (bytes : List ℕ)
+    → OutLink (WriterCalls contents) outcomes bytes old new
+    → IsTrue (list_all (λ outcome. not (is_lost outcome)) outcomes)
+    → Appends (contents old) (contents new) bytes

@@ -2,10 +2,10 @@
 use Rattle.std.specs.Prelude.{◌≡◌, ℕ, ◌+◌, ◌<◌, Bool, true, false, ◌==◌, ◌&&◌, if◌then◌else◌, List, ◌∷◌, Option, None, pos, ◌+ℤ◌}
 use Rattle.std.specs.Int.{bit_at}
 use Rattle.std.specs.List.{list_any}
-use Rattle.vm_superio.specs.declared.rtc_pl031.RtcState.{RtcState}
-use Rattle.vm_superio.specs.Rtc.Registers.{Access, read, moment_of, bytes_left}
-use Rattle.vm_superio.specs.Rtc.Step.{clock_response, clock_step, state_after_accesses}
-use Rattle.vm_superio.specs.Rtc.Alarm.{IsDueIn, IsAlarmDue}
+use Rattle.superio_core.specs.declared.rtc_pl031.state.RtcState.{RtcState}
+use Rattle.superio_core.specs.Rtc.Registers.{Access, read, moment_of, bytes_left}
+use Rattle.superio_core.specs.Rtc.Step.{clock_response, clock_step, state_after_accesses}
+use Rattle.superio_core.specs.Rtc.Alarm.{IsDueIn, IsAlarmDue}
 use Rattle.vm_superio.specs.Rtc.History.{counter, clock_of_history, clock_history_response, cleared_by, match_written, raises_alarm, is_alarm_raised}
 
 -- for each history of the state before an access, the access responds as the history says

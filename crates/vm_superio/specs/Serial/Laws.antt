@@ -3,4 +3,6 @@ pub mod Agreement
 pub mod Consequences
 pub mod OneCall
 pub mod PollingDriver
-pub mod FieldsRun
+pub mod PortRun
+pub mod CharacterTimeout
+pub mod InterruptDriver

@@ -1,7 +1,9 @@
 -- The step of one call: what a call does to any state, register by register, as a device does it.
-pub mod Raising
-pub mod Transition
-pub mod Admissible
 pub mod PortStep
-pub mod FieldsStep
 pub mod Restore
+pub use Rattle.superio_core.specs.Serial.Step.Raising
+pub use Rattle.superio_core.specs.Serial.Step.Transition
+pub use Rattle.superio_core.specs.Serial.Step.Admissible
+pub use Rattle.superio_core.specs.Serial.Step.Calls
+pub mod CallsOf
+pub mod ObjectStep

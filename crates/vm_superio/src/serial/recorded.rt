@@ -1,40 +1,37 @@
 //! The calls of a serial port with their records: each takes a step of the registers and carries out its effects.
-ghost use Rattle.std.specs.Prelude.{◌≡◌, ◌≤◌, ℕ, if◌then◌else◌, [], ◌∷◌, is_some, IsTrue, OnOk};
-ghost use Rattle.std.specs.Io.KnownBytes.{Appends};
-ghost use Rattle.vm_superio.specs.Serial.Port.Operations.{Read, Write, Enqueue};
-ghost use Rattle.vm_superio.specs.Serial.Port.Operations.{ByteRead, WriteOk, TriggerRefused, WriterFailed, is_sent, is_lost, ends_in_refusal};
-ghost use Rattle.vm_superio.specs.Serial.Port.Effects.{events_of_read};
-ghost use Rattle.vm_superio.specs.Links.Writer.{port_links, WriterLink, bytes_written};
-ghost use Rattle.vm_superio.specs.Serial.Port.Model.{write_response, enqueue_response, refusal_in_result};
+ghost use Rattle.vm_superio.specs.Links.OutCalls.{WriterCalls};
+ghost use Rattle.std.specs.Prelude.{◌≡◌, ◌≤◌, if◌then◌else◌, is_some, IsTrue};
+ghost use Rattle.superio_core.specs.Serial.Port.Operations.{Read, Write, Enqueue, CharacterTimeout};
+ghost use Rattle.superio_core.specs.Serial.Port.Operations.{ByteRead, WriteOk, TriggerRefused, WriterFailed, ends_in_refusal};
+ghost use Rattle.superio_core.specs.declared.trace.Sent.{Sent};
+ghost use Rattle.vm_superio.specs.Links.Writer.{port_links};
+ghost use Rattle.vm_superio.specs.Serial.Port.Model.{write_response, enqueue_response, timeout_response, refusal_in_result, fault_in_result};
 ghost use Rattle.vm_superio.specs.Links.Objects.{answers_of};
-ghost use Rattle.vm_superio.specs.Serial.Step.Transition.{sent_events};
-ghost use Rattle.vm_superio.specs.Serial.Step.Admissible.{answers_all};
+ghost use Rattle.superio_core.specs.Serial.Step.Admissible.{answers_all};
 
 use super::Serial;
-use super::effects::ReadEffects;
 use super::errors::Error;
 use super::events::SerialEvents;
+use super::port::{enqueue_with, read_with, timeout_with, write_with};
 use crate::Trigger;
-use crate::trace::{Asked, Recorded, Sent};
+use crate::trace::{Asked, Recorded};
 use std::io;
 use std::io::Write;
 
 impl<T: Trigger, EV: SerialEvents, W: Write> Serial<T, EV, W> {
-    ghost use Rattle.vm_superio.specs.Serial.Step.PortStep.{IsPortStep};
+    ghost use Rattle.vm_superio.specs.Serial.Step.PortStep.{IsPortStep, IsRecordedWrite};
 
     /// `read`, which calls no trigger and sends no byte.
     pub(crate) fn recorded_read(&mut self, offset: u8) -> Recorded<u8>
-        ensures { IsPortStep (port_links T.link EV.link W.contents) (Read offset) result.asked result.sent
+        ensures { IsPortStep (port_links T.link EV.link (WriterCalls W.contents)) (Read offset) result.asked result.sent
             (ByteRead result.reply) None self.old self.new }
     {
-        let register = self.registers.at(offset);
-        let effects = self.registers.read(&mut self.in_buffer, register);
-        report_read(&mut self.events, effects);
-        Recorded {
-            reply: effects.byte,
-            asked: Asked::Nothing,
-            sent: Sent::Nothing,
-        }
+        read_with(
+            &mut self.registers,
+            &mut self.in_buffer,
+            &mut self.objects,
+            offset,
+        )
     }
 
     /// `write`, with the trigger's answers and the outcome of its byte.
@@ -43,50 +40,38 @@ impl<T: Trigger, EV: SerialEvents, W: Write> Serial<T, EV, W> {
         offset: u8,
         value: u8,
     ) -> Recorded<Result<(), Error<T::E>>>
-        ensures { IsPortStep (port_links T.link EV.link W.contents) (Write offset value) result.asked result.sent
-            (write_response result.reply) (refusal_in_result result.reply) self.old self.new }
+        ensures { IsRecordedWrite T.link EV.link (WriterCalls W.contents) offset value result.asked result.sent
+            result.reply self.old self.new }
     {
-        let register = self.registers.at(offset);
-        let effects = self.registers.write(&mut self.in_buffer, register, value);
-        let (sent, fault) = send_where_due(&mut self.events, &mut self.out, effects.sends, value);
-        let (asked, refusal) = call_trigger(&mut self.interrupt_evt, effects.interrupts);
-        self.registers.take_back(effects.interrupts, asked);
-        Recorded {
-            reply: reply(refusal, fault),
-            asked,
-            sent,
-        }
+        write_with(
+            &mut self.registers,
+            &mut self.in_buffer,
+            &mut self.objects,
+            offset,
+            value,
+        )
     }
 
     /// `enqueue_raw_bytes`, with the trigger's answers.
     pub(crate) fn recorded_enqueue(&mut self, input: &[u8]) -> Recorded<Result<usize, Error<T::E>>>
-        ensures { IsPortStep (port_links T.link EV.link W.contents) (Enqueue input.now) result.asked result.sent
+        ensures { IsPortStep (port_links T.link EV.link (WriterCalls W.contents)) (Enqueue input.now) result.asked result.sent
             (enqueue_response result.reply) (refusal_in_result result.reply) self.old self.new }
     {
-        if self.registers.is_loopback() || input.is_empty() {
-            return Recorded {
-                reply: Ok(0),
-                asked: Asked::Nothing,
-                sent: Sent::Nothing,
-            };
-        }
-        if self.fifo_capacity() == 0 {
-            return Recorded {
-                reply: Err(Error::FullFifo),
-                asked: Asked::Nothing,
-                sent: Sent::Nothing,
-            };
-        }
-        let (count, asks) = self.registers.receive(&mut self.in_buffer, input);
-        let (asked, refusal) = call_trigger(&mut self.interrupt_evt, u8::from(asks));
-        Recorded {
-            reply: match refusal {
-                Some(refusal) => Err(Error::Trigger(refusal)),
-                None => Ok(count),
-            },
-            asked,
-            sent: Sent::Nothing,
-        }
+        enqueue_with(
+            &mut self.registers,
+            &mut self.in_buffer,
+            &mut self.objects,
+            input,
+        )
+    }
+
+    /// `character_timeout`, with the trigger's answers.
+    pub(crate) fn recorded_timeout(&mut self) -> Recorded<Result<(), Error<T::E>>>
+        ensures step { IsPortStep (port_links T.link EV.link (WriterCalls W.contents)) CharacterTimeout result.asked result.sent
+            (timeout_response result.reply) (refusal_in_result result.reply) self.old self.new }
+        ensures sent { result.sent ≡ Sent.Nothing }
+    {
+        timeout_with(&mut self.registers, &self.in_buffer, &mut self.objects)
     }
 }
 
@@ -110,60 +95,10 @@ pub(super) fn call_trigger<T: Trigger>(trigger: &mut T, due: u8) -> (Asked, Opti
     }
 }
 
-/// Reports the events of a read.
-fn report_read<EV: SerialEvents>(events: &mut EV, effects: ReadEffects)
-    ensures { EV.link events.old (events_of_read effects) events.new }
-{
-    match (effects.in_buffer_empty, effects.buffer_read) {
-        (true, true) => {
-            events.in_buffer_empty();
-            events.buffer_read();
-        }
-        (true, false) => events.in_buffer_empty(),
-        (false, true) => events.buffer_read(),
-        (false, false) => {}
-    }
-}
-
-/// Sends the byte if due, and reports its outcome. Returns that and the writer's fault.
-fn send_where_due<EV: SerialEvents, W: Write>(
-    events: &mut EV,
-    out: &mut W,
-    sends: bool,
-    byte: u8,
-) -> (Sent, Option<io::Error>)
-    ensures sent { is_sent result.0 ≡ sends }
-    ensures lost { is_some result.1 ≡ is_lost result.0 }
-    ensures events { EV.link events.old (sent_events result.0) events.new }
-    ensures out { (offset : ℕ) →
-        WriterLink W.contents (result.0 ∷ []) (bytes_written (Write offset byte) result.0) out.old out.new }
-{
-    if !sends {
-        return (Sent::Nothing, None);
-    }
-    match write_and_flush(out, byte) {
-        Ok(()) => {
-            events.out_byte();
-            (Sent::Out, None)
-        }
-        Err(fault) => {
-            events.tx_lost_byte();
-            (Sent::Lost, Some(fault))
-        }
-    }
-}
-
-/// Writes the byte and, if that succeeds, flushes.
-fn write_and_flush<W: Write>(out: &mut W, byte: u8) -> io::Result<()>
-    ensures { OnOk result (Appends (W.contents out.old) (W.contents out.new) (byte ∷ [])) }
-{
-    out.write_all(&[byte])?;
-    out.flush()
-}
-
 /// The reply to a write: the trigger's refusal before the writer's failure.
-fn reply<E>(refusal: Option<E>, fault: Option<io::Error>) -> Result<(), Error<E>>
+pub(super) fn reply<E>(refusal: Option<E>, fault: Option<io::Error>) -> Result<(), Error<E>>
     ensures refusal { refusal_in_result result ≡ refusal }
+    ensures fault { fault_in_result result ≡ (if is_some refusal then None else fault) }
     ensures answer { write_response result
         ≡ (if is_some refusal then TriggerRefused else (if is_some fault then WriterFailed else WriteOk)) }
 {

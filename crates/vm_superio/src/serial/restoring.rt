@@ -1,47 +1,31 @@
 //! A restore: what a port takes from a saved state, and its trigger calls.
 ghost use Rattle.std.specs.Prelude.{◌≡◌, ◌≤◌, List, [], length, Result, OnOk, IfOk, IfErr};
 ghost use Rattle.vm_superio.specs.Links.Objects.{all_ok, StopsAtRefusal};
-ghost use Rattle.vm_superio.specs.Serial.Port.State.{state_of, state_with};
-ghost use Rattle.vm_superio.specs.Serial.Step.Restore.{is_asserted, restore_calls, RefusesRestore};
+ghost use Rattle.vm_superio.specs.Serial.Port.SavedState.{state_of};
+ghost use Rattle.superio_core.specs.Serial.Port.State.{state_with};
+ghost use Rattle.superio_core.specs.Serial.Step.Restore.{restore_calls};
+ghost use Rattle.vm_superio.specs.Serial.Step.Restore.{RefusesRestore};
 
-use super::bits::has_bits;
 use super::errors::Error;
 use super::recorded::call_trigger;
-use super::registers::{Condition, Registers};
 use super::state::SerialState;
 use crate::Trigger;
-use crate::fifo::{FIFO_SIZE, Fifo};
+use crate::fifo::Fifo;
 use std::alloc::Global;
+use superio_core::fifo::FIFO_SIZE;
+use superio_core::serial::registers::Registers;
 
-impl Registers {
-    /// Whether a condition is pending and enabled.
-    fn is_asserted(&self, condition: Condition) -> bool
-        ensures { result ≡ is_asserted condition (state_with self.now []) }
-    {
-        has_bits(self.interrupt_identification, condition.iir_bit())
-            && has_bits(self.interrupt_enable, condition.ier_bit())
-    }
-
-    /// How often a restore calls the trigger: once for each condition that is pending and enabled.
-    pub(super) fn interrupts_due(&self) -> u8
-        ensures calls { result ≡ length (restore_calls (state_with self.now [])) }
-        ensures at_most_2 { result ≤ 2 }
-    {
-        u8::from(self.is_asserted(Condition::Thre)) + u8::from(self.is_asserted(Condition::Rda))
-    }
-
-    /// Calls the trigger once for each condition that is pending and enabled, up to the first refusal.
-    pub(super) fn reassert<T: Trigger>(&self, trigger: &mut T) -> Result<(), T::E>
-        ensures accepted { OnOk result
-            (T.link trigger.old (all_ok (restore_calls (state_with self.now []))) trigger.new) }
-        ensures refused { IfErr result (λ refusal. (answers : List (Result (Unit {0}) T.E))
-            × StopsAtRefusal (restore_calls (state_with self.now [])) refusal answers
-            × T.link trigger.old answers trigger.new) }
-    {
-        match call_trigger(trigger, self.interrupts_due()).1 {
-            None => Ok(()),
-            Some(refusal) => Err(refusal),
-        }
+/// Calls the trigger once for each condition that is pending and enabled, up to the first refusal.
+pub(super) fn reassert<T: Trigger>(registers: &Registers, trigger: &mut T) -> Result<(), T::E>
+    ensures accepted { OnOk result
+        (T.link trigger.old (all_ok (restore_calls (state_with registers.now []))) trigger.new) }
+    ensures refused { IfErr result (λ refusal. (answers : List (Result (Unit {0}) T.E))
+        × StopsAtRefusal (restore_calls (state_with registers.now [])) refusal answers
+        × T.link trigger.old answers trigger.new) }
+{
+    match call_trigger(trigger, registers.interrupts_due()).1 {
+        None => Ok(()),
+        Some(refusal) => Err(refusal),
     }
 }
 
@@ -60,7 +44,7 @@ pub(super) fn restored<T: Trigger>(
     }
     let in_buffer = Fifo::from_slice(alloc, &state.in_buffer)?;
     let registers = state.registers();
-    match registers.reassert(trigger) {
+    match reassert(&registers, trigger) {
         Ok(()) => Ok((registers, in_buffer)),
         Err(refusal) => Err(Error::Trigger(refusal)),
     }

@@ -1,23 +1,41 @@
-//! The byte form of a serial port's state.
-ghost use Rattle.std.specs.Prelude.{◌≡◌, ◌↔◌, ◌≤◌, ◌+◌, length, List, ℕ, ◌++◌, IfOk, IfErr, IsOk, IfSome, MatchResult};
-ghost use Rattle.std.specs.Result.{result_err, IsOkAnd};
-ghost use Rattle.vm_superio.specs.Serial.Port.State.{state_of, state_with, State};
-ghost use Rattle.vm_superio.specs.Serial.Port.Fields.{state_of_fields};
-ghost use Rattle.vm_superio.specs.Serial.Port.RxRing.{held_bytes};
-ghost use Rattle.vm_superio.specs.Saved.Form.{serial_contents, serial_form};
-ghost use Rattle.vm_superio.specs.Saved.Faults.{serial_fault};
+//! The byte form of a serial port's saved state.
+ghost use Rattle.std.specs.Prelude.{◌≡◌, ◌↔◌, ◌≤◌, ℕ, List, length, take, IfOk, IfErr, IsOk, IfSome, MatchResult};
+ghost use Rattle.vm_superio.specs.Serial.Port.SavedState.{state_of};
+ghost use Rattle.superio_core.specs.Serial.Port.State.{State};
+ghost use Rattle.superio_core.specs.Saved.Form.{serial_form};
+ghost use Rattle.superio_core.specs.Saved.Faults.{serial_fault};
 
-use super::fields::SerialFields;
-use super::registers::{REGISTER_COUNT, Registers};
-use super::rx_ring::RxRing;
 use super::state::SerialState;
-use crate::fifo::{FIFO_SIZE, ReceiveFifo};
-use crate::saved::{Error, HEADER_SIZE, SERIAL_KIND, contents_of, header};
-use arrayvec::ArrayVec;
+use crate::saved::{Error, Fault};
 use std::alloc::Global;
+use std::marker::Model;
+use superio_core::fifo::FIFO_SIZE;
+pub use superio_core::serial::saved_form::SAVED_MAX;
+use superio_core::serial::saved_form::registers_of;
 
-/// The maximum size of a port's byte form: the header, the registers and 64 received bytes.
-pub const SAVED_MAX: usize = HEADER_SIZE + REGISTER_COUNT + FIFO_SIZE;
+/// The bytes of a saved port. Contracts see a list of at most 81 bytes.
+#[derive(Drop)]
+pub struct SerialForm {
+    bytes: [u8; SAVED_MAX],
+    count: usize,
+}
+
+impl Model for SerialForm {
+    ghost Value = { List ℕ };
+
+    ghost view = { λ form. take form.count form.bytes };
+
+    ghost invariant = { λ form. form.count ≤ 81 };
+}
+
+impl SerialForm {
+    /// The bytes.
+    pub fn as_bytes(&self) -> &[u8]
+        ensures { result.now ≡ self.now }
+    {
+        &self.bytes[..self.count]
+    }
+}
 
 impl SerialState {
     /// The state as bytes; `from_bytes` reads them back. Allocates no memory.
@@ -27,18 +45,18 @@ impl SerialState {
     ///
     /// # Errors
     ///
-    /// Returns [`Error::TooManyBytes`] if the state has more than 64 received bytes, and so no form.
-    pub fn to_bytes(&self) -> Result<ArrayVec<u8, SAVED_MAX>, Error>
-        ensures form { IfOk result (λ bytes. bytes.items ≡ serial_form (state_of self.now)) }
+    /// Returns [`Fault::TooManyBytes`] if the state has more than 64 received bytes, and so no form.
+    pub fn to_bytes(&self) -> Result<SerialForm, Fault>
+        ensures form { IfOk result (λ form. form ≡ serial_form (state_of self.now)) }
         ensures at_most_64 { IsOk result ↔ (length self.now.in_buffer.items ≤ 64) }
-        ensures too_many { IfErr result (λ error. error ≡ Error.TooManyBytes) }
+        ensures too_many { IfErr result (λ error. error ≡ Fault.TooManyBytes) }
     {
         if self.in_buffer.len() > FIFO_SIZE {
-            return Err(Error::TooManyBytes);
+            return Err(Fault::TooManyBytes);
         }
-        let mut form = self.registers().begin_form(self.in_buffer.len());
-        form.try_extend_from_slice(&self.in_buffer).unwrap();
-        Ok(form)
+        let mut bytes = [0; SAVED_MAX];
+        let count = self.registers().write_form(&self.in_buffer, &mut bytes);
+        Ok(SerialForm { bytes, count })
     }
 
     /// Reads the state back from these bytes, whatever its registers hold. It may be incoherent:
@@ -46,97 +64,20 @@ impl SerialState {
     ///
     /// # Errors
     ///
-    /// Returns the first check that fails, in the order of [`Error`]: any case but [`Error::InvalidArmed`]. Then
+    /// Returns the first check that fails, in the order of [`Fault`]: any case but [`Fault::InvalidArmed`]. Then
     /// returns [`Error::Memory`] if allocating the received bytes fails.
     pub fn from_bytes(alloc: Global, bytes: &[u8]) -> Result<SerialState, Error>
         ensures form { IfOk result (λ state. bytes.now ≡ serial_form (state_of state)) }
         ensures read { (state : State) → length state.in_buffer ≤ 64 → bytes.now ≡ serial_form state →
             MatchResult result (λ saved. state_of saved ≡ state) (λ error. error ≡ Error.Memory) }
         ensures at_most_64 { IfOk result (λ state. length state.in_buffer.items ≤ 64) }
-        ensures fault { IfSome (serial_fault bytes.now) (λ fault. result ≡ Err fault) }
+        ensures fault { IfSome (serial_fault bytes.now) (λ fault. result ≡ Err (Error.Bytes fault)) }
         ensures memory { serial_fault bytes.now ≡ None → IfErr result (λ error. error ≡ Error.Memory) }
     {
         let (registers, in_buffer) = registers_of(bytes)?;
-        Ok(SerialState::of(&registers, in_buffer.to_vec(alloc)?))
+        match in_buffer.to_vec(alloc) {
+            Ok(in_buffer) => Ok(SerialState::of(&registers, in_buffer)),
+            Err(_) => Err(Error::Memory),
+        }
     }
-}
-
-impl SerialFields {
-    /// The state as bytes, as from [`SerialState::to_bytes`]. Any struct has a form: a port never holds more than 64
-    /// bytes. The form has no byte the guest has read.
-    pub fn to_bytes(&self) -> ArrayVec<u8, SAVED_MAX>
-        ensures { result.items ≡ serial_form (state_of_fields self.now) }
-    {
-        let mut form = self.registers.begin_form(self.in_buffer.len());
-        push_held(&mut form, self.in_buffer);
-        form
-    }
-
-    /// Reads a port back from these bytes, as [`SerialState::from_bytes`] does.
-    ///
-    /// # Errors
-    ///
-    /// Returns the first check that fails, in the order of [`Error`]: any case but [`Error::InvalidArmed`] and
-    /// [`Error::Memory`].
-    pub fn from_bytes(bytes: &[u8]) -> Result<SerialFields, Error>
-        ensures form { IfOk result (λ port. bytes.now ≡ serial_form (state_of_fields port)) }
-        ensures at_most_64 { IfOk result (λ port. port.in_buffer.len ≤ 64) }
-        ensures read { (state : State) → length state.in_buffer ≤ 64 → bytes.now ≡ serial_form state →
-            IsOkAnd result (λ port. state_of_fields port ≡ state) }
-        ensures fault { result_err result ≡ serial_fault bytes.now }
-    {
-        let (registers, held) = registers_of(bytes)?;
-        let mut in_buffer = RxRing::new();
-        in_buffer.fill(held);
-        Ok(SerialFields {
-            registers,
-            in_buffer,
-        })
-    }
-}
-
-/// Adds the held bytes, oldest first.
-fn push_held(form: &mut ArrayVec<u8, SAVED_MAX>, mut held: RxRing)
-    requires { length form.old.items + length (held_bytes held) ≤ SAVED_MAX }
-    ensures { form.new.items ≡ form.old.items ++ held_bytes held }
-{
-    while let Some(byte) = held.take_first() {
-        form.push(byte);
-    }
-}
-
-impl Registers {
-    /// The start of the form of a port with these registers and `held` received bytes.
-    pub(super) fn begin_form(&self, held: usize) -> ArrayVec<u8, SAVED_MAX>
-        requires { held ≤ 64 }
-        ensures form { (in_buffer : List ℕ) → length in_buffer ≡ held →
-            result.items ++ in_buffer ≡ serial_form (state_with self.now in_buffer) }
-        ensures length { length result.items ≡ HEADER_SIZE + REGISTER_COUNT }
-    {
-        let mut form = ArrayVec::new();
-        form.try_extend_from_slice(&header(SERIAL_KIND, (REGISTER_COUNT + held) as u16))
-            .unwrap();
-        form.try_extend_from_slice(&self.to_array()).unwrap();
-        form
-    }
-}
-
-/// The registers and the received bytes of a port's form.
-///
-/// # Errors
-///
-/// As for [`SerialState::from_bytes`], except memory.
-pub(super) fn registers_of(bytes: &[u8]) -> Result<(Registers, &[u8]), Error>
-    ensures form { IfOk result (λ found. bytes.now ≡ serial_form (state_with found.0 found.1.now)) }
-    ensures at_most_64 { IfOk result (λ found. length found.1.now ≤ 64) }
-    ensures fault { result_err result ≡ serial_fault bytes.now }
-{
-    let contents = contents_of(SERIAL_KIND, bytes)?;
-    let Some((registers, in_buffer)) = contents.split_first_chunk::<REGISTER_COUNT>() else {
-        return Err(Error::WrongLength);
-    };
-    if in_buffer.len() > FIFO_SIZE {
-        return Err(Error::TooManyBytes);
-    }
-    Ok((Registers::from_array(*registers), in_buffer))
 }

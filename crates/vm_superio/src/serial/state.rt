@@ -1,13 +1,11 @@
 //! A saved serial port.
-ghost use Rattle.std.specs.Prelude.{◌≡◌, ◌↔◌, Bool, IfOk, IsTrue};
-ghost use Rattle.vm_superio.specs.Serial.Port.State.{fresh_state};
-ghost use Rattle.vm_superio.specs.Serial.Port.Coherent.{Coherent};
-ghost use Rattle.vm_superio.specs.Serial.Port.Registers.{identification_of};
+ghost use Rattle.std.specs.Prelude.{◌≡◌, ◌↔◌, IfOk, IsTrue};
+ghost use Rattle.superio_core.specs.Serial.Port.State.{fresh_state};
+ghost use Rattle.superio_core.specs.Serial.Port.Coherent.{Coherent};
 
-use super::bits::{LSR_DATA_READY_BIT, has_bits};
-use super::registers::Registers;
-use crate::fifo::FIFO_SIZE;
 use std::alloc::{AllocError, Global};
+use superio_core::fifo::FIFO_SIZE;
+use superio_core::serial::registers::Registers;
 
 /// A serial port's contents except its objects: enough to recreate the port, also on another machine.
 ///
@@ -37,7 +35,8 @@ pub struct SerialState {
 }
 
 impl SerialState {
-    ghost use Rattle.vm_superio.specs.Serial.Port.State.{state_of, state_with};
+    ghost use Rattle.vm_superio.specs.Serial.Port.SavedState.{state_of};
+    ghost use Rattle.superio_core.specs.Serial.Port.State.{state_with};
 
     /// The state of a new port. Allocates no memory.
     pub fn default(alloc: Global) -> SerialState
@@ -68,10 +67,8 @@ impl SerialState {
     pub fn is_coherent(&self) -> bool
         ensures { IsTrue result ↔ Coherent (state_of self.now) }
     {
-        let holds_bytes = !self.in_buffer.is_empty();
         self.in_buffer.len() <= FIFO_SIZE
-            && has_bits(self.line_status, LSR_DATA_READY_BIT) == holds_bytes
-            && shows_conditions(self.interrupt_identification, holds_bytes)
+            && self.registers().is_coherent(!self.in_buffer.is_empty())
     }
 
     /// The state of a port with these registers and received bytes.
@@ -107,20 +104,5 @@ impl SerialState {
             modem_status: self.modem_status,
             scratch: self.scratch,
         }
-    }
-}
-
-/// Whether IIR is 1, 2, 4 or 6, with RDA pending only while bytes are held.
-pub(super) fn shows_conditions(identification: u8, holds_bytes: bool) -> bool
-    ensures { IsTrue result
-        ↔ ((thre rda : Bool) × (identification ≡ identification_of thre rda)
-        × (IsTrue rda → IsTrue holds_bytes)) }
-{
-    match identification {
-        0x01 => true,
-        0x02 => true,
-        0x04 => holds_bytes,
-        0x06 => holds_bytes,
-        _ => false,
     }
 }

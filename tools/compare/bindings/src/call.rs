@@ -33,6 +33,9 @@ pub enum Action {
     SerialRead(u8),
     SerialWrite(u8, u8),
     SerialEnqueue(Vec<u8>),
+    /// Of bindings/rust alone: the Rust crate has no character timeout.
+    #[allow(dead_code)] // only a recorded line makes it
+    SerialTimeout,
     SerialCapacity,
     /// A port is made of this state, or of the port's own, and takes its place.
     SerialRestore(Option<Port>),
@@ -87,6 +90,7 @@ impl Call {
             Action::SerialRead(_) => "serial read",
             Action::SerialWrite(..) => "serial write",
             Action::SerialEnqueue(_) => "serial enqueue",
+            Action::SerialTimeout => "serial timeout",
             Action::SerialCapacity => "serial capacity",
             Action::SerialRestore(_) => "serial restore",
             Action::ClockRead(_) => "clock read",

@@ -31,10 +31,10 @@ impl Script {
 
 /// A trigger, an events object and a writer in one.
 #[derive(Clone, Default)]
-struct Object(Rc<Script>);
+pub struct Object(Rc<Script>);
 
 #[derive(Debug)]
-struct Refused;
+pub struct Refused;
 
 impl fmt::Display for Refused {
     fn fmt(&self, f: &mut fmt::Formatter) -> fmt::Result {
@@ -108,7 +108,7 @@ impl Write for Object {
 
 pub struct Devices {
     object: Object,
-    serial: Serial<Object, Object, Object>,
+    pub serial: Serial<Object, Object, Object>,
     clock: Rtc<Object>,
     controller: I8042Device<Object>,
 }
@@ -131,10 +131,18 @@ impl Devices {
     }
 
     pub fn make(&mut self, call: &Call) -> Observed {
+        self.observe(call, |devices| devices.carry_out(&call.action))
+    }
+
+    /// What is seen of a call that is carried out so.
+    pub fn observe<F>(&mut self, call: &Call, carry_out: F) -> Observed
+    where
+        F: FnOnce(&mut Devices) -> Result<u64, Error<Refused>>,
+    {
         self.object.0.refuses.set(call.refuses);
         self.object.0.writing.set(Some(call.writing));
         self.object.0.panics_after.set(call.panics_after);
-        let reply = match catch_unwind(AssertUnwindSafe(|| self.carry_out(&call.action))) {
+        let reply = match catch_unwind(AssertUnwindSafe(|| carry_out(self))) {
             Ok(reply) => reply.map_err(|error| format!("{error}")),
             Err(_) => Err("panics".to_string()),
         };
@@ -153,6 +161,7 @@ impl Devices {
             Action::SerialRead(offset) => Ok(self.serial.read(*offset).into()),
             Action::SerialWrite(offset, value) => self.serial.write(*offset, *value).map(|()| 0),
             Action::SerialEnqueue(bytes) => self.serial.enqueue_raw_bytes(bytes).map(|count| count as u64),
+            Action::SerialTimeout => unreachable!("a replay carries it out itself, by `observe`"),
             Action::SerialCapacity => Ok(self.serial.fifo_capacity() as u64),
             Action::SerialRestore(port) => {
                 let state = port.as_ref().map_or_else(|| self.serial.state(), state_of_port);

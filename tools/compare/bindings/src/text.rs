@@ -41,6 +41,7 @@ pub fn text_of_call(call: &Call, moment: u64) -> String {
         Action::SerialRead(offset) => format!("sr {offset:02x}"),
         Action::SerialWrite(offset, value) => format!("sw {offset:02x} {value:02x}"),
         Action::SerialEnqueue(bytes) => format!("sq {}", hex_or_none(bytes)),
+        Action::SerialTimeout => "si".to_string(),
         Action::SerialCapacity => "sc".to_string(),
         Action::SerialRestore(None) => "ss".to_string(),
         Action::SerialRestore(Some(port)) => format!("sl {}", text_of_port(port)),
@@ -70,6 +71,7 @@ pub fn call_of_text(text: &str) -> (Call, u64) {
         "sr" => Action::SerialRead(number(word()) as u8),
         "sw" => Action::SerialWrite(number(word()) as u8, number(word()) as u8),
         "sq" => Action::SerialEnqueue(bytes_of(word())),
+        "si" => Action::SerialTimeout,
         "sc" => Action::SerialCapacity,
         "ss" => Action::SerialRestore(None),
         "sl" => {
@@ -130,7 +132,8 @@ pub fn text_of_reply(call: &Call, observed: &Observed) -> String {
         (Err(_), _) => "io".to_string(),
         (Ok(_), Action::SerialRestore(_)) => format!("{} {:02x}", text_of_port(&observed.serial), observed.capacity),
         (Ok(_), Action::ClockRestore(_)) => text_of_clock(&observed.clock),
-        (Ok(_), Action::SerialWrite(..) | Action::ClockWrite(..) | Action::ControllerWrite(..)) => "ok".to_string(),
+        (Ok(_), Action::SerialWrite(..) | Action::SerialTimeout) => "ok".to_string(),
+        (Ok(_), Action::ClockWrite(..) | Action::ControllerWrite(..)) => "ok".to_string(),
         (Ok(value), Action::ClockRead(_)) => format!("{value:08x}"),
         (Ok(value), _) => format!("{value:02x}"),
     };

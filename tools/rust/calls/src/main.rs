@@ -21,6 +21,15 @@ use std::io::{self, BufRead};
 use std::process::ExitCode;
 
 use by_ours::devices::Devices;
+use call::{Action, Call, Observed};
+use ours::serial::timeout::CharacterTimeout;
+
+fn make(devices: &mut Devices, call: &Call) -> Observed {
+    match call.action {
+        Action::SerialTimeout => devices.observe(call, |devices| devices.serial.character_timeout().map(|()| 0)),
+        _ => devices.make(call),
+    }
+}
 
 fn main() -> io::Result<ExitCode> {
     assert!(moment::is_seen(), "this system's clock cannot be replaced");
@@ -31,7 +40,7 @@ fn main() -> io::Result<ExitCode> {
         let Some((before, _)) = line.split_once(" = ") else { continue };
         let (call, now) = text::call_of_text(before);
         moment::set(now);
-        let observed = devices.make(&call);
+        let observed = make(&mut devices, &call);
         let got = format!("{before} = {}", text::text_of_reply(&call, &observed));
         if got == line {
             same += 1;

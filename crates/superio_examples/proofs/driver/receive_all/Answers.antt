@@ -2,10 +2,10 @@
 use Rattle.std.proofs.Common.{rules, ◌≡◌, ◌≤◌, ◌-◌, [], ◌++◌, length, take, ap, ◌∙◌, append_assoc, refl}
 use Rattle.std.proofs.lemmas.List.{take-append-drop, take_all}
 use Rattle.std.specs.Prelude.{if◌then◌else◌}
-use Rattle.vm_superio.specs.Bits.{has_bits}
-use Rattle.vm_superio.specs.Serial.Port.State.{fresh_state, State}
-use Rattle.vm_superio.specs.Serial.Port.Registers.{is_dlab, is_loopback}
-use Rattle.vm_superio.specs.Serial.Step.Raising.{receive_bytes}
+use Rattle.superio_core.specs.Bits.{has_bits}
+use Rattle.superio_core.specs.Serial.Port.State.{fresh_state, State}
+use Rattle.superio_core.specs.Serial.Port.Registers.{is_dlab, is_loopback}
+use Rattle.superio_core.specs.Serial.Step.Raising.{receive_bytes}
 use Rattle.superio_examples.proofs.driver.receive_all.Goals as goal
 
 pub loop-rest-init : goal.loop-rest-init

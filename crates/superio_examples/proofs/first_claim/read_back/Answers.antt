@@ -1,11 +1,11 @@
 -- By the laws of one call: no byte was held before the input, and each read gives the oldest byte and leaves the others.
 use Rattle.std.proofs.Common.{rules, ◌≡◌, ◌-◌, ◌<◌, [], ◌∷◌, ◌++◌, length, take, sym, ap, ◌∙◌, append-nil, append_assoc, arith}
 use Rattle.std.proofs.lemmas.List.{nil_from_length}
-use Rattle.vm_superio.specs.Bits.{has_bits}
-use Rattle.vm_superio.specs.Serial.Port.State.{State, fresh_state}
-use Rattle.vm_superio.specs.Serial.Port.Registers.{is_dlab}
-use Rattle.vm_superio.specs.Serial.Port.Operations.{Enqueue}
-use Rattle.vm_superio.specs.Serial.Step.Transition.{step}
+use Rattle.superio_core.specs.Bits.{has_bits}
+use Rattle.superio_core.specs.Serial.Port.State.{State, fresh_state}
+use Rattle.superio_core.specs.Serial.Port.Registers.{is_dlab}
+use Rattle.superio_core.specs.Serial.Port.Operations.{Enqueue}
+use Rattle.superio_core.specs.Serial.Step.Transition.{step}
 use Rattle.superio_examples.proofs.first_claim.read_back.Goals as goal
 
 pub loop-init : goal.loop-init

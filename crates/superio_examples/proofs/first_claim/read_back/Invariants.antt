@@ -1,6 +1,6 @@
 -- What was read, then what is held, is the input, as far as there was room. One byte is held for each read to come.
 use Rattle.std.proofs.Common.{◌≡◌, ◌+◌, false, ◌++◌, length, take}
-use Rattle.vm_superio.specs.Serial.Port.Registers.{is_dlab}
+use Rattle.superio_core.specs.Serial.Port.Registers.{is_dlab}
 use Rattle.superio_examples.proofs.first_claim.read_back.Given as goal
 
 abbrev pub invariant-loop : goal.invariant-loop

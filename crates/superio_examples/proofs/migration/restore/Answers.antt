@@ -1,10 +1,11 @@
 -- What was read is the form of the states that the devices have, and a form that was not read has a fault.
 use Rattle.std.proofs.Common.{◌≡◌, Option, Some, None, Result, Err, IfSome, refl, sym, ap, subst, ◌∙◌}
+use Rattle.superio_core.specs.declared.saved.Error.{Error as Fault}
 use Rattle.vm_superio.specs.declared.saved.Error.{Error}
-use Rattle.vm_superio.specs.declared.saved.Error.TheVariants.{Memory}
+use Rattle.vm_superio.specs.declared.saved.Error.TheVariants.{Bytes, Memory}
 use Rattle.vm_superio.specs.Links.Objects.{all_ok}
-use Rattle.vm_superio.specs.Saved.Form.{serial_form, clock_form}
-use Rattle.vm_superio.specs.Serial.Step.Restore.{restore_calls}
+use Rattle.superio_core.specs.Saved.Form.{serial_form, clock_form}
+use Rattle.superio_core.specs.Serial.Step.Restore.{restore_calls}
 use Rattle.superio_examples.specs.Migration.{IsFaultOf, first_fault}
 use Rattle.superio_examples.proofs.migration.restore.Goals as goal
 
@@ -22,8 +23,8 @@ returns-in-Ok-from_state-clause-made g c =
     }
 
 -- the fault of bytes that were not read
-fault_of : {R : Type 0} (fault : Option Error) (error : Error) (result : Result R Error) → result ≡ Err error
-    → IfSome fault (λ first. result ≡ Err first) → (fault ≡ None → error ≡ Memory) → IsFaultOf error fault
+fault_of : {R : Type 0} (fault : Option Fault) (error : Error) (result : Result R Error) → result ≡ Err error
+    → IfSome fault (λ first. result ≡ Err (Bytes first)) → (fault ≡ None → error ≡ Memory) → IsFaultOf error fault
 fault_of (Some fault) error result is first memory = cc
 fault_of None error result is first memory = memory refl
 

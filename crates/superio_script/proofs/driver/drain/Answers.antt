@@ -1,10 +1,11 @@
 -- A read of LCR or LSR changes nothing, and a read of RBR is the next one of those that take all bytes.
+use Rattle.vm_superio.specs.Links.OutCalls.{WriterCalls}
 use Rattle.std.proofs.Common.{[], ◌∷◌, ◌++◌, sym, ap, ◌∙◌, subst, append_assoc, append-nil, refl, arith}
 use Rattle.std.proofs.lemmas.Bool.{false≢true}
-use Rattle.vm_superio.specs.Bits.{has_bits}
-use Rattle.vm_superio.specs.Serial.Port.State.{State}
+use Rattle.superio_core.specs.Bits.{has_bits}
+use Rattle.superio_core.specs.Serial.Port.State.{State}
 use Rattle.vm_superio.specs.Serial.Port.Model.{Port}
-use Rattle.vm_superio.specs.Serial.Port.Registers.{is_dlab}
+use Rattle.superio_core.specs.Serial.Port.Registers.{is_dlab}
 use Rattle.superio_script.specs.Driver.{ReadsWhileReady}
 use Rattle.superio_script.proofs.DriverLemmas.{reads_left-few, lcr_read, lsr_read, pass, coherent_after, takes_all}
 use Rattle.superio_script.proofs.driver.drain.Goals as goal
@@ -15,20 +16,20 @@ loop-bytes-init g c =
     let EV = g.row.EV.Denot in
     let W = g.row.W.Denot in
     let same = c.read.ensures.rest_unchanged refl in
-    let value = lcr_read g.T.Trigger.link g.EV.SerialEvents.link g.W.Write.contents c.read.result c.args.serial.now c.read.new.self c.read.ensures.step in
+    let value = lcr_read g.T.Trigger.link g.EV.SerialEvents.link (WriterCalls g.W.Write.contents) c.read.result c.args.serial.now c.read.new.self c.read.ensures.step in
     record {
       hidden = ap (λ (port : Port T EV W). is_dlab port.state.line_control) same
           ∙ ap (λ byte. has_bits byte 0x80) (sym value) ∙ sym c.shows_latch.ensures ∙ c.if-shows_latch.false;
       room = rw c.new-bytes.ensures (omega (arith, reads_left-few c.read.new.self.state c.read.ensures.at_most_64));
       whole = λ later end h. rw c.new-bytes.ensures
-          (subst (λ (port : Port T EV W). ReadsWhileReady g.T.Trigger.link g.EV.SerialEvents.link g.W.Write.contents later port end) same h);
+          (subst (λ (port : Port T EV W). ReadsWhileReady g.T.Trigger.link g.EV.SerialEvents.link (WriterCalls g.W.Write.contents) later port end) same h);
       trigger = c.read.ensures.trigger;
       out = c.read.ensures.out;
     }
 
 pub push-requires : goal.push-requires
 push-requires g c =
-    let one = pass g.T.Trigger.link g.EV.SerialEvents.link g.W.Write.contents c.one_call.ensures.data_ready c.read-in-loop-bytes.result
+    let one = pass g.T.Trigger.link g.EV.SerialEvents.link (WriterCalls g.W.Write.contents) c.one_call.ensures.data_ready c.read-in-loop-bytes.result
     c.read-in-loop-bytes-2.result c.loop-bytes.serial c.read-in-loop-bytes.new.self c.read-in-loop-bytes-2.new.self
     c.loop-bytes.invariant.hidden c.read-in-loop-bytes.ensures.step (c.read-in-loop-bytes.ensures.rest_unchanged refl)
     (sym c.shows_data.ensures ∙ c.loop-bytes-test.true) c.read-in-loop-bytes-2.ensures.step in
@@ -36,7 +37,7 @@ push-requires g c =
 
 pub loop-bytes-smaller : goal.loop-bytes-smaller
 loop-bytes-smaller g c =
-    let one = pass g.T.Trigger.link g.EV.SerialEvents.link g.W.Write.contents c.one_call.ensures.data_ready c.read-in-loop-bytes.result
+    let one = pass g.T.Trigger.link g.EV.SerialEvents.link (WriterCalls g.W.Write.contents) c.one_call.ensures.data_ready c.read-in-loop-bytes.result
     c.read-in-loop-bytes-2.result c.loop-bytes.serial c.read-in-loop-bytes.new.self c.read-in-loop-bytes-2.new.self
     c.loop-bytes.invariant.hidden c.read-in-loop-bytes.ensures.step (c.read-in-loop-bytes.ensures.rest_unchanged refl)
     (sym c.shows_data.ensures ∙ c.loop-bytes-test.true) c.read-in-loop-bytes-2.ensures.step in
@@ -45,7 +46,7 @@ loop-bytes-smaller g c =
 pub loop-bytes-preserved : goal.loop-bytes-preserved
 loop-bytes-preserved g c =
     let before = c.loop-bytes.invariant in
-    let one = pass g.T.Trigger.link g.EV.SerialEvents.link g.W.Write.contents c.one_call.ensures.data_ready c.read-in-loop-bytes.result
+    let one = pass g.T.Trigger.link g.EV.SerialEvents.link (WriterCalls g.W.Write.contents) c.one_call.ensures.data_ready c.read-in-loop-bytes.result
     c.read-in-loop-bytes-2.result c.loop-bytes.serial c.read-in-loop-bytes.new.self c.read-in-loop-bytes-2.new.self
     c.loop-bytes.invariant.hidden c.read-in-loop-bytes.ensures.step (c.read-in-loop-bytes.ensures.rest_unchanged refl)
     (sym c.shows_data.ensures ∙ c.loop-bytes-test.true) c.read-in-loop-bytes-2.ensures.step in
@@ -67,13 +68,13 @@ returns-clause-at_most_64 g c = omega (arith, c.loop-bytes.invariant.room)
 
 pub returns-clause-dlab_reads_nothing : goal.returns-clause-dlab_reads_nothing
 returns-clause-dlab_reads_nothing g c = λ set.
-    let value = lcr_read g.T.Trigger.link g.EV.SerialEvents.link g.W.Write.contents c.read.result c.args.serial.now c.read.new.self c.read.ensures.step in
+    let value = lcr_read g.T.Trigger.link g.EV.SerialEvents.link (WriterCalls g.W.Write.contents) c.read.result c.args.serial.now c.read.new.self c.read.ensures.step in
     let clear = ap (λ byte. has_bits byte 0x80) (sym value) ∙ sym c.shows_latch.ensures ∙ c.if-shows_latch.false in
     absurd (false≢true (sym clear ∙ set))
 
 pub returns-clause-stops_when_not_ready : goal.returns-clause-stops_when_not_ready
 returns-clause-stops_when_not_ready g c = λ hidden.
-    let value = lsr_read g.T.Trigger.link g.EV.SerialEvents.link g.W.Write.contents c.read-in-loop-bytes.result c.loop-bytes.serial c.read-in-loop-bytes.new.self
+    let value = lsr_read g.T.Trigger.link g.EV.SerialEvents.link (WriterCalls g.W.Write.contents) c.read-in-loop-bytes.result c.loop-bytes.serial c.read-in-loop-bytes.new.self
     c.read-in-loop-bytes.ensures.step in
     ap (λ (port : Port g.row.T.Denot g.row.EV.Denot g.row.W.Denot). has_bits port.state.line_status 0x01) (c.read-in-loop-bytes.ensures.rest_unchanged refl)
     ∙ ap (λ byte. has_bits byte 0x01) (sym value) ∙ sym c.shows_data.ensures ∙ c.loop-bytes-test.false
@@ -86,18 +87,18 @@ returns-clause-out g c = c.read-in-loop-bytes.ensures.out ∙ c.loop-bytes.invar
 
 pub returns-clause-all : goal.returns-clause-all
 returns-clause-all g c = λ is hidden.
-    takes_all g.T.Trigger.link g.EV.SerialEvents.link g.W.Write.contents g.met.EV.SerialEvents.no_event g.met.EV.SerialEvents.joined
+    takes_all g.T.Trigger.link g.EV.SerialEvents.link (WriterCalls g.W.Write.contents) g.met.EV.SerialEvents.no_event g.met.EV.SerialEvents.joined
     c.coherence.ensures c.loop-bytes.bytes.items c.args.serial.now c.read-in-loop-bytes.new.self is hidden (returns-clause-reads g c)
     (returns-clause-stops_when_not_ready g c hidden)
 
 pub returns-clause-no_loss : goal.returns-clause-no_loss
 returns-clause-no_loss g c = λ is.
-    let value = lcr_read g.T.Trigger.link g.EV.SerialEvents.link g.W.Write.contents c.read.result c.args.serial.now c.read.new.self c.read.ensures.step in
+    let value = lcr_read g.T.Trigger.link g.EV.SerialEvents.link (WriterCalls g.W.Write.contents) c.read.result c.args.serial.now c.read.new.self c.read.ensures.step in
     let clear = ap (λ byte. has_bits byte 0x80) (sym value) ∙ sym c.shows_latch.ensures ∙ c.if-shows_latch.false in
     let all = returns-clause-all g c is clear in
     ap (λ (s : State). c.loop-bytes.bytes.items ++ s.in_buffer) all.state ∙ append-nil c.loop-bytes.bytes.items ∙ all.bytes
 
 pub returns-clause-coherent : goal.returns-clause-coherent
 returns-clause-coherent g c = λ is.
-    coherent_after g.T.Trigger.link g.EV.SerialEvents.link g.W.Write.contents g.met.EV.SerialEvents.no_event g.met.EV.SerialEvents.joined
+    coherent_after g.T.Trigger.link g.EV.SerialEvents.link (WriterCalls g.W.Write.contents) g.met.EV.SerialEvents.no_event g.met.EV.SerialEvents.joined
     c.coherence.ensures c.loop-bytes.bytes.items c.args.serial.now c.read-in-loop-bytes.new.self is (returns-clause-reads g c)

@@ -1,5 +1,5 @@
 use Rattle.std.proofs.Common.{refl}
-use Rattle.vm_superio.specs.Bits.{has_bits}
+use Rattle.superio_core.specs.Bits.{has_bits}
 use Rattle.superio_script.proofs.driver.shows_latch.Goals as goal
 
 pub returns : goal.returns

@@ -1,7 +1,7 @@
 -- Bytes that are a state restore the port, and other bytes change nothing.
-use Rattle.std.proofs.Common.{Err, refl}
-use Rattle.vm_superio.specs.Serial.Port.State.{state_of}
-use Rattle.vm_superio.specs.Saved.Faults.{serial_fault}
+use Rattle.std.proofs.Common.{Err, ap}
+use Rattle.vm_superio.specs.Serial.Port.SavedState.{state_of}
+use Rattle.superio_core.specs.Saved.Faults.{serial_fault}
 use Rattle.superio_script.specs.Loading.{port_in}
 use Rattle.superio_script.proofs.LoadingLemmas.{port-loaded, port-refused}
 use Rattle.superio_script.proofs.SerialScriptLemmas.{load-step, refused-load-step, reply-weaker}
@@ -17,8 +17,8 @@ returns-in-Ok-clause-step c =
     (λ reply restores. load-step old new reply.items c.states_of_history.ensures.state c.args.bytes.now state loads restores)
     c.restore_from.ensures.restore
 
-pub returns-in_default-clause-step : goal.returns-in_default-clause-step
-returns-in_default-clause-step c =
-    let fails = port-refused (serial_fault c.args.bytes.now) (port_in c.args.bytes.now) (Err c.in-Err.error) c.in-Err.error refl c.in-Err.ensures.fault c.in-Err.ensures.memory
-    (λ is. c.in_default.not-Memory is) in
-    rw c.reply_fault.ensures (refused-load-step c.args.bytes.now c.args.serial.now c.in-Err.error fails)
+pub returns-in-Err-Bytes-clause-step : goal.returns-in-Err-Bytes-clause-step
+returns-in-Err-Bytes-clause-step c =
+    let fault = c.in-Err-Bytes.fault in
+    let fails = port-refused (serial_fault c.args.bytes.now) (port_in c.args.bytes.now) (Err c.in-Err-Bytes.field-0) fault (ap Err c.in-Err-Bytes.field-0-is) c.in-Err-Bytes.ensures.fault c.in-Err-Bytes.ensures.memory in
+    rw c.reply_fault.ensures (rw c.in-Err-Bytes.fault-is (refused-load-step c.args.bytes.now c.args.serial.now fault fails))

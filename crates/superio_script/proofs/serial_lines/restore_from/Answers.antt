@@ -1,8 +1,9 @@
 -- A restore, whether its calls were accepted or one was refused. Without memory it has no reply.
 use Rattle.std.proofs.Common.{◌≡◌, refl, ap, sym, ◌∙◌, subst}
 use Rattle.vm_superio.specs.declared.serial.errors.Error.TheVariants.{Memory}
-use Rattle.vm_superio.specs.Serial.Port.State.{state_of}
-use Rattle.vm_superio.specs.Serial.Step.Restore.{restore_calls, RefusesRestore}
+use Rattle.vm_superio.specs.Serial.Port.SavedState.{state_of}
+use Rattle.superio_core.specs.Serial.Step.Restore.{restore_calls}
+use Rattle.vm_superio.specs.Serial.Step.Restore.{RefusesRestore}
 use Rattle.vm_superio.specs.Serial.Port.Model.{Port}
 use Rattle.vm_superio.specs.Links.Objects.{all_ok}
 use Rattle.superio_script.specs.InterruptLine.{InterruptLine, InterruptLineLink}

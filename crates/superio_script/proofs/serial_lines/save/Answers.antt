@@ -1,6 +1,6 @@
 -- The saved form is that of the session's state.
 use Rattle.std.proofs.Common.{ℕ, List, ap, sym, ◌∙◌, subst}
-use Rattle.vm_superio.specs.Saved.Form.{serial_form}
+use Rattle.superio_core.specs.Saved.Form.{serial_form}
 use Rattle.superio_script.specs.Board.{IsSerialLineStep}
 use Rattle.superio_script.specs.Reply.{digits_reply}
 use Rattle.superio_script.specs.declared.command.SerialCommand.TheVariants.{Save}
@@ -11,5 +11,5 @@ pub returns-clause-step : goal.returns-clause-step
 returns-clause-step c =
     let port = c.args.serial.now in
     let form = rw c.unwrap.ensures at c.to_bytes.ensures.form in
-    let same = c.reply_digits.ensures ∙ ap digits_reply (c.deref.ensures.0 ∙ form ∙ ap serial_form c.in-Ok.ensures.saved) in
+    let same = c.reply_digits.ensures ∙ ap digits_reply (c.as_bytes.ensures ∙ form ∙ ap serial_form c.in-Ok.ensures.saved) in
     subst (λ (reply : List ℕ). IsSerialLineStep Save reply port port) (sym same) (save-step port)

@@ -1,8 +1,8 @@
 -- Each line is a step of the session.
 use Rattle.std.proofs.Common.{None}
-use Rattle.vm_superio.specs.Serial.Port.Model.{write_response, enqueue_response, refusal_in_result}
-use Rattle.vm_superio.specs.Serial.Port.Operations.{ByteRead}
-use Rattle.superio_script.proofs.SerialScriptLemmas.{read-step, drain-step, write-step, enqueue-step, capacity-step, output-step, calls-step, events-step}
+use Rattle.vm_superio.specs.Serial.Port.Model.{write_response, enqueue_response, timeout_response, refusal_in_result}
+use Rattle.superio_core.specs.Serial.Port.Operations.{ByteRead}
+use Rattle.superio_script.proofs.SerialScriptLemmas.{read-step, drain-step, write-step, enqueue-step, timeout-step, capacity-step, output-step, calls-step, events-step}
 use Rattle.superio_script.proofs.serial_lines.serial_line.Goals as goal
 
 pub returns-in-Read-clause-step : goal.returns-in-Read-clause-step
@@ -12,7 +12,7 @@ returns-in-Read-clause-step c = rw (c.in-Read.is, c.reply_byte.ensures)
 pub returns-in-Write-clause-step : goal.returns-in-Write-clause-step
 returns-in-Write-clause-step c =
     let step = c.write.ensures.step in
-    rw (c.in-Write.is, c.write_result_reply.ensures)
+    rw (c.in-Write.is, c.result_reply.ensures.write)
     (write-step (record { registers = c.registers.ensures; held = c.held_bytes.ensures.bytes; states = c.states_of_history.ensures.state; responses = c.states_of_history.ensures.response; steps = c.steps_of_history.ensures; coherence = c.coherence.ensures }) c.args.serial.now c.write.new.self (write_response c.write.result) (refusal_in_result c.write.result) c.in-Write.offset c.in-Write.value step.asked step.sent step.step)
 
 pub returns-in-Enqueue-clause-step : goal.returns-in-Enqueue-clause-step
@@ -21,6 +21,13 @@ returns-in-Enqueue-clause-step c =
     let enqueued = c.enqueue_raw_bytes.result in
     rw (c.in-Enqueue.is, c.enqueue_result_reply.ensures)
     (enqueue-step (record { registers = c.registers.ensures; held = c.held_bytes.ensures.bytes; states = c.states_of_history.ensures.state; responses = c.states_of_history.ensures.response; steps = c.steps_of_history.ensures; coherence = c.coherence.ensures }) c.args.serial.now c.enqueue_raw_bytes.new.self (enqueue_response enqueued) (refusal_in_result enqueued) c.in-Enqueue.bytes step.asked step.sent step.step)
+
+pub returns-in-CharacterTimeout-clause-step : goal.returns-in-CharacterTimeout-clause-step
+returns-in-CharacterTimeout-clause-step c =
+    let step = c.character_timeout.ensures.step in
+    let answer = c.character_timeout.result in
+    rw (c.in-CharacterTimeout.is, c.result_reply-in-CharacterTimeout.ensures.timeout)
+    (timeout-step (record { registers = c.registers.ensures; held = c.held_bytes.ensures.bytes; states = c.states_of_history.ensures.state; responses = c.states_of_history.ensures.response; steps = c.steps_of_history.ensures; coherence = c.coherence.ensures }) c.args.serial.now c.character_timeout.new.self (timeout_response answer) (refusal_in_result answer) step.asked step.step)
 
 pub returns-in-Capacity-clause-step : goal.returns-in-Capacity-clause-step
 returns-in-Capacity-clause-step c = rw (c.in-Capacity.is, c.reply_byte-in-Capacity.ensures, c.fifo_capacity.ensures.value) (capacity-step c.args.serial.now (record { registers = c.registers.ensures; held = c.held_bytes.ensures.bytes; states = c.states_of_history.ensures.state; responses = c.states_of_history.ensures.response; steps = c.steps_of_history.ensures; coherence = c.coherence.ensures }))

@@ -1,5 +1,5 @@
 pub mod Calls
-pub mod Fields
 pub mod FreshPort
 pub mod LongRuns
+pub mod Order
 pub mod OtherStates

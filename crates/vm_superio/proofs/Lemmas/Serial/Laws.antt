@@ -1,5 +1,7 @@
+pub mod CharacterTimeout
 pub mod Coherence
 pub mod HeldBytes
+pub mod InterruptDriver
 pub mod Interrupts
 pub mod OneCall
 pub mod OutcomeEvents
@@ -15,4 +17,4 @@ pub mod TriggerBound
 pub mod TurnedBits
 pub mod WaitingBytes
 pub mod WholeRuns
-pub mod WholeRunsOfFields
+pub mod WholeRunsOfPorts

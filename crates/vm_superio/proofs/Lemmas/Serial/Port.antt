@@ -1,3 +1,1 @@
 pub mod Bits
-pub mod Coherent
-pub mod RxRing

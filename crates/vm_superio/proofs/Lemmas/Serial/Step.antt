@@ -1,5 +1,5 @@
 pub mod ByKind
-pub mod FirstRefused
+pub mod ObjectStep
 pub mod PortStep
-pub mod Raising
+pub mod Quiet
 pub mod Restore

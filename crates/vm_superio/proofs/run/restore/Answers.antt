@@ -1,6 +1,6 @@
 -- A port's own state is never refused for too many bytes.
 use Rattle.std.proofs.Common.{refl, subst}
-use Rattle.vm_superio.specs.Serial.Port.State.{State}
+use Rattle.superio_core.specs.Serial.Port.State.{State}
 use Rattle.vm_superio.specs.Serial.Step.Restore.{RefusesRestore}
 use Rattle.vm_superio.proofs.Lemmas.Serial.Step.Restore.{RefusesOwnState-few}
 use Rattle.vm_superio.proofs.run.restore.Goals as goal

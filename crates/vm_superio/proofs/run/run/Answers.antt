@@ -1,4 +1,5 @@
 -- A call that was made goes from the run that is left to the run so far.
+use Rattle.vm_superio.specs.Links.OutCalls.{WriterCalls, WriterCalls-nil, WriterCalls-append}
 use Rattle.std.proofs.Common.{append_assoc, append-nil, ◌∷◌, [], arith}
 use Rattle.std.proofs.lemmas.List.{nil_from_length}
 use Rattle.vm_superio.specs.Links.Writer.{port_links}
@@ -10,12 +11,14 @@ use Rattle.vm_superio.proofs.run.run.Goals as goal
 
 pub loop-call-init : goal.loop-call-init
 loop-call-init g c =
-    let links = port_links g.T.Trigger.link g.EV.SerialEvents.link g.W.Write.contents in
+    let links = port_links g.T.Trigger.link g.EV.SerialEvents.link (WriterCalls g.W.Write.contents) in
     let laws : LawfulLinks links = record {
       no_call = g.met.T.Trigger.no_call;
       calls_joined = g.met.T.Trigger.joined;
       no_event = g.met.EV.SerialEvents.no_event;
       events_joined = g.met.EV.SerialEvents.joined;
+      no_output = (WriterCalls-nil g.W.Write.contents);
+      outputs_joined = (WriterCalls-append g.W.Write.contents);
     } in
     let port = c.args.serial.now in
     record {
@@ -27,12 +30,14 @@ loop-call-init g c =
 
 pub loop-call-preserved : goal.loop-call-preserved
 loop-call-preserved g c =
-    let links = port_links g.T.Trigger.link g.EV.SerialEvents.link g.W.Write.contents in
+    let links = port_links g.T.Trigger.link g.EV.SerialEvents.link (WriterCalls g.W.Write.contents) in
     let laws : LawfulLinks links = record {
       no_call = g.met.T.Trigger.no_call;
       calls_joined = g.met.T.Trigger.joined;
       no_event = g.met.EV.SerialEvents.no_event;
       events_joined = g.met.EV.SerialEvents.joined;
+      no_output = (WriterCalls-nil g.W.Write.contents);
+      outputs_joined = (WriterCalls-append g.W.Write.contents);
     } in
     let before = c.loop-call.invariant in
     let call = c.in-Some.call in
@@ -58,5 +63,4 @@ returns-clause-run g c =
 
 pub returns-clause-history : goal.returns-clause-history
 returns-clause-history g c =
-    let links = port_links g.T.Trigger.link g.EV.SerialEvents.link g.W.Write.contents in
-    HistoryTheorem-run links c.args.serial.now c.args.calls.items c.loop-call.done.items c.loop-call.serial (returns-clause-run g c)
+    HistoryTheorem-run g.T.Trigger.link g.EV.SerialEvents.link g.W.Write.contents c.args.serial.now c.args.calls.items c.loop-call.done.items c.loop-call.serial (returns-clause-run g c)

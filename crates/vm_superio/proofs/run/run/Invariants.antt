@@ -1,4 +1,5 @@
 -- The segment so far, and that what continues it makes the whole run. The calls that are left get fewer.
+use Rattle.vm_superio.specs.Links.OutCalls.{WriterCalls}
 use Rattle.std.proofs.Common.{◌≤◌, ◌+◌, List, ◌++◌, vec_len}
 use Rattle.std.specs.Prelude.{vec_capacity}
 use Rattle.std.specs.VecDeque.{deque_len}
@@ -15,7 +16,7 @@ invariant-loop-call g l =
     let E = g.row.T-E.Denot in
     let EV = g.row.EV.Denot in
     let W = g.row.W.Denot in
-    let links = port_links g.T.Trigger.link g.EV.SerialEvents.link g.W.Write.contents in
+    let links = port_links g.T.Trigger.link g.EV.SerialEvents.link (WriterCalls g.W.Write.contents) in
     record {
       room : vec_len l.done + deque_len l.calls ≤ vec_capacity l.done;
       segment : Segment T E EV W;

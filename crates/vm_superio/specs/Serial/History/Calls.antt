@@ -1,10 +1,10 @@
 -- What a call does to the port's objects at each point of a trace: the events reported, and the trigger calls made.
 use Rattle.std.specs.Prelude.{ℕ, if◌then◌else◌, List, [], ◌∷◌, ◌++◌}
-use Rattle.vm_superio.specs.declared.trace.Asked.{Asked}
-use Rattle.vm_superio.specs.declared.trace.Sent.{Sent}
-use Rattle.vm_superio.specs.Serial.Port.State.{State, not_empty}
-use Rattle.vm_superio.specs.Serial.Port.Operations.{Op, TraceEntry, Event, buffer_read, out_byte, tx_lost_byte, in_buffer_empty, Trace}
-use Rattle.vm_superio.specs.Serial.Port.OpKinds.{OpKind, RbrRead}
+use Rattle.superio_core.specs.declared.trace.Asked.{Asked}
+use Rattle.superio_core.specs.declared.trace.Sent.{Sent}
+use Rattle.superio_core.specs.Serial.Port.State.{State, not_empty}
+use Rattle.superio_core.specs.Serial.Port.Operations.{Op, TraceEntry, Event, buffer_read, out_byte, tx_lost_byte, in_buffer_empty, Trace}
+use Rattle.superio_core.specs.Serial.Port.OpKinds.{OpKind, RbrRead}
 use Rattle.vm_superio.specs.Serial.History.Registers.{kind_at, held_bytes}
 use Rattle.vm_superio.specs.Serial.History.Interrupts.{trigger_calls}
 

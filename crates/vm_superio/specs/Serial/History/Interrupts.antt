@@ -1,11 +1,13 @@
 -- The history of interrupts: conditions raised and pending, trigger calls due, and well-formed traces.
 use Rattle.std.specs.Prelude.{◌≡◌, ℕ, ◌+◌, ◌*◌, ◌≤◌, Bool, true, false, not, ◌==◌, ◌&&◌, ◌||◌, List, [], ◌∷◌, ◌++◌, sum_by, count_by, IsTrue}
 use Rattle.std.specs.Bool.{beq, IsFalse}
-use Rattle.vm_superio.specs.Bits.{has_bits}
-use Rattle.vm_superio.specs.Serial.Port.State.{State, not_empty}
-use Rattle.vm_superio.specs.Serial.Port.Registers.{Condition, Rda, Thre, ier_bit, iir_bit, pending_in_order}
-use Rattle.vm_superio.specs.Serial.Port.Operations.{TraceEntry, is_first_refused, is_sent, answer_count, count_if, Trace}
-use Rattle.vm_superio.specs.Serial.Port.OpKinds.{OpKind, IerWrite, ThrWrite, sent_by, is_iir_read, is_rbr_read}
+use Rattle.superio_core.specs.Bits.{has_bits}
+use Rattle.superio_core.specs.Serial.Port.State.{State, not_empty}
+use Rattle.superio_core.specs.declared.serial.registers.Condition.{Condition}
+use Rattle.superio_core.specs.declared.serial.registers.Condition.TheVariants.{Rda, Thre}
+use Rattle.superio_core.specs.Serial.Port.Registers.{ier_bit, iir_bit, pending_in_order}
+use Rattle.superio_core.specs.Serial.Port.Operations.{CharacterTimeout, TraceEntry, is_refused_at_once, is_sent, answer_count, count_if, Trace}
+use Rattle.superio_core.specs.Serial.Port.OpKinds.{OpKind, IerWrite, ThrWrite, Timeout, sent_by, is_iir_read, is_rbr_read}
 use Rattle.vm_superio.specs.Serial.History.Registers.{accepted_by, kind_at, interrupt_enable, held_bytes}
 
 -- ---- raised, acknowledged and pending
@@ -24,10 +26,11 @@ pending_since condition start raises (entry ∷ trace) =
     raises trace entry
     || (not (acknowledges condition (kind_at start trace entry.op)) && pending_since condition start raises trace)
 
--- RDA is raised by an IER write whose value has its bit while bytes are held, and by an operation that accepts a byte
--- while IER has the bit
+-- RDA is raised by an IER write whose value has its bit while bytes are held, by a character timeout while bytes are
+-- held and IER has the bit, and by an operation that accepts a byte while IER has the bit
 abbrev pub raises_rda : (kind : OpKind) (held : List ℕ) (enable : ℕ) → Bool
 raises_rda (IerWrite value) held enable = has_bits value (ier_bit Rda) && not_empty held
+raises_rda Timeout held enable = has_bits enable (ier_bit Rda) && not_empty held
 raises_rda kind held enable = not_empty (accepted_by kind held) && has_bits enable (ier_bit Rda)
 
 -- THRE is raised by a THR write outside loopback while IER has its bit, and by an IER write whose value has the bit
@@ -50,7 +53,7 @@ abbrev pub is_raised : (condition : Condition) (start : State) (trace : Trace) (
 is_raised Rda start trace entry = rda_raised start trace entry
 is_raised Thre start trace entry =
     raises_thre (kind_at start trace entry.op) (interrupt_enable start trace)
-    (rda_raised start trace entry && not (rda_pending start trace) && is_first_refused entry.asked)
+    (rda_raised start trace entry && not (rda_pending start trace) && is_refused_at_once entry.asked)
 
 abbrev pub is_pending : (condition : Condition) (start : State) (trace : Trace) → Bool
 is_pending condition start trace = pending_since condition start (is_raised condition start) trace
@@ -103,9 +106,10 @@ NoneAcknowledges start acknowledges newest trace =
     (after before : Trace) (entry : TraceEntry) → newest ≡ after ++ entry ∷ before
     → IsFalse (acknowledges (kind_at start (before ++ trace) entry.op))
 
--- an operation that accepts a byte, or an IER write
+-- an operation that accepts a byte, an IER write, or a character timeout
 abbrev pub shows_waiting_bytes : (kind : OpKind) (held : List ℕ) → Bool
 shows_waiting_bytes (IerWrite value) held = true
+shows_waiting_bytes Timeout held = true
 shows_waiting_bytes kind held = not_empty (accepted_by kind held)
 
 -- after such an operation, with no IIR and no RBR read since, RDA is pending if bytes are held and IER enables it
@@ -117,3 +121,16 @@ WaitingBytesShow start trace =
     → IsTrue (not_empty (held_bytes start trace))
     → IsTrue (has_bits (interrupt_enable start trace) (ier_bit Rda))
     → IsTrue (is_pending Rda start trace)
+
+-- IER enables RDA, and bytes are held
+abbrev pub has_waiting_bytes : (start : State) (trace : Trace) → Bool
+has_waiting_bytes start trace =
+    has_bits (interrupt_enable start trace) (ier_bit Rda) && not_empty (held_bytes start trace)
+
+-- after each character timeout that finds such bytes, RDA is pending. The trigger was called once for it if RDA was not
+-- pending before, and otherwise not at all; a refused call counts
+abbrev pub TimeoutsShow : (start : State) (trace : Trace) → Type 0
+TimeoutsShow start trace =
+    (after before : Trace) (entry : TraceEntry) → trace ≡ after ++ entry ∷ before → entry.op ≡ CharacterTimeout
+    → (IsTrue (has_waiting_bytes start before) → IsTrue (is_pending Rda start (entry ∷ before)))
+    × (answer_count entry.asked ≡ count_if (has_waiting_bytes start before && not (is_pending Rda start before)))

@@ -2,12 +2,16 @@
 -- the FIFO, and the output.
 use Rattle.std.specs.Prelude.{◌≡◌, ⊤, ℕ, Bool, not, ◌==◌, ◌||◌, nat_le, if◌then◌else◌, List, [], ◌∷◌, ◌++◌, length}
 use Rattle.std.specs.List.{list_all}
-use Rattle.vm_superio.specs.Bits.{with_bits, without_bits}
-use Rattle.vm_superio.specs.Serial.Port.Bits.{lsr_dr_bit}
-use Rattle.vm_superio.specs.Serial.Port.State.{State, not_empty}
-use Rattle.vm_superio.specs.Serial.Port.Registers.{Rda, Thre, register_at, identification_of, register_read}
-use Rattle.vm_superio.specs.Serial.Port.Operations.{Asked, Sent, Op, Read, Write, Enqueue, Restore, TraceEntry, Response, ByteRead, EnqueueOk, TriggerRefused, FifoFull, NoResponse, is_first_refused, is_lost, recorded_write_response, Trace}
-use Rattle.vm_superio.specs.Serial.Port.OpKinds.{OpKind, RbrRead, sent_by}
+use Rattle.superio_core.specs.Bits.{with_bits, without_bits}
+use Rattle.superio_core.specs.Serial.Port.Bits.{lsr_dr_bit}
+use Rattle.superio_core.specs.Serial.Port.State.{State, not_empty}
+use Rattle.superio_core.specs.declared.serial.registers.Condition.TheVariants.{Rda, Thre}
+use Rattle.superio_core.specs.Serial.Port.Registers.{register_at, identification_of, register_read}
+use Rattle.superio_core.specs.declared.trace.Asked.{Asked}
+use Rattle.superio_core.specs.declared.trace.Sent.{Sent}
+use Rattle.superio_core.specs.Serial.Port.Operations.{Op, Read, Write, Enqueue, CharacterTimeout, Restore, TraceEntry, Response, ByteRead, EnqueueOk, TimeoutOk, TriggerRefused, FifoFull, NoResponse, is_refused_at_once, is_lost, recorded_write_response, Trace}
+use Rattle.superio_core.specs.Serial.Port.OpKinds.{OpKind, RbrRead, sent_by}
+use Rattle.vm_superio.specs.Links.Writer.{outcome_of}
 use Rattle.vm_superio.specs.Serial.History.Registers.{kind_at, dlab, loopback, with_last_writes, accepted_by, held_bytes}
 use Rattle.vm_superio.specs.Serial.History.Interrupts.{is_pending}
 
@@ -42,7 +46,7 @@ abbrev pub enqueue_history_response :
 enqueue_history_response start trace bytes asked =
     if loopback start trace || (length bytes == 0) then EnqueueOk 0
     else (if nat_le 64 (length (held_bytes start trace)) then FifoFull
-    else (if is_first_refused asked then TriggerRefused
+    else (if is_refused_at_once asked then TriggerRefused
     else EnqueueOk (length (accepted_by (kind_at start trace (Enqueue bytes)) (held_bytes start trace)))))
 
 -- what any call responds: a write by the trigger's answers and the outcome of its byte
@@ -51,6 +55,8 @@ abbrev pub history_response :
 history_response start trace (Read offset) asked sent = ByteRead (guest_read start trace offset)
 history_response start trace (Write offset value) asked sent = recorded_write_response asked sent
 history_response start trace (Enqueue bytes) asked sent = enqueue_history_response start trace bytes asked
+history_response start trace CharacterTimeout asked sent =
+    if is_refused_at_once asked then TriggerRefused else TimeoutOk
 history_response start trace Restore asked sent = NoResponse
 
 -- each call of some entries, oldest first, responded as the history says
@@ -76,6 +82,11 @@ abbrev pub output : (start : State) (trace newest : Trace) → List ℕ
 output start trace [] = []
 output start trace (entry ∷ newest) =
     output start trace newest ++ sent_by (kind_at start (newest ++ trace) entry.op)
+
+-- the outcomes of the bytes that these entries sent, in order
+abbrev pub outcomes : (newest : Trace) → List Sent
+outcomes [] = []
+outcomes (entry ∷ newest) = outcomes newest ++ outcome_of entry.sent
 
 -- no byte is lost in these entries
 abbrev pub none_lost : (newest : Trace) → Bool

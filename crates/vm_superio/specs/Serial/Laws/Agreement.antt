@@ -1,18 +1,18 @@
 -- The laws by which steps and history agree: after any trace, both describe the same port.
-use Rattle.std.specs.Prelude.{◌≡◌, Bool, not, List, [], ◌∷◌, IsTrue}
-use Rattle.vm_superio.specs.declared.trace.Asked.{Asked}
-use Rattle.vm_superio.specs.declared.trace.Sent.{Sent}
-use Rattle.vm_superio.specs.Bits.{has_bits}
-use Rattle.vm_superio.specs.Serial.Port.Bits.{lsr_dr_bit}
-use Rattle.vm_superio.specs.Serial.Port.State.{State, not_empty}
-use Rattle.vm_superio.specs.Serial.Port.Registers.{identification_of}
-use Rattle.vm_superio.specs.Serial.Port.Coherent.{Coherent}
-use Rattle.vm_superio.specs.Serial.Port.Operations.{Op, Restore, TraceEntry, Response, NoResponse, is_lost, Trace}
-use Rattle.vm_superio.specs.Serial.Port.OpKinds.{sent_by}
-use Rattle.vm_superio.specs.Links.Writer.{bytes_written}
-use Rattle.vm_superio.specs.Serial.Step.Transition.{step, step_response, step_events}
-use Rattle.vm_superio.specs.Serial.Step.Admissible.{step_calls, is_admissible}
-use Rattle.vm_superio.specs.Serial.Step.Restore.{restore_calls}
+use Rattle.std.specs.Prelude.{◌≡◌, Bool, List, [], ◌∷◌, IsTrue}
+use Rattle.superio_core.specs.declared.trace.Asked.{Asked}
+use Rattle.superio_core.specs.declared.trace.Sent.{Sent}
+use Rattle.superio_core.specs.Bits.{has_bits}
+use Rattle.superio_core.specs.Serial.Port.Bits.{lsr_dr_bit}
+use Rattle.superio_core.specs.Serial.Port.State.{State, not_empty}
+use Rattle.superio_core.specs.Serial.Port.Registers.{identification_of}
+use Rattle.superio_core.specs.Serial.Port.Coherent.{Coherent}
+use Rattle.superio_core.specs.Serial.Port.Operations.{Op, Restore, TraceEntry, Response, NoResponse, Trace}
+use Rattle.superio_core.specs.Serial.Port.OpKinds.{sent_by}
+use Rattle.vm_superio.specs.Links.Writer.{bytes_sent}
+use Rattle.superio_core.specs.Serial.Step.Transition.{step, step_response, step_events}
+use Rattle.superio_core.specs.Serial.Step.Admissible.{step_calls, is_admissible}
+use Rattle.superio_core.specs.Serial.Step.Restore.{restore_calls}
 pub use Rattle.vm_superio.specs.Serial.History.Registers.{RegistersAgree}
 use Rattle.vm_superio.specs.Serial.History.Registers.{kind_at, held_bytes}
 use Rattle.vm_superio.specs.Serial.History.Interrupts.{is_well_formed_entry, is_well_formed, restore_calls_due}
@@ -80,8 +80,7 @@ pub record StepAgrees (start : State) (trace : Trace) (entry : TraceEntry) : Typ
   pub state : step (state_of_history start trace) entry.op entry.asked ≡ state_of_history start (entry ∷ trace)
   pub events : step_events (state_of_history start trace) entry.op entry.sent ≡ history_events start trace entry
   pub output :
-      IsTrue (not (is_lost entry.sent))
-      → bytes_written entry.op entry.sent ≡ sent_by (kind_at start trace entry.op)
+      bytes_sent entry.op entry.sent ≡ sent_by (kind_at start trace entry.op)
 
 -- the trigger calls that a call makes, as long as none is refused, are those of the history, and so are a restore's
 pub record PrefixAgrees (start : State) (trace : Trace) : Type 0 where

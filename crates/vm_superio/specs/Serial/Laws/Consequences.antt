@@ -1,14 +1,15 @@
 -- The laws that follow from the history alone, from any start.
 use Rattle.std.specs.Prelude.{◌≡◌, ◌↔◌, ◌⊎◌, ℕ, List, [], ◌∷◌, ◌++◌, IsTrue}
-use Rattle.vm_superio.specs.declared.trace.Asked.{Asked}
-use Rattle.vm_superio.specs.Bits.{has_bits}
-use Rattle.vm_superio.specs.Serial.Port.State.{State}
-use Rattle.vm_superio.specs.Serial.Port.Registers.{Condition, iir_bit}
-use Rattle.vm_superio.specs.Serial.Port.Operations.{Op, Restore, TraceEntry, Response, Trace}
-use Rattle.vm_superio.specs.Links.Writer.{bytes_written}
+use Rattle.superio_core.specs.declared.trace.Asked.{Asked}
+use Rattle.superio_core.specs.Bits.{has_bits}
+use Rattle.superio_core.specs.Serial.Port.State.{State}
+use Rattle.superio_core.specs.declared.serial.registers.Condition.{Condition}
+use Rattle.superio_core.specs.Serial.Port.Registers.{iir_bit}
+use Rattle.superio_core.specs.Serial.Port.Operations.{Op, Restore, TraceEntry, Response, Trace}
+use Rattle.vm_superio.specs.Links.Writer.{bytes_sent}
 use Rattle.vm_superio.specs.Serial.History.Registers.{accepted_bytes, taken_bytes, held_bytes}
 use Rattle.vm_superio.specs.Serial.History.Interrupts.{acknowledges, is_raised, is_pending, is_well_formed, NoneAcknowledges, IsWithinBound, WaitingBytesShow}
-use Rattle.vm_superio.specs.Serial.History.Reads.{guest_read, ResponsesAre, bytes_read, output, none_lost}
+use Rattle.vm_superio.specs.Serial.History.Reads.{guest_read, ResponsesAre, bytes_read, output}
 use Rattle.vm_superio.specs.Serial.Run.Trace.{trace_after}
 
 -- ---- pending
@@ -71,13 +72,12 @@ ReadThenHeldLaw = (start : State) (calls : List (TraceEntry × Response)) → Re
     → bytes_read start [] calls ++ held_bytes start (trace_after [] calls)
     ≡ start.in_buffer ++ accepted_bytes start (trace_after [] calls)
 
--- the bytes that are recorded as taken by the writer, in order
+-- the bytes that are recorded as sent, in order
 abbrev pub recorded_output : (newest : Trace) → List ℕ
 recorded_output [] = []
-recorded_output (entry ∷ newest) = recorded_output newest ++ bytes_written entry.op entry.sent
+recorded_output (entry ∷ newest) = recorded_output newest ++ bytes_sent entry.op entry.sent
 
--- if the newest entries of a well-formed trace lose no byte, the bytes recorded as taken are the output
+-- the bytes that the newest entries of a well-formed trace record as sent are the output
 abbrev pub OutputLaw : Type 0
 OutputLaw = (start : State) (trace newest : Trace) → IsTrue (is_well_formed start (newest ++ trace))
-    → IsTrue (none_lost newest)
     → recorded_output newest ≡ output start trace newest

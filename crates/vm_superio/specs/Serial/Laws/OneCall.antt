@@ -1,19 +1,17 @@
 -- The laws of one call, in any state.
-use Rattle.std.specs.Prelude.{◌≡◌, ℕ, Bool, true, false, not, List, [], ◌∷◌, ◌++◌, ◌<◌, ◌&&◌, length, count_by, IsTrue, Option}
-use Rattle.std.specs.List.{list_all}
-use Rattle.std.specs.Io.KnownBytes.{Appends}
-use Rattle.vm_superio.specs.declared.trace.Asked.{Asked}
-use Rattle.vm_superio.specs.declared.trace.Sent.{Sent}
-use Rattle.vm_superio.specs.Bits.{has_bits}
-use Rattle.vm_superio.specs.Serial.Port.Bits.{lsr_dr_bit}
-use Rattle.vm_superio.specs.Serial.Port.State.{State, not_empty}
-use Rattle.vm_superio.specs.Serial.Port.Registers.{is_dlab, is_loopback, Thre}
-use Rattle.vm_superio.specs.Serial.Port.Operations.{Op, Read, Write, Response, ByteRead, WriteOk, Event, out_byte, tx_lost_byte, answer_count, is_sent, is_lost}
-use Rattle.vm_superio.specs.Serial.Port.OpKinds.{sent_by}
-use Rattle.vm_superio.specs.Links.Writer.{bytes_written}
-use Rattle.vm_superio.specs.Serial.Step.Raising.{raise, receive_bytes}
-use Rattle.vm_superio.specs.Serial.Step.Transition.{step, step_response, step_events}
-use Rattle.vm_superio.specs.Serial.Step.Admissible.{kind_in_state, is_admissible}
+use Rattle.std.specs.Prelude.{◌≡◌, ℕ, Bool, true, false, List, ◌∷◌, ◌++◌, ◌<◌, ◌&&◌, length, count_by, IsTrue}
+use Rattle.superio_core.specs.declared.trace.Asked.{Asked}
+use Rattle.superio_core.specs.declared.trace.Sent.{Sent}
+use Rattle.superio_core.specs.Bits.{has_bits}
+use Rattle.superio_core.specs.Serial.Port.Bits.{lsr_dr_bit}
+use Rattle.superio_core.specs.Serial.Port.State.{State, not_empty}
+use Rattle.superio_core.specs.Serial.Port.Registers.{is_dlab, is_loopback}
+use Rattle.superio_core.specs.declared.serial.registers.Condition.TheVariants.{Thre}
+use Rattle.superio_core.specs.Serial.Port.Operations.{Op, Read, Write, Response, ByteRead, WriteOk, Event, out_byte, tx_lost_byte, answer_count, is_sent}
+use Rattle.superio_core.specs.Serial.Port.OpKinds.{sent_by}
+use Rattle.superio_core.specs.Serial.Step.Raising.{raise, receive_bytes}
+use Rattle.superio_core.specs.Serial.Step.Transition.{step, step_response, step_events}
+use Rattle.superio_core.specs.Serial.Step.Admissible.{kind_in_state, is_admissible}
 use Rattle.vm_superio.specs.Serial.Step.PortStep.{turned_on_count}
 use Rattle.vm_superio.specs.Serial.History.Registers.{accepted_by, taken_by}
 use Rattle.vm_superio.specs.Serial.History.Reads.{byte_read}
@@ -66,11 +64,7 @@ RbrDataReadyLaw = (s : State) → is_dlab s.line_control ≡ false
 pub record SendsByte (s new : State) (value : ℕ) (response : Response) (sent : Sent) : Type 0 where
   pub outcome : IsTrue (is_sent sent)
   pub state : new ≡ record s { interrupt_identification = raise Thre s.interrupt_enable s.interrupt_identification }
-  pub taken :
-      WriteOk ≡ response → (before after : Option (List ℕ))
-      → (IsTrue (list_all (λ outcome. not (is_lost outcome)) (sent ∷ []))
-      → Appends before after (bytes_written (Write 0 value) sent))
-      → Appends before after (value ∷ [])
+  pub taken : WriteOk ≡ response → sent ≡ Sent.Out
 
 abbrev pub ThrWriteLaw : Type 0
 ThrWriteLaw = (s : State) (value : ℕ) (asked : Asked) (sent : Sent)

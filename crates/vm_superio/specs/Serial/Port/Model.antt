@@ -1,9 +1,10 @@
 -- What a contract sees of a serial port, and of what its calls return.
 use Rattle.std.specs.Prelude.{ℕ, Option, Some, None, Result, Ok, Err}
+use Rattle.std.specs.declared.io.Error as io
 use Rattle.vm_superio.specs.declared.serial.errors.Error.{Error}
 use Rattle.vm_superio.specs.declared.serial.errors.Error.TheVariants.{Trigger, IOError, FullFifo, Memory}
-use Rattle.vm_superio.specs.Serial.Port.State.{State}
-use Rattle.vm_superio.specs.Serial.Port.Operations.{Response, WriteOk, EnqueueOk, TriggerRefused, WriterFailed, FifoFull, OutOfMemory}
+use Rattle.superio_core.specs.Serial.Port.State.{State}
+use Rattle.superio_core.specs.Serial.Port.Operations.{Response, WriteOk, EnqueueOk, TimeoutOk, TriggerRefused, WriterFailed, FifoFull, OutOfMemory}
 
 -- the state, and the objects that the port owns
 pub record Port (T EV W : Type 0) : Type 0 where
@@ -27,6 +28,10 @@ abbrev pub enqueue_response : {E : Type 0} → (answer : Result ℕ (Error E)) �
 enqueue_response (Ok count) = EnqueueOk count
 enqueue_response (Err error) = failure_response error
 
+abbrev pub timeout_response : {E : Type 0} → (answer : Result (Unit {0}) (Error E)) → Response
+timeout_response (Ok done) = TimeoutOk
+timeout_response (Err error) = failure_response error
+
 abbrev pub refusal_in_error : {E : Type 0} → (error : Error E) → Option E
 refusal_in_error (Trigger refusal) = Some refusal
 refusal_in_error _ = None
@@ -34,3 +39,12 @@ refusal_in_error _ = None
 abbrev pub refusal_in_result : {R E : Type 0} → (answer : Result R (Error E)) → Option E
 refusal_in_result (Ok done) = None
 refusal_in_result (Err error) = refusal_in_error error
+
+-- the output's fault that a call returned
+abbrev pub fault_in_error : {E : Type 0} → (error : Error E) → Option io.Error
+fault_in_error (IOError fault) = Some fault
+fault_in_error _ = None
+
+abbrev pub fault_in_result : {R E : Type 0} → (answer : Result R (Error E)) → Option io.Error
+fault_in_result (Ok done) = None
+fault_in_result (Err error) = fault_in_error error

@@ -1,17 +1,18 @@
 -- The history theorem: what a run from a coherent start shows, by the history alone.
-use Rattle.std.specs.Prelude.{◌≡◌, List, [], ◌++◌, IsTrue}
-use Rattle.vm_superio.specs.Serial.Port.Coherent.{Coherent}
-use Rattle.vm_superio.specs.Links.Objects.{Link, TriggerAnswer, Contents}
+use Rattle.std.specs.Prelude.{◌≡◌, ℕ, List, [], ◌++◌, IsTrue, Option}
+use Rattle.superio_core.specs.Serial.Port.Coherent.{Coherent}
+use Rattle.vm_superio.specs.Links.Objects.{Link, TriggerAnswer}
+use Rattle.vm_superio.specs.Links.OutCalls.{WriterCalls}
 use Rattle.vm_superio.specs.Serial.Port.Model.{Port}
 use Rattle.vm_superio.specs.Serial.History.Registers.{taken_bytes, accepted_bytes}
-use Rattle.vm_superio.specs.Serial.History.Interrupts.{is_well_formed, IsWithinBound, WaitingBytesShow}
+use Rattle.vm_superio.specs.Serial.History.Interrupts.{is_well_formed, IsWithinBound, WaitingBytesShow, TimeoutsShow}
 use Rattle.vm_superio.specs.Serial.History.Reads.{ResponsesAre, bytes_read, state_of_history}
 use Rattle.vm_superio.specs.Serial.Run.Trace.{Call, Done, RecordsOf, entries_of, trace_of, without_restores}
-use Rattle.vm_superio.specs.Serial.Run.Observations.{ReadsAre, OutputsAre, TriggersAre}
+use Rattle.vm_superio.specs.Serial.Run.Observations.{ReadsAre, OutputIs, KnownOutputIs, OutputsAre, TriggersAre}
 
 -- a run of these calls with these records, from a port to a port
 pub record HistoryTheorem
-    {T E EV W : Type 0} (trigger_link : Link T (TriggerAnswer E)) (contents : Contents W) (start : Port T EV W)
+    {T E EV W : Type 0} (trigger_link : Link T (TriggerAnswer E)) (contents : W → Option (List ℕ)) (start : Port T EV W)
     (calls : List (Call T EV W)) (records : List (Done T EV W E)) (end : Port T EV W) : Type 0 where
   -- there is a record of each call
   pub records_of_calls : RecordsOf calls records
@@ -32,9 +33,17 @@ pub record HistoryTheorem
   pub trigger_calls : IsTrue (is_well_formed start.state (trace_of records))
   pub bound : IsWithinBound start.state (trace_of records)
   pub waiting : WaitingBytesShow start.state (trace_of records)
-  -- output reaches each writer byte for byte, from its start to its end, while no byte is recorded lost
+  -- a character timeout makes RDA pending while bytes are held and enabled, and calls the trigger once for it
+  pub timeouts : TimeoutsShow start.state (trace_of records)
+  -- output goes to each output object byte for byte, each byte put and then flushed. A byte is lost exactly if one of
+  -- the two failed
   pub output :
-      OutputsAre contents start.state (record { before = []; newest = []; initial = start.out }) calls records end.out
+      OutputsAre (OutputIs (WriterCalls contents) start.state)
+      (record { before = []; newest = []; initial = start.out }) calls records end.out
+  -- so a writer of known contents took the output byte for byte, while no byte is recorded lost
+  pub known_output :
+      OutputsAre (KnownOutputIs contents start.state) (record { before = []; newest = []; initial = start.out })
+      calls records end.out
   -- each trigger gave the answers that are recorded: the first from the run's start, each later one from its restore,
   -- which makes the calls that are due
   pub restores :

@@ -1,13 +1,17 @@
 -- What a run from a coherent start shows, by the history alone: bytes read, output, trigger calls.
-use Rattle.std.specs.Prelude.{◌≡◌, List, [], ◌∷◌, ◌++◌, IsTrue, ⊤}
+use Rattle.std.specs.Prelude.{◌≡◌, ℕ, not, List, [], ◌∷◌, ◌++◌, ⊤, IsTrue, Option}
+use Rattle.std.specs.List.{list_all}
 use Rattle.std.specs.Io.KnownBytes.{Appends}
 use Rattle.vm_superio.specs.declared.run.Act.TheVariants.{Read}
 use Rattle.vm_superio.specs.declared.run.Call.TheVariants.{Restore}
-use Rattle.vm_superio.specs.Serial.Port.State.{State}
-use Rattle.vm_superio.specs.Serial.Port.Operations.{Asked, TraceEntry, Trace}
-use Rattle.vm_superio.specs.Links.Objects.{Link, TriggerAnswer, Contents, answers_of, all_ok, RefusesOwnState}
+use Rattle.superio_core.specs.Serial.Port.State.{State}
+use Rattle.superio_core.specs.declared.trace.Asked.{Asked}
+use Rattle.superio_core.specs.Serial.Port.Operations.{TraceEntry, Trace, is_lost}
+use Rattle.vm_superio.specs.Links.Objects.{Link, TriggerAnswer, answers_of, all_ok, RefusesOwnState}
+use Rattle.vm_superio.specs.Links.OutCalls.{OutCall}
+use Rattle.vm_superio.specs.Links.Writer.{OutLink}
 use Rattle.vm_superio.specs.Serial.History.Interrupts.{restore_calls_due}
-use Rattle.vm_superio.specs.Serial.History.Reads.{guest_read, output, none_lost}
+use Rattle.vm_superio.specs.Serial.History.Reads.{guest_read, output, outcomes}
 use Rattle.vm_superio.specs.Serial.Run.Trace.{Act, Call, Reply, Byte, Restored, NotRestored, Done, entry_of, refusal_in_reply}
 
 module _ {T E EV W : Type 0} where
@@ -29,30 +33,38 @@ pub record WriterSegment (W : Type 0) : Type 0 where
   pub newest : Trace
   pub initial : W
 
--- if no byte of the segment is lost, a writer of known contents took the segment's output
+-- the segment's output was sent, with the outcomes that are recorded
 abbrev pub OutputIs :
-    {W : Type 0} → (contents : Contents W) (start : State) (segment : WriterSegment W) (now : W) → Type 0
-OutputIs contents start segment now =
-    IsTrue (none_lost segment.newest)
+    {W : Type 0} → (link : Link W OutCall) (start : State) (segment : WriterSegment W) (now : W) → Type 0
+OutputIs link start segment now =
+    OutLink link (outcomes segment.newest) (output start segment.before segment.newest) segment.initial now
+
+-- if no byte of the segment is lost, a writer of known contents took the segment's output
+abbrev pub KnownOutputIs :
+    {W : Type 0} → (contents : W → Option (List ℕ)) (start : State) (segment : WriterSegment W) (now : W) → Type 0
+KnownOutputIs contents start segment now =
+    IsTrue (list_all (λ outcome. not (is_lost outcome)) (outcomes segment.newest))
     → Appends (contents segment.initial) (contents now) (output start segment.before segment.newest)
 
-module _ {T E EV W : Type 0} (contents : Contents W) (start : State) where
+-- the writer of a restore that succeeds begins the next segment
+abbrev pub next_writer_segment :
+    {T E EV W : Type 0} → (segment : WriterSegment W) (entry : TraceEntry) (call : Call T EV W)
+    (reply : Reply T EV W E) → WriterSegment W
+next_writer_segment segment entry (Restore trigger events out) (Restored old) =
+    record { before = entry ∷ segment.newest ++ segment.before; newest = []; initial = out }
+next_writer_segment segment entry call reply = record segment { newest = entry ∷ segment.newest }
+
+-- what holds of each segment and of its writer at its end
+module _ {T E EV W : Type 0} (Holds : (segment : WriterSegment W) (now : W) → Type 0) where
   -- a restore that succeeds ends a segment
   abbrev pub OutputAtRestore : (segment : WriterSegment W) (call : Call T EV W) (reply : Reply T EV W E) → Type 0
-  OutputAtRestore segment (Restore trigger events out) (Restored old) = OutputIs contents start segment old.out
+  OutputAtRestore segment (Restore trigger events out) (Restored old) = Holds segment old.out
   OutputAtRestore segment call reply = ⊤
-
-  -- and its writer begins the next
-  abbrev pub next_writer_segment :
-      (segment : WriterSegment W) (entry : TraceEntry) (call : Call T EV W) (reply : Reply T EV W E) → WriterSegment W
-  next_writer_segment segment entry (Restore trigger events out) (Restored old) =
-      record { before = entry ∷ segment.newest ++ segment.before; newest = []; initial = out }
-  next_writer_segment segment entry call reply = record segment { newest = entry ∷ segment.newest }
 
   -- over calls and their records, to the writer at the end
   abbrev pub OutputsAre :
       (segment : WriterSegment W) (calls : List (Call T EV W)) (records : List (Done T EV W E)) (end : W) → Type 0
-  OutputsAre segment [] [] end = OutputIs contents start segment end
+  OutputsAre segment [] [] end = Holds segment end
   OutputsAre segment (call ∷ calls) (done ∷ later) end =
       OutputAtRestore segment call done.reply
       × OutputsAre (next_writer_segment segment (entry_of done) call done.reply) calls later end

@@ -1,20 +1,20 @@
 -- A run of calls with a record of each, by the steps of these calls.
 use Rattle.std.specs.Prelude.{◌≡◌, List, [], ◌∷◌, None, IsTrue}
-use Rattle.vm_superio.specs.declared.trace.Asked.{Asked}
-use Rattle.vm_superio.specs.declared.trace.Sent.{Sent}
+use Rattle.superio_core.specs.declared.trace.Asked.{Asked}
+use Rattle.superio_core.specs.declared.trace.Sent.{Sent}
 use Rattle.vm_superio.specs.declared.run.Call.{Call}
 use Rattle.vm_superio.specs.declared.run.Reply.{Reply}
-use Rattle.vm_superio.specs.declared.run.Reply.TheVariants.{Byte, Wrote, Enqueued, Restored, NotRestored}
+use Rattle.vm_superio.specs.declared.run.Reply.TheVariants.{Byte, Wrote, Enqueued, TimedOut, Restored, NotRestored}
 use Rattle.vm_superio.specs.declared.run.Done.{Done}
-use Rattle.vm_superio.specs.Serial.Port.State.{State}
-use Rattle.vm_superio.specs.Serial.Port.Operations.{Op, Read, Write, Enqueue, Response, ByteRead}
+use Rattle.superio_core.specs.Serial.Port.State.{State}
+use Rattle.superio_core.specs.Serial.Port.Operations.{Op, Read, Write, Enqueue, CharacterTimeout, Response, ByteRead}
 use Rattle.vm_superio.specs.Links.Writer.{PortLinks}
 use Rattle.vm_superio.specs.Links.Objects.{all_ok, RefusesOwnState}
-use Rattle.vm_superio.specs.Serial.Port.Model.{Port, write_response, enqueue_response, refusal_in_result}
-use Rattle.vm_superio.specs.Serial.Step.Transition.{step, step_response}
-use Rattle.vm_superio.specs.Serial.Step.Admissible.{is_admissible}
+use Rattle.vm_superio.specs.Serial.Port.Model.{Port, write_response, enqueue_response, timeout_response, refusal_in_result}
+use Rattle.superio_core.specs.Serial.Step.Transition.{step, step_response}
+use Rattle.superio_core.specs.Serial.Step.Admissible.{is_admissible}
 use Rattle.vm_superio.specs.Serial.Step.PortStep.{IsPortStep}
-use Rattle.vm_superio.specs.Serial.Step.Restore.{restore_calls}
+use Rattle.superio_core.specs.Serial.Step.Restore.{restore_calls}
 use Rattle.vm_superio.specs.Serial.Run.Segments.{Segment, segment_from, extend, IsAfter}
 use Rattle.vm_superio.specs.Serial.Run.Trace.{op_of, act_of, refusal_in_reply}
 
@@ -35,6 +35,8 @@ module _ {T E EV W : Type 0} (links : PortLinks T E EV W) where
       OpFollows s (Write offset value) asked sent (write_response answer)
   CallFollows s segment (Call.Enqueue bytes) asked sent (Enqueued answer) =
       OpFollows s (Enqueue bytes.items) asked sent (enqueue_response answer)
+  CallFollows s segment Call.CharacterTimeout asked sent (TimedOut answer) =
+      OpFollows s CharacterTimeout asked sent (timeout_response answer)
   CallFollows s segment (Call.Restore trigger events out) asked sent (Restored old) =
       (asked ≡ Asked.Nothing) × (sent ≡ Sent.Nothing) × IsAfter links segment s old
       × ((now : T) × links.trigger trigger (all_ok (restore_calls s)) now)
@@ -77,6 +79,8 @@ module _ {T E EV W : Type 0} (links : PortLinks T E EV W) where
   IsCallStep (Call.Enqueue bytes) asked sent (Enqueued answer) old new =
       IsPortStep links (Enqueue bytes.items) asked sent
       (enqueue_response answer) (refusal_in_result answer) old new
+  IsCallStep Call.CharacterTimeout asked sent (TimedOut answer) old new =
+      IsPortStep links CharacterTimeout asked sent (timeout_response answer) (refusal_in_result answer) old new
   IsCallStep (Call.Restore trigger events out) asked sent (Restored before) old new =
       (asked ≡ Asked.Nothing) × (sent ≡ Sent.Nothing) × (before ≡ old) × (new.state ≡ old.state)
       × links.trigger trigger (all_ok (restore_calls old.state)) new.trigger

@@ -3,16 +3,17 @@ use Rattle.std.specs.Prelude.{◌≡◌, ⊤, List, [], ◌∷◌, Bool, true, f
 use Rattle.std.specs.List.{filter}
 pub use Rattle.vm_superio.specs.declared.run.Act.{Act}
 pub use Rattle.vm_superio.specs.declared.run.Reply.{Reply}
-pub use Rattle.vm_superio.specs.declared.run.Reply.TheVariants.{Byte, Wrote, Enqueued, Restored, NotRestored}
+pub use Rattle.vm_superio.specs.declared.run.Reply.TheVariants.{Byte, Wrote, Enqueued, TimedOut, Restored, NotRestored}
 pub use Rattle.vm_superio.specs.declared.run.Call.{Call}
 pub use Rattle.vm_superio.specs.declared.run.Done.{Done}
-use Rattle.vm_superio.specs.Serial.Port.Operations.{Op, Read, Write, Enqueue, Restore, TraceEntry, Response, ByteRead, NoResponse, Trace}
-use Rattle.vm_superio.specs.Serial.Port.Model.{write_response, enqueue_response, refusal_in_result}
+use Rattle.superio_core.specs.Serial.Port.Operations.{Op, Read, Write, Enqueue, CharacterTimeout, Restore, TraceEntry, Response, ByteRead, NoResponse, Trace}
+use Rattle.vm_superio.specs.Serial.Port.Model.{write_response, enqueue_response, timeout_response, refusal_in_result}
 
 abbrev pub op_of : (act : Act) → Op
 op_of (Act.Read offset) = Read offset
 op_of (Act.Write offset value) = Write offset value
 op_of (Act.Enqueue bytes) = Enqueue bytes.items
+op_of Act.CharacterTimeout = CharacterTimeout
 op_of Act.Restore = Restore
 
 abbrev pub is_restore : (act : Act) → Bool
@@ -24,6 +25,7 @@ abbrev pub act_of : {T EV W : Type 0} → (call : Call T EV W) → Act
 act_of (Call.Read offset) = Act.Read offset
 act_of (Call.Write offset value) = Act.Write offset value
 act_of (Call.Enqueue bytes) = Act.Enqueue bytes
+act_of Call.CharacterTimeout = Act.CharacterTimeout
 act_of (Call.Restore trigger events out) = Act.Restore
 
 -- the trace with further entries, oldest first, each with its response
@@ -37,6 +39,7 @@ module _ {T E EV W : Type 0} where
   IsReplyTo (Act.Read offset) (Byte byte) = ⊤
   IsReplyTo (Act.Write offset value) (Wrote answer) = ⊤
   IsReplyTo (Act.Enqueue bytes) (Enqueued answer) = ⊤
+  IsReplyTo Act.CharacterTimeout (TimedOut answer) = ⊤
   IsReplyTo Act.Restore (Restored old) = ⊤
   IsReplyTo Act.Restore (NotRestored refused) = ⊤
   IsReplyTo _ _ = ⊥
@@ -55,12 +58,14 @@ module _ {T E EV W : Type 0} where
   response_of (Byte byte) = ByteRead byte
   response_of (Wrote answer) = write_response answer
   response_of (Enqueued answer) = enqueue_response answer
+  response_of (TimedOut answer) = timeout_response answer
   response_of _ = NoResponse
 
   -- the refusal of the port's own trigger that a reply carries
   abbrev pub refusal_in_reply : (reply : Reply T EV W E) → Option E
   refusal_in_reply (Wrote answer) = refusal_in_result answer
   refusal_in_reply (Enqueued answer) = refusal_in_result answer
+  refusal_in_reply (TimedOut answer) = refusal_in_result answer
   refusal_in_reply _ = None
 
   abbrev pub entries_of : (records : List (Done T EV W E)) → List (TraceEntry × Response)

@@ -1,17 +1,19 @@
 -- One call of a port, as its contract states it.
-use Rattle.std.specs.Prelude.{◌≡◌, ℕ, ◌+◌, Bool, not, ◌&&◌, length, List, [], ◌∷◌, IsTrue, Option, None, Result, is_some}
-use Rattle.vm_superio.specs.declared.trace.Asked.{Asked}
-use Rattle.vm_superio.specs.declared.trace.Sent.{Sent}
+use Rattle.std.specs.Prelude.{◌≡◌, ℕ, ◌+◌, Bool, not, ◌&&◌, length, List, IsTrue, Option, None, Result, is_some}
+use Rattle.superio_core.specs.declared.trace.Asked.{Asked}
+use Rattle.superio_core.specs.declared.trace.Sent.{Sent}
 use Rattle.vm_superio.specs.declared.serial.errors.Error.{Error}
-use Rattle.vm_superio.specs.Bits.{has_bits}
-use Rattle.vm_superio.specs.Serial.Port.State.{State}
-use Rattle.vm_superio.specs.Serial.Port.Registers.{Rda, Thre, iir_bit}
-use Rattle.vm_superio.specs.Serial.Port.Operations.{Op, Read, Write, Enqueue, Restore, Response, ByteRead, NoResponse, Event, ends_in_refusal, count_if}
-use Rattle.vm_superio.specs.Links.Objects.{Link, TriggerAnswer, Contents, answers_of}
-use Rattle.vm_superio.specs.Links.Writer.{PortLinks, port_links, bytes_written, WriterLink}
-use Rattle.vm_superio.specs.Serial.Port.Model.{Port, write_response, enqueue_response, refusal_in_result}
-use Rattle.vm_superio.specs.Serial.Step.Transition.{step, step_response, step_events}
-use Rattle.vm_superio.specs.Serial.Step.Admissible.{is_admissible}
+use Rattle.superio_core.specs.Bits.{has_bits}
+use Rattle.superio_core.specs.Serial.Port.State.{State}
+use Rattle.superio_core.specs.declared.serial.registers.Condition.TheVariants.{Rda, Thre}
+use Rattle.superio_core.specs.Serial.Port.Registers.{iir_bit}
+use Rattle.superio_core.specs.Serial.Port.Operations.{Op, Read, Write, Enqueue, CharacterTimeout, Restore, Response, ByteRead, NoResponse, Event, ends_in_refusal, count_if}
+use Rattle.vm_superio.specs.Links.Objects.{Link, TriggerAnswer, answers_of}
+use Rattle.vm_superio.specs.Links.Writer.{PortLinks, port_links, bytes_sent, outcome_of, OutLink, AnsweredFault}
+use Rattle.vm_superio.specs.Links.OutCalls.{OutCall}
+use Rattle.vm_superio.specs.Serial.Port.Model.{Port, write_response, enqueue_response, timeout_response, refusal_in_result, fault_in_result}
+use Rattle.superio_core.specs.Serial.Step.Transition.{step, step_response, step_events}
+use Rattle.superio_core.specs.Serial.Step.Admissible.{is_admissible}
 
 -- a call takes a port from `old` to `new` by one step, with these answers of the trigger and this outcome of a byte. A
 -- refusal is that of the trigger's last call
@@ -24,7 +26,7 @@ pub record IsPortStep
   pub state : new.state ≡ step old.state op asked
   pub trigger : links.trigger old.trigger (answers_of asked refusal) new.trigger
   pub events : links.events old.events (step_events old.state op sent) new.events
-  pub out : WriterLink links.contents (sent ∷ []) (bytes_written op sent) old.out new.out
+  pub out : OutLink links.out (outcome_of sent) (bytes_sent op sent) old.out new.out
 
 -- the port with another writer, and nothing else changed
 abbrev pub with_writer : {T EV W : Type 0} → (port : Port T EV W) (writer : W) → Port T EV W
@@ -52,22 +54,32 @@ turned_on_count old new =
 
 -- ---- the calls
 
-module _ {T E EV W : Type 0} (trigger : Link T (TriggerAnswer E)) (events : Link EV Event) (contents : Contents W) where
+module _ {T E EV W : Type 0} (trigger : Link T (TriggerAnswer E)) (events : Link EV Event) (out : Link W OutCall) where
   -- a read calls no trigger and sends no byte
   abbrev pub IsReadStep : (offset byte : ℕ) (old new : Port T EV W) → Type 0
   IsReadStep offset byte old new =
-      IsPortStep (port_links trigger events contents) (Read offset) Asked.Nothing Sent.Nothing
+      IsPortStep (port_links trigger events out) (Read offset) Asked.Nothing Sent.Nothing
       (ByteRead byte) None old new
 
-  -- a write, with the trigger's answers and the outcome of its byte. There is one answer for each pending bit of IIR
-  -- that the write turns on
+  -- a write, with the trigger's answers and the outcome of its byte. A fault that it returns is the one that the output
+  -- answered
+  pub record IsRecordedWrite
+      (offset value : ℕ) (asked : Asked) (sent : Sent) (result : Result (Unit {0}) (Error E))
+      (old new : Port T EV W) : Type 0 where
+    pub step :
+        IsPortStep (port_links trigger events out) (Write offset value) asked sent
+        (write_response result) (refusal_in_result result) old new
+    pub fault : AnsweredFault (fault_in_result result) step.out.calls
+
+  -- a write. There is one answer of the trigger for each pending bit of IIR that the write turns on
   pub record IsWriteStep
       (offset value : ℕ) (result : Result (Unit {0}) (Error E)) (old new : Port T EV W) : Type 0 where
     pub asked : Asked
     pub sent : Sent
     pub step :
-        IsPortStep (port_links trigger events contents) (Write offset value) asked sent
+        IsPortStep (port_links trigger events out) (Write offset value) asked sent
         (write_response result) (refusal_in_result result) old new
+    pub fault : AnsweredFault (fault_in_result result) step.out.calls
     pub calls : length (answers_of asked (refusal_in_result result)) ≡ turned_on_count old.state new.state
 
   -- an enqueue, likewise
@@ -76,12 +88,20 @@ module _ {T E EV W : Type 0} (trigger : Link T (TriggerAnswer E)) (events : Link
     pub asked : Asked
     pub sent : Sent
     pub step :
-        IsPortStep (port_links trigger events contents) (Enqueue bytes) asked sent
+        IsPortStep (port_links trigger events out) (Enqueue bytes) asked sent
         (enqueue_response result) (refusal_in_result result) old new
+    pub calls : length (answers_of asked (refusal_in_result result)) ≡ turned_on_count old.state new.state
+
+  -- a character timeout, likewise
+  pub record IsTimeoutStep (result : Result (Unit {0}) (Error E)) (old new : Port T EV W) : Type 0 where
+    pub asked : Asked
+    pub step :
+        IsPortStep (port_links trigger events out) CharacterTimeout asked Sent.Nothing
+        (timeout_response result) (refusal_in_result result) old new
     pub calls : length (answers_of asked (refusal_in_result result)) ≡ turned_on_count old.state new.state
 
   -- a retry of refused interrupts: except for its trigger, the port makes the step of a restore without answers
   abbrev pub IsRetryStep : (old new : Port T EV W) → Type 0
   IsRetryStep old new =
-      IsPortStep (port_links trigger events contents) Restore Asked.Nothing Sent.Nothing
+      IsPortStep (port_links trigger events out) Restore Asked.Nothing Sent.Nothing
       NoResponse None (with_trigger old new.trigger) new

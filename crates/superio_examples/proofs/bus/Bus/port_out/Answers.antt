@@ -1,4 +1,5 @@
 -- One write for each byte.
+use Rattle.vm_superio.specs.Links.OutCalls.{WriterCalls}
 use Rattle.std.proofs.Common.{◌≡◌, length, [], ◌∷◌, Ok, refl, sym, subst, arith}
 use Rattle.std.specs.Prelude.{slice_index}
 use Rattle.superio_examples.specs.PortIo.{WritesBytes}
@@ -9,7 +10,7 @@ pub returns-in-len1-clause-bytes : goal.returns-in-len1-clause-bytes
 returns-in-len1-clause-bytes g c =
     let bytes = c.args.bytes.now in
     let few : length bytes ≡ 1 = omega (arith, c.in-len1.len_at_least, c.in-len1.len_below) in
-    let made : WritesBytes g.T.Trigger.link g.EV.SerialEvents.link g.W.Write.contents g.R.Trigger.link c.args.port
+    let made : WritesBytes g.T.Trigger.link g.EV.SerialEvents.link (WriterCalls g.W.Write.contents) g.R.Trigger.link c.args.port
     (slice_index bytes 0 ∷ []) c.write.result c.args.self.now c.write.new.self = (
       c.write.result,
       Ok tt,
@@ -26,14 +27,14 @@ returns-in-len1-clause-bytes g c =
       (refl, refl),
       and-ok c.write.result,
     ) in
-    on-true _ (subst (λ values. WritesBytes g.T.Trigger.link g.EV.SerialEvents.link g.W.Write.contents g.R.Trigger.link c.args.port values c.write.result c.args.self.now c.write.new.self)
+    on-true _ (subst (λ values. WritesBytes g.T.Trigger.link g.EV.SerialEvents.link (WriterCalls g.W.Write.contents) g.R.Trigger.link c.args.port values c.write.result c.args.self.now c.write.new.self)
     (sym (list-of-1 bytes few)) made)
 
 pub returns-in-len2-clause-bytes : goal.returns-in-len2-clause-bytes
 returns-in-len2-clause-bytes g c =
     let bytes = c.args.bytes.now in
     let few : length bytes ≡ 2 = omega (arith, c.in-len2.len_at_least, c.in-len2.len_below) in
-    let made : WritesBytes g.T.Trigger.link g.EV.SerialEvents.link g.W.Write.contents g.R.Trigger.link c.args.port
+    let made : WritesBytes g.T.Trigger.link g.EV.SerialEvents.link (WriterCalls g.W.Write.contents) g.R.Trigger.link c.args.port
     (slice_index bytes 0 ∷ slice_index bytes 1 ∷ []) c.and.result c.args.self.now c.write-in-len2.new.self = (
       c.write-first.result,
       c.write-in-len2.result,
@@ -65,14 +66,14 @@ returns-in-len2-clause-bytes g c =
       ),
       c.and.ensures,
     ) in
-    on-true _ (subst (λ values. WritesBytes g.T.Trigger.link g.EV.SerialEvents.link g.W.Write.contents g.R.Trigger.link c.args.port values c.and.result c.args.self.now c.write-in-len2.new.self)
+    on-true _ (subst (λ values. WritesBytes g.T.Trigger.link g.EV.SerialEvents.link (WriterCalls g.W.Write.contents) g.R.Trigger.link c.args.port values c.and.result c.args.self.now c.write-in-len2.new.self)
     (sym (list-of-2 bytes few)) made)
 
 pub returns-in-len4-clause-bytes : goal.returns-in-len4-clause-bytes
 returns-in-len4-clause-bytes g c =
     let bytes = c.args.bytes.now in
     let few : length bytes ≡ 4 = omega (arith, c.in-len4.len_at_least, c.in-len4.len_below) in
-    let made : WritesBytes g.T.Trigger.link g.EV.SerialEvents.link g.W.Write.contents g.R.Trigger.link c.args.port
+    let made : WritesBytes g.T.Trigger.link g.EV.SerialEvents.link (WriterCalls g.W.Write.contents) g.R.Trigger.link c.args.port
     (slice_index bytes 0 ∷ slice_index bytes 1 ∷ slice_index bytes 2 ∷ slice_index bytes 3 ∷ []) c.write_four.result c.args.self.now c.write_four.new.self = c.write_four.ensures.bytes in
-    on-true _ (subst (λ values. WritesBytes g.T.Trigger.link g.EV.SerialEvents.link g.W.Write.contents g.R.Trigger.link c.args.port values c.write_four.result c.args.self.now c.write_four.new.self)
+    on-true _ (subst (λ values. WritesBytes g.T.Trigger.link g.EV.SerialEvents.link (WriterCalls g.W.Write.contents) g.R.Trigger.link c.args.port values c.write_four.result c.args.self.now c.write_four.new.self)
     (sym (list-of-4 bytes few)) made)

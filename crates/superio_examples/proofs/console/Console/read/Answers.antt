@@ -1,23 +1,22 @@
--- The port reads, and then input goes in if no byte is left.
-use Rattle.std.proofs.Common.{rules, ◌≡◌, ◌==◌, length, true, false, refl}
+-- The port reads, then input goes in if no byte is left, and then a timeout follows if IIR showed nothing pending.
+use Rattle.std.proofs.Common.{Bool, refl, subst}
+use Rattle.vm_superio.specs.Links.OutCalls.{WriterCalls}
+use Rattle.superio_examples.specs.Console.{FeedsIf, TimesOutIf}
 use Rattle.superio_examples.proofs.console.Console.read.Goals as goal
 
-pub returns-then-fifo_capacity-eq64-clause-step : goal.returns-then-fifo_capacity-eq64-clause-step
-returns-then-fifo_capacity-eq64-clause-step g c =
-    let empty : (length c.read-byte.new.self.state.in_buffer == 0) ≡ true = search rules in
+pub returns-clause-step : goal.returns-clause-step
+returns-clause-step g c =
+    let trigger = g.T.Trigger.link in
+    let events = g.EV.SerialEvents.link in
+    let out = WriterCalls g.W.Write.contents in
+    let between = record c.args.self.now { serial = c.read-byte.new.self } in
     record {
-      between = record c.args.self.now { serial = c.read-byte.new.self };
+      between = between;
       step = c.read-byte.ensures.step;
       rest_unchanged = refl;
-      fed = rw empty (c.feed.ensures.fed, tt);
-    }
-
-pub returns-else-fifo_capacity-eq64-clause-step : goal.returns-else-fifo_capacity-eq64-clause-step
-returns-else-fifo_capacity-eq64-clause-step g c =
-    let held : (length c.read-byte.new.self.state.in_buffer == 0) ≡ false = search rules in
-    record {
-      between = record c.args.self.now { serial = c.read-byte.new.self };
-      step = c.read-byte.ensures.step;
-      rest_unchanged = refl;
-      fed = rw held (tt, refl);
+      filled = c.feed_if.new.self;
+      fed = subst (λ (starts : Bool). FeedsIf trigger events out starts between c.feed_if.new.self)
+          c.holds_none-is_empty.ensures c.feed_if.ensures.fed;
+      timed = subst (λ (is_due : Bool). TimesOutIf trigger events out is_due c.feed_if.new.self c.time_out_if.new.self)
+          c.finds_none.ensures c.time_out_if.ensures.timed;
     }

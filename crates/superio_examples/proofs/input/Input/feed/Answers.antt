@@ -1,11 +1,12 @@
 -- The room shows what went in, which is what the port's step accepts.
+use Rattle.vm_superio.specs.Links.OutCalls.{WriterCalls}
 use Rattle.std.proofs.Common.{◌≡◌, ℕ, ◌-◌, ◌≤◌, length, drop, arith, Option, None, Result, rules, refl, ap, ◌∙◌}
 use Rattle.std.specs.List.{refill}
 use Rattle.circular_buffer.specs.Buffer.{Buffer, buffer}
 use Rattle.vm_superio.specs.declared.serial.errors.Error.{Error}
 use Rattle.vm_superio.specs.Serial.Step.PortStep.{IsEnqueueStep}
 use Rattle.vm_superio.specs.Serial.Port.Model.{refusal_in_result, refusal_in_error}
-use Rattle.vm_superio.specs.Serial.Step.Raising.{enqueued_bytes, receive_bytes}
+use Rattle.superio_core.specs.Serial.Step.Raising.{enqueued_bytes, receive_bytes}
 use Rattle.superio_examples.proofs.InputLemmas.{room-taken, held-waiting, length-accepted, drop-accepted, keep-drop, refusal_in-other}
 use Rattle.superio_examples.proofs.input.Input.feed.Given.{Over}
 use Rattle.superio_examples.proofs.input.Input.feed.Goals as goal
@@ -56,7 +57,7 @@ returns-clause-room g c = rest g c ∙ ap (λ items. buffer items c.args.self.no
 -- an enqueue of the bytes that waited, with the refusal that the result carries
 forwards : (g : Over) (c : goal.Joined-enqueued g) (refusal : Option g.row.T-E.Denot) →
     refusal_in_result c.enqueue_raw_bytes-enqueued.result ≡ refusal → (answer : Result ℕ (Error g.row.T-E.Denot))
-    × IsEnqueueStep g.T.Trigger.link g.EV.SerialEvents.link g.W.Write.contents c.args.self.now.items answer
+    × IsEnqueueStep g.T.Trigger.link g.EV.SerialEvents.link (WriterCalls g.W.Write.contents) c.args.self.now.items answer
     c.args.serial.now c.enqueue_raw_bytes-enqueued.new.self
     × (refusal_in_result answer ≡ refusal)
 forwards g c refusal same = (c.enqueue_raw_bytes-enqueued.result, search rules, same)

@@ -1,7 +1,7 @@
 -- After a line of the serial port or of the clock, its session goes on.
 use Rattle.std.proofs.Common.{◌≡◌, ℕ, List, Result, Ok, Err, sym, subst}
 use Rattle.std.specs.Prelude.{IfOk, OnErr}
-use Rattle.vm_superio.specs.Rtc.Step.{ClockDevice}
+use Rattle.vm_superio.specs.Rtc.Device.{ClockDevice}
 use Rattle.vm_superio.specs.Serial.Port.Model.{Port}
 use Rattle.superio_script.specs.Board.{IsBetweenLines, IsSerialLineStep}
 use Rattle.superio_script.specs.ClockScript.{clock_session_after_line}

@@ -1,15 +1,15 @@
 -- How a worked example is computed: its calls with their answers, once by the steps and once by the history.
 use Rattle.std.proofs.Common.{◌++◌, ◌≡◌, ℕ, Bool, true, List, [], ◌∷◌, map}
-use Rattle.vm_superio.specs.declared.trace.Asked.{Asked}
-use Rattle.vm_superio.specs.declared.trace.Asked.TheVariants.{Nothing}
-use Rattle.vm_superio.specs.declared.trace.Sent.{Sent}
-use Rattle.vm_superio.specs.declared.trace.Sent.TheVariants as sent
-use Rattle.vm_superio.specs.Serial.Port.State.{State}
-use Rattle.vm_superio.specs.Serial.Port.Registers.{Condition}
-use Rattle.vm_superio.specs.Serial.Port.Operations.{Event, Read, Write, Enqueue, Restore, TraceEntry, Response, ByteRead, WriteOk, NoResponse}
-use Rattle.vm_superio.specs.Serial.Step.Admissible.{is_admissible}
-use Rattle.vm_superio.specs.Serial.Step.Transition.{step_response, step, step_events}
-use Rattle.vm_superio.specs.Serial.Step.Restore.{restore_calls}
+use Rattle.superio_core.specs.declared.trace.Asked.{Asked}
+use Rattle.superio_core.specs.declared.trace.Asked.TheVariants.{Nothing}
+use Rattle.superio_core.specs.declared.trace.Sent.{Sent}
+use Rattle.superio_core.specs.declared.trace.Sent.TheVariants as sent
+use Rattle.superio_core.specs.Serial.Port.State.{State}
+use Rattle.superio_core.specs.declared.serial.registers.Condition.{Condition}
+use Rattle.superio_core.specs.Serial.Port.Operations.{Event, Read, Write, Enqueue, CharacterTimeout, Restore, TraceEntry, Response, ByteRead, WriteOk, NoResponse}
+use Rattle.superio_core.specs.Serial.Step.Admissible.{is_admissible}
+use Rattle.superio_core.specs.Serial.Step.Transition.{step_response, step, step_events}
+use Rattle.superio_core.specs.Serial.Step.Restore.{restore_calls}
 use Rattle.vm_superio.specs.Serial.History.Interrupts.{is_well_formed_entry, restore_calls_due}
 use Rattle.vm_superio.specs.Serial.Run.Trace.{trace_after}
 use Rattle.vm_superio.specs.Serial.History.Reads.{history_response}
@@ -35,6 +35,10 @@ write_fails offset value asked outcome step_response = (record { op = Write offs
 -- an enqueue, with the trigger's answers and what it returns
 abbrev pub enqueue : List ℕ → Asked → Response → TraceEntry × Response
 enqueue bytes asked step_response = (record { op = Enqueue bytes; asked = asked; sent = sent.Nothing }, step_response)
+
+-- a character timeout, with the trigger's answers and what it returns
+abbrev pub timeout : Asked → Response → TraceEntry × Response
+timeout asked step_response = (record { op = CharacterTimeout; asked = asked; sent = sent.Nothing }, step_response)
 
 abbrev pub restore : TraceEntry × Response
 restore = (record { op = Restore; asked = Nothing; sent = sent.Nothing }, NoResponse)

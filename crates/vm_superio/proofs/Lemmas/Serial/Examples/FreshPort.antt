@@ -1,10 +1,10 @@
 -- Worked examples from a fresh serial port: registers, conditions and refusals.
 use Rattle.std.proofs.Common.{[], ◌∷◌, refl, replicate}
-use Rattle.vm_superio.specs.declared.trace.Asked.TheVariants.{Nothing, Took, Refused, TookTook, TookRefused}
-use Rattle.vm_superio.specs.declared.trace.Sent.TheVariants as sent
-use Rattle.vm_superio.specs.Serial.Port.State.{fresh_state}
-use Rattle.vm_superio.specs.Bits.{has_bits, only_bits, with_bits}
-use Rattle.vm_superio.specs.Serial.Port.Operations.{EnqueueOk, TriggerRefused, WriterFailed, FifoFull}
+use Rattle.superio_core.specs.declared.trace.Asked.TheVariants.{Nothing, Took, Refused, TookTook, TookRefused}
+use Rattle.superio_core.specs.declared.trace.Sent.TheVariants as sent
+use Rattle.superio_core.specs.Serial.Port.State.{fresh_state}
+use Rattle.superio_core.specs.Bits.{has_bits, only_bits, with_bits}
+use Rattle.superio_core.specs.Serial.Port.Operations.{EnqueueOk, TriggerRefused, WriterFailed, FifoFull}
 use Rattle.vm_superio.proofs.Lemmas.Serial.Examples.Calls.{read, write, store, write_fails, enqueue, GivenByBoth}
 
 -- each offset of a fresh port

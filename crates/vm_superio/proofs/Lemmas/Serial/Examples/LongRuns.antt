@@ -1,12 +1,12 @@
 -- Worked examples from a fresh serial port: loopback, restores and each trigger call refused in turn.
 use Rattle.std.proofs.Common.{◌≡◌, ℕ, zero, suc, List, [], ◌∷◌, refl}
-use Rattle.vm_superio.specs.declared.trace.Asked.TheVariants.{Nothing, Took, Refused}
-use Rattle.vm_superio.specs.declared.trace.Sent.TheVariants as sent
-use Rattle.vm_superio.specs.Serial.Port.State.{fresh_state}
-use Rattle.vm_superio.specs.Bits.{has_bits, only_bits, with_bits}
-use Rattle.vm_superio.specs.Serial.Port.Registers.{Rda, Thre}
-use Rattle.vm_superio.specs.Serial.Port.Operations.{buffer_read, TraceEntry, Response, EnqueueOk, TriggerRefused, WriterFailed}
-use Rattle.vm_superio.proofs.Lemmas.Serial.Examples.Calls.{read, write, store, write_fails, enqueue, restore, reported_events, GivenByBoth, RestoresWith}
+use Rattle.superio_core.specs.declared.trace.Asked.TheVariants.{Nothing, Took, Refused, TookTook}
+use Rattle.superio_core.specs.declared.trace.Sent.TheVariants as sent
+use Rattle.superio_core.specs.Serial.Port.State.{fresh_state}
+use Rattle.superio_core.specs.Bits.{has_bits, only_bits, with_bits}
+use Rattle.superio_core.specs.declared.serial.registers.Condition.TheVariants.{Rda, Thre}
+use Rattle.superio_core.specs.Serial.Port.Operations.{buffer_read, TraceEntry, Response, EnqueueOk, TimeoutOk, TriggerRefused, WriterFailed}
+use Rattle.vm_superio.proofs.Lemmas.Serial.Examples.Calls.{read, write, store, write_fails, enqueue, timeout, restore, reported_events, GivenByBoth, RestoresWith}
 
 loopback_receives : GivenByBoth fresh_state (
     store 4 0x10 ∷ store 1 0x01 ∷ write 0 0x61 Took sent.Nothing ∷ write 0 0x62 Nothing sent.Nothing ∷
@@ -106,3 +106,20 @@ refused_at_the_third_write : GivenByBoth fresh_state (
     write_fails 1 0x03 Refused sent.Nothing TriggerRefused ∷ read 2 0xC6 ∷ [])
 unfolding has_bits only_bits with_bits
 refused_at_the_third_write = (refl, refl)
+
+-- ---- character timeouts
+
+-- a guest that reads IIR and leaves a byte is interrupted again, once; with no byte held, or RDA masked, it is not
+timeout_for_a_byte_left : GivenByBoth fresh_state (
+    store 1 0x01 ∷ timeout Nothing TimeoutOk ∷ enqueue (0x61 ∷ 0x62 ∷ []) Took (EnqueueOk 2) ∷ timeout Nothing TimeoutOk
+    ∷ read 2 0xC4 ∷ read 0 0x61 ∷ read 2 0xC1 ∷ timeout Took TimeoutOk ∷ timeout Nothing TimeoutOk ∷ read 2 0xC4
+    ∷ store 1 0x00 ∷ timeout Nothing TimeoutOk ∷ read 2 0xC1 ∷ read 0 0x62 ∷ timeout Nothing TimeoutOk ∷ read 2 0xC1 ∷ [])
+unfolding has_bits only_bits with_bits
+timeout_for_a_byte_left = (refl, refl)
+
+-- a refusal leaves RDA pending, and THRE is as it was
+refused_timeout : GivenByBoth fresh_state (
+    enqueue (0x61 ∷ []) Nothing (EnqueueOk 1) ∷ write 1 0x03 TookTook sent.Nothing ∷ read 2 0xC6
+    ∷ timeout Refused TriggerRefused ∷ timeout Nothing TimeoutOk ∷ write 0 0x41 Took sent.Out ∷ read 2 0xC6 ∷ [])
+unfolding has_bits only_bits with_bits
+refused_timeout = (refl, refl)

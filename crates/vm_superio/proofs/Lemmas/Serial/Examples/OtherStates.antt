@@ -1,12 +1,12 @@
 -- Worked examples from other states.
 use Rattle.std.proofs.Common.{◌≡◌, [], ◌∷◌, refl}
-use Rattle.vm_superio.specs.declared.trace.Asked.TheVariants.{Took}
-use Rattle.vm_superio.specs.declared.trace.Sent.TheVariants as sent
-use Rattle.vm_superio.specs.Serial.Port.State.{State, fresh_state}
-use Rattle.vm_superio.specs.Bits.{has_bits, only_bits, with_bits}
-use Rattle.vm_superio.specs.Serial.Port.Registers.{Rda, Thre}
-use Rattle.vm_superio.specs.Serial.Port.Operations.{buffer_read, in_buffer_empty}
-use Rattle.vm_superio.specs.Serial.Step.Restore.{restore_calls}
+use Rattle.superio_core.specs.declared.trace.Asked.TheVariants.{Took}
+use Rattle.superio_core.specs.declared.trace.Sent.TheVariants as sent
+use Rattle.superio_core.specs.Serial.Port.State.{State, fresh_state}
+use Rattle.superio_core.specs.Bits.{has_bits, only_bits, with_bits}
+use Rattle.superio_core.specs.declared.serial.registers.Condition.TheVariants.{Rda, Thre}
+use Rattle.superio_core.specs.Serial.Port.Operations.{buffer_read, in_buffer_empty}
+use Rattle.superio_core.specs.Serial.Step.Restore.{restore_calls}
 use Rattle.vm_superio.proofs.Lemmas.Serial.Examples.Calls.{read, write, store, restore, reported_events, GivenByCases, GivenByBoth, RestoresWith}
 
 -- both conditions are pending and enabled, and a byte is held

@@ -1,21 +1,23 @@
 -- The held-bytes law: no byte is lost or made up, and data ready says whether one is held.
-use Rattle.std.proofs.Common.{◌≡◌, ℕ, Bool, true, List, [], ◌∷◌, ◌++◌, length, drop, refl, ap, sym, ◌∙◌, append_assoc, append-nil, length-append}
+use Rattle.std.proofs.Common.{◌≡◌, ℕ, Bool, List, [], ◌∷◌, ◌++◌, length, drop, refl, ap, sym, ◌∙◌, append_assoc, append-nil, length-append}
 use Rattle.std.proofs.Math.Seq.{drop-append-add}
 use Rattle.std.specs.Prelude.{if◌then◌else◌}
-use Rattle.vm_superio.specs.declared.trace.Asked.{Asked}
-use Rattle.vm_superio.specs.Serial.Port.State.{State, not_empty}
-use Rattle.vm_superio.specs.Bits.{has_bits, without_bits}
+use Rattle.superio_core.specs.declared.trace.Asked.{Asked}
+use Rattle.superio_core.specs.Serial.Port.State.{State, not_empty}
+use Rattle.superio_core.specs.Bits.{has_bits, without_bits}
 use Rattle.vm_superio.specs.Serial.History.Reads.{with_data_ready, line_status}
-use Rattle.vm_superio.specs.Serial.Port.Operations.{Op, TraceEntry}
-use Rattle.vm_superio.specs.Serial.Step.Raising.{receive_bytes, bytes_that_fit}
-use Rattle.vm_superio.specs.Serial.Step.Admissible.{kind_in_state}
-use Rattle.vm_superio.specs.Serial.Port.OpKinds.{OpKind, RbrRead, IirRead, Arrival}
+use Rattle.superio_core.specs.Serial.Port.Operations.{Op, TraceEntry}
+use Rattle.superio_core.specs.Serial.Step.Raising.{receive_bytes, bytes_that_fit}
+use Rattle.superio_core.specs.Serial.Step.Admissible.{kind_in_state}
+use Rattle.superio_core.specs.Serial.Port.OpKinds.{OpKind, RbrRead, IirRead, Arrival}
 use Rattle.vm_superio.specs.Serial.History.Registers.{accepted_by, taken_by, kind_at, remaining_bytes, accepted_bytes, taken_bytes, held_bytes}
-use Rattle.vm_superio.specs.Serial.Step.Transition.{step}
+use Rattle.superio_core.specs.Serial.Step.Transition.{step}
 use Rattle.vm_superio.specs.Serial.Laws.Agreement.{state_after, HeldBytesLaw, LineStatusLaw}
 use Rattle.vm_superio.specs.Serial.Laws.Consequences.{TakenThenHeldLaw}
 use Rattle.vm_superio.proofs.Lemmas.Serial.Port.Bits.{data_ready_right, data_ready_twice}
-use Rattle.vm_superio.proofs.Lemmas.Serial.Step.ByKind.{by_kind, next_by_kind, next_at_point}
+use Rattle.superio_core.proofs.Lemmas.Serial.Laws.Coherence.{not_empty-append}
+use Rattle.superio_core.proofs.Lemmas.Serial.Step.ByKind.{by_kind, next_by_kind}
+use Rattle.vm_superio.proofs.Lemmas.Serial.Step.ByKind.{next_at_point}
 use Rattle.vm_superio.proofs.Lemmas.Serial.Laws.OneCall.{taken_first, left_by_kind}
 
 -- ---- any trace
@@ -67,10 +69,6 @@ held_bytes_law start (entry ∷ trace) =
     ∙ sym (held_more start trace entry (taken_then_held start trace))
 
 -- ---- data ready
-
-pub not_empty-append : (old : List ℕ) (byte : ℕ) (bytes : List ℕ) → not_empty (old ++ byte ∷ bytes) ≡ true
-not_empty-append [] byte bytes = refl
-not_empty-append (first ∷ old) byte bytes = refl
 
 -- LSR of a state shows whether bytes are held
 abbrev IsReady : State → Type 0

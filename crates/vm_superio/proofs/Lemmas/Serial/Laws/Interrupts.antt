@@ -1,23 +1,25 @@
 -- The interrupt law: IIR shows the pending conditions, and an entry is admissible exactly if it is well-formed.
 use Rattle.std.proofs.Common.{◌≡◌, ℕ, ◌+◌, zero-add, add-zero, Bool, true, false, not, ◌==◌, ◌&&◌, ◌||◌, List, [], ◌∷◌, refl, ap, sym, ◌∙◌}
-use Rattle.std.specs.Prelude.{if◌then◌else◌}
 use Rattle.std.specs.Bool.{beq}
 use Rattle.std.proofs.Math.Bool.{and-true}
-use Rattle.vm_superio.specs.declared.trace.Asked.{Asked}
-use Rattle.vm_superio.specs.Serial.Port.State.{State, not_empty}
-use Rattle.vm_superio.specs.Bits.{has_bits, only_bits, without_bits}
-use Rattle.vm_superio.specs.Serial.Port.Registers.{Thre, Rda, identification_of, pending_in_order}
-use Rattle.vm_superio.specs.Serial.Port.Operations.{TraceEntry, is_first_refused, is_sent, count_if, answer_count}
-use Rattle.vm_superio.specs.Serial.Step.Raising.{raise, raise_rda_while_held, becomes_pending, rda_becomes_pending, receive_bytes, bytes_that_fit}
-use Rattle.vm_superio.specs.Serial.Port.OpKinds.{OpKind, RbrRead, IirRead, IerWrite, ThrWrite, Arrival, Other, sent_by, is_iir_read}
-use Rattle.vm_superio.specs.Serial.Step.Admissible.{arrival_calls, kind_calls, answers_all, step_calls, is_admissible}
+use Rattle.superio_core.specs.declared.trace.Asked.{Asked}
+use Rattle.superio_core.specs.Serial.Port.State.{State, not_empty}
+use Rattle.superio_core.specs.Bits.{has_bits, only_bits}
+use Rattle.superio_core.specs.declared.serial.registers.Condition.TheVariants.{Thre, Rda}
+use Rattle.superio_core.specs.Serial.Port.Registers.{identification_of, pending_in_order}
+use Rattle.superio_core.specs.Serial.Port.Operations.{TraceEntry, is_refused_at_once, is_sent, count_if, answer_count}
+use Rattle.superio_core.specs.Serial.Step.Raising.{raise_rda_while_held, becomes_pending, rda_becomes_pending, bytes_that_fit}
+use Rattle.superio_core.specs.Serial.Port.OpKinds.{OpKind, RbrRead, IirRead, IerWrite, ThrWrite, Arrival, Timeout, Other, sent_by, is_iir_read}
+use Rattle.superio_core.specs.Serial.Step.Admissible.{arrival_calls, kind_calls, answers_all, step_calls, is_admissible}
 use Rattle.vm_superio.specs.Serial.History.Registers.{kind_at, held_bytes}
 use Rattle.vm_superio.specs.Serial.History.Interrupts.{raises_rda, acknowledges, is_pending, raises_thre, is_well_formed_entry, restore_calls_due}
 use Rattle.vm_superio.specs.Serial.History.Reads.{interrupt_identification}
-use Rattle.vm_superio.specs.Serial.Step.Restore.{restore_calls}
+use Rattle.superio_core.specs.Serial.Step.Restore.{restore_calls}
 use Rattle.vm_superio.specs.Serial.Laws.Agreement.{state_after, InterruptLaw}
-use Rattle.vm_superio.proofs.Lemmas.Serial.Step.Raising.{rda_bit, thre_bit, read_clears, raise_rda, raise_thre, rda_new, thre_new, ier_write_raises_rda, ier_write_leaves, ier_write_raises_thre, answers_counted}
-use Rattle.vm_superio.proofs.Lemmas.Serial.Step.ByKind.{by_kind, next_at_point, same_kind}
+use Rattle.superio_core.proofs.Lemmas.Serial.Step.Raising.{rda_bit, thre_bit, rda_new, thre_new, ier_write_raises_rda, ier_write_raises_thre, timeout_raises_rda, answers_counted}
+use Rattle.superio_core.proofs.Lemmas.Serial.Laws.Coherence.{pending_by_kind as pending_after}
+use Rattle.superio_core.proofs.Lemmas.Serial.Step.ByKind.{by_kind}
+use Rattle.vm_superio.proofs.Lemmas.Serial.Step.ByKind.{next_at_point, same_kind}
 use Rattle.vm_superio.proofs.Lemmas.Serial.Laws.Registers.{register_law}
 use Rattle.vm_superio.proofs.Lemmas.Serial.Laws.HeldBytes.{held_bytes_law}
 
@@ -30,51 +32,25 @@ rda_called k held_bytes enable rda = raises_rda k held_bytes enable && not rda
 -- the conditions that are pending afterwards
 abbrev pub thre_next : OpKind → List ℕ → ℕ → Asked → Bool → Bool → Bool
 thre_next k held_bytes enable asked thre rda =
-    raises_thre k enable (rda_called k held_bytes enable rda && is_first_refused asked) ||
+    raises_thre k enable (rda_called k held_bytes enable rda && is_refused_at_once asked) ||
     (not (is_iir_read k) && thre)
 
 abbrev pub rda_next : OpKind → List ℕ → ℕ → Bool → Bool
 rda_next k held_bytes enable rda = raises_rda k held_bytes enable || (not (acknowledges Rda k) && rda)
 
-received_pending : (new : List ℕ) (s : State) (thre receive_before : Bool)
-    → s.interrupt_identification ≡ identification_of thre receive_before
-    → (receive_bytes new s).interrupt_identification
-    ≡ identification_of thre ((not_empty new && has_bits s.interrupt_enable 0x01) || receive_before)
-received_pending [] s thre before e = e
-received_pending (byte ∷ bytes) s thre before e =
-    ap (raise Rda s.interrupt_enable) e ∙ raise_rda s.interrupt_enable thre before
-
--- what an IER write leaves of an IIR, if the trigger refuses for RDA or not
-abbrev enabled_if : Bool → List ℕ → ℕ → ℕ → ℕ
-enabled_if refused held_bytes value old =
-    let new = raise_rda_while_held held_bytes (only_bits value 0x0F) old in
-    if refused then new else raise Thre (only_bits value 0x0F) new
-
-abbrev enabled : List ℕ → ℕ → Asked → ℕ → ℕ
-enabled held_bytes value asked old =
-    enabled_if (rda_becomes_pending held_bytes (only_bits value 0x0F) old && is_first_refused asked) held_bytes value old
-
 -- from IIR of two conditions to that of the next two
-pub pending_by_kind : (k : OpKind) (asked : Asked) (s : State) (thre rda : Bool)
+pending_by_kind : (k : OpKind) (asked : Asked) (s : State) (thre rda : Bool)
     → s.interrupt_identification ≡ identification_of thre rda
     → (by_kind k asked s).interrupt_identification
     ≡ identification_of (thre_next k s.in_buffer s.interrupt_enable asked thre rda)
     (rda_next k s.in_buffer s.interrupt_enable rda)
-pending_by_kind RbrRead asked s thre rda e =
-    ap (λ old. let new = without_bits old 0x04 in if new == 0 then 1 else new) e ∙ read_clears thre rda
-pending_by_kind IirRead asked s thre rda e = refl
-pending_by_kind (IerWrite value) asked s thre rda e =
-    ap (λ old. enabled s.in_buffer value asked old) e
-    ∙ ap (λ new. enabled_if (new && is_first_refused asked) s.in_buffer value (identification_of thre rda))
-    (ier_write_raises_rda s.in_buffer value thre rda)
-    ∙ ier_write_leaves
-    (rda_called (IerWrite value) s.in_buffer s.interrupt_enable rda
-    && is_first_refused asked) s.in_buffer value thre rda
-pending_by_kind (ThrWrite value) asked s thre rda e =
-    ap (raise Thre s.interrupt_enable) e ∙ raise_thre s.interrupt_enable thre rda
-pending_by_kind (Arrival bytes) asked s thre rda e =
-    received_pending (bytes_that_fit s.in_buffer bytes) s thre rda e
-pending_by_kind Other asked s thre rda e = e
+pending_by_kind RbrRead asked s thre rda e = pending_after RbrRead asked s thre rda e
+pending_by_kind IirRead asked s thre rda e = pending_after IirRead asked s thre rda e
+pending_by_kind (IerWrite value) asked s thre rda e = pending_after (IerWrite value) asked s thre rda e
+pending_by_kind (ThrWrite value) asked s thre rda e = pending_after (ThrWrite value) asked s thre rda e
+pending_by_kind (Arrival bytes) asked s thre rda e = pending_after (Arrival bytes) asked s thre rda e
+pending_by_kind Timeout asked s thre rda e = pending_after Timeout asked s thre rda e
+pending_by_kind Other asked s thre rda e = pending_after Other asked s thre rda e
 
 received_due : (new : List ℕ) (s : State) (thre rda : Bool)
     → s.interrupt_identification ≡ identification_of thre rda
@@ -105,6 +81,9 @@ due_is (ThrWrite value) s thre rda e =
     ap (λ old. count_if (becomes_pending Thre s.interrupt_enable old)) e
     ∙ ap count_if (thre_new s.interrupt_enable thre rda) ∙ sym (zero-add _)
 due_is (Arrival bytes) s thre rda e = received_due (bytes_that_fit s.in_buffer bytes) s thre rda e
+due_is Timeout s thre rda e =
+    ap (λ old. count_if (rda_becomes_pending s.in_buffer s.interrupt_enable old)) e
+    ∙ ap count_if (timeout_raises_rda s.in_buffer s.interrupt_enable thre rda) ∙ sym (add-zero _)
 due_is RbrRead s thre rda e = refl
 due_is _ s thre rda e = refl
 
@@ -131,15 +110,15 @@ test_by_kind : (k : OpKind) (asked : Asked) (s : State) (thre rda : Bool)
     → let first = rda_called k s.in_buffer s.interrupt_enable rda in
     answers_all (kind_calls k s) asked
     ≡ (answer_count asked == count_if first
-    + count_if (raises_thre k s.interrupt_enable (first && is_first_refused asked) && not thre))
+    + count_if (raises_thre k s.interrupt_enable (first && is_refused_at_once asked) && not thre))
 test_by_kind k asked s thre rda e =
     let first = rda_called k s.in_buffer s.interrupt_enable rda in
     let second = raises_thre k s.interrupt_enable false in
     ap (λ calls. answers_all calls asked) (due_is k s thre rda e)
     ∙ answers_counted first (second && not thre) asked
     ∙ ap (λ new. answer_count asked == count_if first + count_if new)
-    (and_swap second (not thre) (not (first && is_first_refused asked))
-    ∙ ap (λ raised. raised && not thre) (ends_early k s.in_buffer s.interrupt_enable rda (is_first_refused asked)))
+    (and_swap second (not thre) (not (first && is_refused_at_once asked))
+    ∙ ap (λ raised. raised && not thre) (ends_early k s.in_buffer s.interrupt_enable rda (is_refused_at_once asked)))
 
 -- ---- any trace
 
@@ -180,7 +159,7 @@ well_formed_law start trace thre rda entry e =
     let outcome_fits = beq (is_sent entry.sent) (not_empty (sent_by k)) in
     let calls_of = λ (bytes : List ℕ) (enable : ℕ).
     count_if (rda_called k bytes enable r)
-    + count_if (raises_thre k enable (rda_called k bytes enable r && is_first_refused entry.asked) && not t) in
+    + count_if (raises_thre k enable (rda_called k bytes enable r && is_refused_at_once entry.asked) && not t) in
     ap (λ test. answers_all (step_calls s entry.op) entry.asked && test)
     (ap (λ (k : OpKind). beq (is_sent entry.sent) (not_empty (sent_by k))) same)
     ∙ ap (λ calls. answers_all calls entry.asked && outcome_fits) (ap (λ (k : OpKind). kind_calls k s) same)

@@ -1,29 +1,29 @@
 -- One call: the bytes that it takes, accepts and gives, and the byte that a THR write sends.
-use Rattle.std.proofs.Common.{◌≡◌, ℕ, Bool, true, List, [], ◌∷◌, ◌++◌, length, drop, refl, ap, sym, ◌∙◌, append-nil, ◌<◌, false, subst, arith, Option, IsTrue}
-use Rattle.std.specs.Prelude.{if◌then◌else◌, slice_index, drop, ◌&&◌, not}
-use Rattle.vm_superio.specs.declared.trace.Asked.{Asked}
-use Rattle.vm_superio.specs.Serial.Port.State.{State, not_empty}
-use Rattle.vm_superio.specs.Bits.{has_bits, without_bits}
+use Rattle.std.proofs.Common.{◌≡◌, ℕ, Bool, true, List, [], ◌∷◌, ◌++◌, length, drop, refl, ap, sym, ◌∙◌, append-nil, ◌<◌, false, subst, arith, IsTrue}
+use Rattle.std.specs.Prelude.{if◌then◌else◌, slice_index, drop, ◌&&◌}
+use Rattle.superio_core.specs.declared.trace.Asked.{Asked}
+use Rattle.superio_core.specs.Serial.Port.State.{State, not_empty}
+use Rattle.superio_core.specs.Bits.{has_bits, without_bits}
 use Rattle.vm_superio.specs.Serial.History.Reads.{line_status, byte_read}
-use Rattle.vm_superio.specs.Serial.Port.Operations.{Op, Read, Write, Enqueue, Restore, Response, ByteRead, WriteOk, WriterFailed, TriggerRefused, is_sent, is_lost, ends_in_refusal}
-use Rattle.vm_superio.specs.Serial.Step.Raising.{receive_bytes, bytes_that_fit, raise}
-use Rattle.vm_superio.specs.Serial.Step.Admissible.{kind_in_state, answers_all, step_calls, sends_byte}
-use Rattle.vm_superio.specs.Serial.Port.OpKinds.{OpKind, RbrRead, IirRead, Arrival, read_kind, write_kind, kind_of, sent_by}
+use Rattle.superio_core.specs.Serial.Port.Operations.{Op, Read, Write, Enqueue, CharacterTimeout, Restore, Response, ByteRead, WriteOk, WriterFailed, TriggerRefused, is_sent, is_lost, ends_in_refusal}
+use Rattle.superio_core.specs.Serial.Step.Raising.{receive_bytes, bytes_that_fit, raise}
+use Rattle.superio_core.specs.Serial.Step.Admissible.{kind_in_state, answers_all, step_calls, sends_byte}
+use Rattle.superio_core.specs.Serial.Port.OpKinds.{OpKind, RbrRead, IirRead, Arrival, read_kind, write_kind, kind_of, sent_by}
 use Rattle.vm_superio.specs.Serial.History.Registers.{accepted_by, taken_by}
-use Rattle.vm_superio.specs.Serial.Step.Transition.{step, read_step, step_response, write_step}
+use Rattle.superio_core.specs.Serial.Step.Transition.{step, read_step, step_response, write_step}
 use Rattle.vm_superio.specs.Serial.Laws.OneCall.{OneCallLaw, ReceivedLaw, OneReadLaw, RbrReadLaw, RbrDataReadyLaw, ThrWriteLaw}
-use Rattle.vm_superio.proofs.Lemmas.Serial.Port.Bits.{data_ready_cleared}
-use Rattle.vm_superio.proofs.Lemmas.Serial.Step.ByKind.{by_kind, next_by_kind}
+use Rattle.superio_core.proofs.Lemmas.Serial.Port.Bits.{data_ready_cleared}
+use Rattle.superio_core.proofs.Lemmas.Serial.Step.ByKind.{by_kind, next_by_kind}
 use Rattle.std.proofs.Math.Bool.{and-true, and-false}
-use Rattle.vm_superio.specs.declared.trace.Asked.TheVariants.{Nothing}
-use Rattle.vm_superio.specs.declared.trace.Sent.{Sent}
-use Rattle.vm_superio.specs.declared.trace.Sent.TheVariants as sent
-use Rattle.vm_superio.specs.Serial.Port.Registers.{Register, RbrThr, Ier, Iir, register_at, is_dlab, is_loopback, register_read, Thre}
-use Rattle.std.specs.List.{list_all}
+use Rattle.superio_core.specs.declared.trace.Asked.TheVariants.{Nothing}
+use Rattle.superio_core.specs.declared.trace.Sent.{Sent}
+use Rattle.superio_core.specs.declared.trace.Sent.TheVariants as sent
+use Rattle.superio_core.specs.declared.serial.registers.Register.{Register}
+use Rattle.superio_core.specs.declared.serial.registers.Register.TheVariants.{RbrThr, Ier, Iir}
+use Rattle.superio_core.specs.Serial.Port.Registers.{register_at, is_dlab, is_loopback, register_read}
+use Rattle.superio_core.specs.declared.serial.registers.Condition.TheVariants.{Thre}
 use Rattle.std.specs.Bool.{beq}
-use Rattle.std.specs.Io.KnownBytes.{Appends}
-use Rattle.vm_superio.specs.declared.trace.Sent.TheVariants.{Nothing, Out, Lost}
-use Rattle.vm_superio.specs.Links.Writer.{bytes_written}
+use Rattle.superio_core.specs.declared.trace.Sent.TheVariants.{Nothing, Out, Lost}
 
 -- ---- bytes taken and accepted
 
@@ -39,7 +39,7 @@ pub received : ReceivedLaw
 received s [] = ap (λ bytes. record s { in_buffer = bytes }) (sym (append-nil s.in_buffer))
 received s (byte ∷ bytes) = refl
 
-received_bytes : (new : List ℕ) (s : State) → (receive_bytes new s).in_buffer ≡ s.in_buffer ++ new
+pub received_bytes : (new : List ℕ) (s : State) → (receive_bytes new s).in_buffer ≡ s.in_buffer ++ new
 received_bytes new s = ap (λ (left : State). left.in_buffer) (received s new)
 
 first_gone : (bytes : List ℕ) → drop 1 bytes ≡ drop (length (taken_by RbrRead bytes)) (bytes ++ [])
@@ -98,6 +98,7 @@ of_step s (Write offset value) asked sent =
     of_write (register_at (is_dlab s.line_control) offset) (is_loopback s.modem_control) value s.in_buffer _
 of_step s (Enqueue bytes) asked sent =
     of_enqueue (is_dlab s.line_control) (is_loopback s.modem_control) bytes s.in_buffer _
+of_step s CharacterTimeout asked sent = refl
 of_step s Restore asked sent = refl
 
 pub one_read : OneReadLaw
@@ -111,7 +112,7 @@ is_oldest [] left byte some is = absurd (omega (arith, some))
 is_oldest (oldest ∷ held) left byte some is = is ∙ append-nil (oldest ∷ held)
 
 -- a read changes no register but LSR and IIR
-kept : (register : Register) (s : State) → read_step register s ≡ record s {
+pub kept : (register : Register) (s : State) → read_step register s ≡ record s {
   in_buffer = (read_step register s).in_buffer;
   line_status = (read_step register s).line_status;
   interrupt_identification = (read_step register s).interrupt_identification;
@@ -145,15 +146,13 @@ rbr_data_ready s hidden = subst
 -- ---- a THR write outside loopback
 
 -- `Ok` is no failure of the writer
-taken : (value : ℕ) (is_refused : Bool) (sent : Sent) → IsTrue (is_sent sent)
+taken : (is_refused : Bool) (sent : Sent) → IsTrue (is_sent sent)
     → WriteOk ≡ (if is_refused then TriggerRefused else (if is_lost sent then WriterFailed else WriteOk))
-    → (before after : Option (List ℕ))
-    → (IsTrue (list_all (λ outcome. not (is_lost outcome)) (sent ∷ [])) → Appends before after (bytes_written (Write 0 value) sent))
-    → Appends before after (value ∷ [])
-taken value true sent outcome ok before after link = cc
-taken value false Nothing outcome ok before after link = cc
-taken value false Out outcome ok before after link = link refl
-taken value false Lost outcome ok before after link = cc
+    → sent ≡ Out
+taken true sent outcome ok = cc
+taken false Nothing outcome ok = cc
+taken false Out outcome ok = refl
+taken false Lost outcome ok = cc
 
 -- if a byte is sent, an admissible call has an outcome of it
 outcome : (is_answered sends : Bool) (sent : Sent) → sends ≡ true → IsTrue (is_answered && beq (is_sent sent) sends)
@@ -175,7 +174,7 @@ thr_write s value asked sent hidden outside admissible =
       outcome = has_outcome;
       state = subst (λ latch. write_step (register_at latch 0) value asked s ≡ raised) (sym hidden)
           (subst (λ inside. (if inside then receive_bytes (bytes_that_fit s.in_buffer (value ∷ [])) s else raised) ≡ raised) (sym outside) refl);
-      taken = taken value (ends_in_refusal asked) sent has_outcome;
+      taken = taken (ends_in_refusal asked) sent has_outcome;
     }
 
 -- ---- what the law rests on

@@ -3,14 +3,16 @@ use Rattle.std.proofs.Common.{◌≡◌, ℕ, Bool, true, false, List, [], ◌�
 use Rattle.std.proofs.lemmas.Bool.{and_parts, false≢true}
 use Rattle.std.specs.Prelude.{if◌then◌else◌, IsTrue, count_by}
 use Rattle.std.specs.Bool.{beq}
-use Rattle.vm_superio.specs.declared.trace.Sent.{Sent}
-use Rattle.vm_superio.specs.declared.trace.Sent.TheVariants as sent
-use Rattle.vm_superio.specs.Serial.Port.State.{State, not_empty}
-use Rattle.vm_superio.specs.Serial.Port.Registers.{Register, RbrThr, Iir, register_at, is_dlab, is_loopback}
-use Rattle.vm_superio.specs.Serial.Port.Operations.{buffer_read, in_buffer_empty, Op, Read, Write, Enqueue, Restore, is_sent}
-use Rattle.vm_superio.specs.Serial.Step.Admissible.{kind_in_state, answers_all, step_calls, sends_byte}
-use Rattle.vm_superio.specs.Serial.Port.OpKinds.{OpKind, ThrWrite, read_kind, kind_of, sent_by}
-use Rattle.vm_superio.specs.Serial.Step.Transition.{read_events, sent_events, step_events}
+use Rattle.superio_core.specs.declared.trace.Sent.{Sent}
+use Rattle.superio_core.specs.declared.trace.Sent.TheVariants as sent
+use Rattle.superio_core.specs.Serial.Port.State.{State, not_empty}
+use Rattle.superio_core.specs.declared.serial.registers.Register.{Register}
+use Rattle.superio_core.specs.declared.serial.registers.Register.TheVariants.{RbrThr, Iir}
+use Rattle.superio_core.specs.Serial.Port.Registers.{register_at, is_dlab, is_loopback}
+use Rattle.superio_core.specs.Serial.Port.Operations.{buffer_read, in_buffer_empty, Op, Read, Write, Enqueue, CharacterTimeout, Restore, is_sent}
+use Rattle.superio_core.specs.Serial.Step.Admissible.{kind_in_state, answers_all, step_calls, sends_byte}
+use Rattle.superio_core.specs.Serial.Port.OpKinds.{OpKind, ThrWrite, read_kind, kind_of, sent_by}
+use Rattle.superio_core.specs.Serial.Step.Transition.{read_events, sent_events, step_events}
 use Rattle.vm_superio.specs.Serial.Laws.OneCall.{OutcomeEventsLaw, reports_outcome}
 
 -- an outcome is recorded exactly if a byte is sent
@@ -53,6 +55,7 @@ reported s (Read offset) outcome fit = read_reported (register_at (is_dlab s.lin
 reported s (Write offset value) outcome fit =
     sent_reported (kind_in_state s (Write offset value)) outcome fit
 reported s (Enqueue bytes) outcome fit = enqueue_reported (is_loopback s.modem_control) (is_dlab s.line_control) bytes
+reported s CharacterTimeout outcome fit = refl
 reported s Restore outcome fit = refl
 
 pub events_law : OutcomeEventsLaw

@@ -1,18 +1,20 @@
--- If nothing is lost, what the writer took is the output.
-use Rattle.std.proofs.Common.{◌≡◌, ℕ, Bool, true, false, not, List, [], ◌∷◌, ◌++◌, refl, ap, ◌∙◌}
+-- What was sent is the output.
+use Rattle.std.proofs.Common.{◌≡◌, ℕ, Bool, true, false, List, [], ◌∷◌, ◌++◌, refl, ap, ◌∙◌}
 use Rattle.std.proofs.lemmas.Bool.{and_parts, false≢true}
 use Rattle.std.specs.Prelude.{IsTrue, ◌==◌}
 use Rattle.std.specs.Bool.{beq}
-use Rattle.vm_superio.specs.declared.trace.Sent.{Sent}
-use Rattle.vm_superio.specs.declared.trace.Sent.TheVariants as sent
-use Rattle.vm_superio.specs.Serial.Port.State.{not_empty}
-use Rattle.vm_superio.specs.Serial.Port.Registers.{Register, RbrThr, Ier, Iir, register_at}
-use Rattle.vm_superio.specs.Serial.Port.Operations.{Op, Read, Write, Enqueue, Restore, is_sent, is_lost, answer_count}
-use Rattle.vm_superio.specs.Links.Writer.{bytes_written}
-use Rattle.vm_superio.specs.Serial.Port.OpKinds.{read_kind, write_kind, kind_of, sent_by}
+use Rattle.superio_core.specs.declared.trace.Sent.{Sent}
+use Rattle.superio_core.specs.declared.trace.Sent.TheVariants as sent
+use Rattle.superio_core.specs.Serial.Port.State.{not_empty}
+use Rattle.superio_core.specs.declared.serial.registers.Register.{Register}
+use Rattle.superio_core.specs.declared.serial.registers.Register.TheVariants.{RbrThr, Ier, Iir}
+use Rattle.superio_core.specs.Serial.Port.Registers.{register_at}
+use Rattle.superio_core.specs.Serial.Port.Operations.{Op, Read, Write, Enqueue, CharacterTimeout, Restore, is_sent, answer_count}
+use Rattle.vm_superio.specs.Links.Writer.{bytes_sent}
+use Rattle.superio_core.specs.Serial.Port.OpKinds.{read_kind, write_kind, kind_of, sent_by}
 use Rattle.vm_superio.specs.Serial.History.Registers.{dlab, loopback}
 use Rattle.vm_superio.specs.Serial.History.Interrupts.{trigger_calls, is_well_formed_entry, is_well_formed}
-use Rattle.vm_superio.specs.Serial.History.Reads.{none_lost, output}
+use Rattle.vm_superio.specs.Serial.History.Reads.{output}
 use Rattle.vm_superio.specs.Serial.Laws.Consequences.{OutputLaw}
 
 -- ---- one call
@@ -21,24 +23,24 @@ use Rattle.vm_superio.specs.Serial.Laws.Consequences.{OutputLaw}
 abbrev IsOutcome : List ℕ → Sent → Type 0
 IsOutcome bytes outcome = IsTrue (beq (is_sent outcome) (not_empty bytes))
 
-written_none : (offset value : ℕ) (outcome : Sent) → IsOutcome [] outcome → bytes_written (Write offset value) outcome ≡ []
+written_none : (offset value : ℕ) (outcome : Sent) → IsOutcome [] outcome → bytes_sent (Write offset value) outcome ≡ []
 written_none offset value sent.Nothing outcome_fits = refl
 written_none offset value sent.Out outcome_fits = absurd (false≢true outcome_fits)
 written_none offset value sent.Lost outcome_fits = absurd (false≢true outcome_fits)
 
-written_one : (offset value : ℕ) (outcome : Sent) → IsTrue (not (is_lost outcome)) → IsOutcome (value ∷ []) outcome
-    → bytes_written (Write offset value) outcome ≡ value ∷ []
-written_one offset value sent.Nothing kept outcome_fits = absurd (false≢true outcome_fits)
-written_one offset value sent.Out kept outcome_fits = refl
-written_one offset value sent.Lost kept outcome_fits = absurd (false≢true kept)
+written_one : (offset value : ℕ) (outcome : Sent) → IsOutcome (value ∷ []) outcome
+    → bytes_sent (Write offset value) outcome ≡ value ∷ []
+written_one offset value sent.Nothing outcome_fits = absurd (false≢true outcome_fits)
+written_one offset value sent.Out outcome_fits = refl
+written_one offset value sent.Lost outcome_fits = refl
 
-write_written : (r : Register) (loopback : Bool) (offset value : ℕ) (outcome : Sent) → IsTrue (not (is_lost outcome))
+write_written : (r : Register) (loopback : Bool) (offset value : ℕ) (outcome : Sent)
     → IsOutcome (sent_by (write_kind r loopback value)) outcome
-    → bytes_written (Write offset value) outcome ≡ sent_by (write_kind r loopback value)
-write_written RbrThr true offset value outcome kept outcome_fits = written_none offset value outcome outcome_fits
-write_written RbrThr false offset value outcome kept outcome_fits = written_one offset value outcome kept outcome_fits
-write_written Ier loopback offset value outcome kept outcome_fits = written_none offset value outcome outcome_fits
-write_written _ loopback offset value outcome kept outcome_fits = written_none offset value outcome outcome_fits
+    → bytes_sent (Write offset value) outcome ≡ sent_by (write_kind r loopback value)
+write_written RbrThr true offset value outcome outcome_fits = written_none offset value outcome outcome_fits
+write_written RbrThr false offset value outcome outcome_fits = written_one offset value outcome outcome_fits
+write_written Ier loopback offset value outcome outcome_fits = written_none offset value outcome outcome_fits
+write_written _ loopback offset value outcome outcome_fits = written_none offset value outcome outcome_fits
 
 read_sends : (r : Register) → [] ≡ sent_by (read_kind r)
 read_sends RbrThr = refl
@@ -49,25 +51,24 @@ enqueue_sends : (dlab loopback : Bool) (bytes : List ℕ) → [] ≡ sent_by (ki
 enqueue_sends dlab true bytes = refl
 enqueue_sends dlab false bytes = refl
 
--- what the writer took is what the operation sends
-pub call_written : (dlab loopback : Bool) (op : Op) (outcome : Sent) → IsTrue (not (is_lost outcome))
-    → IsOutcome (sent_by (kind_of dlab loopback op)) outcome → bytes_written op outcome ≡ sent_by (kind_of dlab loopback op)
-call_written dlab loopback (Read offset) outcome kept outcome_fits = read_sends (register_at dlab offset)
-call_written dlab loopback (Write offset value) outcome kept outcome_fits =
-    write_written (register_at dlab offset) loopback offset value outcome kept outcome_fits
-call_written dlab loopback (Enqueue bytes) outcome kept outcome_fits = enqueue_sends dlab loopback bytes
-call_written dlab loopback Restore outcome kept outcome_fits = refl
+-- what is recorded as sent is what the operation sends
+pub call_written : (dlab loopback : Bool) (op : Op) (outcome : Sent)
+    → IsOutcome (sent_by (kind_of dlab loopback op)) outcome → bytes_sent op outcome ≡ sent_by (kind_of dlab loopback op)
+call_written dlab loopback (Read offset) outcome outcome_fits = read_sends (register_at dlab offset)
+call_written dlab loopback (Write offset value) outcome outcome_fits =
+    write_written (register_at dlab offset) loopback offset value outcome outcome_fits
+call_written dlab loopback (Enqueue bytes) outcome outcome_fits = enqueue_sends dlab loopback bytes
+call_written dlab loopback CharacterTimeout outcome outcome_fits = refl
+call_written dlab loopback Restore outcome outcome_fits = refl
 
 -- ---- the newest entries
 
 pub output_law : OutputLaw
-output_law start trace [] well_formed kept = refl
-output_law start trace (entry ∷ newest) well_formed kept =
+output_law start trace [] well_formed = refl
+output_law start trace (entry ∷ newest) well_formed =
     let point = newest ++ trace in
     let here = (and_parts (is_well_formed_entry start point entry) (is_well_formed start point) well_formed).0 in
-    let rest = output_law start trace newest (and_parts (is_well_formed_entry start point entry) (is_well_formed start point) well_formed).1
-    (and_parts (not (is_lost entry.sent)) (none_lost newest) kept).1 in
+    let rest = output_law start trace newest (and_parts (is_well_formed_entry start point entry) (is_well_formed start point) well_formed).1 in
     let call = call_written (dlab start point) (loopback start point) entry.op entry.sent
-    (and_parts (not (is_lost entry.sent)) (none_lost newest) kept).0
     (and_parts (answer_count entry.asked == trigger_calls start point entry) _ here).1 in
-    ap (λ bytes. bytes ++ bytes_written entry.op entry.sent) rest ∙ ap (λ bytes. output start trace newest ++ bytes) call
+    ap (λ bytes. bytes ++ bytes_sent entry.op entry.sent) rest ∙ ap (λ bytes. output start trace newest ++ bytes) call

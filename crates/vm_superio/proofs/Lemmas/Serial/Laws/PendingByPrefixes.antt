@@ -3,12 +3,13 @@ use Rattle.std.proofs.Common.{◌≡◌, inl, inr, Bool, true, false, not, ◌&&
 use Rattle.std.proofs.lemmas.Bool.{and_parts, false≢true}
 use Rattle.std.specs.Prelude.{IsTrue, ◌⊎◌}
 use Rattle.std.specs.Bool.{IsFalse}
-use Rattle.vm_superio.specs.Serial.Port.State.{State}
-use Rattle.vm_superio.specs.Bits.{has_bits}
-use Rattle.vm_superio.specs.Serial.Port.Operations.{TraceEntry}
-use Rattle.vm_superio.specs.Serial.Port.OpKinds.{OpKind}
+use Rattle.superio_core.specs.Serial.Port.State.{State}
+use Rattle.superio_core.specs.Bits.{has_bits}
+use Rattle.superio_core.specs.Serial.Port.Operations.{TraceEntry}
+use Rattle.superio_core.specs.Serial.Port.OpKinds.{OpKind}
 use Rattle.vm_superio.specs.Serial.History.Registers.{kind_at}
-use Rattle.vm_superio.specs.Serial.Port.Registers.{Condition, iir_bit}
+use Rattle.superio_core.specs.declared.serial.registers.Condition.{Condition}
+use Rattle.superio_core.specs.Serial.Port.Registers.{iir_bit}
 use Rattle.vm_superio.specs.Serial.History.Interrupts.{pending_since, is_raised, acknowledges, NoneAcknowledges}
 use Rattle.vm_superio.specs.Serial.Laws.Consequences.{PendingByPrefixesLaw}
 
@@ -36,7 +37,7 @@ pub none_fewer : (start : State) (acknowledges : OpKind → Bool) (newest trace 
 none_fewer start acknowledges newest trace entry none after before x e =
     none (entry ∷ after) before x (ap (λ rest. entry ∷ rest) e)
 
-nowhere : (start : State) (acknowledges : OpKind → Bool) (trace : List TraceEntry) → NoneAcknowledges start acknowledges [] trace
+pub nowhere : (start : State) (acknowledges : OpKind → Bool) (trace : List TraceEntry) → NoneAcknowledges start acknowledges [] trace
 nowhere start acknowledges trace after before entry absent = absurd (nothing_there after before entry absent)
 
 or_true : (b : Bool) → IsTrue (b || true)

@@ -1,10 +1,10 @@
 -- The bytes that a guest reads from the FIFO are the bytes taken.
 use Rattle.std.proofs.Common.{◌≡◌, List, [], ◌∷◌, ◌++◌, refl, ap, sym, ◌∙◌, append_assoc, append-nil}
-use Rattle.vm_superio.specs.declared.trace.Asked.{Asked}
-use Rattle.vm_superio.specs.declared.trace.Sent.{Sent}
-use Rattle.vm_superio.specs.Serial.Port.State.{State}
-use Rattle.vm_superio.specs.Serial.Port.Registers.{register_at}
-use Rattle.vm_superio.specs.Serial.Port.Operations.{Op, Read, Write, Enqueue, Restore, TraceEntry, Response}
+use Rattle.superio_core.specs.declared.trace.Asked.{Asked}
+use Rattle.superio_core.specs.declared.trace.Sent.{Sent}
+use Rattle.superio_core.specs.Serial.Port.State.{State}
+use Rattle.superio_core.specs.Serial.Port.Registers.{register_at}
+use Rattle.superio_core.specs.Serial.Port.Operations.{Op, Read, Write, Enqueue, CharacterTimeout, Restore, TraceEntry, Response}
 use Rattle.vm_superio.specs.Serial.History.Registers.{kind_at, dlab, loopback, taken_by, taken_bytes, held_bytes}
 use Rattle.vm_superio.specs.Serial.History.Reads.{state_of_history, history_response, byte_read, bytes_read}
 use Rattle.vm_superio.specs.Serial.Run.Trace.{trace_after}
@@ -23,6 +23,7 @@ of_call start trace (Write offset value) asked sent reply is =
     of_write (register_at (dlab start trace) offset) (loopback start trace) value (held_bytes start trace) reply
 of_call start trace (Enqueue bytes) asked sent reply is =
     of_enqueue (dlab start trace) (loopback start trace) bytes (held_bytes start trace) reply
+of_call start trace CharacterTimeout asked sent reply is = refl
 of_call start trace Restore asked sent reply is = refl
 
 pub reads_are_taken : ReadsAreTakenLaw

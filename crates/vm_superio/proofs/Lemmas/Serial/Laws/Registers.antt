@@ -3,13 +3,15 @@ use Rattle.std.proofs.Common.{rules, ◌≡◌, ℕ, zero, suc, Bool, true, fals
 use Rattle.std.proofs.lemmas.Bool.Decides.{eqb_tells}
 use Rattle.std.specs.Prelude.{if◌then◌else◌, unwrap_or}
 use Rattle.std.specs.Option.{option_or, option_map_or}
-use Rattle.vm_superio.specs.declared.trace.Asked.{Asked}
-use Rattle.vm_superio.specs.Serial.Port.State.{State}
-use Rattle.vm_superio.specs.Bits.{only_bits}
-use Rattle.vm_superio.specs.Serial.Port.Registers.{Register, RbrThr, Iir, Unassigned, register_at, is_dlab, is_loopback}
-use Rattle.vm_superio.specs.Serial.Port.Operations.{Op, Read, Write, Enqueue, Restore, TraceEntry}
-use Rattle.vm_superio.specs.Serial.Step.Raising.{receive_bytes, enqueued_bytes, bytes_that_fit}
-use Rattle.vm_superio.specs.Serial.Step.Transition.{step, read_step, write_step, thr_write}
+use Rattle.superio_core.specs.declared.trace.Asked.{Asked}
+use Rattle.superio_core.specs.Serial.Port.State.{State}
+use Rattle.superio_core.specs.Bits.{only_bits}
+use Rattle.superio_core.specs.declared.serial.registers.Register.{Register}
+use Rattle.superio_core.specs.declared.serial.registers.Register.TheVariants.{RbrThr, Iir, Unassigned}
+use Rattle.superio_core.specs.Serial.Port.Registers.{register_at, is_dlab, is_loopback}
+use Rattle.superio_core.specs.Serial.Port.Operations.{Op, Read, Write, Enqueue, CharacterTimeout, Restore, TraceEntry}
+use Rattle.superio_core.specs.Serial.Step.Raising.{receive_bytes, enqueued_bytes, bytes_that_fit}
+use Rattle.superio_core.specs.Serial.Step.Transition.{step, read_step, write_step, thr_write, character_timeout}
 use Rattle.vm_superio.specs.Serial.History.Registers.{value_written_at, last_found, dlab}
 use Rattle.vm_superio.specs.Serial.History.Reads.{state_of_history}
 use Rattle.vm_superio.specs.Serial.Laws.Agreement.{RegisterLaw, state_after}
@@ -86,9 +88,17 @@ enqueues_nothing : (dlab : Bool) (bytes : List ℕ) → WritesNothing dlab (Enqu
 unfolding WritesNothing
 enqueues_nothing dlab bytes = (none_either dlab, none_either dlab, none_either dlab, refl, refl, refl)
 
+times_out_nothing : (dlab : Bool) → WritesNothing dlab CharacterTimeout
+unfolding WritesNothing
+times_out_nothing dlab = (none_either dlab, none_either dlab, none_either dlab, refl, refl, refl)
+
 restores_nothing : (dlab : Bool) → WritesNothing dlab Restore
 unfolding WritesNothing
 restores_nothing dlab = (none_either dlab, none_either dlab, none_either dlab, refl, refl, refl)
+
+timed_out : (s : State) → SameRegisters s (character_timeout s)
+unfolding SameRegisters
+timed_out s = refl
 
 all_kept : (s : State) → SameRegisters s s
 unfolding SameRegisters
@@ -157,6 +167,7 @@ call_done s (Read offset) asked =
 call_done s (Write offset value) asked = write_done _ offset value asked s
 call_done s (Enqueue bytes) asked =
     kept _ (Enqueue bytes) s _ (enqueues_nothing _ bytes) (received (enqueued_bytes s bytes) s)
+call_done s CharacterTimeout asked = kept _ CharacterTimeout s _ (times_out_nothing _) (timed_out s)
 call_done s Restore asked = kept _ Restore s s (restores_nothing _) (all_kept s)
 
 -- ---- any trace

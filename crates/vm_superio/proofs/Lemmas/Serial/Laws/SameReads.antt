@@ -1,15 +1,16 @@
 -- Neither the writer nor a restore changes a read: each trace is read as one of operations with the trigger's answers.
 use Rattle.std.proofs.Common.{◌≡◌, Bool, List, [], ◌∷◌, ◌++◌, refl, ap, sym, ◌∙◌}
-use Rattle.vm_superio.specs.declared.trace.Asked.{Asked}
-use Rattle.vm_superio.specs.declared.trace.Sent.{Sent}
-use Rattle.vm_superio.specs.declared.trace.Sent.TheVariants as sent
-use Rattle.vm_superio.specs.Serial.Port.State.{State, not_empty}
+use Rattle.superio_core.specs.declared.trace.Asked.{Asked}
+use Rattle.superio_core.specs.declared.trace.Sent.{Sent}
+use Rattle.superio_core.specs.declared.trace.Sent.TheVariants as sent
+use Rattle.superio_core.specs.Serial.Port.State.{State, not_empty}
 use Rattle.vm_superio.specs.Serial.History.Reads.{with_data_ready, state_of_history}
-use Rattle.vm_superio.specs.Serial.Port.Registers.{register_read, register_at, is_dlab, identification_of, Rda, Thre}
-use Rattle.vm_superio.specs.Serial.Port.Operations.{Op, Read, Write, Enqueue, Restore, TraceEntry}
-use Rattle.vm_superio.specs.Serial.Step.Transition.{step}
-use Rattle.vm_superio.specs.Serial.Step.Admissible.{kind_in_state}
-use Rattle.vm_superio.specs.Serial.Port.OpKinds.{OpKind}
+use Rattle.superio_core.specs.Serial.Port.Registers.{register_read, register_at, is_dlab, identification_of}
+use Rattle.superio_core.specs.declared.serial.registers.Condition.TheVariants.{Rda, Thre}
+use Rattle.superio_core.specs.Serial.Port.Operations.{Op, Read, Write, Enqueue, CharacterTimeout, Restore, TraceEntry}
+use Rattle.superio_core.specs.Serial.Step.Transition.{step}
+use Rattle.superio_core.specs.Serial.Step.Admissible.{kind_in_state}
+use Rattle.superio_core.specs.Serial.Port.OpKinds.{OpKind}
 use Rattle.vm_superio.specs.Serial.History.Registers.{held_bytes, interrupt_enable}
 use Rattle.vm_superio.specs.Serial.History.Interrupts.{is_pending}
 use Rattle.vm_superio.specs.Serial.Laws.Agreement.{state_after}
@@ -101,6 +102,8 @@ one_unsent start trace calls (Write offset value) asked outcome same =
     more start trace (unsent calls) (Write offset value) asked outcome sent.Nothing same
 one_unsent start trace calls (Enqueue bytes) asked outcome same =
     more start trace (unsent calls) (Enqueue bytes) asked outcome sent.Nothing same
+one_unsent start trace calls CharacterTimeout asked outcome same =
+    more start trace (unsent calls) CharacterTimeout asked outcome sent.Nothing same
 one_unsent start trace calls Restore asked outcome same = restored start trace (unsent calls) asked outcome same
 
 -- every trace shows what its operations and the trigger's answers show

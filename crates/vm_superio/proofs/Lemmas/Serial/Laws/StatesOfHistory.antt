@@ -1,14 +1,14 @@
 -- The state after a trace is that of the history, and a call responds as the history says.
 use Rattle.std.proofs.Common.{sym, ◌≡◌, ℕ, Bool, true, false, ◌==◌, ◌||◌, List, [], length, refl, ap, ◌∙◌}
 use Rattle.std.specs.Prelude.{if◌then◌else◌, nat_le}
-use Rattle.vm_superio.specs.declared.trace.Asked.{Asked}
-use Rattle.vm_superio.specs.declared.trace.Sent.{Sent}
-use Rattle.vm_superio.specs.Serial.Port.State.{State}
-use Rattle.vm_superio.specs.Serial.Port.Operations.{Op, Read, Write, Enqueue, Restore, TraceEntry, EnqueueOk, FifoFull, TriggerRefused, is_first_refused}
-use Rattle.vm_superio.specs.Serial.Step.Raising.{bytes_that_fit}
-use Rattle.vm_superio.specs.Serial.Port.OpKinds.{Arrival, Other}
+use Rattle.superio_core.specs.declared.trace.Asked.{Asked}
+use Rattle.superio_core.specs.declared.trace.Sent.{Sent}
+use Rattle.superio_core.specs.Serial.Port.State.{State}
+use Rattle.superio_core.specs.Serial.Port.Operations.{Op, Read, Write, Enqueue, CharacterTimeout, Restore, TraceEntry, EnqueueOk, FifoFull, TriggerRefused, is_refused_at_once}
+use Rattle.superio_core.specs.Serial.Step.Raising.{bytes_that_fit}
+use Rattle.superio_core.specs.Serial.Port.OpKinds.{Arrival, Other}
 use Rattle.vm_superio.specs.Serial.History.Registers.{accepted_by, loopback, held_bytes}
-use Rattle.vm_superio.specs.Serial.Step.Transition.{step_response}
+use Rattle.superio_core.specs.Serial.Step.Transition.{step_response}
 use Rattle.vm_superio.specs.Serial.History.Reads.{history_response, state_of_history}
 use Rattle.vm_superio.specs.Serial.Laws.Agreement.{state_after, StateLaw, ResponseLaw}
 use Rattle.vm_superio.proofs.Lemmas.Serial.Laws.Registers.{state_of_history-by_state}
@@ -28,11 +28,11 @@ state_law start trace coherent =
 enqueue_reported : (loopback : Bool) (bytes held_bytes : List ℕ) (asked : Asked)
     → (if loopback || (length bytes == 0) then EnqueueOk 0
     else (if nat_le 64 (length held_bytes) then FifoFull
-    else (if is_first_refused asked then TriggerRefused
+    else (if is_refused_at_once asked then TriggerRefused
     else EnqueueOk (length (if loopback then [] else bytes_that_fit held_bytes bytes)))))
     ≡ (if loopback || (length bytes == 0) then EnqueueOk 0
     else (if nat_le 64 (length held_bytes) then FifoFull
-    else (if is_first_refused asked then TriggerRefused
+    else (if is_refused_at_once asked then TriggerRefused
     else EnqueueOk (length (accepted_by (if loopback then Other else Arrival bytes) held_bytes)))))
 enqueue_reported true bytes held_bytes asked = refl
 enqueue_reported false bytes held_bytes asked = refl
@@ -42,6 +42,7 @@ answer_reported : (start : State) (trace : List TraceEntry) (op : Op) (asked : A
 answer_reported start trace (Read offset) asked outcome = refl
 answer_reported start trace (Write offset value) asked outcome = refl
 answer_reported start trace (Enqueue bytes) asked outcome = enqueue_reported (loopback start trace) bytes (held_bytes start trace) asked
+answer_reported start trace CharacterTimeout asked outcome = refl
 answer_reported start trace Restore asked outcome = refl
 
 pub response_law : ResponseLaw

@@ -4,16 +4,19 @@ use Rattle.std.proofs.Math.Bool.{and-false}
 use Rattle.std.proofs.lemmas.Bool.{and_parts, false≢true}
 use Rattle.std.specs.Prelude.{IsTrue}
 use Rattle.std.specs.Bool.{beq}
-use Rattle.vm_superio.specs.declared.trace.Asked.{Asked}
-use Rattle.vm_superio.specs.declared.trace.Sent.{Sent}
-use Rattle.vm_superio.specs.declared.trace.Sent.TheVariants as sent
-use Rattle.vm_superio.specs.Serial.Port.State.{State, not_empty}
-use Rattle.vm_superio.specs.Serial.Port.Registers.{Register, RbrThr, Ier, Iir, register_at, Rda, Thre}
-use Rattle.vm_superio.specs.Serial.Port.Operations.{Op, Read, Write, Enqueue, Restore, TraceEntry, NoResponse, is_sent, count_if}
-use Rattle.vm_superio.specs.Serial.Step.Admissible.{answers_all, step_calls, sends_byte, is_admissible}
-use Rattle.vm_superio.specs.Serial.Step.Transition.{step_response, step, read_step, read_events, sent_events, step_events}
-use Rattle.vm_superio.specs.Serial.Step.Restore.{restore_calls}
-use Rattle.vm_superio.specs.Serial.Port.OpKinds.{OpKind, IerWrite, ThrWrite, Arrival, Other, read_kind, write_kind, kind_of, sent_by}
+use Rattle.superio_core.specs.declared.trace.Asked.{Asked}
+use Rattle.superio_core.specs.declared.trace.Sent.{Sent}
+use Rattle.superio_core.specs.declared.trace.Sent.TheVariants as sent
+use Rattle.superio_core.specs.Serial.Port.State.{State, not_empty}
+use Rattle.superio_core.specs.declared.serial.registers.Register.{Register}
+use Rattle.superio_core.specs.declared.serial.registers.Register.TheVariants.{RbrThr, Ier, Iir}
+use Rattle.superio_core.specs.Serial.Port.Registers.{register_at}
+use Rattle.superio_core.specs.declared.serial.registers.Condition.TheVariants.{Rda, Thre}
+use Rattle.superio_core.specs.Serial.Port.Operations.{Op, Read, Write, Enqueue, CharacterTimeout, Restore, TraceEntry, NoResponse, is_sent, count_if}
+use Rattle.superio_core.specs.Serial.Step.Admissible.{answers_all, step_calls, sends_byte, is_admissible}
+use Rattle.superio_core.specs.Serial.Step.Transition.{step_response, step, read_step, read_events, sent_events, step_events}
+use Rattle.superio_core.specs.Serial.Step.Restore.{restore_calls}
+use Rattle.superio_core.specs.Serial.Port.OpKinds.{OpKind, IerWrite, ThrWrite, Arrival, Timeout, Other, read_kind, write_kind, kind_of, sent_by}
 use Rattle.vm_superio.specs.Serial.History.Registers.{kind_at, dlab, loopback, interrupt_enable, held_bytes}
 use Rattle.vm_superio.specs.Serial.History.Interrupts.{raises_rda, is_pending, raises_thre}
 use Rattle.vm_superio.specs.Serial.History.Calls.{calls_due, kind_events, history_events}
@@ -97,6 +100,8 @@ reported_at_point start trace (Write offset value) asked outcome goes_on outcome
     write_reported (register_at (dlab start trace) offset) (loopback start trace) value _ outcome
 reported_at_point start trace (Enqueue bytes) asked outcome goes_on outcome_fits =
     enqueue_reported (loopback start trace) (dlab start trace) bytes _ outcome outcome_fits
+reported_at_point start trace CharacterTimeout asked outcome goes_on outcome_fits =
+    ap (λ (outcome_fits : Sent). kind_events Timeout [] outcome_fits) (sym (not_sent outcome outcome_fits))
 reported_at_point start trace Restore asked outcome goes_on outcome_fits =
     ap (λ (outcome_fits : Sent). kind_events Other [] outcome_fits) (sym (not_sent outcome outcome_fits))
 
@@ -138,8 +143,7 @@ step_law start trace coherent =
                 ∙ response_law start trace entry coherent;
             state = goes_on;
             events = reported_at_point start trace entry.op entry.asked entry.sent goes_on outcome_fits;
-            output = λ kept.
-                call_written (dlab start trace) (loopback start trace) entry.op entry.sent kept outcome_fits;
+            output = call_written (dlab start trace) (loopback start trace) entry.op entry.sent outcome_fits;
           };
     }
 

@@ -3,21 +3,22 @@ use Rattle.std.proofs.Common.{add-zero, zero-add, ◌≡◌, ℕ, ◌+◌, Bool,
 use Rattle.std.proofs.lemmas.Bool.{and_parts, false≢true, eqb-true}
 use Rattle.std.proofs.Math.Bool.{and-true, and-false}
 use Rattle.std.specs.Prelude.{if◌then◌else◌, IsTrue}
-use Rattle.vm_superio.specs.declared.trace.Asked.{Asked}
-use Rattle.vm_superio.specs.declared.trace.Asked.TheVariants.{Nothing, Took, Refused}
-use Rattle.vm_superio.specs.Serial.Port.State.{State, not_empty}
-use Rattle.vm_superio.specs.Bits.{has_bits, only_bits, with_bits, without_bits}
-use Rattle.vm_superio.specs.Serial.Port.Registers.{Rda, Thre}
+use Rattle.superio_core.specs.declared.trace.Asked.{Asked}
+use Rattle.superio_core.specs.declared.trace.Asked.TheVariants.{Nothing, Took, Refused}
+use Rattle.superio_core.specs.Serial.Port.State.{State, not_empty}
+use Rattle.superio_core.specs.Bits.{has_bits, only_bits, with_bits, without_bits}
+use Rattle.superio_core.specs.declared.serial.registers.Condition.TheVariants.{Rda, Thre}
 use Rattle.vm_superio.specs.Serial.Step.PortStep.{turns_on}
-use Rattle.vm_superio.specs.Serial.Port.Operations.{is_first_refused, count_if, answer_count}
-use Rattle.vm_superio.specs.Serial.Port.OpKinds.{OpKind, RbrRead, IirRead, IerWrite, ThrWrite, Arrival, Other}
-use Rattle.vm_superio.specs.Serial.Step.Admissible.{kind_in_state, arrival_calls, kind_calls, step_calls, answers_all}
-use Rattle.vm_superio.specs.Serial.Step.Raising.{bytes_that_fit, becomes_pending, raise, receive_bytes}
+use Rattle.superio_core.specs.Serial.Port.Operations.{is_refused_at_once, count_if, answer_count}
+use Rattle.superio_core.specs.Serial.Port.OpKinds.{OpKind, RbrRead, IirRead, IerWrite, ThrWrite, Arrival, Timeout, Other}
+use Rattle.superio_core.specs.Serial.Step.Admissible.{kind_in_state, arrival_calls, kind_calls, step_calls, answers_all}
+use Rattle.superio_core.specs.Serial.Step.Raising.{bytes_that_fit, becomes_pending, raise, receive_bytes}
 use Rattle.vm_superio.specs.Serial.Laws.OneCall.{TurnedBitsLaw}
-use Rattle.vm_superio.proofs.Lemmas.Serial.Step.Raising.{answers_counted}
-use Rattle.vm_superio.proofs.Lemmas.Bits.{and-without, and-without-apart}
+use Rattle.superio_core.proofs.Lemmas.Serial.Step.Raising.{answers_counted}
+use Rattle.superio_core.proofs.Lemmas.Serial.Step.CharacterTimeout.{rda_asked}
+use Rattle.superio_core.proofs.Lemmas.Bits.{and-without, and-without-apart}
 use Rattle.std.proofs.lemmas.Nat.{and_or_self, and_or_apart}
-use Rattle.vm_superio.proofs.Lemmas.Serial.Step.ByKind.{by_kind, next_by_kind}
+use Rattle.superio_core.proofs.Lemmas.Serial.Step.ByKind.{by_kind, next_by_kind}
 
 -- ---- the bits of an IIR
 
@@ -63,11 +64,7 @@ module _ (old : ℕ) where
   iir_read_turns : count old 1 ≡ 0
   iir_read_turns = rbr_read_turns_at true
 
-  -- raising RDA sets its bit and leaves the other
-  rda_sets : has_bits (with_bits (without_bits old 0x01) 0x04) 0x04 ≡ true
-  unfolding has_bits with_bits
-  rda_sets = ap (λ n. n == 0x04) (and_or_self 0x04 (without_bits old 0x01))
-
+  -- raising RDA leaves the other bit
   rda_leaves : has_bits (with_bits (without_bits old 0x01) 0x04) 0x02 ≡ has_bits old 0x02
   unfolding has_bits with_bits
   rda_leaves = ap (λ n. n == 0x02) (and_or_apart 0x02 (without_bits old 0x01) 0x04 refl) ∙ without_thre
@@ -81,12 +78,6 @@ module _ (old : ℕ) where
   thre_leaves = ap (λ n. n == 0x04) (and_or_apart 0x04 (without_bits old 0x01) 0x02 refl) ∙ without_rda
 
   -- ---- raising, if IIR is any byte
-
-  rda_asked : (enabled pending : Bool) → has_bits old 0x04 ≡ pending
-      → has_bits (if enabled && not pending then with_bits (without_bits old 0x01) 0x04 else old) 0x04 ≡ (enabled || pending)
-  rda_asked true true e = e
-  rda_asked true false e = rda_sets
-  rda_asked false pending e = e
 
   rda_other : (new : Bool) → has_bits (if new then with_bits (without_bits old 0x01) 0x04 else old) 0x02 ≡ has_bits old 0x02
   rda_other true = rda_leaves
@@ -142,6 +133,11 @@ rda_turned enable old =
     (rda_other old (enabled && not bit))
     ∙ ap (λ turned. count_if (enabled && not bit) + count_if turned) (kept (has_bits old 0x02))
     ∙ add-zero _)
+
+timeout_turned : (held : Bool) (enable old : ℕ)
+    → count_if (held && becomes_pending Rda enable old) ≡ count old (if held then raise Rda enable old else old)
+timeout_turned true enable old = rda_turned enable old
+timeout_turned false enable old = none_turned old
 
 thre_turned : (enable old : ℕ)
     → count_if (becomes_pending Thre enable old) ≡ count old (raise Thre enable old)
@@ -233,10 +229,13 @@ turned_by_kind (IerWrite value) asked s fit =
     let call = held && becomes_pending Rda enable old in
     eqb-true _ _
     (sym (answers_counted call (becomes_pending Thre enable (first enable old held)) asked) ∙ fit)
-    ∙ ier_write_turned enable old held (call && is_first_refused asked)
+    ∙ ier_write_turned enable old held (call && is_refused_at_once asked)
 turned_by_kind (ThrWrite value) asked s fit =
     one_answer _ asked fit ∙ thre_turned s.interrupt_enable s.interrupt_identification
 turned_by_kind (Arrival bytes) asked s fit = received_turned (bytes_that_fit s.in_buffer bytes) s asked fit
+turned_by_kind Timeout asked s fit =
+    one_answer _ asked fit
+    ∙ timeout_turned (not_empty s.in_buffer) s.interrupt_enable s.interrupt_identification
 turned_by_kind Other asked s fit = no_answers asked fit ∙ none_turned s.interrupt_identification
 
 pub turned_bits_law : TurnedBitsLaw

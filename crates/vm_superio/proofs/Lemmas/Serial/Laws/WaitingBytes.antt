@@ -4,19 +4,20 @@ use Rattle.std.specs.Cmp.Derive.{both_true}
 use Rattle.std.proofs.lemmas.Bool.{false≢true}
 use Rattle.std.specs.Prelude.{IsTrue}
 use Rattle.std.specs.Bool.{IsFalse}
-use Rattle.vm_superio.specs.declared.trace.Asked.{Asked}
-use Rattle.vm_superio.specs.Serial.Port.State.{State, not_empty}
-use Rattle.vm_superio.specs.Bits.{has_bits}
-use Rattle.vm_superio.specs.Serial.Port.Operations.{TraceEntry}
-use Rattle.vm_superio.specs.Serial.Step.Raising.{receive_bytes, bytes_that_fit}
-use Rattle.vm_superio.specs.Serial.Port.OpKinds.{OpKind, RbrRead, IirRead, IerWrite, ThrWrite, Arrival, Other}
+use Rattle.superio_core.specs.declared.trace.Asked.{Asked}
+use Rattle.superio_core.specs.Serial.Port.State.{State, not_empty}
+use Rattle.superio_core.specs.Bits.{has_bits}
+use Rattle.superio_core.specs.Serial.Port.Operations.{TraceEntry}
+use Rattle.superio_core.specs.Serial.Step.Raising.{receive_bytes, bytes_that_fit}
+use Rattle.superio_core.specs.Serial.Port.OpKinds.{OpKind, RbrRead, IirRead, IerWrite, ThrWrite, Arrival, Timeout, Other}
 use Rattle.vm_superio.specs.Serial.History.Registers.{kind_at, held_bytes, interrupt_enable}
-use Rattle.vm_superio.specs.Serial.Port.Registers.{Rda}
+use Rattle.superio_core.specs.declared.serial.registers.Condition.TheVariants.{Rda}
 use Rattle.vm_superio.specs.Serial.History.Interrupts.{acknowledges, is_pending, NoneAcknowledges, shows_waiting_bytes}
 use Rattle.vm_superio.specs.Serial.Laws.Consequences.{WaitingBytesLaw}
 use Rattle.vm_superio.specs.Serial.Laws.Agreement.{state_after}
-use Rattle.vm_superio.proofs.Lemmas.Serial.Port.Bits.{enables_rda}
-use Rattle.vm_superio.proofs.Lemmas.Serial.Step.ByKind.{by_kind, next_at_point}
+use Rattle.superio_core.proofs.Lemmas.Serial.Port.Bits.{enables_rda}
+use Rattle.superio_core.proofs.Lemmas.Serial.Step.ByKind.{by_kind}
+use Rattle.vm_superio.proofs.Lemmas.Serial.Step.ByKind.{next_at_point}
 use Rattle.vm_superio.proofs.Lemmas.Serial.Laws.Registers.{register_law}
 use Rattle.vm_superio.proofs.Lemmas.Serial.Laws.HeldBytes.{held_bytes_law}
 use Rattle.vm_superio.proofs.Lemmas.Serial.Laws.Interrupts.{rda_next}
@@ -47,6 +48,8 @@ reported_by_kind (IerWrite value) asked s pending not_here before some enabled =
 reported_by_kind (ThrWrite value) asked s pending not_here before some enabled = before some enabled
 reported_by_kind (Arrival bytes) asked s pending not_here before some enabled =
     received_reported (bytes_that_fit s.in_buffer bytes) s pending before some enabled
+reported_by_kind Timeout asked s pending not_here before some enabled =
+    or_left (has_bits s.interrupt_enable 0x01 && not_empty s.in_buffer) pending (both_true enabled some)
 reported_by_kind Other asked s pending not_here before some enabled = before some enabled
 
 received_first : (new : List ℕ) (s : State) (pending : Bool) → IsTrue (not_empty new)
@@ -63,6 +66,8 @@ first_reported (IerWrite value) asked s pending tells some enabled =
     (both_true (sym (enables_rda value) ∙ enabled) some)
 first_reported (Arrival bytes) asked s pending tells some enabled =
     received_first (bytes_that_fit s.in_buffer bytes) s pending tells some enabled
+first_reported Timeout asked s pending tells some enabled =
+    or_left (has_bits s.interrupt_enable 0x01 && not_empty s.in_buffer) pending (both_true enabled some)
 first_reported RbrRead asked s pending tells some enabled = absurd (false≢true tells)
 first_reported _ asked s pending tells some enabled = absurd (false≢true tells)
 

@@ -1,39 +1,38 @@
 -- The entries of a run follow each other by steps, so the laws hold for them: the history theorem.
-use Rattle.std.proofs.Common.{◌≡◌, ℕ, Bool, true, false, not, ◌&&◌, List, [], ◌∷◌, ◌++◌, refl, sym, ap, ◌∙◌, subst, append-nil}
+use Rattle.std.proofs.Common.{◌≡◌, ℕ, false, not, List, [], ◌∷◌, ◌++◌, refl, sym, ap, ◌∙◌, subst, append-nil, Option}
 use Rattle.std.proofs.lemmas.Bool.{cond_both, false≢true}
-use Rattle.std.proofs.lemmas.List.Folds.{list_all-append}
 use Rattle.std.specs.Cmp.Derive.{both_true}
 use Rattle.std.specs.Prelude.{IsTrue}
-use Rattle.std.specs.List.{list_all}
-use Rattle.std.specs.Io.KnownBytes.{Appends}
-use Rattle.vm_superio.specs.declared.trace.Asked.{Asked}
-use Rattle.vm_superio.specs.declared.trace.Asked.TheVariants as answers
-use Rattle.vm_superio.specs.declared.trace.Sent.{Sent}
-use Rattle.vm_superio.specs.declared.trace.Sent.TheVariants as outcome
+use Rattle.superio_core.specs.declared.trace.Asked.{Asked}
+use Rattle.superio_core.specs.declared.trace.Asked.TheVariants as answers
+use Rattle.superio_core.specs.declared.trace.Sent.{Sent}
+use Rattle.superio_core.specs.declared.trace.Sent.TheVariants as outcome
 use Rattle.vm_superio.specs.declared.run.Act.{Act}
 use Rattle.vm_superio.specs.declared.run.Act.TheVariants as act
 use Rattle.vm_superio.specs.declared.run.Call.{Call}
-use Rattle.vm_superio.specs.declared.run.Call.TheVariants.{Read, Write, Enqueue, Restore}
+use Rattle.vm_superio.specs.declared.run.Call.TheVariants.{Read, Write, Enqueue, CharacterTimeout, Restore}
 use Rattle.vm_superio.specs.declared.run.Reply.{Reply}
-use Rattle.vm_superio.specs.declared.run.Reply.TheVariants.{Byte, Wrote, Enqueued, Restored, NotRestored}
+use Rattle.vm_superio.specs.declared.run.Reply.TheVariants.{Byte, Wrote, Enqueued, TimedOut, Restored, NotRestored}
 use Rattle.vm_superio.specs.declared.run.Done.{Done}
-use Rattle.vm_superio.specs.Serial.Port.State.{State}
-use Rattle.vm_superio.specs.Serial.Port.Operations.{Op, TraceEntry, Response, ByteRead, is_lost}
-use Rattle.vm_superio.specs.Serial.Port.Operations as operation
-use Rattle.vm_superio.specs.Serial.Port.Coherent.{Coherent}
-use Rattle.vm_superio.specs.Links.Writer.{PortLinks, bytes_written}
-use Rattle.vm_superio.specs.Links.Objects.{all_ok, RefusesOwnState}
+use Rattle.superio_core.specs.Serial.Port.State.{State}
+use Rattle.superio_core.specs.Serial.Port.Operations.{Op, Event, TraceEntry, Response, ByteRead}
+use Rattle.superio_core.specs.Serial.Port.Operations as operation
+use Rattle.superio_core.specs.Serial.Port.Coherent.{Coherent}
+use Rattle.vm_superio.specs.Links.Writer.{PortLinks, port_links, bytes_sent, outcome_of, OutLink}
+use Rattle.vm_superio.specs.Links.Objects.{Link, TriggerAnswer, all_ok, RefusesOwnState}
+use Rattle.vm_superio.specs.Links.OutCalls.{WriterCalls}
+use Rattle.vm_superio.proofs.Lemmas.Links.Writer.{known_output_law}
 use Rattle.vm_superio.specs.Serial.Port.Model.{Port}
-use Rattle.vm_superio.specs.Serial.Step.Transition.{step, step_response}
-use Rattle.vm_superio.specs.Serial.Step.Admissible.{is_admissible}
-use Rattle.vm_superio.specs.Serial.Step.Restore.{restore_calls}
+use Rattle.superio_core.specs.Serial.Step.Transition.{step, step_response}
+use Rattle.superio_core.specs.Serial.Step.Admissible.{is_admissible}
+use Rattle.superio_core.specs.Serial.Step.Restore.{restore_calls}
 use Rattle.vm_superio.specs.Serial.History.Registers.{taken_bytes}
 use Rattle.vm_superio.specs.Serial.History.Interrupts.{is_well_formed, restore_calls_due}
-use Rattle.vm_superio.specs.Serial.History.Reads.{ResponsesAre, history_response, bytes_read, none_lost}
+use Rattle.vm_superio.specs.Serial.History.Reads.{ResponsesAre, history_response, bytes_read, outcomes}
 use Rattle.vm_superio.specs.Serial.Run.Segments.{Segment, first_segment, extend, IsAfter}
 use Rattle.vm_superio.specs.Serial.Run.Steps.{CallFollows, next_segment, IsRun}
 use Rattle.vm_superio.specs.Serial.Run.Trace.{IsReplyTo, RecordsOf, act_of, op_of, is_restore, entry_of, response_of, refusal_in_reply, entries_of, trace_of, without_restores}
-use Rattle.vm_superio.specs.Serial.Run.Observations.{ReadIs, ReadsAre, WriterSegment, OutputIs, OutputAtRestore, next_writer_segment, OutputsAre, TriggerSegment, TriggerAtRestore, next_trigger_segment, TriggersAre}
+use Rattle.vm_superio.specs.Serial.Run.Observations.{ReadIs, ReadsAre, WriterSegment, OutputIs, KnownOutputIs, OutputAtRestore, next_writer_segment, OutputsAre, TriggerSegment, TriggerAtRestore, next_trigger_segment, TriggersAre}
 use Rattle.vm_superio.specs.Serial.Run.HistoryTheorem.{HistoryTheorem}
 use Rattle.vm_superio.specs.Serial.Laws.Agreement.{state_after, StepsFollow}
 use Rattle.vm_superio.specs.Serial.Laws.Consequences.{op_and_asked, ops_and_asked, recorded_output}
@@ -42,6 +41,7 @@ use Rattle.vm_superio.proofs.Lemmas.Serial.Laws.TriggerBound.{trigger_bound_law}
 use Rattle.vm_superio.proofs.Lemmas.Serial.Laws.HeldBytes.{taken_then_held}
 use Rattle.vm_superio.proofs.Lemmas.Serial.Laws.ReadsAreTaken.{read_then_held}
 use Rattle.vm_superio.proofs.Lemmas.Serial.Laws.Interrupts.{interrupt_law}
+use Rattle.vm_superio.proofs.Lemmas.Serial.Laws.CharacterTimeout.{timeouts_show_law}
 use Rattle.vm_superio.proofs.Lemmas.Serial.Laws.WaitingBytes.{waiting_bytes_law}
 use Rattle.vm_superio.proofs.Lemmas.Serial.Laws.SameReads.{same_reads_law}
 use Rattle.vm_superio.proofs.Lemmas.Serial.Laws.Output.{output_law}
@@ -58,13 +58,9 @@ op_of-restore act.Restore is = refl
 op_of-restore (act.Read offset) is = absurd (false≢true (sym is))
 op_of-restore (act.Write offset value) is = absurd (false≢true (sym is))
 op_of-restore (act.Enqueue bytes) is = absurd (false≢true (sym is))
+op_of-restore act.CharacterTimeout is = absurd (false≢true (sym is))
 
 -- a further outcome, last in one list and first in the other
-swapped : (before now last : Bool) → before ≡ now → (before && (last && true)) ≡ (last && now)
-swapped true now true same = same
-swapped false now true same = same
-swapped true now false same = refl
-swapped false now false same = refl
 
 -- the byte of a read's response
 abbrev byte_in : Response → ℕ
@@ -88,6 +84,7 @@ module _ {T E EV W : Type 0} (links : PortLinks T E EV W) where
   EntryFollows-call s segment (Read offset) asked sent (Byte byte) h = record { admissible = h.0; response = h.1 }
   EntryFollows-call s segment (Write offset value) asked sent (Wrote answer) h = record { admissible = h.0; response = h.1 }
   EntryFollows-call s segment (Enqueue bytes) asked sent (Enqueued answer) h = record { admissible = h.0; response = h.1 }
+  EntryFollows-call s segment CharacterTimeout asked sent (TimedOut answer) h = record { admissible = h.0; response = h.1 }
   EntryFollows-call s segment (Restore trigger events out) asked sent (Restored old) h =
       record { admissible = restore_admissible s asked sent h.0 h.1; response = refl }
   EntryFollows-call s segment (Restore trigger events out) asked sent (NotRestored refused) h =
@@ -113,6 +110,7 @@ module _ {T E EV W : Type 0} (links : PortLinks T E EV W) where
   IsReplyTo-call s segment (Read offset) asked sent (Byte byte) h = tt
   IsReplyTo-call s segment (Write offset value) asked sent (Wrote answer) h = tt
   IsReplyTo-call s segment (Enqueue bytes) asked sent (Enqueued answer) h = tt
+  IsReplyTo-call s segment CharacterTimeout asked sent (TimedOut answer) h = tt
   IsReplyTo-call s segment (Restore trigger events out) asked sent (Restored old) h = tt
   IsReplyTo-call s segment (Restore trigger events out) asked sent (NotRestored refused) h = tt
   IsReplyTo-call s segment _ asked sent _ h = absurd h
@@ -184,8 +182,8 @@ module _ {T E EV W : Type 0} (links : PortLinks T E EV W) where
     record IsSegmentOf (before newest : List TraceEntry) (s : State) (segment : Segment T E EV W) : Type 0 where
       state : s ≡ state_after start (newest ++ before)
       well_formed : IsTrue (is_well_formed start (newest ++ before))
-      taken : segment.written_bytes ≡ recorded_output newest
-      outcomes : list_all (λ outcome. not (is_lost outcome)) segment.outcomes ≡ none_lost newest
+      taken : segment.sent_bytes ≡ recorded_output newest
+      outcomes : segment.outcomes ≡ outcomes newest
 
     abbrev writer : (before newest : List TraceEntry) (segment : Segment T E EV W) → WriterSegment W
     writer before newest segment = record { before = before; newest = newest; initial = segment.out }
@@ -193,10 +191,10 @@ module _ {T E EV W : Type 0} (links : PortLinks T E EV W) where
     OutputIs-segment :
         (before newest : List TraceEntry) (s : State) (segment : Segment T E EV W) (port : Port T EV W) →
         IsSegmentOf before newest s segment → IsAfter links segment s port →
-        OutputIs links.contents start (writer before newest segment) port.out
-    OutputIs-segment before newest s segment port is after kept =
-        subst (Appends (links.contents segment.out) (links.contents port.out))
-        (is.taken ∙ output_law start before newest is.well_formed kept) (after.out.grown (is.outcomes ∙ kept))
+        OutputIs links.out start (writer before newest segment) port.out
+    OutputIs-segment before newest s segment port is after =
+        subst (λ bytes. OutLink links.out (outcomes newest) bytes segment.out port.out) (is.taken ∙ output_law start before newest is.well_formed)
+        (subst (λ made. OutLink links.out made segment.sent_bytes segment.out port.out) is.outcomes after.out)
 
     -- a call adds to the segment, or ends it
     record Output-next
@@ -204,9 +202,9 @@ module _ {T E EV W : Type 0} (links : PortLinks T E EV W) where
         (asked : Asked) (sent : Sent) (reply : Reply T EV W E) : Type 0 where
       next_before : List TraceEntry
       next_newest : List TraceEntry
-      end : OutputAtRestore links.contents start (writer before newest segment) call reply
+      end : OutputAtRestore (OutputIs links.out start) (writer before newest segment) call reply
       same :
-          next_writer_segment links.contents start (writer before newest segment) (entry made asked sent) call reply
+          next_writer_segment (writer before newest segment) (entry made asked sent) call reply
           ≡ writer next_before next_newest (next_segment links s segment call asked sent reply)
       is : IsSegmentOf next_before next_newest (step s (op_of made) asked) (next_segment links s segment call asked sent reply)
 
@@ -219,8 +217,8 @@ module _ {T E EV W : Type 0} (links : PortLinks T E EV W) where
         record {
           state = ap (λ s. step s op asked) is.state;
           well_formed = well_formed-step (newest ++ before) s added is.state admissible is.well_formed;
-          taken = ap (λ bytes. bytes ++ bytes_written op sent) is.taken;
-          outcomes = list_all-append (λ outcome. not (is_lost outcome)) segment.outcomes (sent ∷ []) ∙ swapped _ _ (not (is_lost sent)) is.outcomes;
+          taken = ap (λ bytes. bytes ++ bytes_sent op sent) is.taken;
+          outcomes = ap (λ made. made ++ outcome_of sent) is.outcomes;
         }
 
     Output-call :
@@ -248,6 +246,13 @@ module _ {T E EV W : Type 0} (links : PortLinks T E EV W) where
       same = refl;
       is = IsSegmentOf-extend before newest s segment _ asked sent (Enqueued answer) is h.0;
     }
+    Output-call before newest s segment CharacterTimeout asked sent (TimedOut answer) is h = record {
+      next_before = before;
+      next_newest = entry act.CharacterTimeout asked sent ∷ newest;
+      end = tt;
+      same = refl;
+      is = IsSegmentOf-extend before newest s segment _ asked sent (TimedOut answer) is h.0;
+    }
     Output-call before newest s segment (Restore trigger events out) asked sent (Restored old) is h = record {
       next_before = entry act.Restore asked sent ∷ newest ++ before;
       next_newest = [];
@@ -269,7 +274,7 @@ module _ {T E EV W : Type 0} (links : PortLinks T E EV W) where
         state = is.state;
         well_formed = well_formed-step (newest ++ before) s (entry act.Restore asked sent) is.state (restore_admissible s asked sent h.0 h.1) is.well_formed;
         taken = is.taken ∙ sym (append-nil (recorded_output newest));
-        outcomes = is.outcomes ∙ ap (λ outcome. not (is_lost outcome) && none_lost newest) (sym h.1);
+        outcomes = is.outcomes ∙ sym (append-nil (outcomes newest)) ∙ ap (λ made. outcomes newest ++ outcome_of made) (sym h.1);
       };
     }
     Output-call before newest s segment _ asked sent _ is h = absurd h
@@ -277,13 +282,13 @@ module _ {T E EV W : Type 0} (links : PortLinks T E EV W) where
     OutputsAre-run :
         (calls : List (Call T EV W)) (records : List (Done T EV W E)) (before newest : List TraceEntry) (s : State) (segment : Segment T E EV W) (end : Port T EV W) →
         IsSegmentOf before newest s segment → IsRun links s segment calls records end →
-        OutputsAre links.contents start (writer before newest segment) calls records end.out
+        OutputsAre (OutputIs links.out start) (writer before newest segment) calls records end.out
     OutputsAre-run [] [] before newest s segment end is run = OutputIs-segment before newest s segment end is run
     OutputsAre-run (call ∷ calls) (done ∷ later) before newest s segment end is run =
         let next = subst (λ made. Output-next before newest s segment call made done.asked done.sent done.reply) (sym run.0)
         (Output-call before newest s segment call done.asked done.sent done.reply is run.1) in (
           next.end,
-          subst (λ segment. OutputsAre links.contents start segment calls later end.out) (sym next.same)
+          subst (λ segment. OutputsAre (OutputIs links.out start) segment calls later end.out) (sym next.same)
               (OutputsAre-run calls later next.next_before next.next_newest _ _ end next.is run.2),
         )
     OutputsAre-run [] (done ∷ later) before newest s segment end is run = absurd run
@@ -313,6 +318,7 @@ module _ {T E EV W : Type 0} (links : PortLinks T E EV W) where
     Trigger-call trace s segment (Read offset) asked sent (Byte byte) state h = record { at_restore = tt; same = refl }
     Trigger-call trace s segment (Write offset value) asked sent (Wrote answer) state h = record { at_restore = tt; same = refl }
     Trigger-call trace s segment (Enqueue bytes) asked sent (Enqueued answer) state h = record { at_restore = tt; same = refl }
+    Trigger-call trace s segment CharacterTimeout asked sent (TimedOut answer) state h = record { at_restore = tt; same = refl }
     Trigger-call trace s segment (Restore trigger events out) asked sent (Restored old) state h = record {
       at_restore = (h.2.trigger, subst (λ due. (now : T) × links.trigger trigger (all_ok due) now) (restoring trace s state) h.3);
       same = ap (λ due. record { initial = trigger; answers = all_ok due }) (sym (restoring trace s state));
@@ -337,30 +343,59 @@ module _ {T E EV W : Type 0} (links : PortLinks T E EV W) where
     TriggersAre-run [] (done ∷ later) trace s segment end state run = absurd run
     TriggersAre-run (call ∷ calls) [] trace s segment end state run = absurd run
 
-  -- ---- the history theorem
+-- ---- the history theorem
 
-  pub HistoryTheorem-run :
-      (start : Port T EV W) (calls : List (Call T EV W)) (records : List (Done T EV W E)) (end : Port T EV W) →
-      IsRun links start.state (first_segment start) calls records end →
-      Coherent start.state → HistoryTheorem links.trigger links.contents start calls records end
-  HistoryTheorem-run start calls records end run coherent =
-      let s = start.state in
-      let trace = trace_of records in
-      let agrees = whole_run_law s end.state (entries_of records) coherent (StepsFollow-run calls records s (first_segment start) end run) in
-      let of = RecordsOf-run calls records s (first_segment start) end run in
-      let reads = ReadsAre-run s [] calls records of agrees.responses in
-      record {
-        records_of_calls = of;
-        reads = reads;
-        responses = agrees.responses;
-        read_bytes = ap (λ (port : State). bytes_read s [] (entries_of records) ++ port.in_buffer) agrees.state ∙ read_then_held s (entries_of records) agrees.responses;
-        received_bytes = ap (λ (port : State). taken_bytes s trace ++ port.in_buffer) agrees.state ∙ taken_then_held s trace;
-        trigger_calls = agrees.well_formed;
-        bound = trigger_bound_law s trace agrees.well_formed;
-        waiting = waiting_bytes_law s trace;
-        output = OutputsAre-run s coherent calls records [] [] s (first_segment start) end (record { state = refl; well_formed = refl; taken = refl; outcomes = refl }) run;
-        restores = TriggersAre-run s coherent calls records [] s (first_segment start) end refl run;
-        reads_alone = ReadsAre-without_restores s [] [] records refl reads;
-        end_state = agrees.state;
-        end_coherent = agrees.coherent;
-      }
+at_restore :
+    {T E EV W : Type 0} (Holds Follows : WriterSegment W → W → Type 0) →
+    ((segment : WriterSegment W) (now : W) → Holds segment now → Follows segment now) →
+    (segment : WriterSegment W) (call : Call T EV W) (reply : Reply T EV W E) →
+    OutputAtRestore Holds segment call reply → OutputAtRestore Follows segment call reply
+at_restore Holds Follows follows segment (Restore trigger events out) (Restored old) holds = follows segment old.out holds
+at_restore Holds Follows follows segment _ _ holds = tt
+
+-- what holds of each segment, from what holds of it
+OutputsAre-map :
+    {T E EV W : Type 0} (Holds Follows : WriterSegment W → W → Type 0) →
+    ((segment : WriterSegment W) (now : W) → Holds segment now → Follows segment now) →
+    (segment : WriterSegment W) (calls : List (Call T EV W)) (records : List (Done T EV W E)) (end : W) →
+    OutputsAre Holds segment calls records end → OutputsAre Follows segment calls records end
+OutputsAre-map Holds Follows follows segment [] [] end holds = follows segment end holds
+OutputsAre-map Holds Follows follows segment (call ∷ calls) (done ∷ later) end holds = (
+  at_restore Holds Follows follows segment call done.reply holds.0,
+  OutputsAre-map Holds Follows follows _ calls later end holds.1,
+)
+OutputsAre-map Holds Follows follows segment [] (done ∷ later) end holds = absurd holds
+OutputsAre-map Holds Follows follows segment (call ∷ calls) [] end holds = absurd holds
+
+pub HistoryTheorem-run :
+    {T E EV W : Type 0} (trigger : Link T (TriggerAnswer E)) (events : Link EV Event) (contents : W → Option (List ℕ))
+    (start : Port T EV W) (calls : List (Call T EV W)) (records : List (Done T EV W E)) (end : Port T EV W) →
+    IsRun (port_links trigger events (WriterCalls contents)) start.state (first_segment start) calls records end →
+    Coherent start.state → HistoryTheorem trigger contents start calls records end
+HistoryTheorem-run trigger events contents start calls records end run coherent =
+    let links = port_links trigger events (WriterCalls contents) in
+    let s = start.state in
+    let trace = trace_of records in
+    let agrees = whole_run_law s end.state (entries_of records) coherent (StepsFollow-run links calls records s (first_segment start) end run) in
+    let of = RecordsOf-run links calls records s (first_segment start) end run in
+    let reads = ReadsAre-run links s [] calls records of agrees.responses in
+    let sent = OutputsAre-run links s coherent calls records [] [] s (first_segment start) end (record { state = refl; well_formed = refl; taken = refl; outcomes = refl }) run in
+    record {
+      records_of_calls = of;
+      reads = reads;
+      responses = agrees.responses;
+      read_bytes = ap (λ (port : State). bytes_read s [] (entries_of records) ++ port.in_buffer) agrees.state ∙ read_then_held s (entries_of records) agrees.responses;
+      received_bytes = ap (λ (port : State). taken_bytes s trace ++ port.in_buffer) agrees.state ∙ taken_then_held s trace;
+      trigger_calls = agrees.well_formed;
+      bound = trigger_bound_law s trace agrees.well_formed;
+      waiting = waiting_bytes_law s trace;
+      timeouts = timeouts_show_law s trace agrees.well_formed;
+      output = sent;
+      known_output =
+          OutputsAre-map (OutputIs (WriterCalls contents) s) (KnownOutputIs contents s)
+          (λ segment now link. known_output_law contents segment.initial now _ _ link) _ calls records end.out sent;
+      restores = TriggersAre-run links s coherent calls records [] s (first_segment start) end refl run;
+      reads_alone = ReadsAre-without_restores links s [] [] records refl reads;
+      end_state = agrees.state;
+      end_coherent = agrees.coherent;
+    }

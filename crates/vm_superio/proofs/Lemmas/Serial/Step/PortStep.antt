@@ -1,10 +1,10 @@
 -- What a step of a port says about the trigger's calls.
 use Rattle.std.proofs.Common.{◌≡◌, length, Option, Some, None, refl, ap, sym, ◌∙◌}
 use Rattle.std.specs.Prelude.{is_some}
-use Rattle.vm_superio.specs.declared.trace.Asked.{Asked}
-use Rattle.vm_superio.specs.declared.trace.Asked.TheVariants.{Nothing, Took, Refused, TookTook, TookRefused}
-use Rattle.vm_superio.specs.declared.trace.Sent.{Sent}
-use Rattle.vm_superio.specs.Serial.Port.Operations.{Op, Response, ends_in_refusal, answer_count}
+use Rattle.superio_core.specs.declared.trace.Asked.{Asked}
+use Rattle.superio_core.specs.declared.trace.Asked.TheVariants.{Nothing, Took, Refused, TookTook, TookRefused}
+use Rattle.superio_core.specs.declared.trace.Sent.{Sent}
+use Rattle.superio_core.specs.Serial.Port.Operations.{Op, Response, ends_in_refusal, answer_count}
 use Rattle.vm_superio.specs.Links.Objects.{answers_of}
 use Rattle.vm_superio.specs.Links.Writer.{PortLinks}
 use Rattle.vm_superio.specs.Serial.Port.Model.{Port}

@@ -1,7 +1,31 @@
--- A step keeps a coherent state coherent.
-use Rattle.vm_superio.specs.Serial.Port.Operations.{Read}
-use Rattle.vm_superio.proofs.Lemmas.Serial.Laws.Coherence.{coherence_law}
+-- A step keeps a coherent state coherent, and an RBR read gives the oldest byte.
+use Rattle.superio_core.specs.Serial.Port.Operations.{Read, ByteRead}
+use Rattle.superio_core.specs.Serial.Step.Transition.{step, step_response}
+use Rattle.superio_core.proofs.Lemmas.Serial.Laws.Coherence.{coherence_law}
+use Rattle.vm_superio.proofs.Lemmas.Serial.Laws.OneCall.{rbr_read, kept}
 use Rattle.vm_superio.proofs.serial.Serial.read.Goals as goal
+use Rattle.std.proofs.Common.{◌≡◌, ℕ, ◌<◌, false, length, ap, ◌∙◌, ◌∷◌}
+use Rattle.superio_core.specs.Serial.Port.State.{State}
+use Rattle.superio_core.specs.Serial.Port.Registers.{register_at, is_dlab}
+use Rattle.superio_core.specs.declared.trace.Asked.TheVariants as Asked
+use Rattle.superio_core.specs.declared.trace.Sent.TheVariants as Sent
+
+oldest : (offset : ℕ) (old new : State) (byte : ℕ) → offset ≡ 0 → is_dlab old.line_control ≡ false → 0 < length old.in_buffer
+    → new ≡ step old (Read offset) Asked.Nothing
+    → ByteRead byte ≡ step_response old (Read offset) Asked.Nothing Sent.Nothing → byte ∷ new.in_buffer ≡ old.in_buffer
+oldest offset old new byte first hidden some made response =
+    ap (λ (s : State). byte ∷ s.in_buffer) (made ∙ ap (λ n. step old (Read n) Asked.Nothing) first)
+    ∙ (rbr_read old byte hidden some (response ∙ ap (λ n. step_response old (Read n) Asked.Nothing Sent.Nothing) first)).bytes
+
+pub returns-clause-data : goal.returns-clause-data
+returns-clause-data g c = λ first hidden some.
+    let made = c.recorded_read-byte.ensures in
+    oldest c.args.offset c.args.self.now.state _ c.recorded_read-byte.result.reply first hidden some made.state made.response
+
+pub returns-clause-settings : goal.returns-clause-settings
+returns-clause-settings g c =
+    let made = c.recorded_read-byte.ensures in
+    rw made.state (kept (register_at (is_dlab c.args.self.now.state.line_control) c.args.offset) c.args.self.now.state)
 
 pub returns-clause-coherent : goal.returns-clause-coherent
 returns-clause-coherent g c = λ before.

@@ -1,27 +1,7 @@
--- The step of the registers, with THRE taken back if the first of two calls was refused.
-use Rattle.std.proofs.Common.{rules, refl, ap, ◌∙◌}
-use Rattle.vm_superio.specs.Serial.Port.State.{state_with}
-use Rattle.vm_superio.specs.Serial.Step.Transition.{write_step}
-use Rattle.vm_superio.proofs.Lemmas.Serial.Step.FirstRefused.{write_step-settled}
+-- What the calls in order show of each object.
+use Rattle.vm_superio.proofs.Lemmas.Serial.Step.ObjectStep.{IsRecordedWrite-three}
 use Rattle.vm_superio.proofs.serial.Serial.recorded_write.Goals as goal
 
 pub returns : goal.returns
 returns g c =
-    let offset = c.args.offset in
-    let value = c.args.value in
-    let asked = c.call_trigger-asked.result.0 in
-    let effects = c.write-effects in
-    let before = state_with c.self.inside.registers c.self.inside.in_buffer in
-    rw (← c.self.view_is) (record {
-      admissible = search rules;
-      response = search rules;
-      refused = search rules;
-      state =
-          ap (λ registers. state_with registers effects.new.fifo) c.take_back.ensures.registers
-          ∙ write_step-settled c.at-register.result value effects.result.interrupts asked before effects.new.self
-          effects.new.fifo _ refl effects.ensures.interrupts effects.ensures.state
-          ∙ ap (λ register. write_step register value asked before) c.at-register.ensures;
-      trigger = search rules;
-      events = search rules;
-      out = c.send_where_due-sent.ensures.out offset;
-    })
+    rw (← c.self.view_is) (IsRecordedWrite-three g.T.Trigger.link g.EV.SerialEvents.link g.W.Write.contents _ _ _ _ _ _ _ c.write_with.ensures)

@@ -1,0 +1,3 @@
+pub mod Bits
+pub mod Saved
+pub mod Serial

@@ -1,0 +1,4 @@
+pub mod Examples
+pub mod Laws
+pub mod Port
+pub mod Step

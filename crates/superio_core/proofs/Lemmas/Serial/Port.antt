@@ -1,0 +1,3 @@
+pub mod Bits
+pub mod Coherent
+pub mod RxRing

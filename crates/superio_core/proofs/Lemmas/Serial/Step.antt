@@ -1,0 +1,4 @@
+pub mod ByKind
+pub mod CharacterTimeout
+pub mod FirstRefused
+pub mod Raising

@@ -1,0 +1,19 @@
+-- A step keeps a coherent state coherent.
+use Rattle.std.proofs.Common.{sym, subst}
+use Rattle.superio_core.specs.declared.trace.Asked.{Asked}
+use Rattle.superio_core.specs.Serial.Port.SerialPort.{state_of_port}
+use Rattle.superio_core.specs.Serial.Port.Operations.{CharacterTimeout}
+use Rattle.superio_core.proofs.Lemmas.Serial.Laws.Coherence.{coherence_law}
+use Rattle.superio_core.specs.Serial.Port.Coherent.{Coherent, ShowsHeldBytes}
+use Rattle.superio_core.proofs.Lemmas.Serial.Step.CharacterTimeout.{shows_held_bytes}
+use Rattle.superio_core.proofs.serial.SerialPort.character_timeout.Goals as goal
+
+pub returns-clause-pending : goal.returns-clause-pending
+returns-clause-pending c =
+    subst ShowsHeldBytes (sym c.character_timeout.ensures.state)
+    (shows_held_bytes (state_of_port c.args.self.now) Asked.Nothing)
+
+pub returns-clause-coherent : goal.returns-clause-coherent
+returns-clause-coherent c = λ before.
+    let old = state_of_port c.args.self.now in
+    (before.0, subst Coherent (sym c.character_timeout.ensures.state) (coherence_law old CharacterTimeout Asked.Nothing before.1))

@@ -1,0 +1,15 @@
+-- A step keeps a coherent state coherent.
+use Rattle.std.proofs.Common.{sym, ap, ◌∙◌, subst}
+use Rattle.superio_core.specs.declared.trace.Asked.{Asked}
+use Rattle.superio_core.specs.Serial.Port.Coherent.{Coherent}
+use Rattle.superio_core.specs.Serial.Port.SerialPort.{state_of_port}
+use Rattle.superio_core.specs.Serial.Port.Operations.{Read}
+use Rattle.superio_core.specs.Serial.Step.Transition.{read_step}
+use Rattle.superio_core.proofs.Lemmas.Serial.Laws.Coherence.{coherence_law}
+use Rattle.superio_core.proofs.serial.SerialPort.read.Goals as goal
+
+pub returns-clause-coherent : goal.returns-clause-coherent
+returns-clause-coherent c = λ before.
+    let old = state_of_port c.args.self.now in
+    let done = c.read.ensures.state ∙ ap (λ register. read_step register old) c.at-register.ensures in
+    (c.read.ensures.canonical before.0, subst Coherent (sym done) (coherence_law old (Read c.args.offset) Asked.Nothing before.1))

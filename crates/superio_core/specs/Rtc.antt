@@ -1,0 +1,4 @@
+pub mod Registers
+pub mod Step
+pub mod Alarm
+pub mod Clock

@@ -1,0 +1,9 @@
+pub mod Bits
+pub mod Coherent
+pub mod Effects
+pub mod SerialPort
+pub mod OpKinds
+pub mod Operations
+pub mod Registers
+pub mod RxRing
+pub mod State

@@ -1,0 +1,62 @@
+-- Which answers of the trigger and which outcome of a byte are admissible for a call in a state.
+use Rattle.std.specs.Prelude.{ℕ, ◌+◌, Bool, ◌==◌, ◌&&◌, nat_le, List, [], ◌∷◌}
+use Rattle.std.specs.Bool.{beq}
+use Rattle.superio_core.specs.declared.trace.Asked.{Asked}
+use Rattle.superio_core.specs.declared.trace.Sent.{Sent}
+use Rattle.superio_core.specs.Bits.{only_bits}
+use Rattle.superio_core.specs.Serial.Port.Bits.{ier_bits}
+use Rattle.superio_core.specs.Serial.Port.State.{State, not_empty}
+use Rattle.superio_core.specs.Serial.Port.Registers.{Rda, Thre, is_dlab, is_loopback}
+use Rattle.superio_core.specs.Serial.Port.Operations.{Op, is_sent, count_if}
+use Rattle.superio_core.specs.Serial.Port.OpKinds.{OpKind, IerWrite, ThrWrite, Arrival, Timeout, kind_of, sent_by}
+use Rattle.superio_core.specs.Serial.Step.Raising.{becomes_pending, rda_becomes_pending, raise_rda_while_held, bytes_that_fit}
+
+-- what an operation means in a state
+abbrev pub kind_in_state : (s : State) (op : Op) → OpKind
+kind_in_state s op = kind_of (is_dlab s.line_control) (is_loopback s.modem_control) op
+
+-- ---- how many trigger calls a call makes, if none is refused
+
+-- received bytes: one, if RDA becomes pending
+abbrev pub arrival_calls : (bytes : List ℕ) (s : State) → ℕ
+arrival_calls [] s = 0
+arrival_calls (byte ∷ bytes) s = count_if (becomes_pending Rda s.interrupt_enable s.interrupt_identification)
+
+-- an IER write: one for RDA, then one for THRE
+abbrev pub ier_write_calls : (enable : ℕ) (s : State) → ℕ
+ier_write_calls enable s =
+    count_if (rda_becomes_pending s.in_buffer enable s.interrupt_identification)
+    + count_if (becomes_pending Thre enable (raise_rda_while_held s.in_buffer enable s.interrupt_identification))
+
+-- a character timeout: one, if RDA becomes pending
+abbrev pub timeout_calls : (s : State) → ℕ
+timeout_calls s = count_if (rda_becomes_pending s.in_buffer s.interrupt_enable s.interrupt_identification)
+
+abbrev pub kind_calls : (kind : OpKind) (s : State) → ℕ
+kind_calls (IerWrite value) s = ier_write_calls (only_bits value ier_bits) s
+kind_calls (ThrWrite value) s = count_if (becomes_pending Thre s.interrupt_enable s.interrupt_identification)
+kind_calls (Arrival bytes) s = arrival_calls (bytes_that_fit s.in_buffer bytes) s
+kind_calls Timeout s = timeout_calls s
+kind_calls _ s = 0
+
+abbrev pub step_calls : (s : State) (op : Op) → ℕ
+step_calls s op = kind_calls (kind_in_state s op) s
+
+-- ---- admissible
+
+-- each call is answered, and a refusal ends the operation
+abbrev pub answers_all : (calls : ℕ) (asked : Asked) → Bool
+answers_all calls Asked.Nothing = calls == 0
+answers_all calls Asked.Took = calls == 1
+answers_all calls Asked.Refused = nat_le 1 calls
+answers_all calls Asked.TookTook = calls == 2
+answers_all calls Asked.TookRefused = calls == 2
+
+-- a byte goes to the writer
+abbrev pub sends_byte : (s : State) (op : Op) → Bool
+sends_byte s op = not_empty (sent_by (kind_in_state s op))
+
+-- the trigger's calls are answered, and there is an outcome exactly if a byte goes to the writer
+abbrev pub is_admissible : (s : State) (op : Op) (asked : Asked) (sent : Sent) → Bool
+is_admissible s op asked sent =
+    answers_all (step_calls s op) asked && beq (is_sent sent) (sends_byte s op)

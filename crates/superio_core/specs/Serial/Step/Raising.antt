@@ -1,0 +1,60 @@
+-- Raising and lowering a condition, and receiving bytes: the small parts of a step. A step may raise a condition that
+-- IER does not enable, which does nothing.
+use Rattle.std.specs.Prelude.{ℕ, ◌-◌, Bool, not, ◌==◌, ◌&&◌, if◌then◌else◌, List, [], ◌∷◌, ◌++◌, length, take}
+use Rattle.superio_core.specs.Bits.{has_bits, with_bits, without_bits}
+use Rattle.superio_core.specs.Serial.Port.Bits.{lsr_dr_bit}
+use Rattle.superio_core.specs.Serial.Port.State.{State, not_empty}
+use Rattle.superio_core.specs.Serial.Port.Registers.{is_loopback, Condition, Rda, ier_bit, iir_bit}
+
+-- IIR: nothing is pending. The steps alone use this bit
+abbrev pub iir_none_bit : ℕ
+iir_none_bit = 0x01
+
+-- ---- raising a condition
+
+-- a condition that is raised becomes pending if IER enables it and IIR does not show it; the trigger is called
+-- exactly then
+abbrev pub becomes_pending : (condition : Condition) (enable identification : ℕ) → Bool
+becomes_pending condition enable identification =
+    has_bits enable (ier_bit condition) && not (has_bits identification (iir_bit condition))
+
+-- IIR afterwards: if the condition became pending, its bit is set and the bit for 'none' cleared. A refusal of the
+-- trigger takes neither back
+abbrev pub raise : (condition : Condition) (enable identification : ℕ) → ℕ
+raise condition enable identification =
+    if becomes_pending condition enable identification
+    then with_bits (without_bits identification iir_none_bit) (iir_bit condition)
+    else identification
+
+-- IIR after a condition was lowered: its bit is cleared, and if no bit is left, nothing is pending
+abbrev pub lower : (condition : Condition) (identification : ℕ) → ℕ
+lower condition identification =
+    let others = without_bits identification (iir_bit condition) in
+    if others == 0 then iir_none_bit else others
+
+-- an IER write raises RDA only while bytes are held
+abbrev pub rda_becomes_pending : (held : List ℕ) (enable identification : ℕ) → Bool
+rda_becomes_pending held enable identification = not_empty held && becomes_pending Rda enable identification
+
+abbrev pub raise_rda_while_held : (held : List ℕ) (enable identification : ℕ) → ℕ
+raise_rda_while_held held enable identification =
+    if not_empty held then raise Rda enable identification else identification
+
+-- ---- receiving bytes
+
+-- the first bytes, as many as have room beside the held ones: the FIFO holds at most 64
+abbrev pub bytes_that_fit : (held bytes : List ℕ) → List ℕ
+bytes_that_fit held bytes = take (64 - length held) bytes
+
+-- an enqueue accepts the bytes that fit, and in loopback none; DLAB plays no part
+abbrev pub enqueued_bytes : (s : State) (bytes : List ℕ) → List ℕ
+enqueued_bytes s bytes = if is_loopback s.modem_control then [] else bytes_that_fit s.in_buffer bytes
+
+-- received bytes follow the others, data ready is set, and RDA is raised. No bytes change nothing
+abbrev pub receive_bytes : (bytes : List ℕ) (s : State) → State
+receive_bytes [] s = s
+receive_bytes (byte ∷ bytes) s = record s {
+  in_buffer = s.in_buffer ++ byte ∷ bytes;
+  line_status = with_bits s.line_status lsr_dr_bit;
+  interrupt_identification = raise Rda s.interrupt_enable s.interrupt_identification;
+}

@@ -1,0 +1,195 @@
+//! A real-time clock with the registers of an ARM PL031, as a value.
+//!
+//! A call changes the clock and returns what the guest reads, or whether the access is invalid. The clock reads no
+//! clock of the host: each access gets its moment, in seconds since 1970.
+ghost use Rattle.std.specs.Prelude.{◌≡◌, ◌<◌, ◌^◌, IfSome};
+ghost use Rattle.superio_core.specs.Bits.{with_bits};
+ghost use Rattle.superio_core.specs.Rtc.Alarm.{is_line_up, IsAlarmDue};
+ghost use Rattle.superio_core.specs.Rtc.Clock.{state_of_clock};
+ghost use Rattle.superio_core.specs.Rtc.Registers.{read, write, fresh_clock, clock_register_at, is_writable};
+ghost use Rattle.superio_core.specs.Rtc.Registers.{host_time, clock_register_read};
+ghost use Rattle.superio_core.specs.Rtc.Step.{guest_time_in, after_alarm, match_write, clock_response, after_write, clock_step};
+
+mod alarm;
+mod registers;
+pub mod saved_form;
+mod state;
+
+use alarm::{guest_time, seconds_until};
+pub use registers::ClockRegister;
+pub use state::RtcState;
+
+/// A clock without an events object. Any values are valid.
+#[repr(C)]
+#[derive(Clone, Copy)]
+pub struct Clock {
+    /// RTCLR, the load register: the last loaded value, or 0 after a reset.
+    pub lr: u32,
+    /// RTCMR, the match register: the guest time that an alarm waits for.
+    pub mr: u32,
+    /// RTCIMSC, the interrupt mask. A write stores bit 0 of its value, and clears the others.
+    pub imsc: u32,
+    /// RTCRIS, the raw interrupt status. The alarm sets bit 0; nothing sets other bits.
+    pub ris: u32,
+    /// How far guest time is ahead of the host's time, in seconds.
+    pub offset: i64,
+    /// Nonzero if an alarm is set and has not fired. It is eight bytes wide so that the struct has no padding.
+    pub armed: u64,
+}
+
+impl Clock {
+    /// A fresh clock: it shows the host's time and has no alarm.
+    pub fn new() -> Clock
+        ensures { state_of_clock result ≡ fresh_clock }
+    {
+        Clock {
+            lr: 0,
+            mr: 0,
+            imsc: 0,
+            ris: 0,
+            offset: 0,
+            armed: 0,
+        }
+    }
+
+    /// The clock of this state.
+    pub fn from_state(state: &RtcState) -> Clock
+        ensures { state_of_clock result ≡ state.now }
+    {
+        Clock {
+            lr: state.lr,
+            mr: state.mr,
+            imsc: state.imsc,
+            ris: state.ris,
+            offset: state.offset,
+            armed: u64::from(state.armed),
+        }
+    }
+
+    /// A snapshot; `from_state` recreates the clock.
+    pub fn state(&self) -> RtcState
+        ensures { result ≡ state_of_clock self.now }
+    {
+        RtcState {
+            lr: self.lr,
+            offset: self.offset,
+            mr: self.mr,
+            imsc: self.imsc,
+            ris: self.ris,
+            armed: self.armed != 0,
+        }
+    }
+
+    /// Begins an access at the moment `now` and returns the host's time. Any access, even an invalid one, may fire the
+    /// alarm before its own effect.
+    #[tactic(auto, unfolding(crate::specs::Bits::with_bits))]
+    fn begin_access(&mut self, now: u64) -> u32
+        ensures time { result ≡ host_time now }
+        ensures state { state_of_clock self.new ≡ after_alarm (state_of_clock self.old) (host_time now) }
+    {
+        let time = (now % (1 << 32)) as u32;
+        if self.armed != 0 && guest_time(self.offset, time) >= self.mr {
+            self.ris |= 1;
+            self.armed = 0;
+        }
+        time
+    }
+
+    /// The value read from `register` at the host's time `time`, or `None` if it is not readable.
+    fn read_register(&self, register: ClockRegister, time: u32) -> Option<u32>
+        ensures { let state = state_of_clock self.now in
+            result ≡ clock_register_read register (guest_time_in state time) state }
+    {
+        match register {
+            ClockRegister::Dr => Some(guest_time(self.offset, time)),
+            ClockRegister::Mr => Some(self.mr),
+            ClockRegister::Lr => Some(self.lr),
+            ClockRegister::Cr => Some(1),
+            ClockRegister::Imsc => Some(self.imsc),
+            ClockRegister::Ris => Some(self.ris),
+            ClockRegister::Mis => Some(self.ris & self.imsc),
+            ClockRegister::Id(byte) => Some(u32::from(byte)),
+            ClockRegister::Icr | ClockRegister::Reserved => None,
+        }
+    }
+
+    /// Stores a match. Sets the alarm if guest time has yet to reach it, and raises the interrupt at once if guest time
+    /// equals it.
+    #[tactic(auto, unfolding(crate::specs::Bits::with_bits))]
+    fn write_match(&mut self, value: u32, time: u32)
+        ensures { state_of_clock self.new ≡ match_write (state_of_clock self.old) value time }
+    {
+        let guest_time = guest_time(self.offset, time);
+        self.mr = value;
+        self.armed = u64::from(guest_time < value);
+        if value == guest_time {
+            self.ris |= 1;
+        }
+    }
+
+    /// Writes `value` to `register` at the host's time `time`, and returns whether the register takes a write. If not,
+    /// nothing changes.
+    #[tactic(auto, using(crate::proofs::Lemmas::Bits::and_not_is_without))]
+    fn store(&mut self, register: ClockRegister, value: u32, time: u32) -> bool
+        ensures state { state_of_clock self.new
+            ≡ after_write (state_of_clock self.old) register value time }
+        ensures taken { result ≡ is_writable register }
+    {
+        match register {
+            ClockRegister::Mr => self.write_match(value, time),
+            ClockRegister::Lr => {
+                self.lr = value;
+                self.offset = i64::from(value) - i64::from(time);
+            }
+            ClockRegister::Cr => {
+                if value == 1 {
+                    self.lr = 0;
+                    self.offset = 0;
+                }
+            }
+            ClockRegister::Imsc => self.imsc = value & 1,
+            ClockRegister::Icr => self.ris &= !value,
+            _ => return false,
+        }
+        true
+    }
+
+    /// Reads at `offset` at the moment `now`, in seconds since 1970, as `Rtc::read` does. Only the
+    /// low 32 bits of `now` count. Returns the value read, or `None` if the read is invalid.
+    pub fn read(&mut self, offset: u16, now: u64) -> Option<u32>
+        ensures response { result ≡ clock_response (state_of_clock self.old) (read offset now) }
+        ensures state { state_of_clock self.new ≡ clock_step (state_of_clock self.old) (read offset now) }
+    {
+        let time = self.begin_access(now);
+        self.read_register(ClockRegister::at(offset), time)
+    }
+
+    /// Writes `value` at `offset` at the moment `now`, as `Rtc::write` does. Returns whether this
+    /// offset takes a write.
+    pub fn write(&mut self, offset: u16, value: u32, now: u64) -> bool
+        ensures taken { result ≡ is_writable (clock_register_at offset) }
+        ensures state { state_of_clock self.new ≡ clock_step (state_of_clock self.old) (write offset value now) }
+    {
+        let time = self.begin_access(now);
+        self.store(ClockRegister::at(offset), value, time)
+    }
+
+    /// Whether the interrupt line is up: bit 0 of RTCMIS, the raw interrupt status under the mask.
+    pub fn interrupt_line(&self) -> bool
+        ensures { result ≡ is_line_up (state_of_clock self.now) }
+    {
+        self.ris & self.imsc & 1 == 1
+    }
+
+    /// The seconds from the moment `now` until the alarm is due if the guest makes no access; see
+    /// `Rtc::alarm_due`.
+    pub fn alarm_due(&self, now: u64) -> Option<u64>
+        ensures due { IsAlarmDue (state_of_clock self.now) now result }
+        ensures bound { IfSome result (λ seconds. seconds < 2 ^ 32) }
+    {
+        if self.armed == 0 {
+            return None;
+        }
+        seconds_until(self.offset, self.mr, now)
+    }
+}

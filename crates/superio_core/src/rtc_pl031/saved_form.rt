@@ -1,0 +1,106 @@
+//! The byte form of a clock's state.
+ghost use Rattle.std.specs.Prelude.{◌≡◌, ◌+◌, ◌≤◌, length, ◌++◌, IfOk};
+ghost use Rattle.std.specs.Result.{result_err};
+ghost use Rattle.std.specs.Int.{w32, w64, to_le_bytes, cast_unsigned};
+ghost use Rattle.superio_core.specs.Saved.Faults.{clock_fault};
+ghost use Rattle.superio_core.specs.Saved.Laws.{IsClock};
+
+use super::RtcState;
+use crate::saved::{CLOCK_KIND, Error, contents_of, header};
+
+/// The size of a clock's byte form: the header and 25 bytes.
+pub const SAVED_SIZE: usize = 33;
+
+/// The number of bytes after the header.
+const CONTENTS_SIZE: usize = 25;
+
+impl RtcState {
+    ghost use Rattle.superio_core.specs.Saved.Form.{clock_form};
+
+    /// The state as bytes; `from_bytes` reads them back.
+    ///
+    /// They are a header of eight bytes, `lr`, `mr`, `imsc` and `ris` of four bytes each, `offset` of eight, and 1 if
+    /// an alarm is set, else 0. Numbers are little-endian.
+    pub fn to_bytes(&self) -> [u8; SAVED_SIZE]
+        ensures { result ≡ clock_form self.now }
+    {
+        let [m0, m1, m2, m3, kind, version, low, high] = header(CLOCK_KIND, CONTENTS_SIZE as u16);
+        let [lr0, lr1, lr2, lr3] = self.lr.to_le_bytes();
+        let [mr0, mr1, mr2, mr3] = self.mr.to_le_bytes();
+        let [imsc0, imsc1, imsc2, imsc3] = self.imsc.to_le_bytes();
+        let [ris0, ris1, ris2, ris3] = self.ris.to_le_bytes();
+        let [o0, o1, o2, o3, o4, o5, o6, o7] = self.offset.to_le_bytes();
+        let armed = u8::from(self.armed);
+        [
+            m0, m1, m2, m3, kind, version, low, high, lr0, lr1, lr2, lr3, mr0, mr1, mr2, mr3,
+            imsc0, imsc1, imsc2, imsc3, ris0, ris1, ris2, ris3, o0, o1, o2, o3, o4, o5, o6, o7,
+            armed,
+        ]
+    }
+
+    /// Reads the state back from these bytes.
+    ///
+    /// # Errors
+    ///
+    /// Returns the first check that fails, in the order of [`Error`]: any case but [`Error::TooManyBytes`].
+    #[tactic(auto, using(crate::proofs::Lemmas::Saved::Forms::clock_form_read))]
+    pub fn from_bytes(bytes: &[u8]) -> Result<RtcState, Error>
+        ensures form { IfOk result (λ state. bytes.now ≡ clock_form state) }
+        ensures read { (state : RtcState) → IsClock state → bytes.now ≡ clock_form state → result ≡ Ok state }
+        ensures fault { result_err result ≡ clock_fault bytes.now }
+    {
+        Self::parse(bytes)
+    }
+
+    /// As `from_bytes`.
+    fn parse(bytes: &[u8]) -> Result<RtcState, Error>
+        ensures form { IfOk result (λ state. bytes.now ≡ clock_form state) }
+        ensures numbers { IfOk result IsClock }
+        ensures fault { result_err result ≡ clock_fault bytes.now }
+    {
+        let contents = contents_of(CLOCK_KIND, bytes)?;
+        if contents.len() != CONTENTS_SIZE {
+            return Err(Error::WrongLength);
+        }
+        let (lr, rest) = split_number(contents);
+        let (mr, rest) = split_number(rest);
+        let (imsc, rest) = split_number(rest);
+        let (ris, rest) = split_number(rest);
+        let (offset, rest) = split_offset(rest);
+        let armed = match rest {
+            [0] => false,
+            [1] => true,
+            _ => return Err(Error::InvalidArmed),
+        };
+        Ok(RtcState {
+            lr,
+            offset,
+            mr,
+            imsc,
+            ris,
+            armed,
+        })
+    }
+}
+
+/// The number in the first four bytes, and the bytes after it.
+fn split_number(bytes: &[u8]) -> (u32, &[u8])
+    requires { 4 ≤ length bytes.now }
+    ensures split { bytes.now ≡ to_le_bytes w32 result.0 ++ result.1.now }
+    ensures rest { length result.1.now + 4 ≡ length bytes.now }
+{
+    let number = u32::from_le_bytes([bytes[0], bytes[1], bytes[2], bytes[3]]);
+    (number, &bytes[4..])
+}
+
+/// The signed number in the first eight bytes, and the bytes after it.
+fn split_offset(bytes: &[u8]) -> (i64, &[u8])
+    requires { 8 ≤ length bytes.now }
+    ensures split { bytes.now ≡ to_le_bytes w64 (cast_unsigned w64 result.0) ++ result.1.now }
+    ensures rest { length result.1.now + 8 ≡ length bytes.now }
+{
+    let number = i64::from_le_bytes([
+        bytes[0], bytes[1], bytes[2], bytes[3], bytes[4], bytes[5], bytes[6], bytes[7],
+    ]);
+    (number, &bytes[8..])
+}

@@ -1,0 +1,234 @@
+//! The steps of a serial port's calls, as methods of the registers. They take the received bytes if they use them, work
+//! with every receive FIFO, and call no object: a step returns what is left to do, which is a byte to send, an
+//! interrupt to ask for, or an event to report.
+ghost use Rattle.std.specs.Prelude.{◌≡◌, ◌≤◌, if◌then◌else◌, [], length, slice_index};
+ghost use Rattle.superio_core.specs.Serial.Port.State.{not_empty, state_with};
+ghost use Rattle.superio_core.specs.Bits.{only_bits, with_bits};
+ghost use Rattle.superio_core.specs.Serial.Port.Bits.{lsr_dr_bit};
+ghost use Rattle.superio_core.specs.Serial.Port.Registers.{Rda, Thre, RbrThr, is_loopback, register_read};
+ghost use Rattle.superio_core.specs.Serial.Port.Operations.{count_if, is_first_of_two_refused};
+ghost use Rattle.superio_core.specs.Serial.Port.OpKinds.{write_kind, sent_by};
+ghost use Rattle.superio_core.specs.Serial.Port.Effects.{events_of_read};
+ghost use Rattle.superio_core.specs.Serial.Step.Raising.{becomes_pending, raise, raise_rda_while_held, lower, bytes_that_fit, receive_bytes};
+ghost use Rattle.superio_core.specs.Serial.Step.Transition.{rbr_read, ier_write, read_step, write_step, character_timeout, read_events};
+ghost use Rattle.superio_core.specs.Serial.Step.Restore.{is_asserted, restore_calls};
+ghost use Rattle.superio_core.specs.Serial.Step.Admissible.{ier_write_calls, arrival_calls, timeout_calls, kind_calls};
+
+use super::bits::{
+    IER_UART_VALID_BITS, IIR_FIFO_BITS, IIR_NONE_BIT, LSR_DATA_READY_BIT, has_bits, only_bits,
+    with_bits, without_bits,
+};
+use super::effects::{ReadEffects, WriteEffects};
+use super::registers::{Condition, Register, Registers};
+use crate::fifo::ReceiveFifo;
+use crate::trace::Asked;
+
+impl Registers {
+    /// Raises a condition: if it is enabled and not pending, it becomes pending. Returns whether to call the trigger,
+    /// once.
+    fn raise(&mut self, condition: Condition) -> bool
+        ensures due { result
+            ≡ becomes_pending condition self.old.interrupt_enable self.old.interrupt_identification }
+        ensures registers { self.new ≡ record self.old {
+          interrupt_identification =
+              raise condition self.old.interrupt_enable self.old.interrupt_identification;
+        } }
+    {
+        if !has_bits(self.interrupt_enable, condition.ier_bit())
+            || has_bits(self.interrupt_identification, condition.iir_bit())
+        {
+            return false;
+        }
+        let others = without_bits(self.interrupt_identification, IIR_NONE_BIT);
+        self.interrupt_identification = with_bits(others, condition.iir_bit());
+        true
+    }
+
+    /// Lowers a condition: it is no longer pending.
+    fn lower(&mut self, condition: Condition)
+        ensures registers { self.new ≡ record self.old {
+          interrupt_identification = lower condition self.old.interrupt_identification;
+        } }
+    {
+        let others = without_bits(self.interrupt_identification, condition.iir_bit());
+        self.interrupt_identification = if others == 0 { IIR_NONE_BIT } else { others };
+    }
+
+    /// An IER write: stores the low four bits, raises RDA if bytes are held, then raises THRE. Returns how often to
+    /// call the trigger.
+    fn write_ier<F: ReceiveFifo>(&mut self, fifo: &F, value: u8) -> u8
+        ensures due { result ≡ ier_write_calls (only_bits value 0x0F) (state_with self.old (F.held fifo.now)) }
+        ensures at_most_2 { result ≤ 2 }
+        ensures state { state_with self.new (F.held fifo.now)
+            ≡ ier_write (only_bits value 0x0F) Asked.Nothing (state_with self.old (F.held fifo.now)) }
+    {
+        self.interrupt_enable = only_bits(value, IER_UART_VALID_BITS);
+        if !fifo.is_empty() && self.raise(Condition::Rda) {
+            if self.raise(Condition::Thre) { 2 } else { 1 }
+        } else if self.raise(Condition::Thre) {
+            1
+        } else {
+            0
+        }
+    }
+
+    /// Lowers THRE if the first of two trigger calls was refused: a refusal ends an IER write before it raises THRE.
+    pub fn take_back(&mut self, due: u8, asked: Asked)
+        ensures registers { self.new ≡ record self.old {
+          interrupt_identification =
+              if is_first_of_two_refused due asked
+              then lower Thre self.old.interrupt_identification
+              else self.old.interrupt_identification;
+        } }
+    {
+        if due == 2 && matches!(asked, Asked::Refused) {
+            self.lower(Condition::Thre);
+        }
+    }
+
+    /// Notes received bytes: sets data ready and raises RDA.
+    fn note_received(&mut self) -> bool
+        ensures due { result ≡ becomes_pending Rda self.old.interrupt_enable self.old.interrupt_identification }
+        ensures registers { self.new ≡ record self.old {
+          line_status = with_bits self.old.line_status lsr_dr_bit;
+          interrupt_identification = raise Rda self.old.interrupt_enable self.old.interrupt_identification;
+        } }
+    {
+        self.line_status = with_bits(self.line_status, LSR_DATA_READY_BIT);
+        self.raise(Condition::Rda)
+    }
+
+    /// Adds as many of these bytes as fit after the held ones, first ones first. Returns how many it added, and whether
+    /// to call the trigger.
+    pub fn receive<F: ReceiveFifo>(&mut self, fifo: &mut F, bytes: &[u8]) -> (usize, bool)
+        ensures count { result.0 ≡ length (bytes_that_fit (F.held fifo.old) bytes.now) }
+        ensures due { count_if result.1
+            ≡ arrival_calls (bytes_that_fit (F.held fifo.old) bytes.now) (state_with self.old (F.held fifo.old)) }
+        ensures state { state_with self.new (F.held fifo.new)
+            ≡ receive_bytes (bytes_that_fit (F.held fifo.old) bytes.now) (state_with self.old (F.held fifo.old)) }
+        ensures canonical { F.canonical fifo.old → F.canonical fifo.new }
+    {
+        let count = fifo.fill(bytes);
+        if count == 0 {
+            return (0, false);
+        }
+        (count, self.note_received())
+    }
+
+    /// A character timeout: raises RDA if bytes are held. Returns how often to call the trigger.
+    pub fn character_timeout<F: ReceiveFifo>(&mut self, fifo: &F) -> u8
+        ensures due { result ≡ timeout_calls (state_with self.old (F.held fifo.now)) }
+        ensures at_most_1 { result ≤ 1 }
+        ensures state { state_with self.new (F.held fifo.now)
+            ≡ character_timeout (state_with self.old (F.held fifo.now)) }
+    {
+        u8::from(!fifo.is_empty() && self.raise(Condition::Rda))
+    }
+
+    /// An RBR read: lowers RDA, then takes the oldest byte or gives 0.
+    fn read_rbr<F: ReceiveFifo>(&mut self, fifo: &mut F) -> ReadEffects
+        ensures value { result.byte ≡ slice_index (F.held fifo.old) 0 }
+        ensures state { state_with self.new (F.held fifo.new) ≡ rbr_read (state_with self.old (F.held fifo.old)) }
+        ensures events { events_of_read result ≡ read_events RbrThr (F.held fifo.old) }
+        ensures canonical { F.canonical fifo.old → F.canonical fifo.new }
+    {
+        self.lower(Condition::Rda);
+        let byte = fifo.take_first().unwrap_or(0);
+        let in_buffer_empty = fifo.is_empty();
+        if in_buffer_empty {
+            self.line_status = without_bits(self.line_status, LSR_DATA_READY_BIT);
+        }
+        ReadEffects {
+            byte,
+            buffer_read: true,
+            in_buffer_empty,
+        }
+    }
+
+    /// Reads a register.
+    pub fn read<F: ReceiveFifo>(&mut self, fifo: &mut F, register: Register) -> ReadEffects
+        ensures value { result.byte
+            ≡ register_read register (state_with self.old (F.held fifo.old)) }
+        ensures state { state_with self.new (F.held fifo.new)
+            ≡ read_step register (state_with self.old (F.held fifo.old)) }
+        ensures events { events_of_read result ≡ read_events register (F.held fifo.old) }
+        ensures canonical { F.canonical fifo.old → F.canonical fifo.new }
+    {
+        let byte = match register {
+            Register::RbrThr => return self.read_rbr(fifo),
+            Register::Dll => self.baud_divisor_low,
+            Register::Dlm => self.baud_divisor_high,
+            Register::Ier => self.interrupt_enable,
+            Register::Iir => {
+                let identification = self.interrupt_identification;
+                self.interrupt_identification = IIR_NONE_BIT;
+                with_bits(identification, IIR_FIFO_BITS)
+            }
+            Register::Lcr => self.line_control,
+            Register::Mcr => self.modem_control,
+            Register::Lsr => self.line_status,
+            Register::Msr => self.read_msr(),
+            Register::Scr => self.scratch,
+            Register::Unassigned => 0,
+        };
+        ReadEffects {
+            byte,
+            buffer_read: false,
+            in_buffer_empty: false,
+        }
+    }
+
+    /// Writes a register. In loopback a THR write is received. Otherwise its byte goes out, and THRE is raised whatever
+    /// happens to the byte. The due trigger calls count as taken: `take_back` applies a refusal.
+    pub fn write<F: ReceiveFifo>(
+        &mut self,
+        fifo: &mut F,
+        register: Register,
+        value: u8,
+    ) -> WriteEffects
+        ensures sends { let kind = write_kind register (is_loopback self.old.modem_control) value in
+            result.sends ≡ not_empty (sent_by kind) }
+        ensures interrupts { let kind = write_kind register (is_loopback self.old.modem_control) value in
+            result.interrupts ≡ kind_calls kind (state_with self.old (F.held fifo.old)) }
+        ensures at_most_2 { result.interrupts ≤ 2 }
+        ensures state { state_with self.new (F.held fifo.new)
+            ≡ write_step register value Asked.Nothing (state_with self.old (F.held fifo.old)) }
+        ensures canonical { F.canonical fifo.old → F.canonical fifo.new }
+    {
+        let mut sends = false;
+        let mut interrupts = 0;
+        match register {
+            Register::Dll => self.baud_divisor_low = value,
+            Register::Dlm => self.baud_divisor_high = value,
+            Register::RbrThr if self.is_loopback() => {
+                interrupts = u8::from(fifo.push(value) && self.note_received());
+            }
+            Register::RbrThr => {
+                sends = true;
+                interrupts = u8::from(self.raise(Condition::Thre));
+            }
+            Register::Ier => interrupts = self.write_ier(fifo, value),
+            Register::Lcr => self.line_control = value,
+            Register::Mcr => self.modem_control = value,
+            Register::Scr => self.scratch = value,
+            Register::Iir | Register::Lsr | Register::Msr | Register::Unassigned => {}
+        }
+        WriteEffects { sends, interrupts }
+    }
+
+    /// Whether a condition is pending and enabled.
+    fn is_asserted(&self, condition: Condition) -> bool
+        ensures { result ≡ is_asserted condition (state_with self.now []) }
+    {
+        has_bits(self.interrupt_identification, condition.iir_bit())
+            && has_bits(self.interrupt_enable, condition.ier_bit())
+    }
+
+    /// How often a restore calls the trigger: once for each condition that is pending and enabled.
+    pub fn interrupts_due(&self) -> u8
+        ensures calls { result ≡ length (restore_calls (state_with self.now [])) }
+        ensures at_most_2 { result ≤ 2 }
+    {
+        u8::from(self.is_asserted(Condition::Thre)) + u8::from(self.is_asserted(Condition::Rda))
+    }
+}

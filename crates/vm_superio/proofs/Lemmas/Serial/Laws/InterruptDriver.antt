@@ -1,0 +1,124 @@
+-- A driver that is run by interrupts takes all bytes.
+use Rattle.std.proofs.Common.{◌≡◌, ℕ, zero, suc, ◌+◌, ◌≤◌, ◌<◌, List, [], ◌∷◌, ◌++◌, length, refl, ap, sym, ◌∙◌, append_assoc, append-nil, length-append, arith}
+use Rattle.std.specs.Prelude.{IsTrue, false, not, ◌&&◌, ◌||◌, take, drop}
+use Rattle.std.proofs.lemmas.List.{take-append-drop, take-append-le}
+use Rattle.std.proofs.Math.Seq.{take-append_seam}
+use Rattle.superio_core.specs.Serial.Port.State.{State, not_empty}
+use Rattle.superio_core.specs.declared.serial.registers.Condition.TheVariants.{Rda}
+use Rattle.superio_core.specs.Serial.Port.Operations.{TraceEntry, Trace}
+use Rattle.superio_core.specs.Serial.Port.OpKinds.{OpKind, IirRead}
+use Rattle.vm_superio.specs.Serial.History.Registers.{kind_at, interrupt_enable, held_bytes, accepted_bytes, taken_bytes}
+use Rattle.vm_superio.specs.Serial.History.Interrupts.{is_pending, acknowledges, raises_rda}
+use Rattle.vm_superio.specs.Serial.Laws.CharacterTimeout.{timeout_entry}
+use Rattle.vm_superio.specs.Serial.Laws.InterruptDriver.{OwedAfterRunLaw, RunsAtInterrupts, TakenAfterRunsLaw}
+use Rattle.vm_superio.proofs.Lemmas.Serial.Laws.CharacterTimeout.{timeout_calls_law}
+use Rattle.vm_superio.proofs.Lemmas.Serial.Laws.HeldBytes.{taken_then_held}
+
+-- an IIR read leaves RDA not pending
+idle : (start : State) (last : TraceEntry) (trace : Trace) → kind_at start trace last.op ≡ IirRead
+    → is_pending Rda start (last ∷ trace) ≡ false
+idle start last trace reads =
+    ap (λ (kind : OpKind). raises_rda kind (held_bytes start trace) (interrupt_enable start trace)
+    || (not (acknowledges Rda kind) && is_pending Rda start trace)) reads
+
+pub owed_after_run_law : OwedAfterRunLaw
+owed_after_run_law start before run asked is some enabled =
+    timeout_calls_law start (run ++ before) asked some enabled
+    (ap (λ (run : Trace). is_pending Rda start (run ++ before)) is.ends ∙ idle start is.last (is.earlier ++ before) is.reads_iir)
+
+-- ---- later entries only add to the bytes taken and accepted
+
+abbrev Begins : (bytes all : List ℕ) → Type 0
+Begins bytes all = (more : List ℕ) × (all ≡ bytes ++ more)
+
+begins_then : (bytes middle all : List ℕ) → Begins bytes middle → Begins middle all → Begins bytes all
+begins_then bytes middle all (one, first) (two, second) =
+    (one ++ two, second ∙ ap (λ list. list ++ two) first ∙ append_assoc bytes one two)
+
+taken_grows : (start : State) (run before : Trace) → Begins (taken_bytes start before) (taken_bytes start (run ++ before))
+taken_grows start [] before = ([], sym (append-nil _))
+taken_grows start (entry ∷ run) before =
+    begins_then (taken_bytes start before) (taken_bytes start (run ++ before)) (taken_bytes start (entry ∷ run ++ before)) (taken_grows start run before) (_, refl)
+
+accepted_grows : (start : State) (run before : Trace) → Begins (accepted_bytes start before) (accepted_bytes start (run ++ before))
+accepted_grows start [] before = ([], sym (append-nil _))
+accepted_grows start (entry ∷ run) before =
+    begins_then (accepted_bytes start before) (accepted_bytes start (run ++ before)) (accepted_bytes start (entry ∷ run ++ before)) (accepted_grows start run before) (_, refl)
+
+-- ---- how many bytes are taken
+
+-- all bytes: those at the start, then those accepted
+abbrev all_bytes : (start : State) (trace : Trace) → List ℕ
+all_bytes start trace = start.in_buffer ++ accepted_bytes start trace
+
+some_held : (held : List ℕ) → 0 < length held → IsTrue (not_empty held)
+some_held [] none = absurd (omega (arith, none))
+some_held (byte ∷ held) some = refl
+
+longer : (bytes all : List ℕ) → Begins bytes all → length bytes ≤ length all
+longer bytes all (more, is) = omega (arith, ap length is, length-append bytes more)
+
+all_grow : (start : State) (run before : Trace) → length (all_bytes start before) ≤ length (all_bytes start (run ++ before))
+all_grow start run before =
+    omega (
+      arith,
+      longer (accepted_bytes start before) (accepted_bytes start (run ++ before)) (accepted_grows start run before),
+      length-append start.in_buffer (accepted_bytes start before),
+      length-append start.in_buffer (accepted_bytes start (run ++ before)),
+    )
+
+counted : (start : State) (trace : Trace)
+    → length (taken_bytes start trace) + length (held_bytes start trace) ≡ length (all_bytes start trace)
+counted start trace = sym (length-append (taken_bytes start trace) (held_bytes start trace)) ∙ ap length (taken_then_held start trace)
+
+-- if `most` bytes are to be taken in all, and the runs are enough for them
+after_runs : (start : State) (most runs : ℕ) (before after : Trace) → RunsAtInterrupts start runs before after
+    → most ≤ length (all_bytes start before) → most ≤ length (taken_bytes start before) + runs
+    → most ≤ length (taken_bytes start after)
+after_runs start most zero before after same few enough =
+    omega (arith, enough, ap (λ (trace : Trace). length (taken_bytes start trace)) same)
+after_runs start most (suc runs) before after (run, asked, is, later) few enough =
+    let next = timeout_entry asked ∷ run ++ before in
+    let grown = longer (taken_bytes start before) (taken_bytes start next) (taken_grows start (timeout_entry asked ∷ run) before) in
+    let timeout = longer (taken_bytes start (run ++ before)) (taken_bytes start next) (taken_grows start (timeout_entry asked ∷ []) (run ++ before)) in
+    after_runs start most runs next after later
+    (omega (arith, few, all_grow start (timeout_entry asked ∷ run) before))
+    (enough_next most (length (taken_bytes start before)) (length (held_bytes start before)) (length (all_bytes start before)) runs (length (taken_bytes start next))
+    (counted start before) grown (λ some. omega (arith, timeout, is.takes (some_held (held_bytes start before) some))) few enough) where
+      enough_next : (most taken held all runs taken_next : ℕ) → taken + held ≡ all → taken ≤ taken_next → (0 < held → taken < taken_next)
+          → most ≤ all → most ≤ taken + suc runs → most ≤ taken_next + runs
+      enough_next most taken zero all runs taken_next count grows takes few enough = omega (arith, count, grows, few)
+      enough_next most taken (suc held) all runs taken_next count grows takes few enough = omega (arith, takes (omega arith), enough)
+
+extended : (start : State) (runs : ℕ) (before after : Trace) → RunsAtInterrupts start runs before after
+    → (later : Trace) × (after ≡ later ++ before)
+extended start zero before after same = ([], same)
+extended start (suc runs) before after (run, asked, is, rest) =
+    let (later, whole) = extended start runs (timeout_entry asked ∷ run ++ before) after rest in
+    (later ++ timeout_entry asked ∷ run, whole ∙ sym (append_assoc later (timeout_entry asked ∷ run) before))
+
+-- a list that begins with the second and is as long as the first begins with the first if both begin a third
+begins_first : (first second third : List ℕ) → Begins first third → Begins second third → length first ≤ length second → Begins first second
+begins_first first second third (more, one) (rest, two) few =
+    let n = length first in (
+      drop n second,
+      sym (take-append-drop n second) ∙ ap (λ bytes. bytes ++ drop n second)
+          (sym (take-append-le n second rest few) ∙ ap (take n) (sym two ∙ one) ∙ take-append_seam first more),
+    )
+
+pub taken_after_runs_law : TakenAfterRunsLaw
+taken_after_runs_law start runs before after all few =
+    let (later, whole) = extended start runs before after all in
+    let enough = after_runs start (length (all_bytes start before)) runs before after all (omega arith) (omega (arith, counted start before, few)) in
+    let (accepted, grown) = accepted_grows start later before in
+    let (more, is) = begins_first (all_bytes start before) (taken_bytes start after) (all_bytes start after) (
+      accepted,
+      ap (λ (trace : Trace). all_bytes start trace) whole ∙ ap (λ bytes. start.in_buffer ++ bytes) grown
+          ∙ sym (append_assoc start.in_buffer (accepted_bytes start before) accepted),
+    )
+    (held_bytes start after, sym (taken_then_held start after)) enough in
+    (more, is ∙ ap (λ bytes. bytes ++ more) (sym (taken_then_held start before)))
+
+-- ---- what the law rests on
+
+pub ruleset interrupt_driver_laws = (owed_after_run_law, taken_after_runs_law)

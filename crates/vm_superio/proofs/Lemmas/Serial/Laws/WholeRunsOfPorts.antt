@@ -1,0 +1,218 @@
+-- The calls of a port without objects, by the history.
+use Rattle.std.proofs.Common.{◌≡◌, ℕ, ◌&&◌, Bool, true, false, List, [], ◌∷◌, ◌++◌, length, refl, sym, ap, ◌∙◌, subst, append_assoc, append-nil, arith, ◌+◌}
+use Rattle.std.specs.Prelude.{if◌then◌else◌, not, ◌==◌, ◌||◌, nat_le, IsTrue}
+use Rattle.std.specs.Bool.{beq}
+use Rattle.superio_core.specs.declared.trace.Asked.TheVariants.{Nothing}
+use Rattle.superio_core.specs.declared.trace.Sent.{Sent}
+use Rattle.superio_core.specs.Serial.Port.State.{State, not_empty}
+use Rattle.superio_core.specs.declared.serial.registers.Register.{Register}
+use Rattle.superio_core.specs.declared.serial.registers.Register.TheVariants.{RbrThr, Ier, Iir}
+use Rattle.superio_core.specs.Serial.Port.Registers.{is_dlab, is_loopback, register_at, register_read}
+use Rattle.superio_core.specs.Serial.Port.Coherent.{Coherent}
+use Rattle.superio_core.specs.Serial.Port.OpKinds.{Other, Arrival, read_kind, write_kind, kind_of, sent_by}
+use Rattle.superio_core.specs.Serial.Port.Operations.{Write, Enqueue, CharacterTimeout, Restore, Response, ByteRead, Trace, is_sent, Op, Read}
+use Rattle.superio_core.specs.Serial.Step.Raising.{bytes_that_fit}
+use Rattle.superio_core.specs.Serial.Step.Transition.{step, step_events}
+use Rattle.superio_core.specs.Serial.Step.Admissible.{kind_calls, step_calls, sends_byte, answers_all}
+use Rattle.superio_core.specs.Serial.Step.Restore.{restore_calls}
+use Rattle.vm_superio.specs.Serial.History.Registers.{kind_at, dlab, loopback, accepted_by, held_bytes}
+use Rattle.vm_superio.specs.Serial.History.Reads.{output, state_of_history}
+use Rattle.vm_superio.specs.Serial.Laws.PortRun.{PortCall, PortRead, PortWrite, PortEnqueue, PortTimeout, PortRestore, IsPortCall, PortCallsFollow, op_of_call, ops_of_calls, unasked, trace_with, EffectsAre, AllEffectsAre, PortRunLaw, told_by, bytes_told, PortOutputLaw, interrupts_of, interrupts_told, PortBoundLaw}
+use Rattle.vm_superio.proofs.Lemmas.Serial.Laws.Coherence.{coherent_after}
+use Rattle.vm_superio.proofs.Lemmas.Serial.Laws.StatesOfHistory.{state_law}
+use Rattle.vm_superio.proofs.Lemmas.Serial.Laws.StepsOfHistory.{step_law}
+use Rattle.vm_superio.proofs.Lemmas.Serial.Laws.TriggerBound.{due_so_far, due-within}
+use Rattle.vm_superio.specs.Serial.History.Calls.{calls_due}
+
+-- ---- one call
+
+-- it is a step without a refusal
+step-of-call : (call : PortCall) (old new : State) → IsPortCall call old new → new ≡ step old (op_of_call call) Nothing
+step-of-call (PortRead offset effects) old new is = is.state
+step-of-call (PortWrite offset value effects) old new is = is.state
+step-of-call (PortEnqueue bytes effects) old new is = is.state
+step-of-call (PortTimeout interrupts) old new is = is.state
+step-of-call (PortRestore interrupts) old new is = is.1
+
+read-possible :
+    (register : Register) (s : State)
+    → IsTrue (answers_all (kind_calls (read_kind register) s) Nothing
+    && beq (is_sent Sent.Nothing) (not_empty (sent_by (read_kind register))))
+read-possible RbrThr s = refl
+read-possible Iir s = refl
+read-possible _ s = refl
+
+-- the byte of a read's response
+abbrev byte_in : Response → ℕ
+byte_in (ByteRead byte) = byte
+byte_in _ = 0
+
+-- how many bytes an enqueue takes
+taken-accepted :
+    (loopback : Bool) (bytes held : List ℕ)
+    → length (if loopback then [] else bytes_that_fit held bytes)
+    ≡ length (accepted_by (if loopback then Other else Arrival bytes) held)
+taken-accepted true bytes held = refl
+taken-accepted false bytes held = refl
+
+module _ (start : State) (coherent : Coherent start) where
+  asked-at-point :
+      (trace : Trace) (op : Op) (s : State) → s ≡ state_of_history start trace
+      → step_calls s op ≡ step_calls (state_of_history start trace) op
+  asked-at-point trace op s here = ap (λ (s : State). step_calls s op) here
+
+  effects-at-point :
+      (trace : Trace) (call : PortCall) (old new : State) → old ≡ state_of_history start trace
+      → IsPortCall call old new → EffectsAre start trace call
+  effects-at-point trace (PortRead offset effects) old new here is =
+      let s = state_of_history start trace in
+      let possible = read-possible (register_at (is_dlab s.line_control) offset) s in (
+        ap byte_in is.response
+            ∙ ap (λ (s : State). register_read (register_at (is_dlab s.line_control) offset) s) here,
+        is.events ∙ ap (λ (s : State). step_events s (Read offset) Sent.Nothing) here
+            ∙ ((step_law start trace coherent).steps (unasked (Read offset)) possible).events,
+      )
+  effects-at-point trace (PortWrite offset value effects) old new here is = (
+    is.sends ∙ ap (λ (s : State). sends_byte s (Write offset value)) here,
+    is.interrupts ∙ asked-at-point trace (Write offset value) old here
+        ∙ (step_law start trace coherent).calls (Write offset value),
+  )
+  effects-at-point trace (PortEnqueue bytes effects) old new here is = (
+    is.taken
+        ∙ ap (λ (s : State). length (if is_loopback s.modem_control then [] else bytes_that_fit s.in_buffer bytes)) here
+        ∙ taken-accepted (loopback start trace) bytes (held_bytes start trace),
+    is.full
+        ∙ ap (λ (s : State). not (is_loopback s.modem_control || (length bytes == 0)) && nat_le 64 (length s.in_buffer)) here,
+    is.interrupts ∙ asked-at-point trace (Enqueue bytes) old here ∙ (step_law start trace coherent).calls (Enqueue bytes),
+  )
+  effects-at-point trace (PortTimeout interrupts) old new here is =
+      is.interrupts ∙ asked-at-point trace CharacterTimeout old here
+      ∙ (step_law start trace coherent).calls CharacterTimeout
+  effects-at-point trace (PortRestore interrupts) old new here is =
+      is.0 ∙ ap (λ (s : State). length (restore_calls s)) here
+      ∙ ap (λ due. length due) (step_law start trace coherent).restoring
+
+  state-at-point :
+      (trace : Trace) (call : PortCall) (old new : State) → old ≡ state_of_history start trace
+      → IsPortCall call old new → new ≡ state_of_history start (unasked (op_of_call call) ∷ trace)
+  state-at-point trace call old new here is =
+      step-of-call call old new is
+      ∙ ap (λ (s : State). step s (op_of_call call) Nothing) (here ∙ sym (state_law start trace coherent))
+      ∙ state_law start (unasked (op_of_call call) ∷ trace) coherent
+
+  -- ---- calls that follow each other
+
+  all-effects :
+      (trace : Trace) (s end : State) (calls : List PortCall) → s ≡ state_of_history start trace
+      → PortCallsFollow s calls end → AllEffectsAre start trace calls
+  all-effects trace s end [] here done = tt
+  all-effects trace s end (call ∷ later) here calls = (
+    effects-at-point trace call s calls.0 here calls.1,
+    all-effects (unasked (op_of_call call) ∷ trace) calls.0 end later (state-at-point trace call s calls.0 here calls.1)
+        calls.2,
+  )
+
+  last-state :
+      (trace : Trace) (s end : State) (calls : List PortCall) → s ≡ state_of_history start trace
+      → PortCallsFollow s calls end → end ≡ state_of_history start (trace_with trace (ops_of_calls calls))
+  last-state trace s end [] here done = done ∙ here
+  last-state trace s end (call ∷ later) here calls =
+      last-state (unasked (op_of_call call) ∷ trace) calls.0 end later (state-at-point trace call s calls.0 here calls.1)
+      calls.2
+
+pub port_run_law : PortRunLaw
+port_run_law start end calls before follow =
+    let here = state_law start [] before in
+    let trace = trace_with [] (ops_of_calls calls) in
+    let state = last-state start before [] start end calls here follow in
+    record {
+      effects = all-effects start before [] start end calls here follow;
+      state = state;
+      coherent = subst Coherent (state_law start trace before ∙ sym state) (coherent_after start trace before);
+    }
+
+-- ---- the output
+
+told-by-register :
+    (register : Register) (in_loopback : Bool) (value : ℕ)
+    → (if not_empty (sent_by (write_kind register in_loopback value)) then value ∷ [] else [])
+    ≡ sent_by (write_kind register in_loopback value)
+told-by-register RbrThr true value = refl
+told-by-register RbrThr false value = refl
+told-by-register Ier in_loopback value = refl
+told-by-register _ in_loopback value = refl
+
+read-sends-none : (register : Register) → [] ≡ sent_by (read_kind register)
+read-sends-none RbrThr = refl
+read-sends-none Iir = refl
+read-sends-none _ = refl
+
+enqueue-sends-none : (latch in_loopback : Bool) (bytes : List ℕ) → [] ≡ sent_by (kind_of latch in_loopback (Enqueue bytes))
+enqueue-sends-none latch true bytes = refl
+enqueue-sends-none latch false bytes = refl
+
+told-at-point :
+    (start : State) (trace : Trace) (call : PortCall) → EffectsAre start trace call
+    → told_by call ≡ sent_by (kind_at start trace (op_of_call call))
+told-at-point start trace (PortRead offset effects) are = read-sends-none (register_at (dlab start trace) offset)
+told-at-point start trace (PortWrite offset value effects) are =
+    ap (λ told. if told then value ∷ [] else []) are.0
+    ∙ told-by-register (register_at (dlab start trace) offset) (loopback start trace) value
+told-at-point start trace (PortEnqueue bytes effects) are =
+    enqueue-sends-none (dlab start trace) (loopback start trace) bytes
+told-at-point start trace (PortTimeout interrupts) are = refl
+told-at-point start trace (PortRestore interrupts) are = refl
+
+told-is-output :
+    (start : State) (trace : Trace) (calls : List PortCall) → AllEffectsAre start trace calls
+    → output start [] trace ++ bytes_told calls ≡ output start [] (trace_with trace (ops_of_calls calls))
+told-is-output start trace [] are = append-nil (output start [] trace)
+told-is-output start trace (call ∷ later) are =
+    let entry = unasked (op_of_call call) in
+    let at_end : sent_by (kind_at start (trace ++ []) entry.op) ≡ sent_by (kind_at start trace entry.op) =
+    ap (λ before. sent_by (kind_at start before entry.op)) (append-nil trace) in
+    sym (append_assoc (output start [] trace) (told_by call) (bytes_told later))
+    ∙ ap (λ now. (output start [] trace ++ now) ++ bytes_told later) (told-at-point start trace call are.0 ∙ sym at_end)
+    ∙ told-is-output start (entry ∷ trace) later are.1
+
+pub port_output_law : PortOutputLaw
+port_output_law start end calls before follow =
+    told-is-output start [] calls (port_run_law start end calls before follow).effects
+
+-- ---- interrupts
+
+read-asks-none : (register : Register) (s : State) → kind_calls (read_kind register) s ≡ 0
+read-asks-none RbrThr s = refl
+read-asks-none Iir s = refl
+read-asks-none _ s = refl
+
+module _ (start : State) (coherent : Coherent start) where
+  told-due :
+      (trace : Trace) (call : PortCall) → EffectsAre start trace call
+      → interrupts_of call ≡ calls_due start trace (op_of_call call)
+  told-due trace (PortRead offset effects) are =
+      sym (read-asks-none (register_at (dlab start trace) offset) (state_of_history start trace))
+      ∙ (step_law start trace coherent).calls (Read offset)
+  told-due trace (PortWrite offset value effects) are = are.1
+  told-due trace (PortEnqueue bytes effects) are = are.2
+  told-due trace (PortTimeout interrupts) are = are
+  told-due trace (PortRestore interrupts) are = (step_law start trace coherent).calls Restore
+
+  told-so-far :
+      (trace : Trace) (calls : List PortCall) → AllEffectsAre start trace calls
+      → interrupts_told calls + due_so_far start trace ≡ due_so_far start (trace_with trace (ops_of_calls calls))
+  told-so-far trace [] are = omega arith
+  told-so-far trace (call ∷ later) are =
+      omega (arith, told-due trace call are.0, told-so-far (unasked (op_of_call call) ∷ trace) later are.1)
+
+pub port_bound_law : PortBoundLaw
+port_bound_law start end calls before follow =
+    omega (
+      arith,
+      told-so-far start before [] calls (port_run_law start end calls before follow).effects,
+      due-within start (trace_with [] (ops_of_calls calls)),
+    )
+
+-- ---- what the law rests on
+
+pub ruleset port_run_laws = (port_run_law, port_output_law, port_bound_law)

@@ -1,0 +1,223 @@
+-- A call that leaves IER 0 calls no trigger, and one that sends no byte leaves the writer.
+use Rattle.std.proofs.Common.{◌≡◌, ℕ, ◌+◌, Bool, true, false, ◌&&◌, List, [], ◌∷◌, refl, ap, sym, ◌∙◌, subst, IsTrue, Option, not, ◌↔◌, Result, Ok, Err, OnOk}
+use Rattle.std.specs.Prelude.{if◌then◌else◌}
+use Rattle.std.specs.Bool.{beq}
+use Rattle.std.specs.List.{list_all}
+use Rattle.vm_superio.specs.declared.serial.errors.Error.{Error}
+use Rattle.superio_core.specs.declared.trace.Asked.{Asked}
+use Rattle.superio_core.specs.declared.trace.Asked.TheVariants.{Nothing, Took, Refused, TookTook, TookRefused}
+use Rattle.superio_core.specs.declared.trace.Sent.{Sent}
+use Rattle.superio_core.specs.declared.trace.Sent.TheVariants as was
+use Rattle.superio_core.specs.Bits.{has_bits, only_bits}
+use Rattle.vm_superio.specs.Links.Objects.{answers_of}
+use Rattle.superio_core.specs.Serial.Port.State.{State, not_empty, SameSettings}
+use Rattle.superio_core.specs.declared.serial.registers.Register.{Register}
+use Rattle.superio_core.specs.declared.serial.registers.Register.TheVariants.{RbrThr, Ier, Iir}
+use Rattle.superio_core.specs.declared.serial.registers.Condition.{Condition}
+use Rattle.superio_core.specs.Serial.Port.Registers.{register_at, is_dlab, is_loopback}
+use Rattle.superio_core.specs.declared.serial.registers.Condition.TheVariants.{Rda, Thre}
+use Rattle.superio_core.specs.Serial.Port.Operations.{Op, Response, Read, Write, Enqueue, CharacterTimeout, Restore, count_if, is_sent, is_lost, ends_in_refusal, WriteOk, TriggerRefused, WriterFailed}
+use Rattle.superio_core.specs.Serial.Port.OpKinds.{OpKind, Other, Arrival, sent_by, read_kind, write_kind}
+use Rattle.superio_core.specs.Serial.Step.Raising.{becomes_pending, rda_becomes_pending, raise_rda_while_held, receive_bytes, bytes_that_fit, enqueued_bytes}
+use Rattle.superio_core.specs.Serial.Step.Admissible.{kind_calls, step_calls, kind_in_state, arrival_calls, answers_all, sends_byte}
+use Rattle.superio_core.specs.Serial.Step.Transition.{step, write_step}
+use Rattle.vm_superio.specs.Serial.Port.Model.{Port, write_response}
+use Rattle.vm_superio.specs.Links.OutCalls.{OutCall, Put, Flush}
+use Rattle.vm_superio.specs.Links.Writer.{PortLinks, bytes_sent, outcome_of, AreSendings, taken_calls}
+use Rattle.vm_superio.specs.Serial.Step.PortStep.{IsPortStep}
+
+-- nothing becomes pending that IER does not enable
+disabled : (condition : Condition) (identification : ℕ) → becomes_pending condition 0 identification ≡ false
+unfolding has_bits
+disabled Rda identification = refl
+disabled Thre identification = refl
+
+none_due : (condition : Condition) (enable identification : ℕ) → enable ≡ 0 → count_if (becomes_pending condition enable identification) ≡ 0
+none_due condition enable identification off =
+    ap (λ n. count_if (becomes_pending condition n identification)) off ∙ ap count_if (disabled condition identification)
+
+none_due_held : (held : List ℕ) (enable identification : ℕ) → enable ≡ 0 → count_if (rda_becomes_pending held enable identification) ≡ 0
+none_due_held [] enable identification off = refl
+none_due_held (byte ∷ held) enable identification off = none_due Rda enable identification off
+
+none_due_arrival : (bytes : List ℕ) (s : State) → s.interrupt_enable ≡ 0 → arrival_calls bytes s ≡ 0
+none_due_arrival [] s off = refl
+none_due_arrival (byte ∷ bytes) s off = none_due Rda s.interrupt_enable s.interrupt_identification off
+
+-- received bytes leave IER
+pub enable_kept : (bytes : List ℕ) (s : State) → (receive_bytes bytes s).interrupt_enable ≡ s.interrupt_enable
+enable_kept [] s = refl
+enable_kept (byte ∷ bytes) s = refl
+
+-- and every other setting
+pub settings_kept : (bytes : List ℕ) (s : State) → SameSettings s (receive_bytes bytes s)
+settings_kept [] s = refl
+settings_kept (byte ∷ bytes) s = refl
+
+of_read : (register : Register) (s : State) → kind_calls (read_kind register) s ≡ 0
+of_read RbrThr s = refl
+of_read Iir s = refl
+of_read _ s = refl
+
+-- so does a THR write
+thr_kept : (inside : Bool) (bytes : List ℕ) (raised : ℕ) (s : State)
+    → (if inside then receive_bytes bytes s else record s { interrupt_identification = raised }).interrupt_enable
+    ≡ s.interrupt_enable
+thr_kept true bytes raised s = enable_kept bytes s
+thr_kept false bytes raised s = refl
+
+of_thr_write : (inside : Bool) (value : ℕ) (s : State) → s.interrupt_enable ≡ 0
+    → kind_calls (write_kind RbrThr inside value) s ≡ 0
+of_thr_write true value s off = none_due_arrival (bytes_that_fit s.in_buffer (value ∷ [])) s off
+of_thr_write false value s off = none_due Thre s.interrupt_enable s.interrupt_identification off
+
+of_ier_write : (enable : ℕ) (s : State) → enable ≡ 0
+    → count_if (rda_becomes_pending s.in_buffer enable s.interrupt_identification)
+    + count_if (becomes_pending Thre enable (raise_rda_while_held s.in_buffer enable s.interrupt_identification)) ≡ 0
+of_ier_write enable s off =
+    let after = raise_rda_while_held s.in_buffer enable s.interrupt_identification in
+    ap (λ n. n + count_if (becomes_pending Thre enable after)) (none_due_held s.in_buffer enable s.interrupt_identification off)
+    ∙ ap (λ n. 0 + n) (none_due Thre enable after off)
+
+of_write : (register : Register) (inside : Bool) (value : ℕ) (asked : Asked) (s : State)
+    → (write_step register value asked s).interrupt_enable ≡ 0 → kind_calls (write_kind register inside value) s ≡ 0
+of_write RbrThr inside value asked s off =
+    of_thr_write inside value s (sym (thr_kept (is_loopback s.modem_control) (bytes_that_fit s.in_buffer (value ∷ [])) _ s) ∙ off)
+of_write Ier inside value asked s off = of_ier_write (only_bits value 0x0F) s off
+of_write _ inside value asked s off = refl
+
+of_enqueue : (inside : Bool) (bytes : List ℕ) (s : State) → s.interrupt_enable ≡ 0
+    → kind_calls (if inside then Other else Arrival bytes) s ≡ 0
+of_enqueue true bytes s off = refl
+of_enqueue false bytes s off = none_due_arrival (bytes_that_fit s.in_buffer bytes) s off
+
+-- a call that leaves IER 0 is due no trigger call
+no_calls : (s : State) (op : Op) (asked : Asked) → (step s op asked).interrupt_enable ≡ 0 → step_calls s op ≡ 0
+no_calls s (Read offset) asked off = of_read (register_at (is_dlab s.line_control) offset) s
+no_calls s (Write offset value) asked off =
+    of_write (register_at (is_dlab s.line_control) offset) (is_loopback s.modem_control) value asked s off
+no_calls s (Enqueue bytes) asked off =
+    of_enqueue (is_loopback s.modem_control) bytes s (sym (enable_kept (enqueued_bytes s bytes) s) ∙ off)
+no_calls s CharacterTimeout asked off = none_due_held s.in_buffer s.interrupt_enable s.interrupt_identification off
+no_calls s Restore asked off = refl
+
+-- and has no answers
+unanswered : {E : Type 0} (asked : Asked) (had_outcome : Bool) (refusal : Option E)
+    → IsTrue (answers_all 0 asked && had_outcome) → answers_of asked refusal ≡ []
+unanswered Nothing had refusal answered = refl
+unanswered Took had refusal answered = cc
+unanswered Refused had refusal answered = cc
+unanswered TookTook had refusal answered = cc
+unanswered TookRefused had refusal answered = cc
+
+no_answers : {E : Type 0} (calls : ℕ) (asked : Asked) (had_outcome : Bool) (refusal : Option E) → calls ≡ 0
+    → IsTrue (answers_all calls asked && had_outcome) → answers_of asked refusal ≡ []
+no_answers calls asked had refusal none answered =
+    unanswered asked had refusal (subst (λ n. IsTrue (answers_all n asked && had)) none answered)
+
+pub quiet : {T E EV W : Type 0} (links : PortLinks T E EV W) (op : Op) (asked : Asked) (sent : Sent) (reply : Response)
+    (refusal : Option E) (old new : Port T EV W)
+    → ((x y : T) → links.trigger x [] y ↔ (x ≡ y))
+    → IsPortStep links op asked sent reply refusal old new
+    → new.state.interrupt_enable ≡ 0 → new.trigger ≡ old.trigger
+quiet links op asked sent reply refusal old new no_call made off =
+    let none = no_answers (step_calls old.state op) asked _ refusal
+    (no_calls old.state op asked (ap (λ (s : State). s.interrupt_enable) (sym made.state) ∙ off)) made.admissible in
+    sym ((no_call _ _).0 (subst (λ answers. links.trigger old.trigger answers new.trigger) none made.trigger))
+
+-- a call that sends no byte leaves the writer
+unsent : (answered sends : Bool) (sent : Sent) → sends ≡ false → IsTrue (answered && beq (is_sent sent) sends)
+    → sent ≡ was.Nothing
+unsent true false was.Nothing none made = refl
+unsent true false was.Out none made = cc
+unsent true false was.Lost none made = cc
+unsent false false sent none made = cc
+unsent answered true sent none made = cc
+
+no_outcome : (bytes : List ℕ) (calls : List OutCall) → AreSendings [] bytes calls → calls ≡ []
+no_outcome [] [] sends = refl
+no_outcome [] (call ∷ calls) sends = absurd sends
+no_outcome (byte ∷ bytes) [] sends = absurd sends
+no_outcome (byte ∷ bytes) (call ∷ calls) sends = absurd sends
+
+pub silent : {T E EV W : Type 0} (links : PortLinks T E EV W) (op : Op) (asked : Asked) (sent : Sent) (reply : Response)
+    (refusal : Option E) (old new : Port T EV W)
+    → ((x y : W) → links.out x [] y ↔ (x ≡ y))
+    → IsPortStep links op asked sent reply refusal old new
+    → sends_byte old.state op ≡ false → new.out ≡ old.out
+silent links op asked sent reply refusal old new no_call made none =
+    let nothing = unsent (answers_all (step_calls old.state op) asked) (sends_byte old.state op) sent none made.admissible in
+    let no_calls = no_outcome (bytes_sent op sent) made.out.calls
+    (subst (λ outcome. AreSendings (outcome_of outcome) (bytes_sent op sent) made.out.calls) nothing made.out.sends) in
+    sym ((no_call _ _).0 (subst (λ calls. links.out old.out calls new.out) no_calls made.out.linked))
+
+-- a byte that is out was put and flushed
+out_calls : (value : ℕ) (calls : List OutCall) → AreSendings (was.Out ∷ []) (value ∷ []) calls → calls ≡ taken_calls (value ∷ [])
+out_calls value [] made = absurd made
+out_calls value (Flush answer ∷ calls) made = absurd made
+out_calls value (Put put (Err fault) ∷ calls) made = absurd made
+out_calls value (Put put (Ok done) ∷ []) made = absurd made
+out_calls value (Put put (Ok done) ∷ Put next answer ∷ calls) made = absurd made
+out_calls value (Put put (Ok done) ∷ Flush (Err fault) ∷ calls) made = absurd made
+out_calls value (Put put (Ok done) ∷ Flush (Ok flushed) ∷ []) (same, rest) =
+    ap (λ byte. Put byte (Ok tt) ∷ Flush (Ok tt) ∷ []) same
+out_calls value (Put put (Ok done) ∷ Flush (Ok flushed) ∷ call ∷ calls) (same, rest) = absurd rest
+
+taken_if : (sends : Bool) (offset value : ℕ) (sent : Sent) (answered : Bool) (calls : List OutCall)
+    → IsTrue (answered && beq (is_sent sent) sends)
+    → IsTrue (list_all (λ outcome. not (is_lost outcome)) (sent ∷ []))
+    → AreSendings (outcome_of sent) (bytes_sent (Write offset value) sent) calls
+    → calls ≡ taken_calls (if sends then value ∷ [] else [])
+taken_if true offset value was.Out answered calls made kept sendings = out_calls value calls sendings
+taken_if true offset value was.Nothing true calls made kept sendings = cc
+taken_if true offset value was.Nothing false calls made kept sendings = cc
+taken_if _ offset value was.Lost answered calls made kept sendings = cc
+taken_if false offset value was.Nothing answered calls made kept sendings = no_outcome [] calls sendings
+taken_if false offset value was.Out true calls made kept sendings = cc
+taken_if false offset value was.Out false calls made kept sendings = cc
+
+-- the writer was called for what the call sends, if nothing was lost
+taken_by_kind : (kind : OpKind) (offset value : ℕ) (sent : Sent) (answered : Bool) (calls : List OutCall)
+    → sent_by kind ≡ (if not_empty (sent_by kind) then value ∷ [] else [])
+    → IsTrue (answered && beq (is_sent sent) (not_empty (sent_by kind)))
+    → IsTrue (list_all (λ outcome. not (is_lost outcome)) (sent ∷ []))
+    → AreSendings (outcome_of sent) (bytes_sent (Write offset value) sent) calls
+    → calls ≡ taken_calls (sent_by kind)
+taken_by_kind kind offset value sent answered calls is made kept sendings =
+    taken_if (not_empty (sent_by kind)) offset value sent answered calls made kept sendings ∙ ap taken_calls (sym is)
+
+-- the byte of a write
+byte_of : (register : Register) (inside : Bool) (value : ℕ)
+    → sent_by (write_kind register inside value)
+    ≡ (if not_empty (sent_by (write_kind register inside value)) then value ∷ [] else [])
+byte_of RbrThr true value = refl
+byte_of RbrThr false value = refl
+byte_of Ier inside value = refl
+byte_of _ inside value = refl
+
+-- `Ok` says that nothing was lost
+kept_by_ok : (is_refused : Bool) (sent : Sent)
+    → WriteOk ≡ (if is_refused then TriggerRefused else (if is_lost sent then WriterFailed else WriteOk))
+    → IsTrue (list_all (λ outcome. not (is_lost outcome)) (sent ∷ []))
+kept_by_ok true sent ok = cc
+kept_by_ok false was.Nothing ok = refl
+kept_by_ok false was.Out ok = refl
+kept_by_ok false was.Lost ok = cc
+
+on_ok : {E : Type 0} (result : Result (Unit {0}) (Error E)) (reply : Response) (P : Type 0) → write_response result ≡ reply
+    → (WriteOk ≡ reply → P) → OnOk result P
+on_ok (Ok done) reply P is claim = claim is
+on_ok (Err error) reply P is claim = tt
+
+-- a write that returns `Ok` means that the output took what it sends
+pub sends : {T E EV W : Type 0} (links : PortLinks T E EV W) (offset value : ℕ) (asked : Asked) (sent : Sent)
+    (result : Result (Unit {0}) (Error E)) (refusal : Option E) (old new : Port T EV W)
+    → IsPortStep links (Write offset value) asked sent (write_response result) refusal old new
+    → OnOk result (links.out old.out (taken_calls (sent_by (kind_in_state old.state (Write offset value)))) new.out)
+sends links offset value asked sent result refusal old new made =
+    on_ok result _ _ made.response (λ ok.
+    let kept = kept_by_ok (ends_in_refusal asked) sent ok in
+    subst (λ calls. links.out old.out calls new.out)
+    (taken_by_kind (kind_in_state old.state (Write offset value)) offset value sent _ made.out.calls
+    (byte_of (register_at (is_dlab old.state.line_control) offset) (is_loopback old.state.modem_control) value) made.admissible kept made.out.sends)
+    made.out.linked)

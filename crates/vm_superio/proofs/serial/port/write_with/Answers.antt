@@ -1,0 +1,38 @@
+-- The step of the registers, with THRE taken back if the first of two calls was refused; and the calls in order.
+use Rattle.std.proofs.Common.{◌≡◌, Bool, true, false, Option, Some, None, List, rules, refl, ap, ◌∙◌, subst, sym}
+use Rattle.std.specs.Prelude.{if◌then◌else◌}
+use Rattle.std.specs.declared.io.Error.{Error}
+use Rattle.superio_core.specs.Serial.Port.State.{state_with}
+use Rattle.superio_core.specs.Serial.Step.Transition.{write_step}
+use Rattle.superio_core.proofs.Lemmas.Serial.Step.FirstRefused.{write_step-settled}
+use Rattle.vm_superio.specs.Links.OutCalls.{OutCall}
+use Rattle.vm_superio.specs.Links.Writer.{AnsweredFault}
+use Rattle.vm_superio.proofs.serial.port.write_with.Goals as goal
+
+-- a refusal hides the output's fault
+answered_unless : (refused : Bool) (fault returned : Option Error) (calls : List OutCall)
+    → returned ≡ (if refused then None else fault) → AnsweredFault fault calls → AnsweredFault returned calls
+answered_unless true fault returned calls same told = subst (λ fault. AnsweredFault fault calls) (sym same) tt
+answered_unless false fault returned calls same told = subst (λ fault. AnsweredFault fault calls) (sym same) told
+
+pub returns : goal.returns
+returns g c =
+    let value = c.args.value in
+    let asked = c.call_trigger-asked.result.0 in
+    let effects = c.write-effects in
+    let before = state_with c.args.registers.now c.args.in_buffer.now in
+    let made = c.send_where_due-sent.ensures.calls in
+    record {
+      admissible = search rules;
+      response = search rules;
+      refused = search rules;
+      state =
+          ap (λ registers. state_with registers effects.new.fifo) c.take_back.ensures.registers
+          ∙ write_step-settled c.at-register.result value effects.result.interrupts asked before effects.new.self
+          effects.new.fifo _ refl effects.ensures.interrupts effects.ensures.state
+          ∙ ap (λ register. write_step register value asked before) c.at-register.ensures;
+      sending = made.sending;
+      outcome = made.outcome;
+      answered = answered_unless _ _ _ _ c.reply.ensures.fault made.answered;
+      linked = rw c.reply.ensures.refusal (g.met.O.Objects.joined _ _ _ _ _ made.linked c.call_trigger-asked.ensures.calls);
+    }

@@ -1,0 +1,19 @@
+-- A clock with its events object, and the events that an access reports.
+use Rattle.std.specs.Prelude.{if◌then◌else◌, List, [], ◌∷◌}
+use Rattle.superio_core.specs.declared.rtc_pl031.state.RtcState.{RtcState}
+use Rattle.vm_superio.specs.Rtc.Events.{RtcEvent, invalid_read, invalid_write}
+use Rattle.superio_core.specs.Rtc.Registers.{Access, read, write, clock_register_at, is_readable, is_writable}
+
+-- a clock: its registers, and the events object that it owns
+pub record ClockDevice (EV : Type 0) : Type 0 where
+  pub state : RtcState
+  pub events : EV
+
+-- the clock with another events object, and nothing else changed
+abbrev pub with_clock_events : {EV : Type 0} → (clock : ClockDevice EV) (object : EV) → ClockDevice EV
+with_clock_events clock object = record clock { events = object }
+
+-- the events that an access reports: one if its register has no such access
+abbrev pub clock_events : (access : Access) → List RtcEvent
+clock_events (read offset now) = if is_readable (clock_register_at offset) then [] else invalid_read ∷ []
+clock_events (write offset value now) = if is_writable (clock_register_at offset) then [] else invalid_write ∷ []
