@@ -1,5 +1,6 @@
 """Edits, files that turn one function of a crate into a wrong one: what each says, where it is, and which share a round."""
 import re
+from collections import Counter
 from dataclasses import dataclass, field
 from pathlib import Path
 
@@ -140,8 +141,9 @@ class Replacement:
 
 @dataclass
 class Edit:
-    """An edit, as its file says it. `problem` says why it cannot be tried, if it cannot."""
-    path: Path
+    """An edit, as its entry says it. `problem` says why it cannot be tried, if it cannot."""
+    crate: Path
+    label: str = ""
     sentence: str = ""
     function: str = ""
     clauses: list = field(default_factory=list)
@@ -152,20 +154,32 @@ class Edit:
     problem: str = ""
 
     @property
-    def crate(self):
-        return self.path.parent.parent
-
-    @property
     def name(self):
-        return f"{self.crate.name}/{self.path.stem}"
+        return f"{self.crate.name}/{self.label}"
 
 
-def read_edit(path):
-    """Reads the file of an edit. Each `old:` text must occur once in its file in the repository."""
-    edit, file, old = Edit(path), "", None
-    for line in path.read_text(encoding="utf-8").splitlines():
+def read_edits(crate):
+    """Reads the edits of a crate: the entries of `wrong-bodies/*.edits`, with an empty line between two."""
+    edits = []
+    for path in sorted(crate.glob("wrong-bodies/*.edits")):
+        edits += [read_edit(crate, entry) for entry in re.split(r"\n{2,}", path.read_text(encoding="utf-8").strip("\n"))]
+    names = Counter(edit.label for edit in edits)
+    for edit in edits:
+        if names[edit.label] > 1:
+            edit.problem = "another edit of its crate has its name"
+            edit.replacements.clear()
+    return edits
+
+
+def read_edit(crate, entry):
+    """Reads an entry. Each `old:` text must occur once in its file in the repository."""
+    edit, file, old = Edit(crate), "", None
+    for line in entry.splitlines():
         key, _, value = line.partition(": ")
-        if line.startswith("# ") and not edit.sentence:
+        if key == "edit":
+            edit.problem = edit.problem or "no empty line parts it from the next" * bool(edit.label)
+            edit.label = edit.label or value.strip()
+        elif line.startswith("# ") and not edit.sentence:
             edit.sentence = line[2:]
         elif key == "function":
             edit.function = value.strip()
@@ -180,7 +194,7 @@ def read_edit(path):
             old = None
     if not edit.replacements:
         edit.problem = edit.problem or "it has no 'old:' and 'new:' pair"
-    for label, value in (("a sentence", edit.sentence), ("a function", edit.function), ("a clause", edit.clauses)):
+    for label, value in (("itself", edit.label), ("a sentence", edit.sentence), ("a function", edit.function), ("a clause", edit.clauses)):
         if not value:
             edit.problem = edit.problem or f"it does not name {label}"
     return edit

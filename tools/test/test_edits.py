@@ -3,7 +3,7 @@ import tempfile
 import unittest
 
 import tiny
-from edits import function_at, functions_of, has_path, read_edit, rounds_of, texts_of
+from edits import function_at, functions_of, has_path, read_edits, rounds_of, texts_of
 
 NOTHING = ("smaller", "left", "first < second { first }", "first < second { 0 }")
 
@@ -13,7 +13,7 @@ class Reading(unittest.TestCase):
         folder = tempfile.TemporaryDirectory()
         self.addCleanup(folder.cleanup)
         crate = tiny.make(folder.name, [(f"edit{number}", *edit) for number, edit in enumerate(edits)])
-        return crate, [read_edit(path) for path in sorted(crate.glob("wrong-bodies/*.edit"))]
+        return crate, read_edits(crate)
 
     def test_an_edit_has_the_place_that_its_text_names(self):
         crate, [edit] = self.read(NOTHING)
@@ -31,6 +31,23 @@ class Reading(unittest.TestCase):
     def test_an_edit_without_a_clause_is_bad(self):
         _, [edit] = self.read(("smaller", "", "first < second { first }", "first < second { 0 }"))
         self.assertIn("a clause", edit.problem)
+
+    def test_two_edits_of_one_name_are_bad(self):
+        crate, _ = self.read(NOTHING)
+        path = crate / "wrong-bodies" / "lib.edits"
+        text = path.read_text(encoding="utf-8")
+        path.write_text(f"{text}\n{text}", encoding="utf-8")
+        for edit in read_edits(crate):
+            self.assertIn("has its name", edit.problem)
+            self.assertEqual(edit.replacements, [])
+
+    def test_an_edit_ends_with_an_empty_line(self):
+        crate, _ = self.read(NOTHING)
+        path = crate / "wrong-bodies" / "lib.edits"
+        text = path.read_text(encoding="utf-8")
+        path.write_text(text + text, encoding="utf-8")
+        [edit] = read_edits(crate)
+        self.assertIn("no empty line", edit.problem)
 
     def test_two_edits_of_one_function_share_no_round(self):
         _, edits = self.read(NOTHING, ("smaller", "right", "{ first } else { second }", "{ second } else { second }"),

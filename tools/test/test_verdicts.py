@@ -3,7 +3,7 @@ import tempfile
 import unittest
 
 import tiny
-from edits import read_edit, texts_of
+from edits import read_edits, texts_of
 from verdicts import judge, read_said
 
 UNPROVED = "fn tiny::larger: no proof: expected answers in ./proofs/larger/Answers.antt; `search` did not prove `returns`"
@@ -16,7 +16,7 @@ class Judging(unittest.TestCase):
         with tempfile.TemporaryDirectory() as folder:
             edit = ("edit", function, clause, "{ second } else { first }", "{ first } else { first }")
             crate = tiny.make(folder, [edit])
-            edit = read_edit(crate / "wrong-bodies" / "edit.edit")
+            [edit] = read_edits(crate)
             return judge(edit, read_said(lines, status), texts_of(crate, [edit]))
 
     def test_an_error_in_its_lines_for_its_clause_refuses_it(self):

@@ -48,8 +48,7 @@ def make(folder, edits):
         (crate / part).mkdir(parents=True)
     (Path(folder) / "crates.txt").write_text("tiny:\n", encoding="utf-8")
     (crate / "src" / "lib.rt").write_text(SOURCE, encoding="utf-8")
-    for name, function, clause, old, new in edits:
-        (crate / "wrong-bodies" / f"{name}.edit").write_text(
-            f"# It is tried.\nfunction: tiny::{function}\nclause: {clause}\nfile: src/lib.rt\nold: {old}\nnew: {new}\n",
-            encoding="utf-8")
+    entries = [f"edit: {name}\n# It is tried.\nfunction: tiny::{function}\nclause: {clause}\n"
+               f"file: src/lib.rt\nold: {old}\nnew: {new}\n" for name, function, clause, old, new in edits]
+    (crate / "wrong-bodies" / "lib.edits").write_text("\n".join(entries), encoding="utf-8")
     return crate
