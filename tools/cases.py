@@ -108,10 +108,12 @@ def any_line(source):
 
 
 def full_output(source):
-    """An output with room for two bytes at most, and a byte for it in every other line."""
+    """An output with room for two bytes at most, and a byte for it in every other line. THRE is mostly enabled."""
     sends = [f"sw 00 {byte:02x}" for byte in source.randbytes(ROOM + LINES)]
     filled = ROOM - source.randrange(3)
-    return sends[:filled] + [line for send in sends[filled:][:LINES // 2] for line in (serial_line(source), send)]
+    lines = [line for send in sends[filled:][:LINES // 2]
+             for line in (source.choice(("sr 02", serial_line(source))), send)]
+    return [*sends[:filled], f"sw 01 {source.choice((0, 2, 3)):02x}", *lines]
 
 
 def two_writes(source):
@@ -138,18 +140,29 @@ def turns(source):
     return lines
 
 
+def few_at_a_time(source):
+    """A driver that enables one condition or both, mostly with a byte held, and to which a byte or none comes at a time."""
+    lines = []
+    for _ in range(LINES // 4):
+        enables = ["sw 01 00", *["sq 61"] * source.randrange(2), f"sw 01 {source.choice((1, 3, 3)):02x}"]
+        lines += [*source.choice((enables, ["sq 61"])), "sr 02", *["sr 00"] * source.randrange(2)]
+    return lines
+
+
 # What makes a script or its lines, with how many of 200 scripts it makes.
-SCRIPT_PARTS = {full_output: 1, two_writes: 31, every_identification: 16, turns: 8, serial_line: 84, clock_line: 40,
-                any_line: 16, controller_access: 4}
+SCRIPT_PARTS = {full_output: 4, two_writes: 31, every_identification: 16, turns: 8, few_at_a_time: 8, serial_line: 73,
+                clock_line: 40, any_line: 16, controller_access: 4}
+WHOLE = (full_output, two_writes, every_identification, turns, few_at_a_time)
 
 
 def script_lines(source):
     """The lines of a script, under a mask or none. Half of them begin at a state that is loaded."""
-    bits = source.getrandbits(64)
-    mask = source.choice((None, None, None, bits, bits, bits & source.getrandbits(64), 1 << source.randrange(6)))
-    lines = [] if mask is None else [f"refuse {mask:016x}"]
     make, = source.choices(list(SCRIPT_PARTS), SCRIPT_PARTS.values())
-    if make in (full_output, two_writes, every_identification, turns):
+    bits = source.getrandbits(64)
+    masks = (bits, bits, bits & source.getrandbits(64), 1 << source.randrange(6))
+    mask = source.choice(masks if make == few_at_a_time else (None, None, None, *masks))
+    lines = [] if mask is None else [f"refuse {mask:016x}"]
+    if make in WHOLE:
         return [*lines, *make(source), *SCRIPT_ENDS]
     if source.random() < 0.5:
         lines += [load_port(source)] * (make != clock_line) + [load_clock(source)] * (make in (clock_line, any_line))
