@@ -1,4 +1,5 @@
 """`python3 -m superio` with a file, a pipe and wrong arguments: replies, statuses and messages."""
+import os
 import resource
 import signal
 import subprocess
@@ -69,6 +70,11 @@ class Files(unittest.TestCase):
 
     def test_quit_ends_a_file(self):
         self.assertEqual((0, "00\n", ""), run(script=b"kr 04\nquit\nkr 04\n"))
+
+    def test_the_program_at_the_top_needs_no_installation(self):
+        done = subprocess.run([ROOT / "superio", EXAMPLE], cwd="/", env={"PATH": os.environ["PATH"]}, capture_output=True,
+                              text=True, timeout=TIMEOUT)
+        self.assertEqual(run(EXAMPLE), (done.returncode, done.stdout, done.stderr))
 
     def test_folder_and_missing_file(self):
         self.assertEqual((2, "", "python3 -m superio: /: Is a directory\n"), run("/"))
