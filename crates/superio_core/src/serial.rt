@@ -17,7 +17,7 @@ mod rx_ring;
 pub mod saved_form;
 mod steps;
 
-use crate::fifo::{FIFO_SIZE, ReceiveFifo};
+use super::fifo::{FIFO_SIZE, ReceiveFifo};
 pub use effects::{EnqueueEffects, ReadEffects, WriteEffects};
 pub use registers::Registers;
 pub use rx_ring::RxRing;

@@ -2,7 +2,7 @@
 ghost use Rattle.std.specs.Prelude.{◌≡◌, ◌<◌, ◌≤◌, ◌+◌, ◌%◌, min, []};
 ghost use Rattle.superio_core.specs.Serial.Port.RxRing.{held_bytes};
 
-use crate::fifo::{FIFO_SIZE, ReceiveFifo};
+use super::super::fifo::{FIFO_SIZE, ReceiveFifo};
 
 /// Received bytes in a ring of 64 places. Any values are valid: `head` counts modulo 64, and `len` above 64 counts as
 /// 64.

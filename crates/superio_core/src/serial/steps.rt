@@ -20,8 +20,8 @@ use super::bits::{
 };
 use super::effects::{ReadEffects, WriteEffects};
 use super::registers::{Condition, Register, Registers};
-use crate::fifo::ReceiveFifo;
-use crate::trace::Asked;
+use super::super::fifo::ReceiveFifo;
+use super::super::trace::Asked;
 
 impl Registers {
     /// Raises a condition: if it is enabled and not pending, it becomes pending. Returns whether to call the trigger,
