@@ -9,7 +9,9 @@
 
 mod clock;
 mod controller;
-#[allow(dead_code)] // what the functions of the header do not need
+#[rustfmt::skip] // as the proved source
+#[allow(clippy::all)]
+#[allow(dead_code, unused_imports)] // what the functions of the header do not need
 #[path = "../../src/core/mod.rs"]
 mod devices;
 mod memory;
