@@ -77,6 +77,7 @@ impl Clock {
 
     /// Begins an access at the moment `now` and returns the host's time. Any access, even an invalid one, may fire the
     /// alarm before its own effect.
+    #[inline(always)]
     fn begin_access(&mut self, now: u64) -> u32
     {
         let time = (now % (1 << 32)) as u32;
@@ -88,6 +89,7 @@ impl Clock {
     }
 
     /// The value read from `register` at the host's time `time`, or `None` if it is not readable.
+    #[inline(always)]
     fn read_register(&self, register: ClockRegister, time: u32) -> Option<u32>
     {
         match register {
@@ -105,6 +107,7 @@ impl Clock {
 
     /// Stores a match. Sets the alarm if guest time has yet to reach it, and raises the interrupt at once if guest time
     /// equals it.
+    #[inline(always)]
     fn write_match(&mut self, value: u32, time: u32)
     {
         let guest_time = guest_time(self.offset, time);
@@ -117,6 +120,7 @@ impl Clock {
 
     /// Writes `value` to `register` at the host's time `time`, and returns whether the register takes a write. If not,
     /// nothing changes.
+    #[inline(always)]
     fn store(&mut self, register: ClockRegister, value: u32, time: u32) -> bool
     {
         match register {
@@ -140,6 +144,7 @@ impl Clock {
 
     /// Reads at `offset` at the moment `now`, in seconds since 1970, as `Rtc::read` does. Only the
     /// low 32 bits of `now` count. Returns the value read, or `None` if the read is invalid.
+    #[inline(always)]
     // Clauses in crates/superio_core/src/rtc_pl031.rt: response, state.
     pub fn read(&mut self, offset: u16, now: u64) -> Option<u32>
     {
@@ -149,6 +154,7 @@ impl Clock {
 
     /// Writes `value` at `offset` at the moment `now`, as `Rtc::write` does. Returns whether this
     /// offset takes a write.
+    #[inline(always)]
     // Clauses in crates/superio_core/src/rtc_pl031.rt: taken, state.
     pub fn write(&mut self, offset: u16, value: u32, now: u64) -> bool
     {

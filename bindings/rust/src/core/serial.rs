@@ -39,6 +39,7 @@ impl SerialPort {
     }
 
     /// Reads at `offset`, as a guest does. Asks for no interrupt.
+    #[inline(always)]
     // Clauses in crates/superio_core/src/serial.rt: step, coherent.
     pub fn read(&mut self, offset: u8) -> ReadEffects
     {
@@ -48,6 +49,7 @@ impl SerialPort {
 
     /// Writes `value` at `offset`, as a guest does. Then send the byte if it goes out, and ask for the interrupts. Neither
     /// a lost byte nor a refusal changes the port.
+    #[inline(always)]
     // Clauses in crates/superio_core/src/serial.rt: step, at_most_2, coherent.
     pub fn write(&mut self, offset: u8, value: u8) -> WriteEffects
     {
@@ -56,6 +58,7 @@ impl SerialPort {
     }
 
     /// How many bytes may still be enqueued: 64 minus the number of held bytes.
+    #[inline(always)]
     // Clauses in crates/superio_core/src/serial.rt: value, bound.
     pub fn fifo_capacity(&self) -> usize
     {
@@ -64,6 +67,7 @@ impl SerialPort {
 
     /// Receives as many bytes for the guest as fit, first ones first. In loopback it accepts no bytes. The port keeps
     /// the bytes even if the interrupt is then refused.
+    #[inline(always)]
     // Clauses in crates/superio_core/src/serial.rt: step, at_most_1, coherent.
     pub fn enqueue_raw_bytes(&mut self, input: &[u8]) -> EnqueueEffects
     {
@@ -91,6 +95,7 @@ impl SerialPort {
 
     /// Tells the port that the time of a few characters has passed without a read or a new byte: it raises RDA again if
     /// bytes are held. Returns how often to ask for the interrupt: 0 or 1 times. A refusal does not change the port.
+    #[inline(always)]
     // Clauses in crates/superio_core/src/serial.rt: step, at_most_1, pending, coherent.
     pub fn character_timeout(&mut self) -> u8
     {

@@ -3,6 +3,7 @@
 //! When guest time reaches a value.
 
 /// Guest time at the host's time `time`.
+#[inline(always)]
 pub(super) fn guest_time(offset: i64, time: u32) -> u32
 {
     match i64::from(time).checked_add(offset) {

@@ -76,24 +76,28 @@ pub(super) const DEFAULT_MODEM_CONTROL: u8 = 0x08;
 pub(super) const DEFAULT_MODEM_STATUS: u8 = 0xB0;
 
 /// Whether all these bits are set.
+#[inline(always)]
 pub(super) fn has_bits(byte: u8, bits: u8) -> bool
 {
     byte & bits == bits
 }
 
 /// The byte with these bits set.
+#[inline(always)]
 pub(super) fn with_bits(byte: u8, bits: u8) -> u8
 {
     byte | bits
 }
 
 /// The byte with only these bits.
+#[inline(always)]
 pub(super) fn only_bits(byte: u8, bits: u8) -> u8
 {
     byte & bits
 }
 
 /// The byte with these bits cleared.
+#[inline(always)]
 pub(super) fn without_bits(byte: u8, bits: u8) -> u8
 {
     byte & !bits

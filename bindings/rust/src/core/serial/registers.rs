@@ -49,6 +49,7 @@ pub enum Condition {
 
 impl Condition {
     /// The bit of IER that enables it.
+    #[inline(always)]
     pub(super) fn ier_bit(self) -> u8
     {
         match self {
@@ -58,6 +59,7 @@ impl Condition {
     }
 
     /// The bit of IIR that shows it pending.
+    #[inline(always)]
     pub(super) fn iir_bit(self) -> u8
     {
         match self {
@@ -130,14 +132,14 @@ impl Registers {
     }
 
     /// The register that an offset reaches.
+    #[inline(always)]
     // Clauses in crates/superio_core/src/serial/registers.rt: ensures.
     pub fn at(&self, offset: u8) -> Register
     {
-        let dlab = has_bits(self.line_control, LCR_DLAB_BIT);
         match offset {
-            DATA_OFFSET if dlab => Register::Dll,
+            DATA_OFFSET if self.is_divisor_shown() => Register::Dll,
             DATA_OFFSET => Register::RbrThr,
-            IER_OFFSET if dlab => Register::Dlm,
+            IER_OFFSET if self.is_divisor_shown() => Register::Dlm,
             IER_OFFSET => Register::Ier,
             IIR_OFFSET => Register::Iir,
             LCR_OFFSET => Register::Lcr,
@@ -149,7 +151,15 @@ impl Registers {
         }
     }
 
+    /// Whether LCR's DLAB puts the divisor latch at offsets 0 and 1.
+    #[inline(always)]
+    fn is_divisor_shown(&self) -> bool
+    {
+        has_bits(self.line_control, LCR_DLAB_BIT)
+    }
+
     /// Whether loopback is on.
+    #[inline(always)]
     // Clauses in crates/superio_core/src/serial/registers.rt: ensures.
     pub fn is_loopback(&self) -> bool
     {

@@ -29,12 +29,14 @@ impl RxRing {
     }
 
     /// How many bytes are held, at most 64.
+    #[inline(always)]
     fn count(&self) -> usize
     {
         usize::from(self.len).min(FIFO_SIZE)
     }
 
     /// The place at this distance from the oldest byte.
+    #[inline(always)]
     fn place(&self, distance: usize) -> usize
     {
         (usize::from(self.head) + distance) % FIFO_SIZE
@@ -42,14 +44,17 @@ impl RxRing {
 }
 
 impl ReceiveFifo for RxRing {
+    #[inline(always)]
     fn len(&self) -> usize {
         self.count()
     }
 
+    #[inline(always)]
     fn is_empty(&self) -> bool {
         self.len == 0
     }
 
+    #[inline(always)]
     fn take_first(&mut self) -> Option<u8> {
         let held = self.count();
         if held == 0 {
@@ -61,6 +66,7 @@ impl ReceiveFifo for RxRing {
         Some(byte)
     }
 
+    #[inline(always)]
     fn push(&mut self, byte: u8) -> bool {
         let held = self.count();
         if held == FIFO_SIZE {
@@ -72,6 +78,7 @@ impl ReceiveFifo for RxRing {
         true
     }
 
+    #[inline(always)]
     fn fill(&mut self, bytes: &[u8]) -> usize {
         let held = self.count();
         let count = bytes.len().min(FIFO_SIZE - held);

@@ -16,6 +16,7 @@ use super::super::trace::Asked;
 impl Registers {
     /// Raises a condition: if it is enabled and not pending, it becomes pending. Returns whether to call the trigger,
     /// once.
+    #[inline(always)]
     fn raise(&mut self, condition: Condition) -> bool
     {
         if !has_bits(self.interrupt_enable, condition.ier_bit())
@@ -29,6 +30,7 @@ impl Registers {
     }
 
     /// Lowers a condition: it is no longer pending.
+    #[inline(always)]
     fn lower(&mut self, condition: Condition)
     {
         let others = without_bits(self.interrupt_identification, condition.iir_bit());
@@ -37,6 +39,7 @@ impl Registers {
 
     /// An IER write: stores the low four bits, raises RDA if bytes are held, then raises THRE. Returns how often to
     /// call the trigger.
+    #[inline(always)]
     fn write_ier<F: ReceiveFifo>(&mut self, fifo: &F, value: u8) -> u8
     {
         self.interrupt_enable = only_bits(value, IER_UART_VALID_BITS);
@@ -59,6 +62,7 @@ impl Registers {
     }
 
     /// Notes received bytes: sets data ready and raises RDA.
+    #[inline(always)]
     fn note_received(&mut self) -> bool
     {
         self.line_status = with_bits(self.line_status, LSR_DATA_READY_BIT);
@@ -67,6 +71,7 @@ impl Registers {
 
     /// Adds as many of these bytes as fit after the held ones, first ones first. Returns how many it added, and whether
     /// to call the trigger.
+    #[inline(always)]
     // Clauses in crates/superio_core/src/serial/steps.rt: count, due, state, canonical.
     pub fn receive<F: ReceiveFifo>(&mut self, fifo: &mut F, bytes: &[u8]) -> (usize, bool)
     {
@@ -78,6 +83,7 @@ impl Registers {
     }
 
     /// A character timeout: raises RDA if bytes are held. Returns how often to call the trigger.
+    #[inline(always)]
     // Clauses in crates/superio_core/src/serial/steps.rt: due, at_most_1, state.
     pub fn character_timeout<F: ReceiveFifo>(&mut self, fifo: &F) -> u8
     {
@@ -85,6 +91,7 @@ impl Registers {
     }
 
     /// An RBR read: lowers RDA, then takes the oldest byte or gives 0.
+    #[inline(always)]
     fn read_rbr<F: ReceiveFifo>(&mut self, fifo: &mut F) -> ReadEffects
     {
         self.lower(Condition::Rda);
@@ -101,6 +108,7 @@ impl Registers {
     }
 
     /// Reads a register.
+    #[inline(always)]
     // Clauses in crates/superio_core/src/serial/steps.rt: value, state, events, canonical.
     pub fn read<F: ReceiveFifo>(&mut self, fifo: &mut F, register: Register) -> ReadEffects
     {
@@ -130,6 +138,7 @@ impl Registers {
 
     /// Writes a register. In loopback a THR write is received. Otherwise its byte goes out, and THRE is raised whatever
     /// happens to the byte. The due trigger calls count as taken: `take_back` applies a refusal.
+    #[inline(always)]
     // Clauses in crates/superio_core/src/serial/steps.rt: sends, interrupts, at_most_2, state, canonical.
     pub fn write<F: ReceiveFifo>(
         &mut self,
