@@ -524,8 +524,8 @@ typedef char superio_serial_read_effects_has_3_bytes
     [sizeof(superio_serial_read_effects) == 3 ? 1 : -1];
 typedef char superio_serial_write_effects_has_2_bytes
     [sizeof(superio_serial_write_effects) == 2 ? 1 : -1];
-typedef char superio_serial_enqueue_effects_has_16_bytes
-    [sizeof(superio_serial_enqueue_effects) == 16 ? 1 : -1];
+typedef char superio_serial_enqueue_effects_has_2_words
+    [sizeof(superio_serial_enqueue_effects) == 2 * sizeof(size_t) ? 1 : -1];
 typedef char superio_rtc_read_effects_has_8_bytes
     [sizeof(superio_rtc_read_effects) == 8 ? 1 : -1];
 typedef char superio_rtc_write_effects_has_1_byte

@@ -1,5 +1,6 @@
 """The processors that the C library is for, and how programs for them are compiled and run here."""
 from dataclasses import dataclass
+from pathlib import Path
 
 from libraries import PREBUILT, ROOT, STATIC, TARGETS, host_target
 
@@ -25,11 +26,14 @@ class Compiler:
 
 @dataclass
 class Machine:
-    """A processor: its folder of `prebuilt`, its compilers, and the words before a program that run it."""
+    """A processor: its folder of `prebuilt`, its compilers, and the words before a program that run it. The library is that
+    of the folder, unless another is named. A narrow processor has 32 bits."""
     target: str
     compilers: list
     runner: list
     options: list
+    built: Path = None
+    is_narrow: bool = False
 
     @property
     def is_host(self):
@@ -37,7 +41,7 @@ class Machine:
 
     @property
     def library(self):
-        return PREBUILT / self.target / STATIC
+        return self.built or PREBUILT / self.target / STATIC
 
     def program(self, compiler, sources, to, options=()):
         """The words that compile and link a program with the static library."""
@@ -54,7 +58,12 @@ def machine(target):
         pairs = [("gcc", C), ("clang", C), ("g++", CXX), ("clang++", CXX)]
         return Machine(target, [Compiler(*pair) for pair in pairs], [], [])
     processor = target.split("-")[0]
-    return Machine(target, [Compiler(f"{processor}-linux-gnu-gcc", C)], [f"qemu-{processor}"], ["-static"])
+    return emulated(target, f"{processor}-linux-gnu-gcc", processor)
+
+
+def emulated(target, compiler, processor, built=None):
+    """A machine that qemu's user mode stands in for."""
+    return Machine(target, [Compiler(compiler, C)], [f"qemu-{processor}"], ["-static"], built)
 
 
 def machines():

@@ -1,5 +1,6 @@
 //! An i8042 keyboard controller, reduced to CPU reset.
-use crate::{ffi, Trigger};
+use crate::values::is_reset_command;
+use crate::Trigger;
 
 /// A keyboard controller that knows one command: 0xFE, written at offset 4, resets the machine.
 ///
@@ -34,7 +35,6 @@ pub struct I8042Device<T: Trigger> {
 impl<T: Trigger> I8042Device<T> {
     /// Makes a controller that calls `reset_evt` for each reset command. Does not call it now.
     pub fn new(reset_evt: T) -> I8042Device<T> {
-        ffi::check_library();
         I8042Device { reset_evt }
     }
 
@@ -43,9 +43,9 @@ impl<T: Trigger> I8042Device<T> {
         &self.reset_evt
     }
 
-    /// What the guest reads at `offset` from the controller's base: 0 everywhere.
-    pub fn read(&mut self, offset: u8) -> u8 {
-        ffi::controller_read(offset)
+    /// What the guest reads at an offset from the controller's base: 0 everywhere.
+    pub fn read(&mut self, _offset: u8) -> u8 {
+        0
     }
 
     /// The guest writes `value` at `offset` from the controller's base.
@@ -54,7 +54,7 @@ impl<T: Trigger> I8042Device<T> {
     ///
     /// The trigger's refusal of a reset command.
     pub fn write(&mut self, offset: u8, value: u8) -> Result<(), T::E> {
-        if ffi::controller_write(offset, value).resets {
+        if is_reset_command(offset, value) {
             self.reset_evt.trigger()?;
         }
         Ok(())

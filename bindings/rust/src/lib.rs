@@ -1,14 +1,16 @@
 //! A 16550 serial port, a PL031 real-time clock and an i8042 reset controller, for virtual machine monitors.
 //!
-//! The devices are those of the proved library `superio_c`, which this crate links. Their names, signatures and errors
-//! are those of the crate vm-superio 0.8.2, so a monitor changes one line of its `Cargo.toml`.
+//! Their names, signatures and errors are those of the crate vm-superio 0.8.2, so a monitor changes one line of its
+//! `Cargo.toml`. What a device does at a call is in the module [`values`], whose code is proved. The rest of the crate
+//! gives the devices their triggers, writers and events objects, and is tested.
+//!
+//! Without the feature `std`, which is on by default, the crate has [`values`], [`Trigger`] and [`I8042Device`] alone,
+//! and needs neither std nor an allocator.
 //!
 //! # Differences
 //!
 //! - The clock's match register is an [alarm](rtc_pl031). In vm-superio 0.8.2 it has no effect.
 //! - A host clock before 1970 reads as 0. vm-superio 0.8.2 panics.
-//! - Making a device or a default `SerialState`, and saving or loading a state, panic if the linked library has another
-//!   binary interface than this crate.
 //!
 //! New are the [character timeout](serial::timeout), without which received bytes can wait for ever,
 //! [`Serial::retry_interrupts`], the [saved form](saved) of a state, [`SerialState::is_coherent`], the whole state of a
@@ -38,19 +40,47 @@
 //! assert_eq!(serial.enqueue_raw_bytes(b"xyz").unwrap(), 3); // input for the guest
 //! assert_eq!(serial.read(0), b'x');
 //! ```
+#![forbid(unsafe_code)]
 #![deny(missing_docs)]
 #![deny(missing_copy_implementations)]
-#![deny(unsafe_code)]
+#![cfg_attr(not(feature = "std"), no_std)]
 
-#[allow(unsafe_code)]
-mod ffi;
 pub mod i8042;
+#[cfg(feature = "std")]
 pub mod rtc_pl031;
+#[cfg(feature = "std")]
 pub mod saved;
+#[cfg(feature = "std")]
 pub mod serial;
 
+/// # Example
+///
+/// ```
+/// use vm_superio::values::{is_reset_command, Clock, SerialPort};
+///
+/// let mut port = SerialPort::new();
+/// port.write(1, 0x01); // the guest enables the interrupt of received data
+/// let effects = port.enqueue_raw_bytes(b"hi"); // the host types
+/// assert_eq!(effects.interrupts, 1); // so raise the interrupt once
+/// assert_eq!(port.read(0).byte, b'h'); // the guest reads
+///
+/// let mut clock = Clock::new();
+/// assert_eq!(clock.read(0x000, 1_000), Some(1_000)); // guest time is the host's
+/// assert!(is_reset_command(4, 0xFE)); // the guest resets its machine
+/// ```
+#[path = "core/mod.rs"]
+// These lines are those of the proved source, in the layout and style of its language. A name in a pattern that is no
+// constant, or a result that is not used, would mean another thing here than there.
+#[rustfmt::skip]
+#[allow(clippy::style)]
+#[deny(arithmetic_overflow, overflowing_literals, unconditional_panic, unconditional_recursion)]
+#[deny(non_snake_case, unreachable_patterns, unused_must_use, unused_variables)]
+pub mod values;
+
 pub use i8042::I8042Device;
+#[cfg(feature = "std")]
 pub use rtc_pl031::{Rtc, RtcState};
+#[cfg(feature = "std")]
 pub use serial::{Serial, SerialState};
 
 /// Notifies whoever raises an interrupt, or resets the machine.
@@ -79,7 +109,7 @@ pub use serial::{Serial, SerialState};
 /// ```
 pub trait Trigger {
     /// Why a call was refused.
-    type E: std::fmt::Debug;
+    type E: core::fmt::Debug;
 
     /// Notifies once, or returns an error if nobody was notified.
     fn trigger(&self) -> Result<(), Self::E>;

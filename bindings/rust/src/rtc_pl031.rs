@@ -10,8 +10,8 @@ use std::fmt;
 use std::sync::Arc;
 use std::time::{SystemTime, UNIX_EPOCH};
 
-use crate::ffi::{check_library, Clock};
 use crate::saved::SavedStateError;
+use crate::values::{self, Clock};
 
 /// The offset of RTCDR, which shows guest time.
 const RTCDR: u16 = 0x000;
@@ -121,7 +121,7 @@ pub struct RtcSnapshot {
 impl RtcSnapshot {
     /// The saved form: 33 bytes, the same on every machine. A state has exactly one.
     pub fn to_bytes(&self) -> Vec<u8> {
-        self.clock().save()
+        self.value().to_bytes().to_vec()
     }
 
     /// The state of a saved form.
@@ -130,18 +130,17 @@ impl RtcSnapshot {
     ///
     /// The first check of [`SavedStateError`] that the bytes fail.
     pub fn from_bytes(bytes: &[u8]) -> Result<RtcSnapshot, SavedStateError> {
-        Clock::load(bytes).map(|clock| RtcSnapshot::of(&clock))
+        values::RtcState::from_bytes(bytes).map(RtcSnapshot::of)
     }
 
-    fn of(clock: &Clock) -> RtcSnapshot {
-        let Clock { lr, mr, imsc, ris, offset, armed } = *clock;
-        RtcSnapshot { state: RtcState { lr, offset, mr, imsc, ris }, armed: armed != 0 }
+    fn of(value: values::RtcState) -> RtcSnapshot {
+        let values::RtcState { lr, offset, mr, imsc, ris, armed } = value;
+        RtcSnapshot { state: RtcState { lr, offset, mr, imsc, ris }, armed }
     }
 
-    fn clock(&self) -> Clock {
-        check_library();
+    fn value(&self) -> values::RtcState {
         let RtcState { lr, offset, mr, imsc, ris } = self.state;
-        Clock { lr, mr, imsc, ris, offset, armed: self.armed.into() }
+        values::RtcState { lr, offset, mr, imsc, ris, armed: self.armed }
     }
 }
 
@@ -212,7 +211,7 @@ impl<EV: RtcEvents> Rtc<EV> {
 
     /// Makes a clock from a whole state, whatever its values. Does not call the events object.
     pub fn from_snapshot(snapshot: &RtcSnapshot, rtc_events: EV) -> Self {
-        Rtc { clock: snapshot.clock(), events: rtc_events }
+        Rtc { clock: Clock::from_state(&snapshot.value()), events: rtc_events }
     }
 
     /// Makes a clock in the default state. Does not call the events object.
@@ -227,7 +226,7 @@ impl<EV: RtcEvents> Rtc<EV> {
 
     /// A snapshot; [`from_snapshot`](Rtc::from_snapshot) recreates the clock.
     pub fn snapshot(&self) -> RtcSnapshot {
-        RtcSnapshot::of(&self.clock)
+        RtcSnapshot::of(self.clock.state())
     }
 
     /// Whether an alarm is set and has not fired.
@@ -237,13 +236,13 @@ impl<EV: RtcEvents> Rtc<EV> {
 
     /// Whether the interrupt line is up: an interrupt is raised and the mask lets it pass.
     pub fn line(&self) -> bool {
-        self.clock.line()
+        self.clock.interrupt_line()
     }
 
     /// The seconds from the moment `now`, in seconds since 1970, until the alarm is due if the guest makes no access.
     /// `None` if it never is. An access at that moment raises the interrupt, and no earlier one does.
     pub fn due(&self, now: u64) -> Option<u64> {
-        Some(self.clock.due(now)).filter(|seconds| *seconds != u64::MAX)
+        self.clock.alarm_due(now)
     }
 
     /// The events object.
@@ -261,7 +260,7 @@ impl<EV: RtcEvents> Rtc<EV> {
 
     /// Writes as [`write`](Rtc::write) does, at the moment `now`, in seconds since 1970, instead of the host's time.
     pub fn write_at(&mut self, offset: u16, data: &[u8; 4], now: u64) {
-        if self.clock.write(offset, u32::from_le_bytes(*data), now).invalid_write {
+        if !self.clock.write(offset, u32::from_le_bytes(*data), now) {
             self.events.invalid_write();
         }
     }
@@ -276,11 +275,9 @@ impl<EV: RtcEvents> Rtc<EV> {
 
     /// Reads as [`read`](Rtc::read) does, at the moment `now`, in seconds since 1970, instead of the host's time.
     pub fn read_at(&mut self, offset: u16, data: &mut [u8; 4], now: u64) {
-        let read = self.clock.read(offset, now);
-        if read.invalid_read {
-            self.events.invalid_read();
-        } else {
-            *data = read.value.to_le_bytes();
+        match self.clock.read(offset, now) {
+            Some(value) => *data = value.to_le_bytes(),
+            None => self.events.invalid_read(),
         }
     }
 

@@ -3,7 +3,7 @@ use std::error::Error as StdError;
 use std::fmt;
 use std::io::{self, Write};
 
-use crate::ffi::SerialPort;
+use crate::values::SerialPort;
 use crate::Trigger;
 
 mod events;
@@ -188,7 +188,7 @@ impl<T: Trigger, EV: SerialEvents, W: Write> Serial<T, EV, W> {
     /// A refused condition stays pending: the trigger is not called for it again until the guest has acknowledged it,
     /// or [`retry_interrupts`](Serial::retry_interrupts) is called.
     pub fn write(&mut self, offset: u8, value: u8) -> Result<(), Error<T::E>> {
-        let pending = self.port.interrupt_identification;
+        let pending = self.port.registers.interrupt_identification;
         let effects = self.port.write(offset, value);
         let sent = if effects.sends { self.send(value, pending) } else { Ok(()) };
         match effects.interrupts {
@@ -202,23 +202,23 @@ impl<T: Trigger, EV: SerialEvents, W: Write> Serial<T, EV, W> {
     /// Sends a byte. The interrupt that its write raises is raised after that: a writer or an events object that panics
     /// leaves the conditions that were pending before.
     fn send(&mut self, value: u8, pending_before: u8) -> Result<(), Error<T::E>> {
-        let pending = std::mem::replace(&mut self.port.interrupt_identification, pending_before);
+        let pending = std::mem::replace(&mut self.port.registers.interrupt_identification, pending_before);
         let sent = self.out.write_all(&[value]).and_then(|()| self.out.flush());
         match sent {
             Ok(()) => self.events.out_byte(),
             Err(_) => self.events.tx_lost_byte(),
         }
-        self.port.interrupt_identification = pending;
+        self.port.registers.interrupt_identification = pending;
         sent.map_err(Error::IOError)
     }
 
     /// Calls the trigger for both conditions that a write to IER raised. In vm-superio the second one, THRE, becomes
     /// pending after the first call has succeeded, so a call that refuses or panics leaves RDA alone.
     fn trigger_twice(&mut self) -> Result<(), T::E> {
-        let both_pending = self.port.interrupt_identification;
-        self.port.interrupt_identification = both_pending & !THRE; // RDA is left, so 'none' stays clear
+        let both_pending = self.port.registers.interrupt_identification;
+        self.port.registers.interrupt_identification = both_pending & !THRE; // RDA is left, so 'none' stays clear
         self.interrupt_evt.trigger()?;
-        self.port.interrupt_identification = both_pending;
+        self.port.registers.interrupt_identification = both_pending;
         self.interrupt_evt.trigger()
     }
 
@@ -265,7 +265,7 @@ impl<T: Trigger, EV: SerialEvents, W: Write> Serial<T, EV, W> {
     /// [`Error::FullFifo`] if there are bytes and 64 are held already, outside loopback: nothing changes then.
     /// [`Error::Trigger`] if the trigger refused: the bytes are kept, and must not be enqueued again.
     pub fn enqueue_raw_bytes(&mut self, input: &[u8]) -> Result<usize, Error<T::E>> {
-        let effects = self.port.enqueue(input);
+        let effects = self.port.enqueue_raw_bytes(input);
         if effects.full {
             return Err(Error::FullFifo);
         }

@@ -10,6 +10,7 @@ const CMD_RESET_CPU: u8 = 0xFE;
 
 /// Whether a write of `value` at `offset` is the reset command. For a monitor that resets the machine without a
 /// trigger.
+#[inline(always)]
 pub fn is_reset_command(offset: u8, value: u8) -> bool
     ensures { result ≡ is_reset_command offset value }
 {

@@ -83,6 +83,7 @@ impl Clock {
     /// Begins an access at the moment `now` and returns the host's time. Any access, even an invalid one, may fire the
     /// alarm before its own effect.
     #[tactic(auto, unfolding(crate::specs::Bits::with_bits))]
+    #[inline(always)]
     fn begin_access(&mut self, now: u64) -> u32
         ensures time { result ≡ host_time now }
         ensures state { state_of_clock self.new ≡ after_alarm (state_of_clock self.old) (host_time now) }
@@ -96,6 +97,7 @@ impl Clock {
     }
 
     /// The value read from `register` at the host's time `time`, or `None` if it is not readable.
+    #[inline(always)]
     fn read_register(&self, register: ClockRegister, time: u32) -> Option<u32>
         ensures { let state = state_of_clock self.now in
             result ≡ clock_register_read register (guest_time_in state time) state }
@@ -116,6 +118,7 @@ impl Clock {
     /// Stores a match. Sets the alarm if guest time has yet to reach it, and raises the interrupt at once if guest time
     /// equals it.
     #[tactic(auto, unfolding(crate::specs::Bits::with_bits))]
+    #[inline(always)]
     fn write_match(&mut self, value: u32, time: u32)
         ensures { state_of_clock self.new ≡ match_write (state_of_clock self.old) value time }
     {
@@ -130,6 +133,7 @@ impl Clock {
     /// Writes `value` to `register` at the host's time `time`, and returns whether the register takes a write. If not,
     /// nothing changes.
     #[tactic(auto, using(crate::proofs::Lemmas::Bits::and_not_is_without))]
+    #[inline(always)]
     fn store(&mut self, register: ClockRegister, value: u32, time: u32) -> bool
         ensures state { state_of_clock self.new
             ≡ after_write (state_of_clock self.old) register value time }
@@ -156,6 +160,7 @@ impl Clock {
 
     /// Reads at `offset` at the moment `now`, in seconds since 1970, as `Rtc::read` does. Only the
     /// low 32 bits of `now` count. Returns the value read, or `None` if the read is invalid.
+    #[inline(always)]
     pub fn read(&mut self, offset: u16, now: u64) -> Option<u32>
         ensures response { result ≡ clock_response (state_of_clock self.old) (read offset now) }
         ensures state { state_of_clock self.new ≡ clock_step (state_of_clock self.old) (read offset now) }
@@ -166,6 +171,7 @@ impl Clock {
 
     /// Writes `value` at `offset` at the moment `now`, as `Rtc::write` does. Returns whether this
     /// offset takes a write.
+    #[inline(always)]
     pub fn write(&mut self, offset: u16, value: u32, now: u64) -> bool
         ensures taken { result ≡ is_writable (clock_register_at offset) }
         ensures state { state_of_clock self.new ≡ clock_step (state_of_clock self.old) (write offset value now) }

@@ -6,8 +6,7 @@ ghost use Rattle.std.specs.Result.{result_err};
 ghost use Rattle.superio_core.specs.Saved.Form.{form, header};
 ghost use Rattle.superio_core.specs.Saved.Faults.{header_fault};
 
-use std::error::Error as StdError;
-use std::fmt;
+mod error_text;
 
 /// The first bytes of a saved state.
 const MAGIC: [u8; 4] = *b"SIOS";
@@ -43,26 +42,6 @@ pub enum Error {
     /// The clock's alarm byte is neither 0 nor 1.
     InvalidArmed,
 }
-
-impl fmt::Display for Error {
-    ghost use Rattle.superio_core.specs.Saved.ErrorText.{text_of};
-
-    ghost output = { text_of };
-
-    fn fmt<W: fmt::Write>(&self, f: &mut fmt::Formatter<W>) -> fmt::Result {
-        match self {
-            Error::TooShort => write!(f, "Too short for a saved state"),
-            Error::NotASavedState => write!(f, "Not a saved state"),
-            Error::OtherDevice => write!(f, "The saved state of another device"),
-            Error::UnknownVersion(_) => write!(f, "A saved state of an unknown version"),
-            Error::WrongLength => write!(f, "A saved state of the wrong length"),
-            Error::TooManyBytes => write!(f, "More than 64 received bytes"),
-            Error::InvalidArmed => write!(f, "An alarm that is neither set nor clear"),
-        }
-    }
-}
-
-impl StdError for Error {}
 
 /// The header of a state of this kind, before `length` bytes.
 pub(crate) fn header(kind: u8, length: u16) -> [u8; 8]

@@ -17,7 +17,7 @@ mod rx_ring;
 pub mod saved_form;
 mod steps;
 
-use crate::fifo::{FIFO_SIZE, ReceiveFifo};
+use super::fifo::{FIFO_SIZE, ReceiveFifo};
 pub use effects::{EnqueueEffects, ReadEffects, WriteEffects};
 pub use registers::Registers;
 pub use rx_ring::RxRing;
@@ -45,6 +45,7 @@ impl SerialPort {
     }
 
     /// Reads at `offset`, as a guest does. Asks for no interrupt.
+    #[inline(always)]
     pub fn read(&mut self, offset: u8) -> ReadEffects
         ensures step { IsPortRead offset result (state_of_port self.old) (state_of_port self.new) }
         ensures coherent { CoherentPort self.old → CoherentPort self.new }
@@ -55,6 +56,7 @@ impl SerialPort {
 
     /// Writes `value` at `offset`, as a guest does. Then send the byte if it goes out, and ask for the interrupts. Neither
     /// a lost byte nor a refusal changes the port.
+    #[inline(always)]
     pub fn write(&mut self, offset: u8, value: u8) -> WriteEffects
         ensures step { IsPortWrite offset value result (state_of_port self.old) (state_of_port self.new) }
         ensures at_most_2 { result.interrupts ≤ 2 }
@@ -65,6 +67,7 @@ impl SerialPort {
     }
 
     /// How many bytes may still be enqueued: 64 minus the number of held bytes.
+    #[inline(always)]
     pub fn fifo_capacity(&self) -> usize
         ensures value { result ≡ 64 - length (state_of_port self.now).in_buffer }
         ensures bound { length (state_of_port self.now).in_buffer ≤ 64 }
@@ -74,6 +77,7 @@ impl SerialPort {
 
     /// Receives as many bytes for the guest as fit, first ones first. In loopback it accepts no bytes. The port keeps
     /// the bytes even if the interrupt is then refused.
+    #[inline(always)]
     pub fn enqueue_raw_bytes(&mut self, input: &[u8]) -> EnqueueEffects
         ensures step { IsPortEnqueue input.now result (state_of_port self.old) (state_of_port self.new) }
         ensures at_most_1 { result.interrupts ≤ 1 }
@@ -103,6 +107,7 @@ impl SerialPort {
 
     /// Tells the port that the time of a few characters has passed without a read or a new byte: it raises RDA again if
     /// bytes are held. Returns how often to ask for the interrupt: 0 or 1 times. A refusal does not change the port.
+    #[inline(always)]
     pub fn character_timeout(&mut self) -> u8
         ensures step { IsPortTimeout result (state_of_port self.old) (state_of_port self.new) }
         ensures at_most_1 { result ≤ 1 }

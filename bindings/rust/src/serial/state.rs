@@ -1,6 +1,9 @@
 //! The saved state of a serial port.
-use crate::ffi::{check_library, SerialPort, FIFO_SIZE};
 use crate::saved::SavedStateError;
+use crate::values::fifo::{ReceiveFifo, FIFO_SIZE};
+use crate::values::serial::saved_form::SAVED_MAX;
+use crate::values::serial::{Registers, RxRing};
+use crate::values::SerialPort;
 
 /// The contents of a port's registers and its receive FIFO. The default is a new port's.
 ///
@@ -71,7 +74,10 @@ impl SerialState {
     ///
     /// [`SavedStateError::TooManyBytes`] if `in_buffer` has more than 64 bytes.
     pub fn to_bytes(&self) -> Result<Vec<u8>, SavedStateError> {
-        self.port().map(|port| port.save()).ok_or(SavedStateError::TooManyBytes)
+        let port = self.port().ok_or(SavedStateError::TooManyBytes)?;
+        let mut form = [0; SAVED_MAX];
+        let length = port.to_bytes(&mut form);
+        Ok(form[..length].to_vec())
     }
 
     /// The state of a saved form. It may be incoherent.
@@ -80,31 +86,46 @@ impl SerialState {
     ///
     /// The first check of [`SavedStateError`] that the bytes fail.
     pub fn from_bytes(bytes: &[u8]) -> Result<SerialState, SavedStateError> {
-        SerialPort::load(bytes).map(|port| SerialState::of(&port))
+        SerialPort::from_bytes(bytes).map(|port| SerialState::of(&port))
     }
 
     pub(crate) fn of(port: &SerialPort) -> SerialState {
+        let Registers {
+            baud_divisor_low,
+            baud_divisor_high,
+            interrupt_enable,
+            interrupt_identification,
+            line_control,
+            line_status,
+            modem_control,
+            modem_status,
+            scratch,
+        } = port.registers;
+        let mut held = port.in_buffer;
+        let mut in_buffer = Vec::with_capacity(held.len());
+        while let Some(byte) = held.take_first() {
+            in_buffer.push(byte);
+        }
         SerialState {
-            baud_divisor_low: port.baud_divisor_low,
-            baud_divisor_high: port.baud_divisor_high,
-            interrupt_enable: port.interrupt_enable,
-            interrupt_identification: port.interrupt_identification,
-            line_control: port.line_control,
-            line_status: port.line_status,
-            modem_control: port.modem_control,
-            modem_status: port.modem_status,
-            scratch: port.scratch,
-            in_buffer: port.in_buffer().collect(),
+            baud_divisor_low,
+            baud_divisor_high,
+            interrupt_enable,
+            interrupt_identification,
+            line_control,
+            line_status,
+            modem_control,
+            modem_status,
+            scratch,
+            in_buffer,
         }
     }
 
     /// The port of this state, or `None` if it has more bytes than a port can hold.
     pub(crate) fn port(&self) -> Option<SerialPort> {
-        check_library();
         let count = self.in_buffer.len();
         let mut bytes = [0; FIFO_SIZE];
         bytes.get_mut(..count)?.copy_from_slice(&self.in_buffer);
-        Some(SerialPort {
+        let registers = Registers {
             baud_divisor_low: self.baud_divisor_low,
             baud_divisor_high: self.baud_divisor_high,
             interrupt_enable: self.interrupt_enable,
@@ -114,9 +135,8 @@ impl SerialState {
             modem_control: self.modem_control,
             modem_status: self.modem_status,
             scratch: self.scratch,
-            head: 0,
-            len: count as u8, // at most FIFO_SIZE
-            bytes,
-        })
+        };
+        // The count is at most FIFO_SIZE.
+        Some(SerialPort { registers, in_buffer: RxRing { head: 0, len: count as u8, bytes } })
     }
 }

@@ -4,6 +4,7 @@ ghost use Rattle.superio_core.specs.Rtc.Registers.{guest_time};
 ghost use Rattle.superio_core.specs.Rtc.Alarm.{FirstCome, SecondsUntil};
 
 /// Guest time at the host's time `time`.
+#[inline(always)]
 pub(super) fn guest_time(offset: i64, time: u32) -> u32
     ensures { result ≡ guest_time (pos time +ℤ offset) time }
 {

@@ -62,6 +62,7 @@ pub enum ClockRegister {
 
 impl ClockRegister {
     /// The register at `offset`.
+    #[inline(always)]
     pub(super) fn at(offset: u16) -> ClockRegister
         ensures { result ≡ clock_register_at offset }
     {

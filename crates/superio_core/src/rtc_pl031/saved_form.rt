@@ -6,7 +6,7 @@ ghost use Rattle.superio_core.specs.Saved.Faults.{clock_fault};
 ghost use Rattle.superio_core.specs.Saved.Laws.{IsClock};
 
 use super::RtcState;
-use crate::saved::{CLOCK_KIND, Error, contents_of, header};
+use super::super::saved::{CLOCK_KIND, Error, contents_of, header};
 
 /// The size of a clock's byte form: the header and 25 bytes.
 pub const SAVED_SIZE: usize = 33;

@@ -77,6 +77,7 @@ pub(super) const DEFAULT_MODEM_STATUS: u8 = 0xB0;
 
 /// Whether all these bits are set.
 #[tactic(auto, unfolding(crate::specs::Bits::has_bits))]
+#[inline(always)]
 pub(super) fn has_bits(byte: u8, bits: u8) -> bool
     ensures { result ≡ has_bits byte bits }
 {
@@ -85,6 +86,7 @@ pub(super) fn has_bits(byte: u8, bits: u8) -> bool
 
 /// The byte with these bits set.
 #[tactic(auto, unfolding(crate::specs::Bits::with_bits))]
+#[inline(always)]
 pub(super) fn with_bits(byte: u8, bits: u8) -> u8
     ensures { result ≡ with_bits byte bits }
 {
@@ -93,6 +95,7 @@ pub(super) fn with_bits(byte: u8, bits: u8) -> u8
 
 /// The byte with only these bits.
 #[tactic(auto, unfolding(crate::specs::Bits::only_bits))]
+#[inline(always)]
 pub(super) fn only_bits(byte: u8, bits: u8) -> u8
     ensures { result ≡ only_bits byte bits }
 {
@@ -101,6 +104,7 @@ pub(super) fn only_bits(byte: u8, bits: u8) -> u8
 
 /// The byte with these bits cleared.
 #[tactic(auto, using(crate::proofs::Lemmas::Bits::and_not_is_without_byte))]
+#[inline(always)]
 pub(super) fn without_bits(byte: u8, bits: u8) -> u8
     ensures { result ≡ without_bits byte bits }
 {

@@ -54,6 +54,7 @@ impl Condition {
     ghost use Rattle.superio_core.specs.Serial.Port.Registers.{ier_bit, iir_bit};
 
     /// The bit of IER that enables it.
+    #[inline(always)]
     pub(super) fn ier_bit(self) -> u8
         ensures { result ≡ ier_bit self }
     {
@@ -64,6 +65,7 @@ impl Condition {
     }
 
     /// The bit of IIR that shows it pending.
+    #[inline(always)]
     pub(super) fn iir_bit(self) -> u8
         ensures { result ≡ iir_bit self }
     {
@@ -140,14 +142,14 @@ impl Registers {
     }
 
     /// The register that an offset reaches.
+    #[inline(always)]
     pub fn at(&self, offset: u8) -> Register
         ensures { result ≡ register_at (is_dlab self.now.line_control) offset }
     {
-        let dlab = has_bits(self.line_control, LCR_DLAB_BIT);
         match offset {
-            DATA_OFFSET if dlab => Register::Dll,
+            DATA_OFFSET if self.is_divisor_shown() => Register::Dll,
             DATA_OFFSET => Register::RbrThr,
-            IER_OFFSET if dlab => Register::Dlm,
+            IER_OFFSET if self.is_divisor_shown() => Register::Dlm,
             IER_OFFSET => Register::Ier,
             IIR_OFFSET => Register::Iir,
             LCR_OFFSET => Register::Lcr,
@@ -159,7 +161,16 @@ impl Registers {
         }
     }
 
+    /// Whether LCR's DLAB puts the divisor latch at offsets 0 and 1.
+    #[inline(always)]
+    fn is_divisor_shown(&self) -> bool
+        ensures { result ≡ is_dlab self.now.line_control }
+    {
+        has_bits(self.line_control, LCR_DLAB_BIT)
+    }
+
     /// Whether loopback is on.
+    #[inline(always)]
     pub fn is_loopback(&self) -> bool
         ensures { result ≡ is_loopback self.now.modem_control }
     {

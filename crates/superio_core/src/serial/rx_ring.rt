@@ -2,7 +2,7 @@
 ghost use Rattle.std.specs.Prelude.{◌≡◌, ◌<◌, ◌≤◌, ◌+◌, ◌%◌, min, []};
 ghost use Rattle.superio_core.specs.Serial.Port.RxRing.{held_bytes};
 
-use crate::fifo::{FIFO_SIZE, ReceiveFifo};
+use super::super::fifo::{FIFO_SIZE, ReceiveFifo};
 
 /// Received bytes in a ring of 64 places. Any values are valid: `head` counts modulo 64, and `len` above 64 counts as
 /// 64.
@@ -31,6 +31,7 @@ impl RxRing {
     }
 
     /// How many bytes are held, at most 64.
+    #[inline(always)]
     fn count(&self) -> usize
         ensures { result ≡ min self.now.len 64 }
     {
@@ -38,6 +39,7 @@ impl RxRing {
     }
 
     /// The place at this distance from the oldest byte.
+    #[inline(always)]
     fn place(&self, distance: usize) -> usize
         requires { distance ≤ 64 }
         ensures value { result ≡ (self.now.head + distance) % 64 }
@@ -52,14 +54,17 @@ impl ReceiveFifo for RxRing {
 
     ghost canonical = { λ fifo. fifo.len ≤ 64 };
 
+    #[inline(always)]
     fn len(&self) -> usize {
         self.count()
     }
 
+    #[inline(always)]
     fn is_empty(&self) -> bool {
         self.len == 0
     }
 
+    #[inline(always)]
     fn take_first(&mut self) -> Option<u8> {
         let held = self.count();
         if held == 0 {
@@ -71,6 +76,7 @@ impl ReceiveFifo for RxRing {
         Some(byte)
     }
 
+    #[inline(always)]
     fn push(&mut self, byte: u8) -> bool {
         let held = self.count();
         if held == FIFO_SIZE {
@@ -82,6 +88,7 @@ impl ReceiveFifo for RxRing {
         true
     }
 
+    #[inline(always)]
     fn fill(&mut self, bytes: &[u8]) -> usize {
         let held = self.count();
         let count = bytes.len().min(FIFO_SIZE - held);

@@ -10,8 +10,8 @@ ghost use Rattle.superio_core.specs.Saved.Faults.{serial_fault};
 use super::SerialPort;
 use super::registers::{REGISTER_COUNT, Registers};
 use super::rx_ring::RxRing;
-use crate::fifo::{FIFO_SIZE, ReceiveFifo};
-use crate::saved::{Error, HEADER_SIZE, SERIAL_KIND, contents_of, header};
+use super::super::fifo::{FIFO_SIZE, ReceiveFifo};
+use super::super::saved::{Error, HEADER_SIZE, SERIAL_KIND, contents_of, header};
 
 /// The size of a form without received bytes: the header and the registers.
 const SAVED_MIN: usize = HEADER_SIZE + REGISTER_COUNT;

@@ -20,12 +20,13 @@ use super::bits::{
 };
 use super::effects::{ReadEffects, WriteEffects};
 use super::registers::{Condition, Register, Registers};
-use crate::fifo::ReceiveFifo;
-use crate::trace::Asked;
+use super::super::fifo::ReceiveFifo;
+use super::super::trace::Asked;
 
 impl Registers {
     /// Raises a condition: if it is enabled and not pending, it becomes pending. Returns whether to call the trigger,
     /// once.
+    #[inline(always)]
     fn raise(&mut self, condition: Condition) -> bool
         ensures due { result
             ≡ becomes_pending condition self.old.interrupt_enable self.old.interrupt_identification }
@@ -45,6 +46,7 @@ impl Registers {
     }
 
     /// Lowers a condition: it is no longer pending.
+    #[inline(always)]
     fn lower(&mut self, condition: Condition)
         ensures registers { self.new ≡ record self.old {
           interrupt_identification = lower condition self.old.interrupt_identification;
@@ -56,6 +58,7 @@ impl Registers {
 
     /// An IER write: stores the low four bits, raises RDA if bytes are held, then raises THRE. Returns how often to
     /// call the trigger.
+    #[inline(always)]
     fn write_ier<F: ReceiveFifo>(&mut self, fifo: &F, value: u8) -> u8
         ensures due { result ≡ ier_write_calls (only_bits value 0x0F) (state_with self.old (F.held fifo.now)) }
         ensures at_most_2 { result ≤ 2 }
@@ -87,6 +90,7 @@ impl Registers {
     }
 
     /// Notes received bytes: sets data ready and raises RDA.
+    #[inline(always)]
     fn note_received(&mut self) -> bool
         ensures due { result ≡ becomes_pending Rda self.old.interrupt_enable self.old.interrupt_identification }
         ensures registers { self.new ≡ record self.old {
@@ -100,6 +104,7 @@ impl Registers {
 
     /// Adds as many of these bytes as fit after the held ones, first ones first. Returns how many it added, and whether
     /// to call the trigger.
+    #[inline(always)]
     pub fn receive<F: ReceiveFifo>(&mut self, fifo: &mut F, bytes: &[u8]) -> (usize, bool)
         ensures count { result.0 ≡ length (bytes_that_fit (F.held fifo.old) bytes.now) }
         ensures due { count_if result.1
@@ -116,6 +121,7 @@ impl Registers {
     }
 
     /// A character timeout: raises RDA if bytes are held. Returns how often to call the trigger.
+    #[inline(always)]
     pub fn character_timeout<F: ReceiveFifo>(&mut self, fifo: &F) -> u8
         ensures due { result ≡ timeout_calls (state_with self.old (F.held fifo.now)) }
         ensures at_most_1 { result ≤ 1 }
@@ -126,6 +132,7 @@ impl Registers {
     }
 
     /// An RBR read: lowers RDA, then takes the oldest byte or gives 0.
+    #[inline(always)]
     fn read_rbr<F: ReceiveFifo>(&mut self, fifo: &mut F) -> ReadEffects
         ensures value { result.byte ≡ slice_index (F.held fifo.old) 0 }
         ensures state { state_with self.new (F.held fifo.new) ≡ rbr_read (state_with self.old (F.held fifo.old)) }
@@ -146,6 +153,7 @@ impl Registers {
     }
 
     /// Reads a register.
+    #[inline(always)]
     pub fn read<F: ReceiveFifo>(&mut self, fifo: &mut F, register: Register) -> ReadEffects
         ensures value { result.byte
             ≡ register_read register (state_with self.old (F.held fifo.old)) }
@@ -180,6 +188,7 @@ impl Registers {
 
     /// Writes a register. In loopback a THR write is received. Otherwise its byte goes out, and THRE is raised whatever
     /// happens to the byte. The due trigger calls count as taken: `take_back` applies a refusal.
+    #[inline(always)]
     pub fn write<F: ReceiveFifo>(
         &mut self,
         fifo: &mut F,
