@@ -11,8 +11,6 @@ from pathlib import Path
 ROOT = Path(__file__).resolve().parent.parent.parent
 CRATE = ROOT / "crates" / "superio_c"
 PREBUILT = ROOT / "prebuilt"
-# What Cargo packs with the Rust crate has to be in its folder, and links have no place in this repository.
-PACKED = ROOT / "bindings" / "rust" / "prebuilt"
 HEADER = ROOT / "include" / "superio.h"
 
 STATIC = "libsuperio_c.a"
@@ -99,6 +97,3 @@ def build(folder):
     shutil.rmtree(log.parent)
     (folder / "SHA256SUMS").write_text(sums_of(folder), encoding="ascii")
     (folder / "SOURCES").write_text(source_line(), encoding="ascii")
-    if folder == PREBUILT:
-        for target in TARGETS:
-            shutil.copyfile(PREBUILT / target / STATIC, PACKED / target / STATIC)

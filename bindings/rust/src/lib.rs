@@ -69,7 +69,12 @@ pub mod serial;
 /// assert!(is_reset_command(4, 0xFE)); // the guest resets its machine
 /// ```
 #[path = "core/mod.rs"]
-#[rustfmt::skip] // these lines are those of the proved source
+// These lines are those of the proved source, in the layout and style of its language. A name in a pattern that is no
+// constant, or a result that is not used, would mean another thing here than there.
+#[rustfmt::skip]
+#[allow(clippy::style)]
+#[deny(arithmetic_overflow, overflowing_literals, unconditional_panic, unconditional_recursion)]
+#[deny(non_snake_case, unreachable_patterns, unused_must_use, unused_variables)]
 pub mod values;
 
 pub use i8042::I8042Device;
