@@ -123,7 +123,7 @@ class Installing(CopyTest):
 class Building(CopyTest):
     def setUp(self):
         super().setUp()
-        self.take("bindings/rust/prebuilt", *SOURCES, "include", "prebuilt")
+        self.take(*SOURCES, "include", "prebuilt")
         tools = self.root / "kit" / "toolchain" / "bin"
         tools.mkdir(parents=True)
         for path, script in ((self.root / "kit" / "rt", RT), (tools / "ld.lld", LINKER)):
@@ -147,16 +147,12 @@ class Building(CopyTest):
         folder = self.root / "folder"
         self.assertEqual(self.run_tool("tools/c/prebuild", folder, env=self.environment), (0, "", ""))
         self.check(folder)
-        for name in ("prebuilt", "bindings/rust/prebuilt"):
-            library = f"{name}/x86_64-linux/libsuperio_c.a"
-            self.assertEqual((self.root / library).read_bytes(), (ROOT / library).read_bytes())
+        library = "prebuilt/x86_64-linux/libsuperio_c.a"
+        self.assertEqual((self.root / library).read_bytes(), (ROOT / library).read_bytes())
 
     def test_into_the_repository(self):
         self.assertEqual(self.run_tool("tools/c/prebuild", env=self.environment), (0, "", ""))
         self.check(self.root / "prebuilt")
-        for target in TARGETS:
-            packed = self.root / "bindings/rust/prebuilt" / target / "libsuperio_c.a"
-            self.assertEqual(packed.read_text(encoding="ascii"), BUILT[f"{target}/libsuperio_c.a"])
 
     def test_a_build_that_fails_says_where_its_output_is(self):
         status, _, said = self.run_tool("tools/c/prebuild", self.root / "folder", env={**self.environment, "FAILS": "1"})

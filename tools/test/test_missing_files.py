@@ -1,7 +1,9 @@
 """Tests that tools name a file that is missing or damaged, count it as failed, and end with their sum."""
 import re
 import shutil
+import sys
 import unittest
+from pathlib import Path
 
 import tiny
 from repository import ROOT, CopyTest
@@ -65,10 +67,12 @@ class MissingFiles(CopyTest):
         # Cargo is there, and fails.
         (self.root / "cargo").write_text('#!/bin/sh\n[ "$*" = --version ]\n', encoding="ascii")
         (self.root / "cargo").chmod(0o755)
-        library = "prebuilt/aarch64-linux/libsuperio_c.a"
-        (self.root / library).unlink()
-        for tool in ("c/check", "rust/check"):
-            _, failed = self.sum_of(tool, says=f"{library}'", env={"PATH": str(self.root)})
+        library, device = "prebuilt/aarch64-linux/libsuperio_c.a", "bindings/rust/src/core/serial.rs"
+        for lost in (library, device):
+            (self.root / lost).unlink()
+        path = f"{self.root}:{Path(sys.executable).parent}"
+        for tool, says in (("c/check", f"{library}'"), ("rust/check", f"{device} is not there")):
+            _, failed = self.sum_of(tool, says=says, env={"PATH": path})
             self.assertGreater(failed, 0)
 
     def test_wrong_bodies_without_the_prover(self):

@@ -190,6 +190,11 @@ fn moment_of(time: SystemTime) -> u64 {
     time.duration_since(UNIX_EPOCH).map_or(0, |since| since.as_secs())
 }
 
+/// The host's time.
+fn moment() -> u64 {
+    moment_of(SystemTime::now())
+}
+
 impl Default for Rtc<NoEvents> {
     fn default() -> Self {
         Self::new()
@@ -254,8 +259,14 @@ impl<EV: RtcEvents> Rtc<EV> {
     ///
     /// A write to an unwritable offset stores nothing and calls the events object's `invalid_write` once.
     pub fn write(&mut self, offset: u16, data: &[u8; 4]) {
-        let now = self.moment(matches!(offset, RTCMR | RTCLR));
-        self.write_at(offset, data, now);
+        if self.is_armed() {
+            return self.write_while_armed(offset, data);
+        }
+        match offset {
+            RTCMR => self.write_at(RTCMR, data, moment()),
+            RTCLR => self.write_at(RTCLR, data, moment()),
+            _ => self.write_at(offset, data, 0),
+        }
     }
 
     /// Writes as [`write`](Rtc::write) does, at the moment `now`, in seconds since 1970, instead of the host's time.
@@ -269,8 +280,13 @@ impl<EV: RtcEvents> Rtc<EV> {
     ///
     /// A read of an unreadable offset leaves `data` unchanged and calls the events object's `invalid_read` once.
     pub fn read(&mut self, offset: u16, data: &mut [u8; 4]) {
-        let now = self.moment(offset == RTCDR);
-        self.read_at(offset, data, now);
+        if self.is_armed() {
+            return self.read_while_armed(offset, data);
+        }
+        match offset {
+            RTCDR => self.read_at(RTCDR, data, moment()),
+            _ => self.read_at(offset, data, 0),
+        }
     }
 
     /// Reads as [`read`](Rtc::read) does, at the moment `now`, in seconds since 1970, instead of the host's time.
@@ -281,13 +297,14 @@ impl<EV: RtcEvents> Rtc<EV> {
         }
     }
 
-    /// The moment of an access. The host is asked for it only if the register or an alarm that is set depends on it.
-    fn moment(&self, is_timed: bool) -> u64 {
-        if is_timed || self.is_armed() {
-            moment_of(SystemTime::now())
-        } else {
-            0
-        }
+    #[cold]
+    fn write_while_armed(&mut self, offset: u16, data: &[u8; 4]) {
+        self.write_at(offset, data, moment());
+    }
+
+    #[cold]
+    fn read_while_armed(&mut self, offset: u16, data: &mut [u8; 4]) {
+        self.read_at(offset, data, moment());
     }
 }
 

@@ -89,6 +89,7 @@ impl SerialState {
         SerialPort::from_bytes(bytes).map(|port| SerialState::of(&port))
     }
 
+    #[inline]
     pub(crate) fn of(port: &SerialPort) -> SerialState {
         let Registers {
             baud_divisor_low,
@@ -101,11 +102,9 @@ impl SerialState {
             modem_status,
             scratch,
         } = port.registers;
-        let mut held = port.in_buffer;
-        let mut in_buffer = Vec::with_capacity(held.len());
-        while let Some(byte) = held.take_first() {
-            in_buffer.push(byte);
-        }
+        let held = &port.in_buffer;
+        let oldest = usize::from(held.head);
+        let places = (oldest..oldest + held.len()).map(|place| place % FIFO_SIZE);
         SerialState {
             baud_divisor_low,
             baud_divisor_high,
@@ -116,15 +115,17 @@ impl SerialState {
             modem_control,
             modem_status,
             scratch,
-            in_buffer,
+            in_buffer: places.map(|place| held.bytes[place]).collect(),
         }
     }
 
     /// The port of this state, or `None` if it has more bytes than a port can hold.
+    #[inline]
     pub(crate) fn port(&self) -> Option<SerialPort> {
         let count = self.in_buffer.len();
-        let mut bytes = [0; FIFO_SIZE];
-        bytes.get_mut(..count)?.copy_from_slice(&self.in_buffer);
+        // The count is at most FIFO_SIZE.
+        let mut in_buffer = RxRing { head: 0, len: count as u8, bytes: [0; FIFO_SIZE] };
+        in_buffer.bytes.get_mut(..count)?.copy_from_slice(&self.in_buffer);
         let registers = Registers {
             baud_divisor_low: self.baud_divisor_low,
             baud_divisor_high: self.baud_divisor_high,
@@ -136,7 +137,6 @@ impl SerialState {
             modem_status: self.modem_status,
             scratch: self.scratch,
         };
-        // The count is at most FIFO_SIZE.
-        Some(SerialPort { registers, in_buffer: RxRing { head: 0, len: count as u8, bytes } })
+        Some(SerialPort { registers, in_buffer })
     }
 }
