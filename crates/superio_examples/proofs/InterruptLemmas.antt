@@ -1,8 +1,6 @@
 -- What a read of IIR that shows nothing, received bytes and a restore leave between two turns of the event loop.
-use Rattle.std.proofs.Common.{append_assoc, append-nil, length-append, length-take, ◌*◌, ◌≡◌, ℕ, ◌+◌, ◌-◌, ◌<◌, ◌≤◌, Bool, true, false, not, ◌&&◌, List, [], ◌∷◌, ◌++◌, length, refl, ap, sym, ◌∙◌, subst, arith}
+use Rattle.std.proofs.Common.{append_assoc, append-nil, length-append, ◌*◌, ◌≡◌, ℕ, ◌+◌, ◌-◌, ◌<◌, ◌≤◌, Bool, true, false, not, ◌&&◌, List, [], ◌∷◌, ◌++◌, length, refl, ap, sym, ◌∙◌, subst, arith}
 use Rattle.std.proofs.lemmas.Bool.{false≢true}
-use Rattle.std.proofs.lemmas.List.{take-append-drop}
-use Rattle.std.proofs.Math.Seq.{drop-append_seam}
 use Rattle.std.specs.Prelude.{zero, suc, IsTrue, min, take, drop, if◌then◌else◌}
 use Rattle.superio_core.specs.declared.trace.Asked.{Asked}
 use Rattle.superio_core.specs.declared.trace.Sent.{Sent}
@@ -11,7 +9,7 @@ use Rattle.superio_core.specs.Bits.{has_bits, only_bits, with_bits, without_bits
 use Rattle.superio_core.specs.Serial.Port.State.{State, SameSettings, fresh_state, not_empty}
 use Rattle.superio_core.specs.Serial.Port.Coherent.{Coherent}
 use Rattle.superio_core.specs.Serial.Port.Registers.{identification_of, pending_in_order, is_dlab, is_loopback, register_at}
-use Rattle.superio_core.specs.Serial.Port.Operations.{Read, Write, Enqueue, CharacterTimeout, Response, ByteRead, count_if}
+use Rattle.superio_core.specs.Serial.Port.Operations.{Op, Read, Write, Enqueue, CharacterTimeout, Response, ByteRead, count_if}
 use Rattle.superio_core.specs.Serial.Step.Raising.{iir_none_bit, lower, enqueued_bytes, receive_bytes}
 use Rattle.superio_core.specs.Serial.Step.Transition.{step, step_response, read_step}
 use Rattle.superio_core.specs.Serial.Step.Restore.{restore_calls}
@@ -19,7 +17,8 @@ use Rattle.superio_core.specs.Serial.Step.Admissible.{timeout_calls, arrival_cal
 use Rattle.superio_core.specs.Serial.Port.OpKinds.{Other, Arrival}
 use Rattle.superio_core.specs.Serial.Port.Coherent.{ShowsHeldBytes}
 use Rattle.vm_superio.specs.Serial.Laws.OneCall.{RbrReadLaw}
-use Rattle.superio_examples.specs.Interrupts.{state_after_read, edges_after_read, more_edges, has_waiting, IsAttentive, IsArrival, IsPartOfRun}
+use Rattle.superio_examples.specs.Interrupts.{state_after_read, edges_after_read, more_edges, IsAttentive, IsArrival, Leads, IsPartOfRun, EndsRun}
+use Rattle.superio_examples.proofs.RunLemmas.{leads-then, leads-none, leads-enqueue, leads-look, leads-byte, leads-iir, leads-timeout}
 
 -- ---- the bits of IIR
 
@@ -67,18 +66,6 @@ pub attentive_after_none : (s : State) (edges : ℕ)
 attentive_after_none s edges =
     let bits = timeout_bits (not_empty s.in_buffer) (has_bits s.interrupt_enable 0x01) edges in
     record { shows = bits.shows; owed = bits.owed }
-
-one_call : (some enabled : Bool) → count_if (some && (enabled && not (has_bits 0x01 0x04))) ≡ count_if (some && enabled)
-unfolding has_bits
-one_call true true = refl
-one_call true false = refl
-one_call false _ = refl
-
-timed_calls : (s : State) → timeout_calls (acknowledged s) ≡ count_if (has_waiting s)
-timed_calls s = one_call (not_empty s.in_buffer) (has_bits s.interrupt_enable 0x01)
-
-pub few_after_none : (s : State) (edges : ℕ) → more_edges edges (timeout_calls (acknowledged s)) ≤ edges + count_if (has_waiting s)
-few_after_none s edges = omega (arith, few_more edges (timeout_calls (acknowledged s)), timed_calls s)
 
 -- ---- after received bytes
 
@@ -205,6 +192,7 @@ some_held (byte ∷ held) some = omega arith
 
 pub record TakesByte (old new : State) (byte : ℕ) : Type 0 where
   pub bytes : byte ∷ new.in_buffer ≡ old.in_buffer
+  pub leads : Leads (Read 0 ∷ []) old new (byte ∷ [])
   pub changes : SameSettings old new
   pub none : old.interrupt_identification ≡ iir_none_bit → new.interrupt_identification ≡ iir_none_bit
 
@@ -219,8 +207,11 @@ pub takes_byte : RbrReadLaw → (old new : State) (byte : ℕ) → is_dlab old.l
     → ByteRead byte ≡ step_response old (Read 0) Asked.Nothing Sent.Nothing → new ≡ step old (Read 0) Asked.Nothing
     → TakesByte old new byte
 takes_byte law old new byte clear some read made =
-    let oldest = law old byte clear some read in record {
-      bytes = ap (λ (s : State). byte ∷ s.in_buffer) made ∙ oldest.bytes;
+    let oldest = law old byte clear some read in
+    let bytes = ap (λ (s : State). byte ∷ s.in_buffer) made ∙ oldest.bytes in
+    record {
+      bytes = bytes;
+      leads = leads-byte old new byte clear bytes made;
       changes = subst (λ (s : State). SameSettings old s) (sym made) oldest.rest_unchanged;
       none = λ was. ap (λ (s : State). s.interrupt_identification) made
           ∙ ap (λ latch. (read_step (register_at latch 0) old).interrupt_identification) clear
@@ -258,39 +249,10 @@ shown_none false wrong = absurd (false≢true (sym wrong))
 
 -- ---- a turn of the event loop
 
-offered_rest : (loopback : Bool) (room : ℕ) (rest : List ℕ)
-    → let taken = if loopback then [] else take room rest in taken ++ drop (length taken) rest ≡ rest
-offered_rest true room rest = refl
-offered_rest false room rest =
-    ap (λ bytes. take room rest ++ drop (length (take room rest)) bytes) (sym (take-append-drop room rest))
-    ∙ ap (λ bytes. take room rest ++ bytes) (drop-append_seam (take room rest) (drop room rest))
-    ∙ take-append-drop room rest
-
-pub offered_then_rest : (s : State) (rest : List ℕ)
-    → enqueued_bytes s rest ++ drop (length (enqueued_bytes s rest)) rest ≡ rest
-offered_then_rest s rest = offered_rest (is_loopback s.modem_control) (64 - length s.in_buffer) rest
-
 few_edges : (held : List ℕ) (enabled : Bool) → count_if (not_empty held && enabled) ≤ min 1 (length held)
 few_edges [] enabled = omega arith
 few_edges (byte ∷ held) true = omega arith
 few_edges (byte ∷ held) false = omega arith
-
-pub waiting-few : (s : State) (edges : ℕ) → edges ≡ count_if (has_waiting s) → (edges ≤ 1) × (edges ≤ length s.in_buffer)
-waiting-few s edges is =
-    let few = few_edges s.in_buffer (has_bits s.interrupt_enable 0x01) in (omega (arith, is, few), omega (arith, is, few))
-
--- of a piece of what is left, the port takes the first bytes
-pub piece_then_rest : (s : State) (most : ℕ) (rest : List ℕ) → let taken = enqueued_bytes s (take most rest) in
-    taken ++ drop (length taken) rest ≡ rest
-piece_then_rest s most rest =
-    let piece = take most rest in
-    let taken = enqueued_bytes s piece in
-    let whole = offered_then_rest s piece in
-    let parts = sym (take-append-drop most rest) ∙ ap (λ bytes. bytes ++ drop most rest) (sym whole)
-    ∙ append_assoc taken (drop (length taken) piece) (drop most rest) in
-    ap (λ bytes. taken ++ drop (length taken) bytes) parts
-    ∙ ap (λ bytes. taken ++ bytes) (drop-append_seam taken (drop (length taken) piece ++ drop most rest))
-    ∙ sym parts
 
 -- ---- a fresh port whose guest enables RDA
 
@@ -321,14 +283,6 @@ received_held (byte ∷ bytes) s = refl
 received_settings : (bytes : List ℕ) (s : State) → SameSettings s (receive_bytes bytes s)
 received_settings [] s = refl
 received_settings (byte ∷ bytes) s = refl
-
-none_offered : (s : State) (loopback : Bool) (room : ℕ) → receive_bytes (if loopback then [] else take room []) s ≡ s
-none_offered s true room = refl
-none_offered s false zero = refl
-none_offered s false (suc room) = refl
-
-pub no_offer : (s : State) → step s (Enqueue []) Asked.Nothing ≡ s
-no_offer s = none_offered s (is_loopback s.modem_control) (64 - length s.in_buffer)
 
 -- what an arrival does
 pub record Arrived (old new : State) (edges_old edges_new : ℕ) (rest_old rest_new : List ℕ) : Type 0 where
@@ -368,7 +322,9 @@ pub part-then : (old middle new : State) (rest_old rest_middle rest_new sizes_ol
     → IsPartOfRun middle new rest_middle rest_new sizes_middle sizes_new got_middle got_new
     → IsPartOfRun old new rest_old rest_new sizes_old sizes_new got_old got_new
 part-then old middle new rest_old rest_middle rest_new sizes_old sizes_middle sizes_new got_old got_middle got_new first second = record {
+  ops = second.ops ++ first.ops;
   taken = first.taken ++ second.taken;
+  leads = leads-then second.ops first.ops old middle new first.taken second.taken first.leads second.leads;
   got = second.got ∙ ap (λ got. got ++ second.taken) first.got ∙ append_assoc got_old first.taken second.taken;
   in_order = append_assoc first.taken second.taken (new.in_buffer ++ rest_new)
       ∙ ap (λ bytes. first.taken ++ bytes) second.in_order ∙ first.in_order;
@@ -377,9 +333,11 @@ part-then old middle new rest_old rest_middle rest_new sizes_old sizes_middle si
   settings = settings-then old middle new first.settings second.settings;
 }
 
-pub part-none : (s : State) (rest sizes got : List ℕ) → IsPartOfRun s s rest rest sizes sizes got got
-part-none s rest sizes got = record {
+pub part_none : (s : State) (rest sizes got : List ℕ) → IsPartOfRun s s rest rest sizes sizes got got
+part_none s rest sizes got = record {
+  ops = [];
   taken = [];
+  leads = leads-none s;
   got = sym (append-nil got);
   in_order = refl;
   rest = omega arith;
@@ -396,7 +354,9 @@ pub part-arrival : (old new : State) (edges_old edges_new : ℕ) (rest_old rest_
     → IsPartOfRun old new rest_old rest_new sizes_old sizes_new got got
 part-arrival old new edges_old edges_new rest_old rest_new sizes_old sizes_new got is made used =
     let all = arrived old new edges_old edges_new rest_old rest_new is made in record {
+      ops = Enqueue made.offered ∷ [];
       taken = [];
+      leads = leads-enqueue old new made.offered made.state;
       got = sym (append-nil got);
       in_order = all.in_order;
       rest = all.rest;
@@ -407,7 +367,9 @@ part-arrival old new edges_old edges_new rest_old rest_new sizes_old sizes_new g
 pub part-byte : (old new : State) (byte : ℕ) (rest sizes got_old got_new : List ℕ) → TakesByte old new byte → got_new ≡ got_old ++ byte ∷ []
     → IsPartOfRun old new rest rest sizes sizes got_old got_new
 part-byte old new byte rest sizes got_old got_new takes pushed = record {
+  ops = Read 0 ∷ [];
   taken = byte ∷ [];
+  leads = takes.leads;
   got = pushed;
   in_order = ap (λ bytes. bytes ++ rest) takes.bytes;
   rest = omega arith;
@@ -435,6 +397,9 @@ none_shows (byte ∷ held) identification shows none = absurd (false≢true (sym
 -- ---- the handler's read of IIR
 
 pub record ReadsIir (old new : State) (edges_old edges_new : ℕ) (none : Bool) : Type 0 where
+  pub ops : List Op
+  pub leads : Leads ops old new []
+  pub ends : none ≡ true → Leads (CharacterTimeout ∷ Read 2 ∷ []) old new []
   pub held : new.in_buffer ≡ old.in_buffer
   pub settings : SameSettings old new
   pub some : none ≡ false → new ≡ acknowledged old
@@ -445,6 +410,9 @@ reads : (old new : State) (edges_old edges_new : ℕ) (none : Bool)
     → edges_new ≡ (if none then more_edges edges_old (timeout_calls (acknowledged old)) else edges_old)
     → ReadsIir old new edges_old edges_new none
 reads old new edges_old edges_new true state edges = record {
+  ops = CharacterTimeout ∷ Read 2 ∷ [];
+  leads = subst (λ (s : State). Leads (CharacterTimeout ∷ Read 2 ∷ []) old s []) (sym state) (leads-timeout old);
+  ends = λ _. subst (λ (s : State). Leads (CharacterTimeout ∷ Read 2 ∷ []) old s []) (sym state) (leads-timeout old);
   held = ap (λ (s : State). s.in_buffer) state;
   settings = subst (λ (s : State). SameSettings old s) (sym state) refl;
   some = λ no. absurd (false≢true (sym no));
@@ -452,6 +420,9 @@ reads old new edges_old edges_new true state edges = record {
       (subst (λ edges. IsAttentive (step (acknowledged old) CharacterTimeout Asked.Nothing) edges) (sym edges) (attentive_after_none old edges_old));
 }
 reads old new edges_old edges_new false state edges = record {
+  ops = Read 2 ∷ [];
+  leads = subst (λ (s : State). Leads (Read 2 ∷ []) old s []) (sym state) (leads-iir old);
+  ends = λ no. absurd (false≢true no);
   held = ap (λ (s : State). s.in_buffer) state;
   settings = subst (λ (s : State). SameSettings old s) (sym state) refl;
   some = λ _. state;
@@ -461,6 +432,15 @@ reads old new edges_old edges_new false state edges = record {
 pub reads_iir : (old new : State) (edges_old edges_new byte : ℕ) → new ≡ state_after_read 2 byte old
     → edges_new ≡ edges_after_read 2 byte old edges_old → ReadsIir old new edges_old edges_new (has_bits byte 0x01)
 reads_iir old new edges_old edges_new byte state edges = reads old new edges_old edges_new (has_bits byte 0x01) state edges
+
+-- after an arrival, such a read that shows none
+pub ends_run : (old middle new : State) (edges_old edges_new : ℕ) (rest_old rest_new : List ℕ)
+    → IsArrival old middle edges_old edges_new rest_old rest_new → Leads (CharacterTimeout ∷ Read 2 ∷ []) middle new [] → EndsRun old new
+ends_run old middle new edges_old edges_new rest_old rest_new made leads = record {
+  earlier = Enqueue made.offered ∷ [];
+  leads = leads-then (CharacterTimeout ∷ Read 2 ∷ []) (Enqueue made.offered ∷ []) old middle new [] []
+      (leads-enqueue old middle made.offered made.state) leads;
+}
 
 -- with nothing shown, RDA is not shown either
 no_rda : (thre rda : Bool) → has_bits (identification_of thre rda) 0x01 ≡ true → has_bits (identification_of thre rda) 0x04 ≡ false
@@ -476,19 +456,42 @@ none_waits s is shows enabled none =
     none_shows s.in_buffer (has_bits s.interrupt_identification 0x04) (λ some. shows some enabled)
     (ap (λ iir. has_bits iir 0x04) is.identification ∙ no_rda is.thre is.rda (sym (ap (λ iir. has_bits iir 0x01) is.identification) ∙ none))
 
+-- held bytes that show are pending
+pub held_pending : (s : State) → Coherent s → ShowsHeldBytes s → IsTrue (has_bits s.interrupt_enable 0x01)
+    → 0 < length s.in_buffer → has_bits s.interrupt_identification 0x01 ≡ false
+held_pending s is shows enabled some = not_true (has_bits s.interrupt_identification 0x01)
+    (λ none. absurd (omega (arith, some, ap length (none_waits s is shows enabled none)))) where
+      not_true : (none : Bool) → (none ≡ true → ⊥) → none ≡ false
+      not_true true wrong = absurd (wrong refl)
+      not_true false wrong = refl
+
+-- what no interrupt was found for shows none
+pub found_none : (none found : Bool) → (none ≡ false → found ≡ true) → found ≡ false → none ≡ true
+found_none true found shows hidden = refl
+found_none false found shows hidden = absurd (false≢true (sym hidden ∙ shows refl))
+
 pub enabled-kept : (old new : State) → SameSettings old new → IsTrue (has_bits old.interrupt_enable 0x01) → IsTrue (has_bits new.interrupt_enable 0x01)
 enabled-kept old new same enabled = ap (λ (s : State). has_bits s.interrupt_enable 0x01) same ∙ enabled
 
-pub part-state : (old new : State) (rest sizes got : List ℕ) → new.in_buffer ≡ old.in_buffer → SameSettings old new
-    → IsPartOfRun old new rest rest sizes sizes got got
-part-state old new rest sizes got held same = record {
+pub part-state : (old new : State) (rest sizes got : List ℕ) (ops : List Op) → Leads ops old new [] → new.in_buffer ≡ old.in_buffer
+    → SameSettings old new → IsPartOfRun old new rest rest sizes sizes got got
+part-state old new rest sizes got ops leads held same = record {
+  ops = ops;
   taken = [];
+  leads = leads;
   got = sym (append-nil got);
   in_order = ap (λ bytes. bytes ++ rest) held;
   rest = omega arith;
   sizes = omega arith;
   settings = same;
 }
+
+-- a read of LSR
+pub part-look : (old new : State) (rest sizes got : List ℕ) → new ≡ step old (Read 5) Asked.Nothing
+    → IsPartOfRun old new rest rest sizes sizes got got
+part-look old new rest sizes got same =
+    part-state old new rest sizes got (Read 5 ∷ []) (subst (λ (s : State). Leads (Read 5 ∷ []) old s []) (sym same) (leads-look old))
+    (ap (λ (s : State). s.in_buffer) same) (subst (λ (s : State). SameSettings old s) (sym same) refl)
 
 pub none-kept : (none : ℕ) (old middle : State) (all sizes : List ℕ) → length sizes ≤ length all
     → (sizes ≡ [] → middle ≡ old) → (length sizes ≡ length all → old.interrupt_identification ≡ none)
@@ -549,7 +552,9 @@ took_one old new rest_old rest_new sizes_old sizes_new got_old got_new part some
 pub part-got : (old new : State) (rest_old rest_new sizes_old sizes_new got : List ℕ)
     → IsPartOfRun old new rest_old rest_new sizes_old sizes_new [] [] → IsPartOfRun old new rest_old rest_new sizes_old sizes_new got got
 part-got old new rest_old rest_new sizes_old sizes_new got part = record {
+  ops = part.ops;
   taken = part.taken;
+  leads = part.leads;
   got = sym (append-nil got) ∙ ap (λ taken. got ++ taken) part.got;
   in_order = part.in_order;
   rest = part.rest;
@@ -562,44 +567,21 @@ part-grows got_old got_new taken got = omega (arith, ap length got, length-appen
 
 -- ---- the event loop
 
--- the first and the last parts of a run: all the input, in order
-pub part-in_order : (old new : State) (rest_old rest_new sizes_old sizes_new got_old got_new : List ℕ)
-    → IsPartOfRun old new rest_old rest_new sizes_old sizes_new got_old got_new
-    → got_new ++ (new.in_buffer ++ rest_new) ≡ got_old ++ (old.in_buffer ++ rest_old)
-part-in_order old new rest_old rest_new sizes_old sizes_new got_old got_new part =
-    ap (λ got. got ++ (new.in_buffer ++ rest_new)) part.got ∙ append_assoc got_old part.taken (new.in_buffer ++ rest_new)
-    ∙ ap (λ bytes. got_old ++ bytes) part.in_order
-
 -- bytes offered at a turn, with no size used
 pub part-offer : (old new : State) (edges_old edges_new : ℕ) (rest_old rest_new sizes_old sizes_new got : List ℕ) → Coherent old
     → IsArrival old new edges_old edges_new rest_old rest_new → sizes_new ≡ sizes_old
     → IsPartOfRun old new rest_old rest_new sizes_old sizes_new got got
 part-offer old new edges_old edges_new rest_old rest_new sizes_old sizes_new got is made same =
     let all = arrived old new edges_old edges_new rest_old rest_new is made in record {
+      ops = Enqueue made.offered ∷ [];
       taken = [];
+      leads = leads-enqueue old new made.offered made.state;
       got = sym (append-nil got);
       in_order = all.in_order;
       rest = all.rest;
       sizes = omega (arith, ap length same);
       settings = all.settings;
     }
-
--- with nothing owed, nothing is held
-pub none_owed : (s : State) (edges : ℕ) → IsAttentive s edges → IsTrue (has_bits s.interrupt_enable 0x01) → edges ≡ 0 → s.in_buffer ≡ []
-none_owed s edges attentive enabled none = held s.in_buffer (λ some. absurd (omega (arith, none, attentive.owed enabled (attentive.shows some enabled)))) where
-  held : (bytes : List ℕ) → (IsTrue (not_empty bytes) → ⊥) → bytes ≡ []
-  held [] empty = refl
-  held (byte ∷ bytes) empty = absurd (empty refl)
-
--- if all that was left was offered outside loopback, and nothing is held, nothing is left
-pub none_left : (old new : State) (edges_old edges_new : ℕ) (rest_old rest_new : List ℕ)
-    → IsArrival old new edges_old edges_new rest_old rest_new → is_loopback old.modem_control ≡ false
-    → new.in_buffer ≡ old.in_buffer ++ enqueued_bytes old rest_old → new.in_buffer ≡ [] → rest_new ≡ []
-none_left old new edges_old edges_new rest_old rest_new made clear held none =
-    let lengths = sym (ap length none) ∙ ap length held ∙ length-append old.in_buffer (enqueued_bytes old rest_old) in
-    let fit = ap (λ loopback. length (if loopback then [] else take (64 - length old.in_buffer) rest_old)) clear
-    ∙ length-take (64 - length old.in_buffer) rest_old in
-    nothing rest_new (omega (arith, lengths, fit, ap length made.rest, length-append (enqueued_bytes old made.offered) rest_new))
 
 -- a handler's run takes a byte, or ends what was owed without one
 pub turn-smaller : (edges edges_then edges_now got_then got_now held held_then rest rest_then rest_now : ℕ) (held_now : List ℕ) (enabled : Bool)

@@ -2,3 +2,4 @@ pub mod InputLemmas
 pub mod InterruptLemmas
 pub mod OutputLemmas
 pub mod PortIoLemmas
+pub mod RunLemmas

@@ -9,7 +9,7 @@ ghost use Rattle.superio_core.specs.Serial.Port.Operations.{count_if};
 ghost use Rattle.superio_core.specs.declared.serial.registers.Condition.TheVariants.{Rda};
 ghost use Rattle.superio_core.specs.Serial.Port.Registers.{ier_bit, is_dlab, is_loopback};
 ghost use Rattle.superio_core.specs.Serial.Step.Raising.{iir_none_bit, enqueued_bytes};
-ghost use Rattle.superio_examples.specs.Interrupts.{IsArrival, IsPartOfRun, has_waiting, IsAttentive};
+ghost use Rattle.superio_examples.specs.Interrupts.{IsArrival, IsPartOfRun, EndsRun, IsRunOfDriver, has_waiting, IsAttentive};
 
 use crate::counter::Counter;
 use crate::interrupts::{MonitoredPort, TimedPort, shows_none};
@@ -94,6 +94,7 @@ fn finds_interrupt<P: MonitoredPort>(port: &mut P, feed: &mut Feed) -> bool
     ensures attentive { result ≡ false → IsAttentive (P.state port.new) (P.edges port.new) }
     ensures part { IsPartOfRun (P.state port.old) (P.state port.new) feed.old.rest.now feed.new.rest.now
         feed.old.sizes.now feed.new.sizes.now [] [] }
+    ensures ends { result ≡ false → EndsRun (P.state port.old) (P.state port.new) }
     ensures coherent { P.coherent port.new }
 {
     feed.arrive(port);
@@ -101,6 +102,7 @@ fn finds_interrupt<P: MonitoredPort>(port: &mut P, feed: &mut Feed) -> bool
 }
 
 /// The handler's batch: at most `bound` times, it takes a byte if LSR shows data ready, or else stops.
+#[tactic(auto, using(crate::proofs::InterruptLemmas::part_none))]
 fn take_bytes<P: MonitoredPort>(
     port: &mut P,
     bound: usize,
@@ -138,6 +140,7 @@ fn take_bytes<P: MonitoredPort>(
 /// # Errors
 ///
 /// Returns `AllocError` if memory is refused.
+#[tactic(auto, using(crate::proofs::InterruptLemmas::part_none))]
 pub fn handle<P: MonitoredPort>(
     port: &mut P,
     bound: usize,
@@ -148,6 +151,9 @@ pub fn handle<P: MonitoredPort>(
     requires latch { is_dlab (P.state port.old).line_control ≡ false }
     ensures part { IfOk result (λ _. IsPartOfRun (P.state port.old) (P.state port.new)
         feed.old.rest.now feed.new.rest.now feed.old.sizes.now feed.new.sizes.now got.old.items got.new.items) }
+    ensures run { IfOk result (λ _. 1 ≤ bound → ShowsHeldBytes (P.state port.old)
+        → IsTrue (has_bits (P.state port.old).interrupt_enable (ier_bit Rda))
+        → IsRunOfDriver (P.state port.old) (P.state port.new) got.old.items got.new.items) }
     ensures takes_one { IfOk result (λ _. 1 ≤ bound
         → has_bits (P.state port.old).interrupt_identification iir_none_bit ≡ false
         → 0 < length (P.state port.old).in_buffer → length got.old.items < length got.new.items) }
@@ -174,6 +180,7 @@ pub fn handle<P: MonitoredPort>(
 /// # Errors
 ///
 /// Returns `AllocError` if memory is refused.
+#[tactic(auto, using(crate::proofs::InterruptLemmas::part_none))]
 pub fn receive_by_interrupts<P: MonitoredPort>(
     alloc: Global,
     port: &mut P,

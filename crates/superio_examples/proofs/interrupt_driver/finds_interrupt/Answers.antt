@@ -2,7 +2,7 @@ use Rattle.std.proofs.Common.{ℕ, List, [], not, ap, sym, ◌∙◌, subst, len
 use Rattle.std.proofs.lemmas.Bool.{false≢true}
 use Rattle.superio_core.specs.Bits.{has_bits}
 use Rattle.superio_core.specs.Serial.Port.State.{State}
-use Rattle.superio_examples.proofs.InterruptLemmas.{arrived, reads_iir, none_answered, shown_some, shown_none, none_waits, enabled-kept, used_one, part-arrival, part-state, part-then}
+use Rattle.superio_examples.proofs.InterruptLemmas.{arrived, reads_iir, none_answered, shown_some, shown_none, none_waits, enabled-kept, used_one, part-arrival, part-state, part-then, ends_run}
 use Rattle.superio_examples.proofs.interrupt_driver.finds_interrupt.Goals as goal
 
 pub returns-clause-pending : goal.returns-clause-pending
@@ -60,4 +60,15 @@ returns-clause-part g c =
     part-then old middle new c.args.feed.now.rest.now rest rest c.args.feed.now.sizes.now sizes sizes [] [] []
     (part-arrival old middle (port.edges c.args.port.now) (port.edges c.arrive.new.port) c.args.feed.now.rest.now rest
     c.args.feed.now.sizes.now sizes [] (g.met.P.MonitoredPort.coherent_state c.args.port.now c.requires) c.arrive.ensures.arrival c.arrive.ensures.sizes)
-    (part-state middle new rest sizes [] read.held read.settings)
+    (part-state middle new rest sizes [] read.ops read.leads read.held read.settings)
+
+pub returns-clause-ends : goal.returns-clause-ends
+returns-clause-ends g c = λ hidden.
+    let port = g.P.MonitoredPort in
+    let old = port.state c.args.port.now in
+    let middle = port.state c.arrive.new.port in
+    let new = port.state c.read.new.self in
+    let read = reads_iir middle new (port.edges c.arrive.new.port) (port.edges c.read.new.self) c.read.result
+    c.read.ensures.state c.read.ensures.edges in
+    ends_run old middle new (port.edges c.args.port.now) (port.edges c.arrive.new.port) c.args.feed.now.rest.now c.arrive.new.self.rest.now
+    c.arrive.ensures.arrival (read.ends (sym c.shows_none.ensures ∙ shown_none c.shows_none.result hidden))

@@ -1,6 +1,7 @@
 use Rattle.std.proofs.Common.{ap, ◌∙◌, length, arith}
 use Rattle.superio_core.specs.Bits.{has_bits}
-use Rattle.superio_examples.proofs.InterruptLemmas.{none_bit, run-smaller, shows-none, took_one, part-got, part-grows, part-then}
+use Rattle.superio_examples.proofs.InterruptLemmas.{none_bit, run-smaller, shows-none, took_one, part-got, part-grows, part-then, held_pending, found_none}
+use Rattle.superio_examples.proofs.RunLemmas.{run_of_driver}
 use Rattle.superio_examples.proofs.interrupt_driver.handle.Goals as goal
 
 pub loop-port-smaller : goal.loop-port-smaller
@@ -43,3 +44,28 @@ loop-port-preserved g c =
       one = λ bound _ some _. took_one start new input.rest.now later.rest.now input.sizes.now later.sizes.now
           c.args.got.now.items c.take_bytes.new.got.items whole some (λ same. batch.empty bound (omega (arith, same, grew_before, grew_batch)));
     }
+
+pub returns-clause-part : goal.returns-clause-part
+returns-clause-part g c =
+    let port = g.P.MonitoredPort in
+    let here = port.state c.loop-port.port in
+    let new = port.state c.finds_interrupt.new.port in
+    let input = c.args.feed.now in
+    let feed = c.loop-port.feed in
+    let later = c.finds_interrupt.new.feed in
+    part-then (port.state c.args.port.now) here new input.rest.now feed.rest.now later.rest.now input.sizes.now feed.sizes.now later.sizes.now
+    c.args.got.now.items c.loop-port.got.items c.loop-port.got.items c.loop-port.invariant.part
+    (part-got here new feed.rest.now later.rest.now feed.sizes.now later.sizes.now c.loop-port.got.items c.finds_interrupt.ensures.part)
+
+pub returns-clause-run : goal.returns-clause-run
+returns-clause-run g c = λ bound shows enabled.
+    let port = g.P.MonitoredPort in
+    let before = c.loop-port.invariant in
+    let found = c.finds_interrupt.ensures in
+    let start = port.state c.args.port.now in
+    let here = port.state c.loop-port.port in
+    let none = found_none (has_bits here.interrupt_identification 0x01) c.finds_interrupt.result found.pending c.loop-port-test.false in
+    run_of_driver start here (port.state c.finds_interrupt.new.port) c.args.feed.now.rest.now c.loop-port.feed.rest.now
+    c.args.feed.now.sizes.now c.loop-port.feed.sizes.now c.args.got.now.items c.loop-port.got.items before.part (found.ends c.loop-port-test.false)
+    (λ some. before.one bound
+    (held_pending start (g.met.P.MonitoredPort.coherent_state c.args.port.now c.requires.coherent) shows enabled some) some none)

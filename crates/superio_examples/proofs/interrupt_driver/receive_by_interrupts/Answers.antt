@@ -1,6 +1,6 @@
 use Rattle.std.proofs.Common.{[], ap, ◌∙◌, length, arith, length-append}
 use Rattle.superio_core.specs.Bits.{has_bits}
-use Rattle.superio_examples.proofs.InterruptLemmas.{arrived, nothing, quiet, enabled-kept, part-offer, part-then, part-grows, part-lengths, turn-smaller}
+use Rattle.superio_examples.proofs.InterruptLemmas.{arrived, nothing, quiet, enabled-kept, part-arrival, part-offer, part-then, part-grows, part-lengths, turn-smaller}
 use Rattle.superio_examples.proofs.interrupt_driver.receive_by_interrupts.Goals as goal
 
 pub loop-feed-2-smaller : goal.loop-feed-2-smaller
@@ -58,4 +58,28 @@ loop-feed-2-preserved g c =
       part = part-then start then now c.args.input.now feed_then.rest.now feed_now.rest.now c.args.sizes.now feed_then.sizes.now feed_now.sizes.now [] got got_now
           (part-then start here then c.args.input.now feed.rest.now feed_then.rest.now c.args.sizes.now feed.sizes.now feed_then.sizes.now [] got got before.part offered)
           run.part;
+    }
+
+pub loop-feed-preserved-in-Continue-1 : goal.loop-feed-preserved-in-Continue-1
+loop-feed-preserved-in-Continue-1 g c =
+    let port = g.P.MonitoredPort in
+    let before = c.loop-feed.invariant in
+    let run = c.in_ok-handle.ensures in
+    let start = port.state c.args.port.now in
+    let here = port.state c.loop-feed.port in
+    let then = port.state c.arrive.new.port in
+    let feed = c.loop-feed.feed in
+    let feed_then = c.arrive.new.self in
+    let feed_now = c.handle.new.feed in
+    let got = c.loop-feed.got.items in
+    let arrival = part-arrival here then (port.edges c.loop-feed.port) (port.edges c.arrive.new.port) feed.rest.now feed_then.rest.now
+    feed.sizes.now feed_then.sizes.now got (g.met.P.MonitoredPort.coherent_state c.loop-feed.port before.coherent) c.arrive.ensures.arrival
+    c.arrive.ensures.sizes in
+    record {
+      coherent = run.coherent;
+      attentive = run.attentive;
+      part = part-then start then (port.state c.handle.new.port) c.args.input.now feed_then.rest.now feed_now.rest.now
+          c.args.sizes.now feed_then.sizes.now feed_now.sizes.now [] got c.handle.new.got.items
+          (part-then start here then c.args.input.now feed.rest.now feed_then.rest.now c.args.sizes.now feed.sizes.now feed_then.sizes.now [] got got
+          before.part arrival) run.part;
     }

@@ -1,8 +1,7 @@
-use Rattle.std.proofs.Common.{ap, sym, ◌∙◌, subst, length, arith, length-append}
-use Rattle.superio_examples.specs.Interrupts.{IsPartOfRun}
+use Rattle.std.proofs.Common.{ap, sym, ◌∙◌, length, arith, length-append}
 use Rattle.std.proofs.Common.{[], ◌∷◌}
 use Rattle.superio_core.specs.Serial.Port.State.{State}
-use Rattle.superio_examples.proofs.InterruptLemmas.{arrived, takes_byte, some_ready, none_ready, latch-kept, fewer, none-kept, part-arrival, part-byte, part-then}
+use Rattle.superio_examples.proofs.InterruptLemmas.{arrived, takes_byte, some_ready, none_ready, latch-kept, fewer, none-kept, part-arrival, part-byte, part-look, part-then}
 use Rattle.superio_examples.proofs.interrupt_driver.take_bytes.Goals as goal
 
 pub returns-then-not-shows_data-clause-part : goal.returns-then-not-shows_data-clause-part
@@ -13,12 +12,13 @@ returns-then-not-shows_data-clause-part g c =
     let sizes = c.arrive.new.self.sizes.now in
     let here = port.state c.loop.port in
     let middle = port.state c.arrive.new.port in
-    subst (λ (s : State). IsPartOfRun (port.state c.args.port.now) s c.args.feed.now.rest.now rest c.args.feed.now.sizes.now sizes c.args.got.now.items c.loop.got.items)
-    (sym c.read.ensures.state)
+    part-then (port.state c.args.port.now) middle (port.state c.read.new.self) c.args.feed.now.rest.now rest rest c.args.feed.now.sizes.now sizes sizes
+    c.args.got.now.items c.loop.got.items c.loop.got.items
     (part-then (port.state c.args.port.now) here middle c.args.feed.now.rest.now c.loop.feed.rest.now rest
     c.args.feed.now.sizes.now c.loop.feed.sizes.now sizes c.args.got.now.items c.loop.got.items c.loop.got.items before.part
     (part-arrival here middle (port.edges c.loop.port) (port.edges c.arrive.new.port) c.loop.feed.rest.now rest c.loop.feed.sizes.now sizes
     c.loop.got.items (g.met.P.MonitoredPort.coherent_state c.loop.port before.coherent) c.arrive.ensures.arrival c.arrive.ensures.sizes))
+    (part-look middle (port.state c.read.new.self) rest sizes c.loop.got.items c.read.ensures.state)
 
 pub returns-then-not-shows_data-clause-empty : goal.returns-then-not-shows_data-clause-empty
 returns-then-not-shows_data-clause-empty g c = λ bound same.
@@ -57,8 +57,9 @@ loop-preserved g c =
     c.loop.feed.sizes.now first.sizes.now c.loop.got.items coherent_here c.arrive.ensures.arrival c.arrive.ensures.sizes in
     let two = part-arrival (port.state c.read.new.self) middle (port.edges c.read.new.self) (port.edges c.arrive-in-loop.new.port) first.rest.now second.rest.now
     first.sizes.now second.sizes.now c.loop.got.items coherent_read c.arrive-in-loop.ensures.arrival c.arrive-in-loop.ensures.sizes in
-    let two_ready = subst (λ (s : State). IsPartOfRun s middle first.rest.now second.rest.now first.sizes.now second.sizes.now c.loop.got.items c.loop.got.items)
-    c.read.ensures.state two in
+    let looked = port.state c.read.new.self in
+    let two_ready = part-then ready looked middle first.rest.now first.rest.now second.rest.now first.sizes.now first.sizes.now second.sizes.now
+    c.loop.got.items c.loop.got.items c.loop.got.items (part-look ready looked first.rest.now first.sizes.now c.loop.got.items c.read.ensures.state) two in
     let arrivals = part-then start ready middle c.args.feed.now.rest.now first.rest.now second.rest.now
     c.args.feed.now.sizes.now first.sizes.now second.sizes.now c.args.got.now.items c.loop.got.items c.loop.got.items
     (part-then start here ready c.args.feed.now.rest.now c.loop.feed.rest.now first.rest.now
