@@ -1,5 +1,5 @@
 -- The port writes, its output waits, a refusal is remembered, and then input goes in if MCR was written.
-use Rattle.std.proofs.Common.{◌≡◌, ◌==◌, ◌||◌, Bool, ap, ◌∙◌}
+use Rattle.std.proofs.Common.{◌||◌, Bool, ap, ◌∙◌}
 use Rattle.superio_examples.specs.Output.{Waiting}
 use Rattle.superio_examples.proofs.console.Console.write.Goals as goal
 
