@@ -3,14 +3,14 @@ ghost use Rattle.std.specs.Prelude.{◌≡◌, [], ◌++◌, false, IfOk, OnErr,
 ghost use Rattle.vm_superio.specs.Serial.History.Registers.{accepted_bytes};
 ghost use Rattle.vm_superio.specs.Serial.Laws.PollingDriver.{driver_bytes, polls_after_data_ready};
 ghost use Rattle.superio_core.specs.Serial.Port.Coherent.{Coherent};
-ghost use Rattle.vm_superio.specs.Serial.Run.HistoryTheorem.{HistoryTheorem};
+ghost use Rattle.vm_superio.specs.Serial.Run.Three.{ThreeHistory};
 ghost use Rattle.vm_superio.specs.Serial.Run.Trace.{entries_of, trace_of};
 
 use std::alloc::{AllocError, Global};
 use std::io::Write;
 use superio_script::drain;
-use vm_superio::run::{Call, Done, run};
-use vm_superio::serial::{Error, Refused, SerialEvents};
+use vm_superio::run::{Call, Done};
+use vm_superio::serial::{Error, Refused, SerialEvents, Three, WriterOut};
 use vm_superio::{Serial, Trigger, laws};
 
 /// Makes the calls of a host and a guest in order and returns a record of each. If the port is coherent and the guest
@@ -22,10 +22,10 @@ use vm_superio::{Serial, Trigger, laws};
 pub fn run_polled<T: Trigger + Drop, EV: SerialEvents + Drop, W: Write + Drop>(
     alloc: Global,
     serial: &mut Serial<T, EV, W>,
-    calls: Vec<Call<T, EV, W>>,
-) -> Result<Vec<Done<T, EV, W>>, AllocError>
+    calls: Vec<Call<Three<T, EV, WriterOut<W>>>>,
+) -> Result<Vec<Done<Three<T, EV, WriterOut<W>>>>, AllocError>
     ensures history { IfOk result (λ done. Coherent serial.old.state
-        → HistoryTheorem T.link W.contents serial.old calls.items done.items serial.new) }
+        → ThreeHistory T.link EV.link W.contents serial.old calls.items done.items serial.new) }
     ensures refused { OnErr result (serial.new ≡ serial.old) }
     ensures in_order { Coherent serial.old.state → IfOk result (λ done.
         IsTrue (polls_after_data_ready serial.old.state [] false (entries_of done.items))
@@ -33,7 +33,7 @@ pub fn run_polled<T: Trigger + Drop, EV: SerialEvents + Drop, W: Write + Drop>(
         ≡ serial.old.state.in_buffer ++ accepted_bytes serial.old.state (trace_of done.items)) }
 {
     laws::polling_driver();
-    run(alloc, serial, calls)
+    serial.run(alloc, calls)
 }
 
 /// Passes input through a new serial port to a guest whose driver drains the port after each piece. Returns what the

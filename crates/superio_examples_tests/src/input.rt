@@ -11,6 +11,7 @@ use superio_examples::output::Output;
 use superio_tests::objects::{Log, Object, port};
 use vm_superio::Rtc;
 use vm_superio::run::{Call, Done, Reply};
+use vm_superio::serial::{Three, WriterOut};
 use vm_superio::saved::{Error as FormError, Fault};
 
 /// A hundred bytes.
@@ -290,14 +291,16 @@ fn a_guest_gets_the_input(rt: HostRuntime) -> Result<(), Fail> {
     Ok(())
 }
 
+type PortObjects<'a> = Three<Object<'a>, Object<'a>, WriterOut<Object<'a>>>;
+
 /// The records of a driver that polls a port with this many bytes, at most 64, and then as often in vain.
 fn polled<'a>(
     alloc: Global,
     log: &'a Log,
     count: usize,
-) -> Result<Vec<Done<Object<'a>, Object<'a>, Object<'a>>>, Fail> {
+) -> Result<Vec<Done<PortObjects<'a>>>, Fail> {
     let mut serial = port(alloc, log)?;
-    let mut calls: Vec<Call<Object<'a>, Object<'a>, Object<'a>>> = Vec::new(alloc);
+    let mut calls: Vec<Call<PortObjects<'a>>> = Vec::new(alloc);
     calls.push(Call::Enqueue(b"a".repeat(alloc, count)?))?;
     for _ in 0..count.min(64) {
         calls.push(Call::Read(5))?;

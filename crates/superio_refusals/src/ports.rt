@@ -2,11 +2,13 @@
 use std::alloc::{AllocError, Global};
 use std::io::Write;
 use superio_script::{Counts, Line, Output};
-use vm_superio::run::{Call, Done, Reply, run};
-use vm_superio::serial::{Error, Refused, SerialEvents};
+use vm_superio::run::{Call, Done, Reply};
+use vm_superio::serial::{Error, Refused, RefusedObject, SerialEvents, Three, WriterOut};
 use vm_superio::{Serial, SerialState, saved};
 
 type Port = Serial<Line, Counts, Output>;
+
+type PortObjects = Three<Line, Counts, WriterOut<Output>>;
 
 /// The mask of a line that refuses no call made here.
 const MASK: u64 = 1 << 63;
@@ -43,6 +45,13 @@ fn is_clean(refused: &Refused<Line, Counts, Output>) -> bool {
     matches!(refused.error, Error::Memory)
         && are_unused(&refused.trigger, &refused.out)
         && are_unused_counts(&refused.events)
+}
+
+fn is_clean_object(refused: &RefusedObject<PortObjects>) -> bool {
+    let objects = &refused.objects;
+    matches!(refused.error, Error::Memory)
+        && are_unused(&objects.trigger, &objects.out.writer)
+        && are_unused_counts(&objects.events)
 }
 
 /// What a call that makes a port returned.
@@ -132,19 +141,19 @@ pub fn from_bytes(alloc: Global) -> Result<&'static str, AllocError> {
 }
 
 /// The calls of a run: a byte arrives, the port moves to new objects, and the guest reads the byte.
-fn calls(alloc: Global) -> Result<Vec<Call<Line, Counts, Output>>, AllocError> {
+fn calls(alloc: Global) -> Result<Vec<Call<PortObjects>>, AllocError> {
     Ok(vec![in alloc;
         Call::Write(1, 0x01),
         Call::Enqueue(b"a".to_vec(alloc)?),
         Call::Read(2),
-        Call::Restore(Line::new(MASK), used_counts(), used_output()),
+        Call::Restore(Three::with_writer(Line::new(MASK), used_counts(), used_output())),
         Call::Read(0),
         Call::Read(5),
     ]?)
 }
 
 /// What a run returned, and whether the port agrees with its records.
-fn ran(serial: &Port, done: &[Done<Line, Counts, Output>]) -> &'static str {
+fn ran(serial: &Port, done: &[Done<PortObjects>]) -> &'static str {
     let [_, _, _, restore, data, status] = done else {
         return "another number of records";
     };
@@ -154,7 +163,7 @@ fn ran(serial: &Port, done: &[Done<Line, Counts, Output>]) -> &'static str {
     match &restore.reply {
         Reply::Restored(_) if are_unused(serial.interrupt_evt(), serial.writer()) => "restored",
         Reply::NotRestored(refused)
-            if is_clean(refused)
+            if is_clean_object(refused)
                 && serial.interrupt_evt().calls() == 1
                 && serial.writer().bytes().is_empty() => {
             "not restored for Memory, the objects and the port as they were"
@@ -168,7 +177,7 @@ pub fn run_over_a_restore(alloc: Global) -> Result<&'static str, AllocError> {
     let Ok(mut serial) = made else {
         return Err(AllocError);
     };
-    match run(alloc, &mut serial, calls(alloc)?) {
+    match serial.run(alloc, calls(alloc)?) {
         Ok(done) => Ok(ran(&serial, &done)),
         Err(AllocError) => {
             let is_fresh = serial.state(alloc)? == SerialState::default(alloc)

@@ -3,16 +3,19 @@ use crate::memory::all_memory;
 use crate::objects::{Log, Object, Port, port};
 use std::alloc::{AllocError, Global};
 use std::test::Fail;
-use vm_superio::run::{Asked, Call, Done, Reply, Sent, run};
+use vm_superio::run::{Asked, Call, Done, Reply, Sent};
+use vm_superio::serial::{Three, WriterOut};
 
-type PortCall<'a> = Call<Object<'a>, Object<'a>, Object<'a>>;
+type PortObjects<'a> = Three<Object<'a>, Object<'a>, WriterOut<Object<'a>>>;
 
-type Record<'a> = Done<Object<'a>, Object<'a>, Object<'a>>;
+type PortCall<'a> = Call<PortObjects<'a>>;
+
+type Record<'a> = Done<PortObjects<'a>>;
 
 /// A restore to the objects of this log.
 fn restore(log: &Log) -> PortCall<'_> {
     let object = Object::new(log);
-    Call::Restore(object, object, object)
+    Call::Restore(Three::with_writer(object, object, object))
 }
 
 /// Makes two calls in a run.
@@ -23,7 +26,7 @@ fn run_two<'a>(
     second: PortCall<'a>,
 ) -> Result<Vec<Record<'a>>, AllocError> {
     let calls = vec![in alloc; first, second]?;
-    run(alloc, serial, calls)
+    serial.run(alloc, calls)
 }
 
 #[test]
@@ -69,7 +72,7 @@ fn records_of_many<'a>(alloc: Global, log: &'a Log) -> Result<usize, Fail> {
         let call: PortCall<'a> = Call::Write(0, (number % 251) as u8);
         calls.push(call)?;
     }
-    Ok(run(alloc, &mut serial, calls)?.len())
+    Ok(serial.run(alloc, calls)?.len())
 }
 
 #[test]
@@ -97,7 +100,7 @@ fn is_restored<'a>(
 ) -> Result<bool, AllocError> {
     let bytes = vec![in alloc; byte]?;
     let calls = vec![in alloc; Call::Enqueue(bytes), restore(log)]?;
-    let done = run(alloc, serial, calls)?;
+    let done = serial.run(alloc, calls)?;
     Ok(matches!(done[1].reply, Reply::Restored(_)))
 }
 
@@ -122,7 +125,7 @@ fn is_refused_without_room(alloc: Global, log: &Log) -> Result<bool, Fail> {
         calls.push(restore(log))?;
     }
     let blocks = all_memory(alloc, 1024)?;
-    let is_refused = run(alloc, &mut serial, calls).is_err();
+    let is_refused = serial.run(alloc, calls).is_err();
     drop(blocks);
     Ok(is_refused)
 }

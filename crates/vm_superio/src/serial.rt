@@ -1,6 +1,6 @@
 //! A serial port with the registers of a 16550.
 ghost use Rattle.vm_superio.specs.Links.OutCalls.{WriterCalls};
-ghost use Rattle.std.specs.Prelude.{◌≡◌, ◌<◌, ◌≤◌, ◌+◌, ◌-◌, ◌∷◌, ◌++◌, false, length, vec_len, IsErr, IfOk, OnOk, IfErr};
+ghost use Rattle.std.specs.Prelude.{◌≡◌, ◌<◌, ◌≤◌, ◌+◌, ◌-◌, ◌∷◌, ◌++◌, false, length, vec_len, IsErr, IfOk, OnOk, OnErr, IfErr};
 ghost use Rattle.superio_core.specs.Serial.Port.Coherent.{Coherent};
 ghost use Rattle.vm_superio.specs.Links.Objects.{all_ok, RefusesOwnState};
 ghost use Rattle.superio_core.specs.Serial.Port.State.{fresh_state};
@@ -15,17 +15,20 @@ mod out;
 mod port;
 mod recorded;
 mod restoring;
+mod running;
 pub mod saved_form;
 mod state;
 
 use crate::Trigger;
 use crate::fifo::Fifo;
+use crate::run::{Call, Done};
 pub use errors::{Error, Refused};
 pub use events::{NoEvents, SerialEvents};
 pub use objects::{Objects, Three};
 pub use out::{SerialOut, WriterOut};
 pub use port::{Port, RefusedObject};
 use restoring::{reassert, restored};
+use running::run_with;
 pub use state::SerialState;
 use std::alloc::{AllocError, Global};
 use std::io::Write;
@@ -94,6 +97,11 @@ impl<T: Trigger, EV: SerialEvents, W: Write> Serial<T, EV, W> {
     ghost use Rattle.vm_superio.specs.contracts.serial.Serial.{the_row};
     ghost use Rattle.vm_superio.specs.Serial.Step.PortStep.{with_trigger, with_events, with_writer};
     ghost use Rattle.vm_superio.specs.Serial.Step.PortStep.{IsReadStep, IsWriteStep, IsEnqueueStep, IsTimeoutStep, IsRetryStep};
+    ghost use Rattle.vm_superio.specs.Links.Three.{ThreeLink};
+    ghost use Rattle.vm_superio.specs.Links.WriterOut.{WriterLink};
+    ghost use Rattle.vm_superio.specs.Serial.Step.ObjectStep.{one_port};
+    ghost use Rattle.vm_superio.specs.Serial.Run.Steps.{IsRun};
+    ghost use Rattle.vm_superio.specs.Serial.Run.Three.{ThreeHistory};
     ghost use Rattle.superio_core.specs.Serial.Port.Coherent.{ShowsHeldBytes};
     ghost use Rattle.superio_core.specs.Serial.Step.Admissible.{kind_in_state, sends_byte};
     ghost use Rattle.superio_core.specs.Serial.Port.Operations.{Read, Write};
@@ -137,11 +145,7 @@ impl<T: Trigger, EV: SerialEvents, W: Write> Serial<T, EV, W> {
         Ok(Serial {
             registers: Registers::new(),
             in_buffer,
-            objects: Three {
-                trigger,
-                events: serial_evts,
-                out: WriterOut { writer: out },
-            },
+            objects: Three::with_writer(trigger, serial_evts, out),
         })
     }
 
@@ -157,7 +161,7 @@ impl<T: Trigger, EV: SerialEvents, W: Write> Serial<T, EV, W> {
     pub fn from_state(
         alloc: Global,
         state: &SerialState,
-        mut trigger: T,
+        trigger: T,
         serial_evts: EV,
         out: W,
     ) -> Result<Self, Refused<T, EV, W>>
@@ -175,21 +179,18 @@ impl<T: Trigger, EV: SerialEvents, W: Write> Serial<T, EV, W> {
         ensures events_back { IfErr result (λ refused. refused.events ≡ serial_evts) }
         ensures out_back { IfErr result (λ refused. refused.out ≡ out) }
     {
-        match restored(alloc, state, &mut trigger) {
+        let mut objects = Three::with_writer(trigger, serial_evts, out);
+        match restored(alloc, state, &mut objects) {
             Ok((registers, in_buffer)) => Ok(Serial {
                 registers,
                 in_buffer,
-                objects: Three {
-                    trigger,
-                    events: serial_evts,
-                    out: WriterOut { writer: out },
-                },
+                objects,
             }),
             Err(error) => Err(Refused {
                 error,
-                trigger,
-                events: serial_evts,
-                out,
+                trigger: objects.trigger,
+                events: objects.events,
+                out: objects.out.writer,
             }),
         }
     }
@@ -330,7 +331,7 @@ impl<T: Trigger, EV: SerialEvents, W: Write> Serial<T, EV, W> {
         ensures step { IsRetryStep T.link EV.link (WriterCalls W.contents) self.old self.new }
         ensures coherent { Coherent self.old.state → Coherent self.new.state }
     {
-        reassert(&self.registers, &mut self.objects.trigger)
+        reassert(&self.registers, &mut self.objects)
     }
 
     /// How many bytes may still be enqueued: 64 minus the number of held bytes.
@@ -379,5 +380,42 @@ impl<T: Trigger, EV: SerialEvents, W: Write> Serial<T, EV, W> {
         ensures coherent { Coherent self.old.state → Coherent self.new.state }
     {
         self.recorded_timeout().reply
+    }
+
+    /// Makes the calls in order, and returns a record of each.
+    ///
+    /// Nothing stops a run early: a refusal of the trigger, a failure of the writer or a refused restore is recorded
+    /// with its call, and the run goes on. A restore makes the port again from its own state, with other objects in
+    /// place of its own. If it is refused, the old objects stay.
+    ///
+    /// From a coherent start the records are a trace: the start, the earlier calls and the trigger's answers determine
+    /// each byte read. They also determine the final state and, given the outcome of the byte that a call sent, every
+    /// other response.
+    ///
+    /// # Errors
+    ///
+    /// Returns `AllocError` if allocating all records fails. It then makes no call and drops the calls.
+    pub fn run(
+        &mut self,
+        alloc: Global,
+        calls: Vec<Call<Three<T, EV, WriterOut<W>>>>,
+    ) -> Result<Vec<Done<Three<T, EV, WriterOut<W>>>>, AllocError>
+    where
+        T: Drop,
+        EV: Drop,
+        W: Drop,
+        ensures run { IfOk result (λ done. IsRun (ThreeLink T.link EV.link (WriterLink W.contents))
+            (one_port self.old) calls.items done.items (one_port self.new)) }
+        ensures history { IfOk result (λ done. Coherent self.old.state →
+            ThreeHistory T.link EV.link W.contents self.old calls.items done.items self.new) }
+        ensures refused { OnErr result (self.new ≡ self.old) }
+    {
+        run_with(
+            alloc,
+            &mut self.registers,
+            &mut self.in_buffer,
+            &mut self.objects,
+            calls,
+        )
     }
 }

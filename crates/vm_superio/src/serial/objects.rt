@@ -5,7 +5,7 @@ ghost use Rattle.vm_superio.specs.Links.ObjectCalls.{ObjectCall, ToTrigger, ToOu
 ghost use Rattle.superio_core.specs.Serial.Port.Operations.{buffer_read, out_byte, tx_lost_byte, in_buffer_empty};
 
 use super::events::SerialEvents;
-use super::out::SerialOut;
+use super::out::{SerialOut, WriterOut};
 use crate::Trigger;
 use std::fmt::Debug;
 use std::io;
@@ -63,6 +63,21 @@ pub struct Three<T, EV, W> {
     pub events: EV,
     /// The output.
     pub out: W,
+}
+
+impl<T, EV, W> Three<T, EV, WriterOut<W>> {
+    /// The objects of a [`Serial`](super::Serial): a trigger, an events object and a writer.
+    pub fn with_writer(trigger: T, events: EV, writer: W) -> Self
+        ensures trigger { result.trigger ≡ trigger }
+        ensures events { result.events ≡ events }
+        ensures writer { result.out.writer ≡ writer }
+    {
+        Three {
+            trigger,
+            events,
+            out: WriterOut { writer },
+        }
+    }
 }
 
 impl<T: Trigger, EV: SerialEvents, W: SerialOut> Objects for Three<T, EV, W> {

@@ -1,6 +1,9 @@
 //! A serial port with one object for all three roles: its contract states the order of the calls.
-ghost use Rattle.std.specs.Prelude.{◌≡◌, ◌≤◌, ◌+◌, List, Result, length, map, [], ◌∷◌, is_some, IsTrue, IfOk, IfErr, OnOk};
-ghost use Rattle.superio_core.specs.Serial.Port.State.{fresh_state, state_with};
+ghost use Rattle.std.specs.Prelude.{◌≡◌, ◌≤◌, ◌+◌, List, Result, length, map, [], ◌∷◌, is_some, IsTrue, IfOk, IfErr, OnOk, OnErr};
+ghost use Rattle.superio_core.specs.Serial.Port.Coherent.{Coherent};
+ghost use Rattle.superio_core.specs.Serial.Port.State.{fresh_state};
+ghost use Rattle.vm_superio.specs.Serial.Run.Steps.{IsRun};
+ghost use Rattle.vm_superio.specs.Serial.Run.HistoryTheorem.{HistoryTheorem};
 ghost use Rattle.superio_core.specs.Serial.Step.Restore.{restore_calls};
 ghost use Rattle.vm_superio.specs.Serial.Port.SavedState.{state_of};
 ghost use Rattle.vm_superio.specs.Serial.Step.Restore.{RefusesRestore};
@@ -16,8 +19,11 @@ ghost use Rattle.superio_core.specs.Serial.Step.Admissible.{answers_all};
 use super::errors::Error;
 use super::objects::Objects;
 use super::recorded::reply;
+use super::restoring::{reassert, restored};
+use super::running::run_with;
 use super::state::SerialState;
 use crate::fifo::Fifo;
+use crate::run::{Call, Done};
 use crate::trace::{Asked, Recorded, Sent};
 use std::alloc::{AllocError, Global};
 use std::io;
@@ -69,6 +75,7 @@ impl<O: Objects> Port<O> {
     pub fn new(alloc: Global, objects: O) -> Result<Self, O>
         ensures state { IfOk result (λ port. port.state ≡ fresh_state) }
         ensures objects { IfOk result (λ port. port.objects ≡ objects) }
+        ensures coherent { IfOk result (λ port. Coherent port.state) }
         ensures back { IfErr result (λ back. back ≡ objects) }
     {
         let Ok(in_buffer) = Fifo::new(alloc) else {
@@ -97,10 +104,11 @@ impl<O: Objects> Port<O> {
         ensures state { IfOk result (λ port. port.state ≡ state_of state.now) }
         ensures called { IfOk result (λ port.
             raised O.link objects (all_ok (restore_calls (state_of state.now))) port.objects) }
+        ensures coherent { IfOk result (λ port. Coherent (state_of state.now) → Coherent port.state) }
         ensures refused { IfErr result (λ refused.
             RefusesRestore (raised O.link) (state_of state.now) refused.error objects refused.objects) }
     {
-        match restored_with(alloc, state, &mut objects) {
+        match restored(alloc, state, &mut objects) {
             Ok((registers, in_buffer)) => Ok(Port {
                 registers,
                 in_buffer,
@@ -118,6 +126,7 @@ impl<O: Objects> Port<O> {
     pub fn state(&self, alloc: Global) -> Result<SerialState, AllocError>
         ensures saved { IfOk result (λ saved. state_of saved ≡ self.now.state) }
         ensures at_most_64 { length self.now.state.in_buffer ≤ 64 }
+        ensures coherent { IfOk result (λ saved. Coherent self.now.state → Coherent (state_of saved)) }
     {
         let in_buffer = self.in_buffer.to_vec(alloc)?;
         Ok(SerialState::of(&self.registers, in_buffer))
@@ -147,6 +156,7 @@ impl<O: Objects> Port<O> {
     /// Reads the byte at `offset`, as a guest does.
     pub fn read(&mut self, offset: u8) -> u8
         ensures step { IsObjectRead O.link offset result self.old self.new }
+        ensures coherent { Coherent self.old.state → Coherent self.new.state }
     {
         self.recorded_read(offset).reply
     }
@@ -159,18 +169,20 @@ impl<O: Objects> Port<O> {
     /// As for [`Serial::write`](super::Serial::write).
     pub fn write(&mut self, offset: u8, value: u8) -> Result<(), Error<O::E>>
         ensures step { IsObjectWrite O.link offset value result self.old self.new }
+        ensures coherent { Coherent self.old.state → Coherent self.new.state }
     {
         self.recorded_write(offset, value).reply
     }
 
-    /// Receives as many bytes for the guest as fit, first ones first, and raises the interrupt at most once. Returns how
-    /// many.
+    /// Receives as many bytes for the guest as fit, first ones first, and raises the interrupt at most once. Returns
+    /// how many.
     ///
     /// # Errors
     ///
     /// As for [`Serial::enqueue_raw_bytes`](super::Serial::enqueue_raw_bytes).
     pub fn enqueue_raw_bytes(&mut self, input: &[u8]) -> Result<usize, Error<O::E>>
         ensures step { IsObjectEnqueue O.link input.now result self.old self.new }
+        ensures coherent { Coherent self.old.state → Coherent self.new.state }
     {
         self.recorded_enqueue(input).reply
     }
@@ -187,8 +199,9 @@ impl<O: Objects> Port<O> {
         ensures refused { IfErr result (λ refusal. RefusesOwnState (raised O.link) (restore_calls self.old.state)
             (Error.Trigger refusal) self.old.objects self.new.objects) }
         ensures state { self.new.state ≡ self.old.state }
+        ensures coherent { Coherent self.old.state → Coherent self.new.state }
     {
-        reassert_with(&self.registers, &mut self.objects)
+        reassert(&self.registers, &mut self.objects)
     }
 
     /// Tells the port that the time of a few characters has passed without a read or a new byte.
@@ -198,8 +211,38 @@ impl<O: Objects> Port<O> {
     /// Returns [`Error::Trigger`] if the interrupt is refused: RDA is pending nonetheless.
     pub fn character_timeout(&mut self) -> Result<(), Error<O::E>>
         ensures step { IsObjectTimeout O.link result self.old self.new }
+        ensures coherent { Coherent self.old.state → Coherent self.new.state }
     {
         self.recorded_timeout().reply
+    }
+
+    /// Makes the calls in order, and returns a record of each.
+    ///
+    /// Nothing stops a run early: a refused interrupt, a failure of the output or a refused restore is recorded with
+    /// its call, and the run goes on. A restore makes the port again from its own state, with another object in place
+    /// of its own. If it is refused, the old object stays.
+    ///
+    /// From a coherent start the records are a trace: the start, the calls and the object's answers determine all calls
+    /// of the object, in order, each byte read, every other response and the final state.
+    ///
+    /// # Errors
+    ///
+    /// Returns `AllocError` if allocating all records fails. It then makes no call and drops the calls.
+    pub fn run(&mut self, alloc: Global, calls: Vec<Call<O>>) -> Result<Vec<Done<O>>, AllocError>
+    where
+        O: Drop,
+        ensures run { IfOk result (λ done. IsRun O.link self.old calls.items done.items self.new) }
+        ensures history { IfOk result (λ done. Coherent self.old.state →
+            HistoryTheorem O.link self.old calls.items done.items self.new) }
+        ensures refused { OnErr result (self.new ≡ self.old) }
+    {
+        run_with(
+            alloc,
+            &mut self.registers,
+            &mut self.in_buffer,
+            &mut self.objects,
+            calls,
+        )
     }
 
     /// `character_timeout`, with the trigger's answers.
@@ -366,45 +409,8 @@ pub(super) fn timeout_with<O: Objects>(
     }
 }
 
-/// Raises the interrupt once for each condition that is pending and enabled, up to the first refusal.
-fn reassert_with<O: Objects>(registers: &Registers, objects: &mut O) -> Result<(), O::E>
-    ensures accepted { OnOk result
-        (raised O.link objects.old (all_ok (restore_calls (state_with registers.now []))) objects.new) }
-    ensures refused { IfErr result (λ refusal. (answers : List (Result (Unit {0}) O.E))
-        × StopsAtRefusal (restore_calls (state_with registers.now [])) refusal answers
-        × raised O.link objects.old answers objects.new) }
-{
-    match call_trigger(objects, registers.interrupts_due()).1 {
-        None => Ok(()),
-        Some(refusal) => Err(refusal),
-    }
-}
-
-/// The registers and bytes of a saved state, after raising the interrupts for it.
-fn restored_with<O: Objects>(
-    alloc: Global,
-    state: &SerialState,
-    objects: &mut O,
-) -> Result<(Registers, Fifo), Error<O::E>>
-    ensures state { IfOk result (λ parts. state_with parts.0 parts.1 ≡ state_of state.now) }
-    ensures called { OnOk result
-        (raised O.link objects.old (all_ok (restore_calls (state_of state.now))) objects.new) }
-    ensures refused { IfErr result (λ error.
-        RefusesRestore (raised O.link) (state_of state.now) error objects.old objects.new) }
-{
-    if state.in_buffer.len() > FIFO_SIZE {
-        return Err(Error::FullFifo);
-    }
-    let in_buffer = Fifo::from_slice(alloc, &state.in_buffer)?;
-    let registers = state.registers();
-    match reassert_with(&registers, objects) {
-        Ok(()) => Ok((registers, in_buffer)),
-        Err(refusal) => Err(Error::Trigger(refusal)),
-    }
-}
-
 /// Raises the interrupt `due` times, up to the first refusal. Returns the answers and the refusal.
-fn call_trigger<O: Objects>(objects: &mut O, due: u8) -> (Asked, Option<O::E>)
+pub(super) fn call_trigger<O: Objects>(objects: &mut O, due: u8) -> (Asked, Option<O::E>)
     requires { due ≤ 2 }
     ensures asked { IsTrue (answers_all due result.0) }
     ensures refused { is_some result.1 ≡ ends_in_refusal result.0 }

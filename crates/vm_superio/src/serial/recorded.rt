@@ -1,20 +1,18 @@
 //! The calls of a serial port with their records: each takes a step of the registers and carries out its effects.
 ghost use Rattle.vm_superio.specs.Links.OutCalls.{WriterCalls};
-ghost use Rattle.std.specs.Prelude.{◌≡◌, ◌≤◌, if◌then◌else◌, is_some, IsTrue};
+ghost use Rattle.std.specs.Prelude.{◌≡◌, if◌then◌else◌, is_some};
 ghost use Rattle.superio_core.specs.Serial.Port.Operations.{Read, Write, Enqueue, CharacterTimeout};
-ghost use Rattle.superio_core.specs.Serial.Port.Operations.{ByteRead, WriteOk, TriggerRefused, WriterFailed, ends_in_refusal};
+ghost use Rattle.superio_core.specs.Serial.Port.Operations.{ByteRead, WriteOk, TriggerRefused, WriterFailed};
 ghost use Rattle.superio_core.specs.declared.trace.Sent.{Sent};
 ghost use Rattle.vm_superio.specs.Links.Writer.{port_links};
 ghost use Rattle.vm_superio.specs.Serial.Port.Model.{write_response, enqueue_response, timeout_response, refusal_in_result, fault_in_result};
-ghost use Rattle.vm_superio.specs.Links.Objects.{answers_of};
-ghost use Rattle.superio_core.specs.Serial.Step.Admissible.{answers_all};
 
 use super::Serial;
 use super::errors::Error;
 use super::events::SerialEvents;
 use super::port::{enqueue_with, read_with, timeout_with, write_with};
 use crate::Trigger;
-use crate::trace::{Asked, Recorded};
+use crate::trace::Recorded;
 use std::io;
 use std::io::Write;
 
@@ -72,26 +70,6 @@ impl<T: Trigger, EV: SerialEvents, W: Write> Serial<T, EV, W> {
         ensures sent { result.sent ≡ Sent.Nothing }
     {
         timeout_with(&mut self.registers, &self.in_buffer, &mut self.objects)
-    }
-}
-
-/// Calls the trigger `due` times, up to the first refusal. Returns its answers and the refusal.
-pub(super) fn call_trigger<T: Trigger>(trigger: &mut T, due: u8) -> (Asked, Option<T::E>)
-    requires { due ≤ 2 }
-    ensures asked { IsTrue (answers_all due result.0) }
-    ensures refused { is_some result.1 ≡ ends_in_refusal result.0 }
-    ensures trigger { T.link trigger.old (answers_of result.0 result.1) trigger.new }
-{
-    if due == 0 {
-        return (Asked::Nothing, None);
-    }
-    match trigger.trigger() {
-        Err(refusal) => (Asked::Refused, Some(refusal)),
-        Ok(()) if due == 1 => (Asked::Took, None),
-        Ok(()) => match trigger.trigger() {
-            Err(refusal) => (Asked::TookRefused, Some(refusal)),
-            Ok(()) => (Asked::TookTook, None),
-        },
     }
 }
 

@@ -1,2 +1,3 @@
 pub mod HistoryTheorem
 pub mod Steps
+pub mod Three

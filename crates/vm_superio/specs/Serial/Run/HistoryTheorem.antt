@@ -1,19 +1,24 @@
 -- The history theorem: what a run from a coherent start shows, by the history alone.
-use Rattle.std.specs.Prelude.{◌≡◌, ℕ, List, [], ◌++◌, IsTrue, Option}
+use Rattle.std.specs.Prelude.{◌≡◌, [], List, ◌++◌, IsTrue}
 use Rattle.superio_core.specs.Serial.Port.Coherent.{Coherent}
-use Rattle.vm_superio.specs.Links.Objects.{Link, TriggerAnswer}
-use Rattle.vm_superio.specs.Links.OutCalls.{WriterCalls}
-use Rattle.vm_superio.specs.Serial.Port.Model.{Port}
+use Rattle.vm_superio.specs.Links.Objects.{Link}
+use Rattle.vm_superio.specs.Links.ObjectCalls.{ObjectCall}
+use Rattle.vm_superio.specs.Serial.Step.ObjectStep.{OnePort}
 use Rattle.vm_superio.specs.Serial.History.Registers.{taken_bytes, accepted_bytes}
 use Rattle.vm_superio.specs.Serial.History.Interrupts.{is_well_formed, IsWithinBound, WaitingBytesShow, TimeoutsShow}
 use Rattle.vm_superio.specs.Serial.History.Reads.{ResponsesAre, bytes_read, state_of_history}
 use Rattle.vm_superio.specs.Serial.Run.Trace.{Call, Done, RecordsOf, entries_of, trace_of, without_restores}
-use Rattle.vm_superio.specs.Serial.Run.Observations.{ReadsAre, OutputIs, KnownOutputIs, OutputsAre, TriggersAre}
+use Rattle.vm_superio.specs.Serial.Run.Reads.{ReadsAre}
+use Rattle.vm_superio.specs.Serial.Run.Objects.{ObjectsAre}
 
--- a run of these calls with these records, from a port to a port
+-- a run of these calls with these records, from a port over one object to such a port
 pub record HistoryTheorem
-    {T E EV W : Type 0} (trigger_link : Link T (TriggerAnswer E)) (contents : W → Option (List ℕ)) (start : Port T EV W)
-    (calls : List (Call T EV W)) (records : List (Done T EV W E)) (end : Port T EV W) : Type 0 where
+    {O E : Type 0} (link : Link O (ObjectCall E)) (start : OnePort O)
+    (calls : List (Call O)) (records : List (Done O E)) (end : OnePort O) : Type 0 where
+  -- each object has had these calls and no other, in this order: a function of the start, the calls and the answers.
+  -- A byte is lost exactly if a put or a flush failed
+  pub objects :
+      ObjectsAre link start.state [] (record { initial = start.objects; calls = [] }) calls records end.objects
   -- there is a record of each call
   pub records_of_calls : RecordsOf calls records
   -- every byte that a guest reads is a function of the start, the earlier calls and the trigger's answers
@@ -35,20 +40,6 @@ pub record HistoryTheorem
   pub waiting : WaitingBytesShow start.state (trace_of records)
   -- a character timeout makes RDA pending while bytes are held and enabled, and calls the trigger once for it
   pub timeouts : TimeoutsShow start.state (trace_of records)
-  -- output goes to each output object byte for byte, each byte put and then flushed. A byte is lost exactly if one of
-  -- the two failed
-  pub output :
-      OutputsAre (OutputIs (WriterCalls contents) start.state)
-      (record { before = []; newest = []; initial = start.out }) calls records end.out
-  -- so a writer of known contents took the output byte for byte, while no byte is recorded lost
-  pub known_output :
-      OutputsAre (KnownOutputIs contents start.state) (record { before = []; newest = []; initial = start.out })
-      calls records end.out
-  -- each trigger gave the answers that are recorded: the first from the run's start, each later one from its restore,
-  -- which makes the calls that are due
-  pub restores :
-      TriggersAre trigger_link start.state [] (record { initial = start.trigger; answers = [] })
-      calls records end.trigger
   pub reads_alone : ReadsAre start.state [] (without_restores records)
   -- the end is the state that the trace leads to, and it is coherent
   pub end_state : end.state ≡ state_of_history start.state (trace_of records)

@@ -95,3 +95,10 @@ port_of port = record {
   events = port.objects.events;
   out = port.objects.out.writer;
 }
+
+-- and the port over the three as one
+abbrev pub one_port : {T EV W : Type 0} → (port : Port T EV W) → OnePort (Three T EV (WriterOut W))
+one_port port = record {
+  state = port.state;
+  objects = record { trigger = port.trigger; events = port.events; out = record { writer = port.out } };
+}

@@ -1,5 +1,5 @@
 -- Worked examples of the calls of one operation, in order: rows of tests/calls/order.txt.
-use Rattle.std.proofs.Common.{◌≡◌, ℕ, List, [], ◌∷◌, Option, Some, None, Ok, Err, IsTrue, refl}
+use Rattle.std.proofs.Common.{◌≡◌, List, [], ◌∷◌, Option, Some, None, Ok, Err, IsTrue, refl}
 use Rattle.std.specs.Prelude.{is_some}
 use Rattle.std.specs.declared.io.Error.{Error}
 use Rattle.superio_core.specs.declared.trace.Asked.TheVariants.{Nothing, Took, Refused, TookTook, TookRefused}

@@ -1,8 +1,8 @@
 -- The entries of a run follow each other by steps, so the laws hold for them: the history theorem.
-use Rattle.std.proofs.Common.{◌≡◌, ℕ, false, not, List, [], ◌∷◌, ◌++◌, refl, sym, ap, ◌∙◌, subst, append-nil, Option}
+use Rattle.std.proofs.Common.{◌≡◌, ℕ, map, false, not, List, [], ◌∷◌, ◌++◌, refl, sym, ap, ◌∙◌, subst, Option}
+use Rattle.std.specs.Prelude.{◌↔◌, IsTrue}
 use Rattle.std.proofs.lemmas.Bool.{cond_both, false≢true}
-use Rattle.std.specs.Cmp.Derive.{both_true}
-use Rattle.std.specs.Prelude.{IsTrue}
+use Rattle.std.specs.declared.io.Error as io
 use Rattle.superio_core.specs.declared.trace.Asked.{Asked}
 use Rattle.superio_core.specs.declared.trace.Asked.TheVariants as answers
 use Rattle.superio_core.specs.declared.trace.Sent.{Sent}
@@ -15,36 +15,35 @@ use Rattle.vm_superio.specs.declared.run.Reply.{Reply}
 use Rattle.vm_superio.specs.declared.run.Reply.TheVariants.{Byte, Wrote, Enqueued, TimedOut, Restored, NotRestored}
 use Rattle.vm_superio.specs.declared.run.Done.{Done}
 use Rattle.superio_core.specs.Serial.Port.State.{State}
-use Rattle.superio_core.specs.Serial.Port.Operations.{Op, Event, TraceEntry, Response, ByteRead}
+use Rattle.superio_core.specs.Serial.Port.Operations.{Op, TraceEntry, Response, ByteRead}
 use Rattle.superio_core.specs.Serial.Port.Operations as operation
 use Rattle.superio_core.specs.Serial.Port.Coherent.{Coherent}
-use Rattle.vm_superio.specs.Links.Writer.{PortLinks, port_links, bytes_sent, outcome_of, OutLink}
-use Rattle.vm_superio.specs.Links.Objects.{Link, TriggerAnswer, all_ok, RefusesOwnState}
-use Rattle.vm_superio.specs.Links.OutCalls.{WriterCalls}
-use Rattle.vm_superio.proofs.Lemmas.Links.Writer.{known_output_law}
-use Rattle.vm_superio.specs.Serial.Port.Model.{Port}
-use Rattle.superio_core.specs.Serial.Step.Transition.{step, step_response}
+use Rattle.vm_superio.specs.Links.Objects.{Link, answers_of, all_ok, RefusesOwnState}
+use Rattle.vm_superio.specs.Links.ObjectCalls.{ObjectCall, ToTrigger, ToOut, ToEvents, raised}
+use Rattle.superio_core.specs.Serial.Step.Transition.{step, step_response, step_events}
 use Rattle.superio_core.specs.Serial.Step.Admissible.{is_admissible}
 use Rattle.superio_core.specs.Serial.Step.Restore.{restore_calls}
 use Rattle.vm_superio.specs.Serial.History.Registers.{taken_bytes}
-use Rattle.vm_superio.specs.Serial.History.Interrupts.{is_well_formed, restore_calls_due}
-use Rattle.vm_superio.specs.Serial.History.Reads.{ResponsesAre, history_response, bytes_read, outcomes}
-use Rattle.vm_superio.specs.Serial.Run.Segments.{Segment, first_segment, extend, IsAfter}
-use Rattle.vm_superio.specs.Serial.Run.Steps.{CallFollows, next_segment, IsRun}
-use Rattle.vm_superio.specs.Serial.Run.Trace.{IsReplyTo, RecordsOf, act_of, op_of, is_restore, entry_of, response_of, refusal_in_reply, entries_of, trace_of, without_restores}
-use Rattle.vm_superio.specs.Serial.Run.Observations.{ReadIs, ReadsAre, WriterSegment, OutputIs, KnownOutputIs, OutputAtRestore, next_writer_segment, OutputsAre, TriggerSegment, TriggerAtRestore, next_trigger_segment, TriggersAre}
+use Rattle.vm_superio.specs.Serial.History.Interrupts.{restore_calls_due}
+use Rattle.vm_superio.specs.Serial.History.Reads.{ResponsesAre, history_response, bytes_read, state_of_history}
+use Rattle.vm_superio.specs.Serial.Step.CallsOf.{Sending, NotSent, sent_in, out_calls, calls_of}
+use Rattle.vm_superio.specs.Serial.Step.ObjectStep.{OnePort, IsObjectStep}
+use Rattle.vm_superio.specs.Serial.Run.Steps.{IsCallStep, IsRun}
+use Rattle.vm_superio.specs.Serial.Run.Trace.{IsReplyTo, RecordsOf, act_of, op_of, is_restore, entry_of, response_of, entries_of, trace_of, without_restores}
+use Rattle.vm_superio.specs.Serial.Run.Reads.{ReadIs, ReadsAre}
+use Rattle.vm_superio.specs.Serial.Run.Objects.{calls_at, ObjectSegment, IsSentBy, ObjectAtRestore, next_object_segment, ObjectsAre}
 use Rattle.vm_superio.specs.Serial.Run.HistoryTheorem.{HistoryTheorem}
-use Rattle.vm_superio.specs.Serial.Laws.Agreement.{state_after, StepsFollow}
-use Rattle.vm_superio.specs.Serial.Laws.Consequences.{op_and_asked, ops_and_asked, recorded_output}
+use Rattle.vm_superio.specs.Serial.Laws.Agreement.{StepsFollow}
+use Rattle.vm_superio.specs.Serial.Laws.Consequences.{op_and_asked, ops_and_asked}
 use Rattle.vm_superio.proofs.Lemmas.Serial.Laws.WholeRuns.{whole_run_law}
+use Rattle.vm_superio.proofs.Lemmas.Serial.Laws.StatesOfHistory.{state_law}
 use Rattle.vm_superio.proofs.Lemmas.Serial.Laws.TriggerBound.{trigger_bound_law}
 use Rattle.vm_superio.proofs.Lemmas.Serial.Laws.HeldBytes.{taken_then_held}
 use Rattle.vm_superio.proofs.Lemmas.Serial.Laws.ReadsAreTaken.{read_then_held}
-use Rattle.vm_superio.proofs.Lemmas.Serial.Laws.Interrupts.{interrupt_law}
+use Rattle.vm_superio.proofs.Lemmas.Serial.Laws.StepsOfHistory.{step_law, call_law}
 use Rattle.vm_superio.proofs.Lemmas.Serial.Laws.CharacterTimeout.{timeouts_show_law}
 use Rattle.vm_superio.proofs.Lemmas.Serial.Laws.WaitingBytes.{waiting_bytes_law}
 use Rattle.vm_superio.proofs.Lemmas.Serial.Laws.SameReads.{same_reads_law}
-use Rattle.vm_superio.proofs.Lemmas.Serial.Laws.Output.{output_law}
 
 -- a restore records no trigger answers and no sent byte
 restore_admissible : (s : State) (asked : Asked) (sent : Sent) → asked ≡ answers.Nothing → sent ≡ outcome.Nothing → IsTrue (is_admissible s operation.Restore asked sent)
@@ -60,82 +59,74 @@ op_of-restore (act.Write offset value) is = absurd (false≢true (sym is))
 op_of-restore (act.Enqueue bytes) is = absurd (false≢true (sym is))
 op_of-restore act.CharacterTimeout is = absurd (false≢true (sym is))
 
--- a further outcome, last in one list and first in the other
-
 -- the byte of a read's response
 abbrev byte_in : Response → ℕ
 byte_in (ByteRead byte) = byte
 byte_in _ = 0
 
--- the entry of a call
-abbrev entry : (made : Act) (asked : Asked) (sent : Sent) → TraceEntry
-entry made asked sent = record { op = op_of made; asked = asked; sent = sent }
-
-module _ {T E EV W : Type 0} (links : PortLinks T E EV W) where
+module _ {O E : Type 0} (link : Link O (ObjectCall E)) where
   -- ---- each call is a step
 
-  record EntryFollows (s : State) (made : Act) (asked : Asked) (sent : Sent) (reply : Reply T EV W E) : Type 0 where
+  record EntryFollows (s : State) (made : Act) (asked : Asked) (sent : Sent) (reply : Reply O E) (next : State) : Type 0 where
     admissible : IsTrue (is_admissible s (op_of made) asked sent)
     response : response_of reply ≡ step_response s (op_of made) asked sent
+    state : next ≡ step s (op_of made) asked
+    of : IsReplyTo made reply
 
   EntryFollows-call :
-      (s : State) (segment : Segment T E EV W) (call : Call T EV W) (asked : Asked) (sent : Sent) (reply : Reply T EV W E) →
-      CallFollows links s segment call asked sent reply → EntryFollows s (act_of call) asked sent reply
-  EntryFollows-call s segment (Read offset) asked sent (Byte byte) h = record { admissible = h.0; response = h.1 }
-  EntryFollows-call s segment (Write offset value) asked sent (Wrote answer) h = record { admissible = h.0; response = h.1 }
-  EntryFollows-call s segment (Enqueue bytes) asked sent (Enqueued answer) h = record { admissible = h.0; response = h.1 }
-  EntryFollows-call s segment CharacterTimeout asked sent (TimedOut answer) h = record { admissible = h.0; response = h.1 }
-  EntryFollows-call s segment (Restore trigger events out) asked sent (Restored old) h =
-      record { admissible = restore_admissible s asked sent h.0 h.1; response = refl }
-  EntryFollows-call s segment (Restore trigger events out) asked sent (NotRestored refused) h =
-      record { admissible = restore_admissible s asked sent h.0 h.1; response = refl }
-  EntryFollows-call s segment _ asked sent _ h = absurd h
+      (call : Call O) (asked : Asked) (sent : Sent) (reply : Reply O E) (old next : OnePort O) →
+      IsCallStep link call asked sent reply old next → EntryFollows old.state (act_of call) asked sent reply next.state
+  EntryFollows-call (Read offset) asked sent (Byte byte) old next h = record { admissible = h.admissible; response = h.response; state = h.state; of = tt }
+  EntryFollows-call (Write offset value) asked sent (Wrote answer) old next h = record { admissible = h.admissible; response = h.response; state = h.state; of = tt }
+  EntryFollows-call (Enqueue bytes) asked sent (Enqueued answer) old next h = record { admissible = h.admissible; response = h.response; state = h.state; of = tt }
+  EntryFollows-call CharacterTimeout asked sent (TimedOut answer) old next h = record { admissible = h.admissible; response = h.response; state = h.state; of = tt }
+  EntryFollows-call (Restore object) asked sent (Restored before) old next h =
+      record { admissible = restore_admissible old.state asked sent h.0 h.1; response = refl; state = h.3; of = tt }
+  EntryFollows-call (Restore object) asked sent (NotRestored refused) old next h =
+      record { admissible = restore_admissible old.state asked sent h.0 h.1; response = refl; state = ap (λ (port : OnePort O). port.state) h.3; of = tt }
+  EntryFollows-call _ asked sent _ old next h = absurd h
+
+  follows : (call : Call O) (done : Done O E) (old next : OnePort O) → done.act ≡ act_of call
+      → IsCallStep link call done.asked done.sent done.reply old next → EntryFollows old.state done.act done.asked done.sent done.reply next.state
+  follows call done old next act made =
+      subst (λ act. EntryFollows old.state act done.asked done.sent done.reply next.state) (sym act)
+      (EntryFollows-call call done.asked done.sent done.reply old next made)
 
   pub StepsFollow-run :
-      (calls : List (Call T EV W)) (records : List (Done T EV W E)) (s : State) (segment : Segment T E EV W) (end : Port T EV W) →
-      IsRun links s segment calls records end → StepsFollow s (entries_of records) end.state
-  StepsFollow-run [] [] s segment end run = run.state
-  StepsFollow-run (call ∷ calls) (done ∷ later) s segment end run =
-      let follows = subst (λ made. EntryFollows s made done.asked done.sent done.reply) (sym run.0)
-      (EntryFollows-call s segment call done.asked done.sent done.reply run.1) in
-      (follows.admissible, follows.response, StepsFollow-run calls later _ _ end run.2)
-  StepsFollow-run [] (done ∷ later) s segment end run = absurd run
-  StepsFollow-run (call ∷ calls) [] s segment end run = absurd run
+      (calls : List (Call O)) (records : List (Done O E)) (old end : OnePort O) →
+      IsRun link old calls records end → StepsFollow old.state (entries_of records) end.state
+  StepsFollow-run [] [] old end run = ap (λ (port : OnePort O). port.state) run
+  StepsFollow-run (call ∷ calls) (done ∷ later) old end run =
+      let next = run.1.0 in
+      let one = follows call done old next run.0 run.1.1 in
+      (one.admissible, one.response, subst (λ s. StepsFollow s (entries_of later) end.state) one.state (StepsFollow-run calls later next end run.1.2))
+  StepsFollow-run [] (done ∷ later) old end run = absurd run
+  StepsFollow-run (call ∷ calls) [] old end run = absurd run
 
   -- ---- a run has a record of each call
 
-  IsReplyTo-call :
-      (s : State) (segment : Segment T E EV W) (call : Call T EV W) (asked : Asked) (sent : Sent) (reply : Reply T EV W E) →
-      CallFollows links s segment call asked sent reply → IsReplyTo (act_of call) reply
-  IsReplyTo-call s segment (Read offset) asked sent (Byte byte) h = tt
-  IsReplyTo-call s segment (Write offset value) asked sent (Wrote answer) h = tt
-  IsReplyTo-call s segment (Enqueue bytes) asked sent (Enqueued answer) h = tt
-  IsReplyTo-call s segment CharacterTimeout asked sent (TimedOut answer) h = tt
-  IsReplyTo-call s segment (Restore trigger events out) asked sent (Restored old) h = tt
-  IsReplyTo-call s segment (Restore trigger events out) asked sent (NotRestored refused) h = tt
-  IsReplyTo-call s segment _ asked sent _ h = absurd h
-
   RecordsOf-run :
-      (calls : List (Call T EV W)) (records : List (Done T EV W E)) (s : State) (segment : Segment T E EV W) (end : Port T EV W) →
-      IsRun links s segment calls records end → RecordsOf calls records
-  RecordsOf-run [] [] s segment end run = tt
-  RecordsOf-run (call ∷ calls) (done ∷ later) s segment end run =
-      (run.0, IsReplyTo-call s segment call done.asked done.sent done.reply run.1, RecordsOf-run calls later _ _ end run.2)
-  RecordsOf-run [] (done ∷ later) s segment end run = absurd run
-  RecordsOf-run (call ∷ calls) [] s segment end run = absurd run
+      (calls : List (Call O)) (records : List (Done O E)) (old end : OnePort O) →
+      IsRun link old calls records end → RecordsOf calls records
+  RecordsOf-run [] [] old end run = tt
+  RecordsOf-run (call ∷ calls) (done ∷ later) old end run =
+      let next = run.1.0 in
+      (run.0, (EntryFollows-call call done.asked done.sent done.reply old next run.1.1).of, RecordsOf-run calls later next end run.1.2)
+  RecordsOf-run [] (done ∷ later) old end run = absurd run
+  RecordsOf-run (call ∷ calls) [] old end run = absurd run
 
   -- ---- the bytes read
 
   -- the reply to a read is the byte of its response
   ReadIs-reply :
-      (start : State) (trace : List TraceEntry) (made : Act) (asked : Asked) (sent : Sent) (reply : Reply T EV W E) →
+      (start : State) (trace : List TraceEntry) (made : Act) (asked : Asked) (sent : Sent) (reply : Reply O E) →
       IsReplyTo made reply → response_of reply ≡ history_response start trace (op_of made) asked sent → ReadIs start trace made reply
   ReadIs-reply start trace (act.Read offset) asked sent (Byte byte) of is = ap (λ response. Byte (byte_in response)) is
   ReadIs-reply start trace (act.Read offset) asked sent _ of is = absurd of
   ReadIs-reply start trace _ asked sent reply of is = tt
 
   ReadsAre-run :
-      (start : State) (trace : List TraceEntry) (calls : List (Call T EV W)) (records : List (Done T EV W E)) →
+      (start : State) (trace : List TraceEntry) (calls : List (Call O)) (records : List (Done O E)) →
       RecordsOf calls records → ResponsesAre start trace (entries_of records) → ReadsAre start trace records
   ReadsAre-run start trace calls [] of responses = tt
   ReadsAre-run start trace (call ∷ calls) (done ∷ later) of responses = (
@@ -148,13 +139,13 @@ module _ {T E EV W : Type 0} (links : PortLinks T E EV W) where
 
   -- at each point the same operations were before, with the same answers, and so it shows the same reads
   ReadIs-elsewhere :
-      (start : State) (trace other : List TraceEntry) (made : Act) (reply : Reply T EV W E) → ops_and_asked trace ≡ ops_and_asked other →
+      (start : State) (trace other : List TraceEntry) (made : Act) (reply : Reply O E) → ops_and_asked trace ≡ ops_and_asked other →
       ReadIs start trace made reply → ReadIs start other made reply
   ReadIs-elsewhere start trace other (act.Read offset) reply same is = is ∙ ap Byte (same_reads_law start trace other same offset)
   ReadIs-elsewhere start trace other _ reply same is = tt
 
   ReadsAre-without_restores :
-      (start : State) (trace other : List TraceEntry) (records : List (Done T EV W E)) → ops_and_asked trace ≡ ops_and_asked other →
+      (start : State) (trace other : List TraceEntry) (records : List (Done O E)) → ops_and_asked trace ≡ ops_and_asked other →
       ReadsAre start trace records → ReadsAre start other (without_restores records)
   ReadsAre-without_restores start trace other [] same are = tt
   ReadsAre-without_restores start trace other (done ∷ later) same are =
@@ -167,220 +158,129 @@ module _ {T E EV W : Type 0} (links : PortLinks T E EV W) where
       (λ restores. ReadsAre-without_restores start (entry_of done ∷ trace) other later
       (ap (λ op. op_and_asked op done.asked ++ ops_and_asked trace) (op_of-restore done.act restores) ∙ same) are.1)
 
-  module _ (start : State) (coherent : Coherent start) where
-    -- an admissible entry keeps a trace well-formed
-    well_formed-step :
-        (trace : List TraceEntry) (s : State) (entry : TraceEntry) → s ≡ state_after start trace → IsTrue (is_admissible s entry.op entry.asked entry.sent) →
-        IsTrue (is_well_formed start trace) → IsTrue (is_well_formed start (entry ∷ trace))
-    well_formed-step trace s entry state admissible well_formed =
-        let agrees = interrupt_law start trace coherent.thre coherent.rda coherent.identification in
-        both_true (sym (agrees.calls entry) ∙ subst (λ state. IsTrue (is_admissible state entry.op entry.asked entry.sent)) state admissible) well_formed
+  -- ---- the object's calls
 
-    -- ---- the output of each segment
+  module _
+      (joined : (x y z : O) (first second : List (ObjectCall E)) → link x first y → link y second z → link x (first ++ second) z)
+      (start : State) (coherent : Coherent start) where
+    -- a call makes its own calls, or ends the segment
+    record Object-next
+        (trace : List TraceEntry) (segment : ObjectSegment O E) (call : Call O) (made : Act) (asked : Asked) (sent : Sent)
+        (reply : Reply O E) (next : OnePort O) : Type 0 where
+      at_restore : ObjectAtRestore link start trace segment call reply
+      sending : Sending
+      sent_by : IsSentBy (record { act = made; asked = asked; sent = sent; reply = reply }) sending
+      linked :
+          let entry : TraceEntry = record { op = op_of made; asked = asked; sent = sent } in
+          let after = next_object_segment link start trace segment call entry sending reply in
+          link after.initial after.calls next.objects
 
-    -- a segment of the run is that of the newest entries
-    record IsSegmentOf (before newest : List TraceEntry) (s : State) (segment : Segment T E EV W) : Type 0 where
-      state : s ≡ state_after start (newest ++ before)
-      well_formed : IsTrue (is_well_formed start (newest ++ before))
-      taken : segment.sent_bytes ≡ recorded_output newest
-      outcomes : segment.outcomes ≡ outcomes newest
+    -- the calls of a step are those of its point
+    at_point :
+        (trace : List TraceEntry) (old : State) (op : Op) (asked : Asked) (sent : Sent) (sending : Sending) (refusal : Option E) →
+        old ≡ state_of_history start trace → IsTrue (is_admissible old op asked sent) → sent ≡ sent_in sending →
+        calls_of old op sending asked refusal ≡ calls_at start trace (record { op = op; asked = asked; sent = sent }) sending refusal
+    at_point trace old op asked sent sending refusal here admissible same =
+        let entry : TraceEntry = record { op = op; asked = asked; sent = sent } in
+        let agrees = (step_law start trace coherent).steps entry (subst (λ s. IsTrue (is_admissible s op asked sent)) here admissible) in
+        ap (λ events. map ToOut (out_calls op sending) ++ map ToEvents events ++ map ToTrigger (answers_of asked refusal))
+        (ap (λ s. step_events s op (sent_in sending)) here ∙ ap (λ sent. step_events (state_of_history start trace) op sent) (sym same) ∙ agrees.events)
 
-    abbrev writer : (before newest : List TraceEntry) (segment : Segment T E EV W) → WriterSegment W
-    writer before newest segment = record { before = before; newest = newest; initial = segment.out }
+    linked_on :
+        (trace : List TraceEntry) (segment : ObjectSegment O E) (op : Op) (asked : Asked) (sent : Sent) (reply : Response)
+        (refusal : Option E) (fault : Option io.Error) (old next : OnePort O) →
+        old.state ≡ state_of_history start trace → link segment.initial segment.calls old.objects →
+        (h : IsObjectStep link op asked sent reply refusal fault old next) →
+        link segment.initial
+        (segment.calls ++ calls_at start trace (record { op = op; asked = asked; sent = sent }) h.sending refusal) next.objects
+    linked_on trace segment op asked sent reply refusal fault old next here before h =
+        joined segment.initial old.objects next.objects segment.calls _ before
+        (subst (λ calls. link old.objects calls next.objects)
+        (at_point trace old.state op asked sent h.sending refusal here h.admissible h.outcome) h.linked)
 
-    OutputIs-segment :
-        (before newest : List TraceEntry) (s : State) (segment : Segment T E EV W) (port : Port T EV W) →
-        IsSegmentOf before newest s segment → IsAfter links segment s port →
-        OutputIs links.out start (writer before newest segment) port.out
-    OutputIs-segment before newest s segment port is after =
-        subst (λ bytes. OutLink links.out (outcomes newest) bytes segment.out port.out) (is.taken ∙ output_law start before newest is.well_formed)
-        (subst (λ made. OutLink links.out made segment.sent_bytes segment.out port.out) is.outcomes after.out)
+    restoring : (trace : List TraceEntry) (s : State) → s ≡ state_of_history start trace → restore_calls s ≡ restore_calls_due start trace
+    restoring trace s here = ap restore_calls here ∙ (step_law start trace coherent).restoring
 
-    -- a call adds to the segment, or ends it
-    record Output-next
-        (before newest : List TraceEntry) (s : State) (segment : Segment T E EV W) (call : Call T EV W) (made : Act)
-        (asked : Asked) (sent : Sent) (reply : Reply T EV W E) : Type 0 where
-      next_before : List TraceEntry
-      next_newest : List TraceEntry
-      end : OutputAtRestore (OutputIs links.out start) (writer before newest segment) call reply
-      same :
-          next_writer_segment (writer before newest segment) (entry made asked sent) call reply
-          ≡ writer next_before next_newest (next_segment links s segment call asked sent reply)
-      is : IsSegmentOf next_before next_newest (step s (op_of made) asked) (next_segment links s segment call asked sent reply)
-
-    IsSegmentOf-extend :
-        (before newest : List TraceEntry) (s : State) (segment : Segment T E EV W) (op : Op) (asked : Asked) (sent : Sent) (reply : Reply T EV W E) →
-        IsSegmentOf before newest s segment → IsTrue (is_admissible s op asked sent) →
-        IsSegmentOf before (record { op = op; asked = asked; sent = sent } ∷ newest) (step s op asked) (extend segment s op asked sent (refusal_in_reply reply))
-    IsSegmentOf-extend before newest s segment op asked sent reply is admissible =
-        let added : TraceEntry = record { op = op; asked = asked; sent = sent } in
+    Object-call :
+        (trace : List TraceEntry) (segment : ObjectSegment O E) (call : Call O) (asked : Asked) (sent : Sent)
+        (reply : Reply O E) (old next : OnePort O) →
+        old.state ≡ state_of_history start trace → link segment.initial segment.calls old.objects →
+        IsCallStep link call asked sent reply old next → Object-next trace segment call (act_of call) asked sent reply next
+    Object-call trace segment (Read offset) asked sent (Byte byte) old next here before h = record {
+      at_restore = tt;
+      sending = h.sending;
+      sent_by = record { outcome = h.outcome; answered = h.answered };
+      linked = linked_on trace segment _ asked sent _ _ _ old next here before h;
+    }
+    Object-call trace segment (Write offset value) asked sent (Wrote answer) old next here before h = record {
+      at_restore = tt;
+      sending = h.sending;
+      sent_by = record { outcome = h.outcome; answered = h.answered };
+      linked = linked_on trace segment _ asked sent _ _ _ old next here before h;
+    }
+    Object-call trace segment (Enqueue bytes) asked sent (Enqueued answer) old next here before h = record {
+      at_restore = tt;
+      sending = h.sending;
+      sent_by = record { outcome = h.outcome; answered = h.answered };
+      linked = linked_on trace segment _ asked sent _ _ _ old next here before h;
+    }
+    Object-call trace segment CharacterTimeout asked sent (TimedOut answer) old next here before h = record {
+      at_restore = tt;
+      sending = h.sending;
+      sent_by = record { outcome = h.outcome; answered = h.answered };
+      linked = linked_on trace segment _ asked sent _ _ _ old next here before h;
+    }
+    Object-call trace segment (Restore object) asked sent (Restored was) old next here before h =
+        let called = subst (λ due. raised link object (all_ok due) next.objects) (restoring trace old.state here) h.4 in
         record {
-          state = ap (λ s. step s op asked) is.state;
-          well_formed = well_formed-step (newest ++ before) s added is.state admissible is.well_formed;
-          taken = ap (λ bytes. bytes ++ bytes_sent op sent) is.taken;
-          outcomes = ap (λ made. made ++ outcome_of sent) is.outcomes;
+          at_restore = (subst (λ object. link segment.initial segment.calls object) (sym h.2) before, (next.objects, called));
+          sending = NotSent;
+          sent_by = record { outcome = h.1; answered = tt };
+          linked = called;
         }
+    Object-call trace segment (Restore object) asked sent (NotRestored refused) old next here before h = record {
+      at_restore = subst (λ due. RefusesOwnState (raised link) due refused.error object refused.objects) (restoring trace old.state here) h.2;
+      sending = NotSent;
+      sent_by = record { outcome = h.1; answered = tt };
+      linked = subst (λ (port : OnePort O). link segment.initial segment.calls port.objects) (sym h.3) before;
+    }
+    Object-call trace segment _ asked sent _ old next here before h = absurd h
 
-    Output-call :
-        (before newest : List TraceEntry) (s : State) (segment : Segment T E EV W) (call : Call T EV W)
-        (asked : Asked) (sent : Sent) (reply : Reply T EV W E) → IsSegmentOf before newest s segment →
-        CallFollows links s segment call asked sent reply → Output-next before newest s segment call (act_of call) asked sent reply
-    Output-call before newest s segment (Read offset) asked sent (Byte byte) is h = record {
-      next_before = before;
-      next_newest = entry (act.Read offset) asked sent ∷ newest;
-      end = tt;
-      same = refl;
-      is = IsSegmentOf-extend before newest s segment _ asked sent (Byte byte) is h.0;
-    }
-    Output-call before newest s segment (Write offset value) asked sent (Wrote answer) is h = record {
-      next_before = before;
-      next_newest = entry (act.Write offset value) asked sent ∷ newest;
-      end = tt;
-      same = refl;
-      is = IsSegmentOf-extend before newest s segment _ asked sent (Wrote answer) is h.0;
-    }
-    Output-call before newest s segment (Enqueue bytes) asked sent (Enqueued answer) is h = record {
-      next_before = before;
-      next_newest = entry (act.Enqueue bytes) asked sent ∷ newest;
-      end = tt;
-      same = refl;
-      is = IsSegmentOf-extend before newest s segment _ asked sent (Enqueued answer) is h.0;
-    }
-    Output-call before newest s segment CharacterTimeout asked sent (TimedOut answer) is h = record {
-      next_before = before;
-      next_newest = entry act.CharacterTimeout asked sent ∷ newest;
-      end = tt;
-      same = refl;
-      is = IsSegmentOf-extend before newest s segment _ asked sent (TimedOut answer) is h.0;
-    }
-    Output-call before newest s segment (Restore trigger events out) asked sent (Restored old) is h = record {
-      next_before = entry act.Restore asked sent ∷ newest ++ before;
-      next_newest = [];
-      end = OutputIs-segment before newest s segment old is h.2;
-      same = refl;
-      is = record {
-        state = is.state;
-        well_formed = well_formed-step (newest ++ before) s (entry act.Restore asked sent) is.state (restore_admissible s asked sent h.0 h.1) is.well_formed;
-        taken = refl;
-        outcomes = refl;
-      };
-    }
-    Output-call before newest s segment (Restore trigger events out) asked sent (NotRestored refused) is h = record {
-      next_before = before;
-      next_newest = entry act.Restore asked sent ∷ newest;
-      end = tt;
-      same = refl;
-      is = record {
-        state = is.state;
-        well_formed = well_formed-step (newest ++ before) s (entry act.Restore asked sent) is.state (restore_admissible s asked sent h.0 h.1) is.well_formed;
-        taken = is.taken ∙ sym (append-nil (recorded_output newest));
-        outcomes = is.outcomes ∙ sym (append-nil (outcomes newest)) ∙ ap (λ made. outcomes newest ++ outcome_of made) (sym h.1);
-      };
-    }
-    Output-call before newest s segment _ asked sent _ is h = absurd h
-
-    OutputsAre-run :
-        (calls : List (Call T EV W)) (records : List (Done T EV W E)) (before newest : List TraceEntry) (s : State) (segment : Segment T E EV W) (end : Port T EV W) →
-        IsSegmentOf before newest s segment → IsRun links s segment calls records end →
-        OutputsAre (OutputIs links.out start) (writer before newest segment) calls records end.out
-    OutputsAre-run [] [] before newest s segment end is run = OutputIs-segment before newest s segment end is run
-    OutputsAre-run (call ∷ calls) (done ∷ later) before newest s segment end is run =
-        let next = subst (λ made. Output-next before newest s segment call made done.asked done.sent done.reply) (sym run.0)
-        (Output-call before newest s segment call done.asked done.sent done.reply is run.1) in (
-          next.end,
-          subst (λ segment. OutputsAre (OutputIs links.out start) segment calls later end.out) (sym next.same)
-              (OutputsAre-run calls later next.next_before next.next_newest _ _ end next.is run.2),
+    ObjectsAre-run :
+        (trace : List TraceEntry) (segment : ObjectSegment O E) (calls : List (Call O)) (records : List (Done O E)) (old end : OnePort O) →
+        old.state ≡ state_of_history start trace → link segment.initial segment.calls old.objects →
+        IsRun link old calls records end → ObjectsAre link start trace segment calls records end.objects
+    ObjectsAre-run trace segment [] [] old end here before run =
+        subst (λ (port : OnePort O). link segment.initial segment.calls port.objects) (sym run) before
+    ObjectsAre-run trace segment (call ∷ calls) (done ∷ later) old end here before run =
+        let next = run.1.0 in
+        let one = follows call done old next run.0 run.1.1 in
+        let made = subst (λ act. Object-next trace segment call act done.asked done.sent done.reply next) (sym run.0)
+        (Object-call trace segment call done.asked done.sent done.reply old next here before run.1.1) in
+        let on = (call_law start trace (entry_of done) (response_of done.reply) old.state next.state coherent here one.admissible one.response one.state).state in (
+          made.at_restore,
+          (made.sending, made.sent_by, ObjectsAre-run (entry_of done ∷ trace) _ calls later next end on made.linked run.1.2),
         )
-    OutputsAre-run [] (done ∷ later) before newest s segment end is run = absurd run
-    OutputsAre-run (call ∷ calls) [] before newest s segment end is run = absurd run
-
-    -- ---- the trigger calls of each segment
-
-    restoring : (trace : List TraceEntry) (s : State) → s ≡ state_after start trace → restore_calls s ≡ restore_calls_due start trace
-    restoring trace s state = ap restore_calls state ∙ (interrupt_law start trace coherent.thre coherent.rda coherent.identification).restoring
-
-    abbrev called : (segment : Segment T E EV W) → TriggerSegment T E
-    called segment = record { initial = segment.trigger; answers = segment.answers }
-
-    -- a call adds to the segment of the trigger, or ends it
-    record Trigger-next
-        (trace : List TraceEntry) (s : State) (segment : Segment T E EV W) (call : Call T EV W)
-        (asked : Asked) (sent : Sent) (reply : Reply T EV W E) : Type 0 where
-      at_restore : TriggerAtRestore links.trigger start trace (called segment) call reply
-      same :
-          next_trigger_segment links.trigger start trace (called segment) call asked reply
-          ≡ called (next_segment links s segment call asked sent reply)
-
-    Trigger-call :
-        (trace : List TraceEntry) (s : State) (segment : Segment T E EV W) (call : Call T EV W)
-        (asked : Asked) (sent : Sent) (reply : Reply T EV W E) → s ≡ state_after start trace →
-        CallFollows links s segment call asked sent reply → Trigger-next trace s segment call asked sent reply
-    Trigger-call trace s segment (Read offset) asked sent (Byte byte) state h = record { at_restore = tt; same = refl }
-    Trigger-call trace s segment (Write offset value) asked sent (Wrote answer) state h = record { at_restore = tt; same = refl }
-    Trigger-call trace s segment (Enqueue bytes) asked sent (Enqueued answer) state h = record { at_restore = tt; same = refl }
-    Trigger-call trace s segment CharacterTimeout asked sent (TimedOut answer) state h = record { at_restore = tt; same = refl }
-    Trigger-call trace s segment (Restore trigger events out) asked sent (Restored old) state h = record {
-      at_restore = (h.2.trigger, subst (λ due. (now : T) × links.trigger trigger (all_ok due) now) (restoring trace s state) h.3);
-      same = ap (λ due. record { initial = trigger; answers = all_ok due }) (sym (restoring trace s state));
-    }
-    Trigger-call trace s segment (Restore trigger events out) asked sent (NotRestored refused) state h = record {
-      at_restore = subst (λ due. RefusesOwnState links.trigger due refused.error trigger refused.trigger) (restoring trace s state) h.2;
-      same = refl;
-    }
-    Trigger-call trace s segment _ asked sent _ state h = absurd h
-
-    TriggersAre-run :
-        (calls : List (Call T EV W)) (records : List (Done T EV W E)) (trace : List TraceEntry) (s : State) (segment : Segment T E EV W) (end : Port T EV W) →
-        s ≡ state_after start trace → IsRun links s segment calls records end →
-        TriggersAre links.trigger start trace (called segment) calls records end.trigger
-    TriggersAre-run [] [] trace s segment end state run = run.trigger
-    TriggersAre-run (call ∷ calls) (done ∷ later) trace s segment end state run =
-        let next = Trigger-call trace s segment call done.asked done.sent done.reply state run.1 in (
-          next.at_restore,
-          subst (λ segment. TriggersAre links.trigger start (entry_of done ∷ trace) segment calls later end.trigger) (sym next.same)
-              (TriggersAre-run calls later (entry_of done ∷ trace) _ _ end (ap (λ s. step s (op_of done.act) done.asked) state) run.2),
-        )
-    TriggersAre-run [] (done ∷ later) trace s segment end state run = absurd run
-    TriggersAre-run (call ∷ calls) [] trace s segment end state run = absurd run
+    ObjectsAre-run trace segment [] (done ∷ later) old end here before run = absurd run
+    ObjectsAre-run trace segment (call ∷ calls) [] old end here before run = absurd run
 
 -- ---- the history theorem
 
-at_restore :
-    {T E EV W : Type 0} (Holds Follows : WriterSegment W → W → Type 0) →
-    ((segment : WriterSegment W) (now : W) → Holds segment now → Follows segment now) →
-    (segment : WriterSegment W) (call : Call T EV W) (reply : Reply T EV W E) →
-    OutputAtRestore Holds segment call reply → OutputAtRestore Follows segment call reply
-at_restore Holds Follows follows segment (Restore trigger events out) (Restored old) holds = follows segment old.out holds
-at_restore Holds Follows follows segment _ _ holds = tt
-
--- what holds of each segment, from what holds of it
-OutputsAre-map :
-    {T E EV W : Type 0} (Holds Follows : WriterSegment W → W → Type 0) →
-    ((segment : WriterSegment W) (now : W) → Holds segment now → Follows segment now) →
-    (segment : WriterSegment W) (calls : List (Call T EV W)) (records : List (Done T EV W E)) (end : W) →
-    OutputsAre Holds segment calls records end → OutputsAre Follows segment calls records end
-OutputsAre-map Holds Follows follows segment [] [] end holds = follows segment end holds
-OutputsAre-map Holds Follows follows segment (call ∷ calls) (done ∷ later) end holds = (
-  at_restore Holds Follows follows segment call done.reply holds.0,
-  OutputsAre-map Holds Follows follows _ calls later end holds.1,
-)
-OutputsAre-map Holds Follows follows segment [] (done ∷ later) end holds = absurd holds
-OutputsAre-map Holds Follows follows segment (call ∷ calls) [] end holds = absurd holds
-
 pub HistoryTheorem-run :
-    {T E EV W : Type 0} (trigger : Link T (TriggerAnswer E)) (events : Link EV Event) (contents : W → Option (List ℕ))
-    (start : Port T EV W) (calls : List (Call T EV W)) (records : List (Done T EV W E)) (end : Port T EV W) →
-    IsRun (port_links trigger events (WriterCalls contents)) start.state (first_segment start) calls records end →
-    Coherent start.state → HistoryTheorem trigger contents start calls records end
-HistoryTheorem-run trigger events contents start calls records end run coherent =
-    let links = port_links trigger events (WriterCalls contents) in
+    {O E : Type 0} (link : Link O (ObjectCall E)) (no_call : (x y : O) → link x [] y ↔ (x ≡ y))
+    (joined : (x y z : O) (first second : List (ObjectCall E)) → link x first y → link y second z → link x (first ++ second) z)
+    (start : OnePort O) (calls : List (Call O)) (records : List (Done O E)) (end : OnePort O) →
+    IsRun link start calls records end → Coherent start.state → HistoryTheorem link start calls records end
+HistoryTheorem-run link no_call joined start calls records end run coherent =
     let s = start.state in
     let trace = trace_of records in
-    let agrees = whole_run_law s end.state (entries_of records) coherent (StepsFollow-run links calls records s (first_segment start) end run) in
-    let of = RecordsOf-run links calls records s (first_segment start) end run in
-    let reads = ReadsAre-run links s [] calls records of agrees.responses in
-    let sent = OutputsAre-run links s coherent calls records [] [] s (first_segment start) end (record { state = refl; well_formed = refl; taken = refl; outcomes = refl }) run in
+    let agrees = whole_run_law s end.state (entries_of records) coherent (StepsFollow-run link calls records start end run) in
+    let of = RecordsOf-run link calls records start end run in
+    let reads = ReadsAre-run link s [] calls records of agrees.responses in
     record {
+      objects =
+          ObjectsAre-run link joined s coherent [] _ calls records start end
+          (state_law s [] coherent) ((no_call start.objects start.objects).1 refl) run;
       records_of_calls = of;
       reads = reads;
       responses = agrees.responses;
@@ -390,12 +290,7 @@ HistoryTheorem-run trigger events contents start calls records end run coherent 
       bound = trigger_bound_law s trace agrees.well_formed;
       waiting = waiting_bytes_law s trace;
       timeouts = timeouts_show_law s trace agrees.well_formed;
-      output = sent;
-      known_output =
-          OutputsAre-map (OutputIs (WriterCalls contents) s) (KnownOutputIs contents s)
-          (λ segment now link. known_output_law contents segment.initial now _ _ link) _ calls records end.out sent;
-      restores = TriggersAre-run links s coherent calls records [] s (first_segment start) end refl run;
-      reads_alone = ReadsAre-without_restores links s [] [] records refl reads;
+      reads_alone = ReadsAre-without_restores link s [] [] records refl reads;
       end_state = agrees.state;
       end_coherent = agrees.coherent;
     }

@@ -31,7 +31,7 @@ module _ {E : Type 0} where
   abbrev pub in_order : (sending : List OutCall) (events : List Event) (answers : List (TriggerAnswer E)) → List (ObjectCall E)
   in_order sending events answers = map ToOut sending ++ map ToEvents events ++ map ToTrigger answers
 
-  answers_in_order : (sending : List OutCall) (events : List Event) (answers : List (TriggerAnswer E)) → answers_in (in_order sending events answers) ≡ answers
+  pub answers_in_order : (sending : List OutCall) (events : List Event) (answers : List (TriggerAnswer E)) → answers_in (in_order sending events answers) ≡ answers
   answers_in_order [] [] [] = refl
   answers_in_order [] [] (answer ∷ answers) = ap (λ rest. answer ∷ rest) (answers_in_order [] [] answers)
   answers_in_order [] (event ∷ events) answers = answers_in_order [] events answers
@@ -92,7 +92,7 @@ sendings s (Enqueue bytes) asked sending made =
 sendings s CharacterTimeout asked sending made = nothing_sent CharacterTimeout sending refl (unsent _ false sending refl made)
 sendings s Restore asked sending made = nothing_sent Restore sending refl (unsent _ false sending refl made)
 
-sendings_of : (s : State) (op : Op) (asked : Asked) (sent : Sent) (sending : Sending) → IsTrue (is_admissible s op asked sent)
+pub sendings_of : (s : State) (op : Op) (asked : Asked) (sent : Sent) (sending : Sending) → IsTrue (is_admissible s op asked sent)
     → sent ≡ sent_in sending → AreSendings (outcome_of sent) (bytes_sent op sent) (out_calls op sending)
 sendings_of s op asked sent sending made same =
     subst (λ sent. AreSendings (outcome_of sent) (bytes_sent op sent) (out_calls op sending)) (sym same)
