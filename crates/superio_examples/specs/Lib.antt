@@ -9,3 +9,4 @@ pub mod Mmio
 pub mod Output
 pub mod PortIo
 pub mod LastByte
+pub mod MonitorObject

@@ -16,5 +16,6 @@ pub mod last_byte;
 pub mod migration;
 pub mod mmio;
 pub mod monitor;
+pub mod monitor_object;
 pub mod output;
 pub mod port_io;

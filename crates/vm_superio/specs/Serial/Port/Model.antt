@@ -3,6 +3,8 @@ use Rattle.std.specs.Prelude.{ℕ, Option, Some, None, Result, Ok, Err}
 use Rattle.std.specs.declared.io.Error as io
 use Rattle.vm_superio.specs.declared.serial.errors.Error.{Error}
 use Rattle.vm_superio.specs.declared.serial.errors.Error.TheVariants.{Trigger, IOError, FullFifo, Memory}
+use Rattle.vm_superio.specs.declared.serial.objects.Three.{Three}
+use Rattle.vm_superio.specs.declared.serial.out.WriterOut.{WriterOut}
 use Rattle.superio_core.specs.Serial.Port.State.{State}
 use Rattle.superio_core.specs.Serial.Port.Operations.{Response, WriteOk, EnqueueOk, TimeoutOk, TriggerRefused, WriterFailed, FifoFull, OutOfMemory}
 
@@ -12,6 +14,18 @@ pub record Port (T EV W : Type 0) : Type 0 where
   pub trigger : T
   pub events : EV
   pub out : W
+
+-- the port over one object in all three roles: the state, and the object
+pub record OnePort (O : Type 0) : Type 0 where
+  pub state : State
+  pub objects : O
+
+-- the port over its three objects as one
+abbrev pub one_port : {T EV W : Type 0} → (port : Port T EV W) → OnePort (Three T EV (WriterOut W))
+one_port port = record {
+  state = port.state;
+  objects = record { trigger = port.trigger; events = port.events; out = record { writer = port.out } };
+}
 
 -- what a write or an enqueue returns, as a response, and the refusal in it. Neither takes memory
 abbrev pub failure_response : {E : Type 0} → (error : Error E) → Response

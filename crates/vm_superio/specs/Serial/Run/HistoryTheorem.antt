@@ -3,7 +3,7 @@ use Rattle.std.specs.Prelude.{◌≡◌, [], List, ◌++◌, IsTrue}
 use Rattle.superio_core.specs.Serial.Port.Coherent.{Coherent}
 use Rattle.vm_superio.specs.Links.Objects.{Link}
 use Rattle.vm_superio.specs.Links.ObjectCalls.{ObjectCall}
-use Rattle.vm_superio.specs.Serial.Step.ObjectStep.{OnePort}
+use Rattle.vm_superio.specs.Serial.Port.Model.{OnePort}
 use Rattle.vm_superio.specs.Serial.History.Registers.{taken_bytes, accepted_bytes}
 use Rattle.vm_superio.specs.Serial.History.Interrupts.{is_well_formed, IsWithinBound, WaitingBytesShow, TimeoutsShow}
 use Rattle.vm_superio.specs.Serial.History.Reads.{ResponsesAre, bytes_read, state_of_history}

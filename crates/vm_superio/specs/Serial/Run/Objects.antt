@@ -7,7 +7,7 @@ use Rattle.superio_core.specs.Serial.Port.Operations.{Trace, TraceEntry}
 use Rattle.vm_superio.specs.Links.Objects.{Link, answers_of, all_ok, RefusesOwnState}
 use Rattle.vm_superio.specs.Links.ObjectCalls.{ObjectCall, ToTrigger, ToOut, ToEvents, raised}
 use Rattle.vm_superio.specs.Links.Writer.{AnsweredFault}
-use Rattle.vm_superio.specs.Serial.Step.CallsOf.{Sending, sent_in, out_calls}
+use Rattle.vm_superio.specs.Links.Sending.{Sending, sent_in, out_calls}
 use Rattle.vm_superio.specs.Serial.History.Calls.{history_events}
 use Rattle.vm_superio.specs.Serial.History.Interrupts.{restore_calls_due}
 use Rattle.vm_superio.specs.Serial.Run.Trace.{Call, Reply, Restored, NotRestored, Done, op_of, entry_of, refusal_in_reply, fault_in_reply}

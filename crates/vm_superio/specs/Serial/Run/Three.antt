@@ -13,8 +13,7 @@ use Rattle.vm_superio.specs.Links.OutCalls.{OutCall, WriterCalls}
 use Rattle.vm_superio.specs.Links.Three.{ThreeLink}
 use Rattle.vm_superio.specs.Links.WriterOut.{WriterLink}
 use Rattle.vm_superio.specs.Links.Writer.{OutLink}
-use Rattle.vm_superio.specs.Serial.Port.Model.{Port}
-use Rattle.vm_superio.specs.Serial.Step.ObjectStep.{one_port}
+use Rattle.vm_superio.specs.Serial.Port.Model.{Port, one_port}
 use Rattle.vm_superio.specs.Serial.History.Interrupts.{restore_calls_due}
 use Rattle.vm_superio.specs.Serial.History.Reads.{output, outcomes}
 use Rattle.vm_superio.specs.Serial.Run.Trace.{Call, Reply, Restored, NotRestored, Done, entry_of, refusal_in_reply}

@@ -12,15 +12,11 @@ use Rattle.superio_core.specs.Serial.Port.Operations.{Op, Read, Write, Enqueue, 
 use Rattle.vm_superio.specs.Links.Objects.{Link}
 use Rattle.vm_superio.specs.Links.ObjectCalls.{ObjectCall, ToOut, ToEvents}
 use Rattle.vm_superio.specs.Links.Writer.{AnsweredFault}
+pub use Rattle.vm_superio.specs.Serial.Port.Model.{OnePort, one_port}
 use Rattle.vm_superio.specs.Serial.Port.Model.{Port, write_response, enqueue_response, timeout_response, refusal_in_result, fault_in_result}
 use Rattle.superio_core.specs.Serial.Step.Transition.{step, step_response, sent_events}
 use Rattle.superio_core.specs.Serial.Step.Admissible.{is_admissible}
 use Rattle.vm_superio.specs.Serial.Step.CallsOf.{Sending, sent_in, byte_calls, out_calls, calls_of}
-
--- the state, and the object
-pub record OnePort (O : Type 0) : Type 0 where
-  pub state : State
-  pub objects : O
 
 -- the port of these parts
 abbrev pub port_with : {O : Type 0} → (registers : Registers) (held : List ℕ) (objects : O) → OnePort O
@@ -94,11 +90,4 @@ port_of port = record {
   trigger = port.objects.trigger;
   events = port.objects.events;
   out = port.objects.out.writer;
-}
-
--- and the port over the three as one
-abbrev pub one_port : {T EV W : Type 0} → (port : Port T EV W) → OnePort (Three T EV (WriterOut W))
-one_port port = record {
-  state = port.state;
-  objects = record { trigger = port.trigger; events = port.events; out = record { writer = port.out } };
 }
