@@ -1,4 +1,4 @@
-"""Tests that `tools/c/fuzz` and the pastes find what differs, and of what `tools/c/install` and `tools/c/prebuild` write."""
+"""Tests that `tools/c/fuzz` and the pastes find faults, and of what `tools/c/install` and `tools/c/prebuild` write."""
 import hashlib
 import os
 import platform
