@@ -1,8 +1,10 @@
-"""Tests that `tools/c/fuzz` finds what differs, and of what `tools/c/install` and `tools/c/prebuild` write."""
+"""Tests that `tools/c/fuzz` and the pastes find faults, and of what `tools/c/install` and `tools/c/prebuild` write."""
 import hashlib
 import os
+import platform
 import re
 import shutil
+import subprocess
 import unittest
 
 from repository import ROOT, CopyTest
@@ -74,6 +76,37 @@ class Fuzzing(CopyTest):
         status, printed, said = self.run_tool("tools/c/fuzz")
         self.assertEqual((status, printed), (1, ""))
         self.assertIn("model.c", said)
+
+
+@unittest.skipUnless(shutil.which("gcc"), "gcc is not there")
+@unittest.skipUnless(f"{platform.machine()}-linux" in TARGETS, "there is no library for this machine")
+class Pasting(CopyTest):
+    def setUp(self):
+        super().setUp()
+        self.take("include", "prebuilt")
+
+    def paste(self):
+        """The status of the program, and how many pastes are stuck, for each guest."""
+        library = self.root / "prebuilt" / f"{platform.machine()}-linux" / "libsuperio_c.a"
+        source, program = self.root / "tools/c/tests/pastes.c", self.root / "pastes"
+        subprocess.run(["gcc", "-std=c11", "-O2", "-I", self.root / "include", source, library, "-o", program],
+                       check=True, timeout=120)
+        ran = subprocess.run([program, "1"], capture_output=True, text=True, timeout=120)
+        return ran.returncode, [int(stuck) for stuck in re.findall(r"(\d+) stuck$", ran.stdout, re.M)]
+
+    def test_no_paste_is_stuck(self):
+        self.assertEqual(self.paste(), (0, [0, 0, 0]))
+
+    def test_a_call_that_is_left_out_is_noticed(self):
+        self.change("tools/c/tests/pastes.c", "if (offset == IIR && (done.byte & NONE_PENDING))",
+                    "if (offset == IIR && (done.byte & NONE_PENDING) && false)")
+        status, stuck = self.paste()
+        self.assertEqual(status, 1)
+        self.assertTrue(all(stuck) and len(stuck) == 3, stuck)
+
+    def test_too_few_pastes_are_noticed(self):
+        self.change("tools/c/tests/pastes.c", "PASTES = 10000", "PASTES = 9990")
+        self.assertEqual(self.paste(), (1, [0, 0, 0]))
 
 
 class Installing(CopyTest):

@@ -1,20 +1,22 @@
 -- The operations of a handler's run in any trace: the states that they lead to, and the bytes that they take.
-use Rattle.std.proofs.Common.{append_assoc, append-nil, length-append, ◌≡◌, ℕ, ◌<◌, Bool, true, false, List, [], ◌∷◌, ◌++◌, length, refl, ap, sym, ◌∙◌, subst, arith}
+use Rattle.std.proofs.Common.{append_assoc, append-nil, length-append, ◌≡◌, ℕ, zero, suc, ◌+◌, ◌<◌, ◌≤◌, Bool, true, false, List, [], ◌∷◌, ◌++◌, length, refl, ap, sym, ◌∙◌, subst, arith}
 use Rattle.std.proofs.lemmas.Bool.{false≢true}
 use Rattle.std.specs.Prelude.{map, take, drop, if◌then◌else◌, IsTrue}
 use Rattle.superio_core.specs.declared.trace.Asked.{Asked}
+use Rattle.superio_core.specs.declared.trace.Sent.{Sent}
 use Rattle.superio_core.specs.Serial.Port.State.{State, not_empty}
 use Rattle.superio_core.specs.Serial.Port.Registers.{is_dlab, is_loopback, register_at}
-use Rattle.superio_core.specs.Serial.Port.Operations.{Op, Read, Enqueue, CharacterTimeout, Trace}
+use Rattle.superio_core.specs.Serial.Port.Operations.{Op, Read, Enqueue, CharacterTimeout, TraceEntry, Trace}
 use Rattle.superio_core.specs.Serial.Port.OpKinds.{OpKind, Other, Arrival, read_kind}
 use Rattle.superio_core.specs.Serial.Step.Transition.{step}
 use Rattle.superio_core.specs.Serial.Step.Admissible.{kind_in_state}
 use Rattle.vm_superio.specs.Serial.History.Registers.{kind_at, taken_by, taken_bytes, held_bytes}
 use Rattle.vm_superio.specs.Serial.Laws.Agreement.{state_after}
 use Rattle.vm_superio.specs.Serial.Laws.CharacterTimeout.{timeout_entry}
+use Rattle.vm_superio.specs.Serial.Laws.InterruptDriver.{IsRunAtInterrupt, RunsAtInterrupts, TakenAfterRunsLaw}
 use Rattle.vm_superio.proofs.Lemmas.Serial.Laws.HeldBytes.{held_bytes_law}
 use Rattle.vm_superio.proofs.Lemmas.Serial.Step.ByKind.{same_kind}
-use Rattle.superio_examples.specs.Interrupts.{op_of, Leads, IsPartOfRun, EndsRun, RunsAtEnd, IsRunOfDriver}
+use Rattle.superio_examples.specs.Interrupts.{op_of, Leads, IsPartOfRun, EndsRun, RunsAtEnd, IsRunOfDriver, GotFirst}
 
 -- ---- a trace in two parts
 
@@ -178,3 +180,63 @@ run_of_driver old middle new rest_old rest_new sizes_old sizes_new got_old got_n
           (subst (λ (taken : List ℕ). Leads (ops ++ part.ops) old new taken) (append-nil part.taken) whole)
           (λ some. omega (arith, takes some, ap length part.got, length-append got_old part.taken));
     }
+
+-- ---- several runs
+
+-- the last run of several
+pub runs_then : (start : State) (runs : ℕ) (before middle run : Trace) (asked : Asked) → RunsAtInterrupts start runs before middle
+    → IsRunAtInterrupt start middle run → RunsAtInterrupts start (suc runs) before (timeout_entry asked ∷ run ++ middle)
+runs_then start zero before middle run asked same is = (
+  run,
+  asked,
+  subst (λ (trace : Trace). IsRunAtInterrupt start trace run) same is,
+  ap (λ (trace : Trace). timeout_entry asked ∷ run ++ trace) same,
+)
+runs_then start (suc runs) before middle run asked (first, answer, begins, later) is =
+    (first, answer, begins, runs_then start runs (timeout_entry answer ∷ first ++ before) middle run asked later is)
+
+-- so many runs, from a state on, and what the guest got of them
+pub record Ran (old new : State) (runs : ℕ) (got_old got_new : List ℕ) : Type 0 where
+  pub trace : Trace
+  pub taken : List ℕ
+  pub got : got_new ≡ got_old ++ taken
+  pub at_interrupts : RunsAtInterrupts old runs [] trace
+  pub bytes : taken_bytes old trace ≡ taken
+  pub state : state_after old trace ≡ new
+
+pub ran_none : (s : State) (got : List ℕ) → Ran s s 0 got got
+ran_none s got = record { trace = []; taken = []; got = sym (append-nil got); at_interrupts = refl; bytes = refl; state = refl }
+
+abbrev entry_of : (op : Op) → TraceEntry
+entry_of op = record { op = op; asked = Asked.Nothing; sent = Sent.Nothing }
+
+entries : (ops : List Op) → map op_of (map entry_of ops) ≡ ops
+entries [] = refl
+entries (op ∷ ops) = ap (λ (ops : List Op). op ∷ ops) (entries ops)
+
+pub ran_then : (old middle new : State) (runs : ℕ) (got_old got_middle got_new : List ℕ) → Ran old middle runs got_old got_middle
+    → IsRunOfDriver middle new got_middle got_new → Ran old new (runs + 1) got_old got_new
+ran_then old middle new runs got_old got_middle got_new first last =
+    let run = map entry_of last.ops in
+    let more = last.runs old first.trace run first.state (entries last.ops) in
+    let one_more : suc runs ≡ runs + 1 = omega arith in
+    record {
+      trace = timeout_entry Asked.Nothing ∷ run ++ first.trace;
+      taken = first.taken ++ last.taken;
+      got = last.got ∙ ap (λ got. got ++ last.taken) first.got ∙ append_assoc got_old first.taken last.taken;
+      at_interrupts = subst (λ runs. RunsAtInterrupts old runs [] (timeout_entry Asked.Nothing ∷ run ++ first.trace)) one_more
+          (runs_then old runs [] first.trace run Asked.Nothing first.at_interrupts more.at_interrupt);
+      bytes = append-nil (taken_bytes old (run ++ first.trace)) ∙ more.bytes ∙ ap (λ bytes. bytes ++ last.taken) first.bytes;
+      state = more.state Asked.Nothing;
+    }
+
+-- by the law, as many runs as bytes were held have taken these
+pub all_taken : TakenAfterRunsLaw → (old new : State) (runs : ℕ) (got_old got_new : List ℕ) → Ran old new runs got_old got_new
+    → length old.in_buffer ≤ runs → GotFirst old.in_buffer got_old got_new
+all_taken law old new runs got_old got_new ran few =
+    let held = append-nil old.in_buffer in
+    let (more, is) = law old runs [] ran.trace ran.at_interrupts (omega (arith, few, ap length held)) in (
+      more,
+      ran.got ∙ ap (λ bytes. got_old ++ bytes) (sym ran.bytes ∙ is ∙ ap (λ bytes. bytes ++ more) held)
+          ∙ sym (append_assoc got_old old.in_buffer more),
+    )

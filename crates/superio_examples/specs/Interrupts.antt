@@ -106,3 +106,7 @@ pub record IsRunOfDriver (old new : State) (got_old got_new : List ℕ) : Type 0
   pub runs :
       (start : State) (before run : Trace) → state_after start before ≡ old → map op_of run ≡ ops
       → RunsAtEnd start before run new taken
+
+-- the guest got these bytes first, in order, and maybe others after them
+abbrev pub GotFirst : (bytes got_old got_new : List ℕ) → Type 0
+GotFirst bytes got_old got_new = (more : List ℕ) × (got_new ≡ got_old ++ bytes ++ more)

@@ -9,7 +9,7 @@ ghost use Rattle.superio_core.specs.Serial.Port.Operations.{count_if};
 ghost use Rattle.superio_core.specs.declared.serial.registers.Condition.TheVariants.{Rda};
 ghost use Rattle.superio_core.specs.Serial.Port.Registers.{ier_bit, is_dlab, is_loopback};
 ghost use Rattle.superio_core.specs.Serial.Step.Raising.{iir_none_bit, enqueued_bytes};
-ghost use Rattle.superio_examples.specs.Interrupts.{IsArrival, IsPartOfRun, EndsRun, IsRunOfDriver, has_waiting, IsAttentive};
+ghost use Rattle.superio_examples.specs.Interrupts.{IsArrival, IsPartOfRun, EndsRun, IsRunOfDriver, GotFirst, has_waiting, IsAttentive};
 
 use crate::counter::Counter;
 use crate::interrupts::{MonitoredPort, TimedPort, shows_none};
@@ -168,6 +168,35 @@ pub fn handle<P: MonitoredPort>(
     port.begin_run();
     while finds_interrupt(port, feed) {
         take_bytes(port, bound, feed, got)?;
+    }
+    Ok(())
+}
+
+/// The guest's handler runs `runs` times, and the monitor's timeout follows each run. By the law of drivers, the bytes
+/// held at the start are all taken, in order, if there are at most `runs`, whatever arrives meanwhile.
+///
+/// # Errors
+///
+/// Returns `AllocError` if memory is refused.
+#[tactic(auto, using(crate::proofs::RunLemmas::ran_none))]
+pub fn handle_repeatedly<P: MonitoredPort>(
+    port: &mut P,
+    bound: usize,
+    runs: usize,
+    feed: &mut Feed,
+    got: &mut Vec<u8>,
+) -> Result<(), AllocError>
+    requires bound { 1 ≤ bound }
+    requires coherent { P.coherent port.old }
+    requires shows { ShowsHeldBytes (P.state port.old) }
+    requires enabled { IsTrue (has_bits (P.state port.old).interrupt_enable (ier_bit Rda)) }
+    requires latch { is_dlab (P.state port.old).line_control ≡ false }
+    ensures taken { IfOk result (λ _. length (P.state port.old).in_buffer ≤ runs
+        → GotFirst (P.state port.old).in_buffer got.old.items got.new.items) }
+{
+    laws::interrupt_driver();
+    for _ in 0..runs {
+        handle(port, bound, feed, got)?;
     }
     Ok(())
 }
