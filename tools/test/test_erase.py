@@ -10,7 +10,7 @@ BRACKETS = ("{}", "()", "[]")
 # Each form that is dropped: a source, and what is left of it.
 FORMS = {
     "a clause": ("pub fn f(a: u8) -> u8\n    ensures { result ≡ a }\n{\n    a\n}\n",
-                 "// Clauses in source/lib.rt: ensures.\npub fn f(a: u8) -> u8\n{\n    a\n}\n"),
+                 "// Clauses in source/lib.rt: returns.\npub fn f(a: u8) -> u8\n{\n    a\n}\n"),
     "named clauses of several lines": (
         "pub fn f(a: &mut u8) -> u8\n    requires small { a.old ≤ 3 }\n    ensures value { let x' = 1 in\n"
         "        result ≡ x' }\n"
@@ -19,7 +19,7 @@ FORMS = {
     "a header of several lines": (
         "pub fn f<T: Copy>(\n    a: [u8; 4],\n    b: T,\n) -> [u8; 4]\nwhere\n    T: Ord,\n"
         "    ensures { result ≡ a }\n{\n    a\n}\n",
-        "// Clauses in source/lib.rt: ensures.\npub fn f<T: Copy>(\n    a: [u8; 4],\n    b: T,\n) -> [u8; 4]\n"
+        "// Clauses in source/lib.rt: returns.\npub fn f<T: Copy>(\n    a: [u8; 4],\n    b: T,\n) -> [u8; 4]\n"
         "where\n    T: Ord,\n{\n    a\n}\n"),
     "a function that is not public": ("fn f(a: u8)\n    ensures { a ≡ a }\n{\n}\n", "fn f(a: u8)\n{\n}\n"),
     "a trait": (

@@ -69,6 +69,17 @@ const MATCH: u32 = 0x8070_6050;
 const NOW: u64 = 0x5_0403_0201;
 
 #[test]
+fn no_register_is_at_an_offset_from_8_on() {
+    let mut port = Serial::from_state(&port_state(), Silent, serial::NoEvents, Vec::new()).unwrap();
+    for offset in 8..=u8::MAX {
+        port.write(offset, 0xFF).unwrap();
+        assert_eq!(port.read(offset), 0, "{offset}");
+    }
+    assert_eq!(port.state(), port_state());
+    assert!(port.writer().is_empty());
+}
+
+#[test]
 fn a_guest_reads_each_field_of_a_restored_clock_at_its_offset() {
     let state = RtcState { lr: LOADED, offset: 0x100, mr: MATCH, imsc: 1, ris: 3 };
     let mut clock = Rtc::from_snapshot(&RtcSnapshot { state, armed: false }, NoEvents);

@@ -12,7 +12,7 @@ pub trait ReceiveFifo {
     fn len(&self) -> usize;
 
     /// Whether it is empty.
-    // Clauses in crates/superio_core/src/fifo.rt: ensures.
+    // Clauses in crates/superio_core/src/fifo.rt: returns.
     fn is_empty(&self) -> bool;
 
     /// Takes the oldest byte.

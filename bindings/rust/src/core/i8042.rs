@@ -11,7 +11,7 @@ const CMD_RESET_CPU: u8 = 0xFE;
 /// Whether a write of `value` at `offset` is the reset command. For a monitor that resets the machine without a
 /// trigger.
 #[inline(always)]
-// Clauses in crates/superio_core/src/i8042.rt: ensures.
+// Clauses in crates/superio_core/src/i8042.rt: returns.
 pub fn is_reset_command(offset: u8, value: u8) -> bool
 {
     offset == COMMAND_OFFSET && value == CMD_RESET_CPU

@@ -34,7 +34,7 @@ pub struct Clock {
 
 impl Clock {
     /// A fresh clock: it shows the host's time and has no alarm.
-    // Clauses in crates/superio_core/src/rtc_pl031.rt: ensures.
+    // Clauses in crates/superio_core/src/rtc_pl031.rt: returns.
     pub fn new() -> Clock
     {
         Clock {
@@ -48,7 +48,7 @@ impl Clock {
     }
 
     /// The clock of this state.
-    // Clauses in crates/superio_core/src/rtc_pl031.rt: ensures.
+    // Clauses in crates/superio_core/src/rtc_pl031.rt: returns.
     pub fn from_state(state: &RtcState) -> Clock
     {
         Clock {
@@ -62,7 +62,7 @@ impl Clock {
     }
 
     /// A snapshot; `from_state` recreates the clock.
-    // Clauses in crates/superio_core/src/rtc_pl031.rt: ensures.
+    // Clauses in crates/superio_core/src/rtc_pl031.rt: returns.
     pub fn state(&self) -> RtcState
     {
         RtcState {
@@ -163,7 +163,7 @@ impl Clock {
     }
 
     /// Whether the interrupt line is up: bit 0 of RTCMIS, the raw interrupt status under the mask.
-    // Clauses in crates/superio_core/src/rtc_pl031.rt: ensures.
+    // Clauses in crates/superio_core/src/rtc_pl031.rt: returns.
     pub fn interrupt_line(&self) -> bool
     {
         self.ris & self.imsc & 1 == 1

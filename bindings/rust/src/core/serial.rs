@@ -112,7 +112,7 @@ impl SerialPort {
 
     /// Whether the port is coherent, as `new` makes it: `len` is at most 64, data ready shows whether bytes are held,
     /// and IIR is 1, 2, 4 or 6, with RDA pending only while bytes are held.
-    // Clauses in crates/superio_core/src/serial.rt: ensures.
+    // Clauses in crates/superio_core/src/serial.rt: returns.
     pub fn is_coherent(&self) -> bool
     {
         usize::from(self.in_buffer.len) <= FIFO_SIZE

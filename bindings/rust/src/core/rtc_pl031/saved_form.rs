@@ -16,7 +16,7 @@ impl RtcState {
     ///
     /// They are a header of eight bytes, `lr`, `mr`, `imsc` and `ris` of four bytes each, `offset` of eight, and 1 if
     /// an alarm is set, else 0. Numbers are little-endian.
-    // Clauses in crates/superio_core/src/rtc_pl031/saved_form.rt: ensures.
+    // Clauses in crates/superio_core/src/rtc_pl031/saved_form.rt: returns.
     pub fn to_bytes(&self) -> [u8; SAVED_SIZE]
     {
         let [m0, m1, m2, m3, kind, version, low, high] = header(CLOCK_KIND, CONTENTS_SIZE as u16);

@@ -25,7 +25,7 @@ pub struct RtcState {
 
 impl RtcState {
     /// A state with these five fields, as saved by a clock without an alarm. No alarm is set.
-    // Clauses in crates/superio_core/src/rtc_pl031/state.rt: ensures.
+    // Clauses in crates/superio_core/src/rtc_pl031/state.rt: returns.
     pub fn from_five(lr: u32, offset: i64, mr: u32, imsc: u32, ris: u32) -> RtcState
     {
         RtcState {
@@ -39,7 +39,7 @@ impl RtcState {
     }
 
     /// Whether the interrupt line is up; see [`Clock::interrupt_line`].
-    // Clauses in crates/superio_core/src/rtc_pl031/state.rt: ensures.
+    // Clauses in crates/superio_core/src/rtc_pl031/state.rt: returns.
     pub fn interrupt_line(&self) -> bool
     {
         Clock::from_state(self).interrupt_line()

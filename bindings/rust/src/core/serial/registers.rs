@@ -98,7 +98,7 @@ pub struct Registers {
 
 impl Registers {
     /// The registers of a fresh port.
-    // Clauses in crates/superio_core/src/serial/registers.rt: ensures.
+    // Clauses in crates/superio_core/src/serial/registers.rt: returns.
     pub fn new() -> Registers
     {
         Registers {
@@ -133,7 +133,7 @@ impl Registers {
 
     /// The register that an offset reaches.
     #[inline(always)]
-    // Clauses in crates/superio_core/src/serial/registers.rt: ensures.
+    // Clauses in crates/superio_core/src/serial/registers.rt: returns.
     pub fn at(&self, offset: u8) -> Register
     {
         match offset {
@@ -160,7 +160,7 @@ impl Registers {
 
     /// Whether loopback is on.
     #[inline(always)]
-    // Clauses in crates/superio_core/src/serial/registers.rt: ensures.
+    // Clauses in crates/superio_core/src/serial/registers.rt: returns.
     pub fn is_loopback(&self) -> bool
     {
         has_bits(self.modem_control, MCR_LOOP_BIT)
@@ -168,7 +168,7 @@ impl Registers {
 
     /// Whether a port with these registers is coherent, given whether it holds bytes and that it holds at most 64: data
     /// ready shows whether it does, and IIR is 1, 2, 4 or 6, with RDA pending only while bytes are held.
-    // Clauses in crates/superio_core/src/serial/registers.rt: ensures.
+    // Clauses in crates/superio_core/src/serial/registers.rt: returns.
     pub fn is_coherent(&self, holds_bytes: bool) -> bool
     {
         has_bits(self.line_status, LSR_DATA_READY_BIT) == holds_bytes
