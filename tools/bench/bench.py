@@ -39,7 +39,7 @@ def build(folder):
         subprocess.run(["rt", "run", "--", "0", "0"], cwd=ours.parent.parent, stdin=subprocess.DEVNULL, check=True)
     library = built_library()
     bindings = ["--offline", "--config", f'patch.crates-io.vm-superio.path="{ROOT / "bindings/rust"}"']
-    bindings = build_in_rust(bindings, folder / "bindings", SUPERIO_LIB_DIR=str(library.parent))
+    bindings = build_in_rust(bindings, folder / "bindings")
     original = build_in_rust(original_crate(), folder / "original_crate")
     through_c = []
     for devices, built in (("ours", library), ("original", original / "liboriginal.a")):

@@ -42,22 +42,12 @@ LISTS = [
 ]
 
 
-def build_in_rust(dependency, target, **environment):
+def build_in_rust(dependency, target):
     """Builds the package `original` over the crate that Cargo's arguments name, and returns the folder of what it built."""
     cargo = ["cargo", "build", "--release", "--quiet", "--manifest-path", FOLDER / "original/Cargo.toml"]
-    environment = dict(os.environ, RUSTFLAGS=f"-C target-cpu={PROCESSOR}", CARGO_TARGET_DIR=str(target), **environment)
+    environment = dict(os.environ, RUSTFLAGS=f"-C target-cpu={PROCESSOR}", CARGO_TARGET_DIR=str(target))
     subprocess.run([*cargo, *dependency], env=environment, check=True)
     return target / "release"
-
-
-def stub_of_serde(folder):
-    """Cargo's arguments by which it resolves the optional dependency of bindings/rust without a registry."""
-    package = folder / "serde"
-    (package / "src").mkdir(parents=True)
-    (package / "src" / "lib.rs").touch()
-    manifest = '[package]\nname = "serde"\nversion = "1.0.0"\n[features]\nderive = []\n'
-    (package / "Cargo.toml").write_text(manifest, encoding="utf-8")
-    return ["--config", f'patch.crates-io.serde.path="{package}"']
 
 
 def missing_tools(*names):

@@ -54,6 +54,15 @@ pub trait RtcEvents {
 }
 
 /// An events object that ignores every event.
+///
+/// # Example
+///
+/// ```
+/// use vm_superio::rtc_pl031::{NoEvents, Rtc};
+///
+/// let clock = Rtc::with_events(NoEvents); // what `Rtc::new` makes
+/// assert!(!clock.line());
+/// ```
 #[derive(Debug, Clone, Copy)]
 pub struct NoEvents;
 
@@ -78,6 +87,19 @@ impl<EV: RtcEvents> RtcEvents for Arc<EV> {
 ///
 /// These five fields do not say whether an alarm is set, so a clock restored from them has none.
 /// [`RtcSnapshot`] has the whole state.
+///
+/// # Example
+///
+/// ```
+/// use vm_superio::rtc_pl031::{NoEvents, Rtc, RtcState};
+///
+/// let state = RtcState { offset: 60, ..RtcState::default() }; // a minute ahead of the host
+/// let mut clock = Rtc::from_state(&state, NoEvents);
+/// let mut data = [0; 4];
+/// clock.read_at(0x000, &mut data, 1_000);
+/// assert_eq!(u32::from_le_bytes(data), 1_060);
+/// assert_eq!(clock.state(), state);
+/// ```
 #[derive(Clone, Copy, Debug, Default, Eq, PartialEq)]
 #[cfg_attr(feature = "serde", derive(serde::Deserialize, serde::Serialize))]
 pub struct RtcState {

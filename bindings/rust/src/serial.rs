@@ -100,6 +100,29 @@ impl<T: Trigger + fmt::Debug, EV: SerialEvents + fmt::Debug, W: Write + fmt::Deb
 }
 
 /// Why a call of a serial port failed.
+///
+/// # Example
+///
+/// ```
+/// use vm_superio::serial::Error;
+/// use vm_superio::{Serial, Trigger};
+///
+/// struct Gone;
+///
+/// impl Trigger for Gone {
+///     type E = &'static str;
+///
+///     fn trigger(&self) -> Result<(), &'static str> {
+///         Err("nobody listens")
+///     }
+/// }
+///
+/// let mut serial = Serial::new(Gone, Vec::new());
+/// serial.write(1, 0x01).unwrap(); // the guest enables the interrupt of received data
+/// let error = serial.enqueue_raw_bytes(&[7; 65]).unwrap_err();
+/// assert_eq!(error.to_string(), "Failed to trigger interrupt: nobody listens");
+/// assert!(matches!(serial.enqueue_raw_bytes(b"more"), Err(Error::FullFifo))); // 64 of the bytes were kept
+/// ```
 #[derive(Debug)]
 pub enum Error<E> {
     /// The trigger refused a call.
