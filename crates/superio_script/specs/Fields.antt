@@ -11,10 +11,6 @@ use Rattle.hex.specs.Hex.{decode_sized}
 abbrev pub bytes_of : (count : ℕ) (field : List ℕ) → Option (List ℕ)
 bytes_of count field = result_ok (decode_sized field count)
 
--- a number of this width: two digits for each of its bytes, the most significant digit first
-abbrev pub number_of : (width : Width) (field : List ℕ) → Option ℕ
-number_of width field = option_map (from_be_bytes width) (bytes_of (byte_len width) field)
-
 -- 1 to 128 bytes, of two digits each
 abbrev pub field_bytes_of : (field : List ℕ) → Option (List ℕ)
 field_bytes_of field =
@@ -23,9 +19,14 @@ field_bytes_of field =
 
 -- ---- the first of the fields
 
+-- so many bytes
+abbrev pub first_array : (count : ℕ) (fields : List (List ℕ)) → Option (List ℕ)
+first_array count [] = None
+first_array count (field ∷ fields) = bytes_of count field
+
+-- a number of this width: two digits for each of its bytes, the most significant digit first
 abbrev pub first_number : (width : Width) (fields : List (List ℕ)) → Option ℕ
-first_number width [] = None
-first_number width (field ∷ fields) = number_of width field
+first_number width fields = option_map (from_be_bytes width) (first_array (byte_len width) fields)
 
 -- no bytes without a field
 abbrev pub first_bytes : (fields : List (List ℕ)) → Option (List ℕ)

@@ -78,8 +78,8 @@ pub(crate) enum ControllerCommand {
 }
 
 /// The forms of the serial port's lines, a row each: the name, what it asks for, and the kinds of its fields in order.
-fn serial_form(name: &[u8], mut fields: Fields) -> Option<SerialCommand>
-    ensures { result ≡ by_form serial_forms name.now (remaining_fields fields.entry.rest) }
+fn serial_form(name: &[u8], fields: &mut Fields) -> Option<SerialCommand>
+    ensures { result ≡ by_form serial_forms name.now (remaining_fields fields.old.rest) }
 {
     let command = match name {
         b"sr" => SerialCommand::Read {
@@ -105,13 +105,12 @@ fn serial_form(name: &[u8], mut fields: Fields) -> Option<SerialCommand>
         b"se" => SerialCommand::Events,
         _ => return None,
     };
-    fields.end()?;
-    Some(command)
+    fields.end(command)
 }
 
 /// The forms of the clock's lines.
-fn clock_form(name: &[u8], mut fields: Fields) -> Option<ClockCommand>
-    ensures { result ≡ by_form clock_forms name.now (remaining_fields fields.entry.rest) }
+fn clock_form(name: &[u8], fields: &mut Fields) -> Option<ClockCommand>
+    ensures { result ≡ by_form clock_forms name.now (remaining_fields fields.old.rest) }
 {
     let command = match name {
         b"cr" => ClockCommand::Read {
@@ -129,13 +128,12 @@ fn clock_form(name: &[u8], mut fields: Fields) -> Option<ClockCommand>
         },
         _ => return None,
     };
-    fields.end()?;
-    Some(command)
+    fields.end(command)
 }
 
 /// The forms of the controller's lines.
-fn controller_form(name: &[u8], mut fields: Fields) -> Option<ControllerCommand>
-    ensures { result ≡ by_form controller_forms name.now (remaining_fields fields.entry.rest) }
+fn controller_form(name: &[u8], fields: &mut Fields) -> Option<ControllerCommand>
+    ensures { result ≡ by_form controller_forms name.now (remaining_fields fields.old.rest) }
 {
     let command = match name {
         b"kr" => ControllerCommand::Read {
@@ -147,13 +145,12 @@ fn controller_form(name: &[u8], mut fields: Fields) -> Option<ControllerCommand>
         },
         _ => return None,
     };
-    fields.end()?;
-    Some(command)
+    fields.end(command)
 }
 
 /// What a line with this name and these fields after it asks for. A name begins with the letter of its device.
-fn command_of_name(name: &[u8], fields: Fields) -> Option<Command>
-    ensures { result ≡ command_of_name name.now (remaining_fields fields.entry.rest) }
+fn command_of_name(name: &[u8], fields: &mut Fields) -> Option<Command>
+    ensures { result ≡ command_of_name name.now (remaining_fields fields.old.rest) }
 {
     Some(match name.first()? {
         b's' => Command::Serial(serial_form(name, fields)?),
@@ -169,7 +166,7 @@ pub(crate) fn parse(line: &[u8]) -> Option<Command>
 {
     let mut fields = Fields::of(line);
     let name = fields.next_field()?;
-    command_of_name(name, fields)
+    command_of_name(name, &mut fields)
 }
 
 /// The mask of a line `refuse MMMMMMMMMMMMMMMM`, given without its LF, or `None` if the line is not of this form.
@@ -181,6 +178,5 @@ pub(crate) fn refused_mask(line: &[u8]) -> Option<u64>
         b"refuse" => fields.u64()?,
         _ => return None,
     };
-    fields.end()?;
-    Some(mask)
+    fields.end(mask)
 }

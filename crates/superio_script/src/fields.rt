@@ -2,7 +2,7 @@
 ghost use Rattle.std.specs.Prelude.{◌≡◌};
 ghost use Rattle.std.specs.Int.{w8, w16, w32, w64};
 ghost use Rattle.superio_script.specs.Splitting.{remaining_fields};
-ghost use Rattle.superio_script.specs.Fields.{bytes_of, number_of, field_bytes_of, first_number, first_bytes, later_fields, no_field};
+ghost use Rattle.superio_script.specs.Fields.{bytes_of, field_bytes_of, first_array, first_number, first_bytes, later_fields, end};
 
 use crate::splitting::Fields;
 use arrayvec::ArrayVec;
@@ -80,12 +80,20 @@ fn field_bytes(field: &[u8]) -> Option<FieldBytes>
 
 // Each takes the next field, if it is of its kind. After `None` the line has no form.
 impl Fields<'_> {
+    /// So many bytes, of two digits each.
+    fn array<const N: usize>(&mut self) -> Option<[u8; N]>
+        ensures value { result ≡ first_array N (remaining_fields self.old.rest) }
+        ensures later { remaining_fields self.new.rest ≡ later_fields (remaining_fields self.old.rest) }
+    {
+        parse_bytes(self.next_field()?)
+    }
+
     /// A byte, of two digits.
     pub(crate) fn u8(&mut self) -> Option<u8>
         ensures value { result ≡ first_number w8 (remaining_fields self.old.rest) }
         ensures later { remaining_fields self.new.rest ≡ later_fields (remaining_fields self.old.rest) }
     {
-        Some(u8::from_be_bytes(parse_bytes(self.next_field()?)?))
+        Some(u8::from_be_bytes(self.array()?))
     }
 
     /// A number of four digits.
@@ -93,7 +101,7 @@ impl Fields<'_> {
         ensures value { result ≡ first_number w16 (remaining_fields self.old.rest) }
         ensures later { remaining_fields self.new.rest ≡ later_fields (remaining_fields self.old.rest) }
     {
-        Some(u16::from_be_bytes(parse_bytes(self.next_field()?)?))
+        Some(u16::from_be_bytes(self.array()?))
     }
 
     /// A number of eight digits.
@@ -101,7 +109,7 @@ impl Fields<'_> {
         ensures value { result ≡ first_number w32 (remaining_fields self.old.rest) }
         ensures later { remaining_fields self.new.rest ≡ later_fields (remaining_fields self.old.rest) }
     {
-        Some(u32::from_be_bytes(parse_bytes(self.next_field()?)?))
+        Some(u32::from_be_bytes(self.array()?))
     }
 
     /// A number of sixteen digits.
@@ -109,7 +117,7 @@ impl Fields<'_> {
         ensures value { result ≡ first_number w64 (remaining_fields self.old.rest) }
         ensures later { remaining_fields self.new.rest ≡ later_fields (remaining_fields self.old.rest) }
     {
-        Some(u64::from_be_bytes(parse_bytes(self.next_field()?)?))
+        Some(u64::from_be_bytes(self.array()?))
     }
 
     /// 1 to 128 bytes of two digits each, or none if no field is left.
@@ -123,12 +131,12 @@ impl Fields<'_> {
         }
     }
 
-    /// `Some` if no field is left.
-    pub(crate) fn end(&mut self) -> Option<()>
-        ensures { result ≡ no_field (remaining_fields self.old.rest) }
+    /// The value, if no field is left.
+    pub(crate) fn end<T: Drop>(&mut self, value: T) -> Option<T>
+        ensures { result ≡ end value (remaining_fields self.old.rest) }
     {
         match self.next_field() {
-            None => Some(()),
+            None => Some(value),
             Some(_) => None,
         }
     }
