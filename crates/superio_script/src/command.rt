@@ -174,9 +174,9 @@ pub(crate) fn refused_mask(line: &[u8]) -> Option<u64>
     ensures { result ≡ mask_of line.now }
 {
     let mut fields = Fields::of(line);
-    let mask = match fields.next_field()? {
-        b"refuse" => fields.u64()?,
-        _ => return None,
-    };
+    if fields.next_field()? != b"refuse".as_slice() {
+        return None;
+    }
+    let mask = fields.u64()?;
     fields.end(mask)
 }
