@@ -3,6 +3,7 @@ use Rattle.vm_superio.specs.Links.OutCalls.{WriterCalls}
 use Rattle.std.proofs.Common.{[], ◌∷◌, ◌++◌, sym, ap, ◌∙◌, subst, append_assoc, append-nil, refl, arith}
 use Rattle.std.proofs.lemmas.Bool.{false≢true}
 use Rattle.superio_core.specs.Bits.{has_bits}
+use Rattle.superio_core.specs.Serial.Port.OpKinds.{Other}
 use Rattle.superio_core.specs.Serial.Port.State.{State}
 use Rattle.vm_superio.specs.Serial.Port.Model.{Port}
 use Rattle.superio_core.specs.Serial.Port.Registers.{is_dlab}
@@ -15,7 +16,7 @@ loop-bytes-init g c =
     let T = g.row.T.Denot in
     let EV = g.row.EV.Denot in
     let W = g.row.W.Denot in
-    let same = c.read.ensures.rest_unchanged refl in
+    let same = c.read.ensures.rest_unchanged (refl {a = Other}) in
     let value = lcr_read g.T.Trigger.link g.EV.SerialEvents.link (WriterCalls g.W.Write.contents) c.read.result c.args.serial.now c.read.new.self c.read.ensures.step in
     record {
       hidden = ap (λ (port : Port T EV W). is_dlab port.state.line_control) same
@@ -31,7 +32,7 @@ pub push-requires : goal.push-requires
 push-requires g c =
     let one = pass g.T.Trigger.link g.EV.SerialEvents.link (WriterCalls g.W.Write.contents) c.one_call.ensures.data_ready c.read-in-loop-bytes.result
     c.read-in-loop-bytes-2.result c.loop-bytes.serial c.read-in-loop-bytes.new.self c.read-in-loop-bytes-2.new.self
-    c.loop-bytes.invariant.hidden c.read-in-loop-bytes.ensures.step (c.read-in-loop-bytes.ensures.rest_unchanged refl)
+    c.loop-bytes.invariant.hidden c.read-in-loop-bytes.ensures.step (c.read-in-loop-bytes.ensures.rest_unchanged (refl {a = Other}))
     (sym c.shows_data.ensures ∙ c.loop-bytes-test.true) c.read-in-loop-bytes-2.ensures.step in
     (omega arith, omega (arith, c.loop-bytes.invariant.room, one.less))
 
@@ -39,7 +40,7 @@ pub loop-bytes-smaller : goal.loop-bytes-smaller
 loop-bytes-smaller g c =
     let one = pass g.T.Trigger.link g.EV.SerialEvents.link (WriterCalls g.W.Write.contents) c.one_call.ensures.data_ready c.read-in-loop-bytes.result
     c.read-in-loop-bytes-2.result c.loop-bytes.serial c.read-in-loop-bytes.new.self c.read-in-loop-bytes-2.new.self
-    c.loop-bytes.invariant.hidden c.read-in-loop-bytes.ensures.step (c.read-in-loop-bytes.ensures.rest_unchanged refl)
+    c.loop-bytes.invariant.hidden c.read-in-loop-bytes.ensures.step (c.read-in-loop-bytes.ensures.rest_unchanged (refl {a = Other}))
     (sym c.shows_data.ensures ∙ c.loop-bytes-test.true) c.read-in-loop-bytes-2.ensures.step in
     omega (arith, one.less)
 
@@ -48,7 +49,7 @@ loop-bytes-preserved g c =
     let before = c.loop-bytes.invariant in
     let one = pass g.T.Trigger.link g.EV.SerialEvents.link (WriterCalls g.W.Write.contents) c.one_call.ensures.data_ready c.read-in-loop-bytes.result
     c.read-in-loop-bytes-2.result c.loop-bytes.serial c.read-in-loop-bytes.new.self c.read-in-loop-bytes-2.new.self
-    c.loop-bytes.invariant.hidden c.read-in-loop-bytes.ensures.step (c.read-in-loop-bytes.ensures.rest_unchanged refl)
+    c.loop-bytes.invariant.hidden c.read-in-loop-bytes.ensures.step (c.read-in-loop-bytes.ensures.rest_unchanged (refl {a = Other}))
     (sym c.shows_data.ensures ∙ c.loop-bytes-test.true) c.read-in-loop-bytes-2.ensures.step in
     record {
       hidden = one.hidden;
@@ -61,7 +62,7 @@ loop-bytes-preserved g c =
 
 pub returns-clause-reads : goal.returns-clause-reads
 returns-clause-reads g c = rw (← append-nil c.loop-bytes.bytes.items)
-    (c.loop-bytes.invariant.whole [] c.read-in-loop-bytes.new.self (c.read-in-loop-bytes.ensures.rest_unchanged refl))
+    (c.loop-bytes.invariant.whole [] c.read-in-loop-bytes.new.self (c.read-in-loop-bytes.ensures.rest_unchanged (refl {a = Other})))
 
 pub returns-clause-at_most_64 : goal.returns-clause-at_most_64
 returns-clause-at_most_64 g c = omega (arith, c.loop-bytes.invariant.room)
@@ -76,7 +77,7 @@ pub returns-clause-stops_when_not_ready : goal.returns-clause-stops_when_not_rea
 returns-clause-stops_when_not_ready g c = λ hidden.
     let value = lsr_read g.T.Trigger.link g.EV.SerialEvents.link (WriterCalls g.W.Write.contents) c.read-in-loop-bytes.result c.loop-bytes.serial c.read-in-loop-bytes.new.self
     c.read-in-loop-bytes.ensures.step in
-    ap (λ (port : Port g.row.T.Denot g.row.EV.Denot g.row.W.Denot). has_bits port.state.line_status 0x01) (c.read-in-loop-bytes.ensures.rest_unchanged refl)
+    ap (λ (port : Port g.row.T.Denot g.row.EV.Denot g.row.W.Denot). has_bits port.state.line_status 0x01) (c.read-in-loop-bytes.ensures.rest_unchanged (refl {a = Other}))
     ∙ ap (λ byte. has_bits byte 0x01) (sym value) ∙ sym c.shows_data.ensures ∙ c.loop-bytes-test.false
 
 pub returns-clause-trigger : goal.returns-clause-trigger
