@@ -36,8 +36,11 @@ def is_current(built, sources):
 
 
 def run_rt(crate, command, log, task):
-    """Runs a command of rt in the folder of a crate, and its exit status. `log` takes what it prints, `task` how far it is."""
-    with subprocess.Popen(["rt", command], cwd=CRATES / crate, stdin=subprocess.DEVNULL, stdout=subprocess.PIPE,
+    """Runs a command of rt in the folder of a crate, and its exit status. `log` takes what it prints, `task` how far it
+    is. A proof takes as many processors as RT_JOBS says, or else as rt chooses."""
+    jobs = os.environ.get("RT_JOBS")
+    words = ["rt", command, *(["--jobs", jobs] if jobs else [])]
+    with subprocess.Popen(words, cwd=CRATES / crate, stdin=subprocess.DEVNULL, stdout=subprocess.PIPE,
                           stderr=subprocess.STDOUT, text=True, errors="replace") as process:
         for line in process.stdout:
             log.write(line)
