@@ -5,8 +5,8 @@ ghost use Rattle.std.specs.Int.{w32, w64, to_le_bytes, cast_unsigned};
 ghost use Rattle.superio_core.specs.Saved.Faults.{clock_fault};
 ghost use Rattle.superio_core.specs.Saved.Laws.{IsClock};
 
-use super::RtcState;
 use super::super::saved::{CLOCK_KIND, Error, contents_of, header};
+use super::RtcState;
 
 /// The size of a clock's byte form: the header and 25 bytes.
 pub const SAVED_SIZE: usize = 33;

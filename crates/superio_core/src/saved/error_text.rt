@@ -1,8 +1,7 @@
 //! What the errors of saved states print.
+use super::Error;
 use std::error::Error as StdError;
 use std::fmt;
-
-use super::Error;
 
 impl fmt::Display for Error {
     ghost use Rattle.superio_core.specs.Saved.ErrorText.{text_of};

@@ -7,11 +7,11 @@ ghost use Rattle.superio_core.specs.Serial.Port.RxRing.{held_bytes};
 ghost use Rattle.superio_core.specs.Saved.Form.{serial_form};
 ghost use Rattle.superio_core.specs.Saved.Faults.{serial_fault};
 
+use super::super::fifo::{FIFO_SIZE, ReceiveFifo};
+use super::super::saved::{Error, HEADER_SIZE, SERIAL_KIND, contents_of, header};
 use super::SerialPort;
 use super::registers::{REGISTER_COUNT, Registers};
 use super::rx_ring::RxRing;
-use super::super::fifo::{FIFO_SIZE, ReceiveFifo};
-use super::super::saved::{Error, HEADER_SIZE, SERIAL_KIND, contents_of, header};
 
 /// The size of a form without received bytes: the header and the registers.
 const SAVED_MIN: usize = HEADER_SIZE + REGISTER_COUNT;

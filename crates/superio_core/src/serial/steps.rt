@@ -14,14 +14,14 @@ ghost use Rattle.superio_core.specs.Serial.Step.Transition.{rbr_read, ier_write,
 ghost use Rattle.superio_core.specs.Serial.Step.Restore.{is_asserted, restore_calls};
 ghost use Rattle.superio_core.specs.Serial.Step.Admissible.{ier_write_calls, arrival_calls, timeout_calls, kind_calls};
 
+use super::super::fifo::ReceiveFifo;
+use super::super::trace::Asked;
 use super::bits::{
     IER_UART_VALID_BITS, IIR_FIFO_BITS, IIR_NONE_BIT, LSR_DATA_READY_BIT, has_bits, only_bits,
     with_bits, without_bits,
 };
 use super::effects::{ReadEffects, WriteEffects};
 use super::registers::{Condition, Register, Registers};
-use super::super::fifo::ReceiveFifo;
-use super::super::trace::Asked;
 
 impl Registers {
     /// Raises a condition: if it is enabled and not pending, it becomes pending. Returns whether to call the trigger,

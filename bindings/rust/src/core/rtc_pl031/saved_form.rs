@@ -2,8 +2,8 @@
 // These are the lines that the prover checks, without their contracts. Change them there.
 //! The byte form of a clock's state.
 
-use super::RtcState;
 use super::super::saved::{CLOCK_KIND, Error, contents_of, header};
+use super::RtcState;
 
 /// The size of a clock's byte form: the header and 25 bytes.
 pub const SAVED_SIZE: usize = 33;

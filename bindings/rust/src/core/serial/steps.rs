@@ -4,14 +4,14 @@
 //! with every receive FIFO, and call no object: a step returns what is left to do, which is a byte to send, an
 //! interrupt to ask for, or an event to report.
 
+use super::super::fifo::ReceiveFifo;
+use super::super::trace::Asked;
 use super::bits::{
     IER_UART_VALID_BITS, IIR_FIFO_BITS, IIR_NONE_BIT, LSR_DATA_READY_BIT, has_bits, only_bits,
     with_bits, without_bits,
 };
 use super::effects::{ReadEffects, WriteEffects};
 use super::registers::{Condition, Register, Registers};
-use super::super::fifo::ReceiveFifo;
-use super::super::trace::Asked;
 
 impl Registers {
     /// Raises a condition: if it is enabled and not pending, it becomes pending. Returns whether to call the trigger,
