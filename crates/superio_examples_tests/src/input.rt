@@ -11,8 +11,8 @@ use superio_examples::output::Output;
 use superio_tests::objects::{Log, Object, port};
 use vm_superio::Rtc;
 use vm_superio::run::{Call, Done, Reply};
-use vm_superio::serial::{Three, WriterOut};
 use vm_superio::saved::{Error as FormError, Fault};
+use vm_superio::serial::{Three, WriterOut};
 
 /// A hundred bytes.
 const INPUT: [u8; 100] = *b"\

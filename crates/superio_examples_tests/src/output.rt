@@ -1,13 +1,15 @@
 //! Output of a guest that waits for the monitor's sink.
-use std::alloc::Global;
+use std::alloc::{AllocError, Global};
 use std::io::{ErrorKind, Write};
 use std::test::Fail;
 use superio_examples::console::Console;
 use superio_examples::first_claim::send_byte;
 use superio_examples::input::Input;
+use superio_examples::monitor_object::{MonitorObject, write_in_order};
 use superio_examples::output::{Output, in_order};
 use superio_script::Output as Sink;
 use superio_tests::objects::{Log, Object, port};
+use vm_superio::serial::Port;
 
 /// A console over a log's objects.
 type TestConsole<'a> = Console<Object<'a>, Object<'a>, Object<'a>>;
@@ -109,5 +111,26 @@ fn what_loopback_drops_can_be_counted_before_each_write(rt: HostRuntime) -> Resu
         assert!(rt; serial.write(offset, value).is_ok());
     }
     assert!(rt; dropped == 6 && log.calls() == 0);
+    Ok(())
+}
+
+/// A port over one object.
+fn port_over_one(alloc: Global) -> Result<Port<MonitorObject>, AllocError> {
+    let object = MonitorObject {
+        byte: None,
+        at_interrupt: None,
+    };
+    Port::new(alloc, object).map_err(|_| AllocError)
+}
+
+#[test]
+fn a_byte_goes_out_before_the_interrupt_of_its_write(rt: HostRuntime) -> Result<(), Fail> {
+    let mut port = port_over_one(rt.alloc())?;
+    assert!(rt; write_in_order(&mut port, 1, 0x02).is_ok());
+    assert!(rt; port.objects().at_interrupt.is_none());
+    // The IIR read acknowledges THRE, so that the byte raises it.
+    assert!(rt; port.read(2) == 0xC2);
+    assert!(rt; write_in_order(&mut port, 0, b'!').is_ok());
+    assert!(rt; port.objects().at_interrupt == Some(b'!'));
     Ok(())
 }
