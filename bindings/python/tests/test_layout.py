@@ -65,7 +65,8 @@ class Layout(unittest.TestCase):
                 self.assertEqual(fields_of(name), struct._fields_)
 
     def test_structs_have_the_sizes_that_the_header_asserts(self):
-        sizes = {name: int(size) for name, size in re.findall(r"sizeof\((superio_\w+)\)\s*==\s*(\d+) \? 1 : -1\]", CODE)}
+        asserted = re.findall(r"sizeof\((superio_\w+)\)\s*==\s*(\d+)( \* sizeof\(size_t\))? \? 1 : -1\]", CODE)
+        sizes = {name: int(count) * (ctypes.sizeof(ctypes.c_size_t) if unit else 1) for name, count, unit in asserted}
         self.assertEqual(sizes, {name: ctypes.sizeof(struct) for name, struct in STRUCTS.items()})
 
     def test_functions_are_those_of_the_header(self):

@@ -1,5 +1,5 @@
 -- Each line is a step of the session.
-use Rattle.std.proofs.Common.{None, arith}
+use Rattle.std.proofs.Common.{None}
 use Rattle.vm_superio.specs.Serial.Port.Model.{write_response, enqueue_response, timeout_response, refusal_in_result}
 use Rattle.superio_core.specs.Serial.Port.Operations.{ByteRead}
 use Rattle.superio_script.proofs.SerialScriptLemmas.{read-step, drain-step, write-step, enqueue-step, timeout-step, capacity-step, output-step, calls-step, events-step}
@@ -47,9 +47,3 @@ returns-in-Drain-clause-step c =
     rw (c.in-Drain.is, c.reply_digits.ensures, c.deref.ensures.0)
     (drain-step (record { registers = c.registers.ensures; held = c.held_bytes.ensures.bytes; states = c.states_of_history.ensures.state; responses = c.states_of_history.ensures.response; steps = c.steps_of_history.ensures; coherence = c.coherence.ensures }) c.drain.result.items c.args.serial.now c.drain.new.serial
     made.reads made.at_most_64 made.dlab_reads_nothing made.stops_when_not_ready made.all)
-
-pub reply_digits-requires : goal.reply_digits-requires
-reply_digits-requires c = rw c.deref.ensures.0 (omega (arith, c.drain.ensures.at_most_64))
-
-pub reply_digits-requires-in-Output : goal.reply_digits-requires-in-Output
-reply_digits-requires-in-Output c = rw c.bytes.ensures c.writer.result.now.few
