@@ -1,10 +1,10 @@
 //! The serial port. Its struct is `superio_serial` in the header: nine registers, then the received bytes.
-ghost use Rattle.std.specs.Prelude.{◌≡◌, ◌↔◌, ◌≤◌, ◌-◌, length, IsTrue};
+ghost use Rattle.std.specs.Prelude.{◌≡◌, ◌↔◌, ◌≤◌, ◌-◌, ◌==◌, not, length, IsTrue};
 ghost use Rattle.superio_core.specs.Serial.Port.SerialPort.{state_of_port, CoherentPort};
 ghost use Rattle.superio_core.specs.Serial.Port.State.{fresh_state};
 ghost use Rattle.superio_core.specs.Serial.Step.Calls.{IsPortRead, IsPortWrite, IsPortEnqueue, IsPortTimeout};
 ghost use Rattle.superio_core.specs.Serial.Port.Coherent.{ShowsHeldBytes};
-ghost use Rattle.superio_core.specs.Serial.Step.Restore.{restore_calls};
+ghost use Rattle.superio_core.specs.Serial.Step.Restore.{is_line_up, restore_calls};
 
 use superio_core::serial::{EnqueueEffects, ReadEffects, SerialPort, WriteEffects};
 
@@ -73,6 +73,15 @@ pub extern "C" fn superio_serial_interrupts_due(port: &SerialPort) -> u8
     ensures at_most_2 { result ≤ 2 }
 {
     port.interrupts_due()
+}
+
+/// Whether the interrupt line is up.
+#[unsafe(no_mangle)]
+pub extern "C" fn superio_serial_interrupt_line(port: &SerialPort) -> bool
+    ensures line { result ≡ is_line_up (state_of_port port.now) }
+    ensures due { result ≡ not (length (restore_calls (state_of_port port.now)) == 0) }
+{
+    port.interrupt_line()
 }
 
 /// Whether the port is coherent.

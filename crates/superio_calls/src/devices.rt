@@ -138,7 +138,12 @@ impl<'a> Devices<'a> {
             ["sw", at, value] => self.write(alloc, at, value),
             ["sq", digits] => self.enqueue(alloc, digits),
             ["si"] => self.character_timeout(alloc),
+            ["sp"] => self.retry(alloc),
             ["sc"] => text(alloc, format_args!("{:02x}", self.serial.fifo_capacity())),
+            ["sh"] => text(
+                alloc,
+                format_args!("{:02x}", u8::from(self.serial.interrupt_line())),
+            ),
             ["ss"] => self.restore_own(alloc),
             ["sl", registers, held] => self.load(alloc, registers, held),
             ["cr", now, at] => self.read_clock(alloc, now, at),
@@ -177,6 +182,13 @@ impl<'a> Devices<'a> {
         match self.serial.character_timeout() {
             Ok(()) => text(alloc, "ok"),
             Err(error) => failure(alloc, error),
+        }
+    }
+
+    fn retry(&mut self, alloc: Global) -> Result<String> {
+        match self.serial.retry_interrupts() {
+            Ok(()) => text(alloc, "ok"),
+            Err(Refusal) => text(alloc, "trigger"),
         }
     }
 

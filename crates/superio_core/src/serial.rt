@@ -2,11 +2,11 @@
 //!
 //! A call changes the port and returns what is left to do: a byte to send, interrupts to raise, or events to report. The
 //! port owns no objects and allocates no memory, so a monitor keeps it where it likes, in any language.
-ghost use Rattle.std.specs.Prelude.{◌≡◌, ◌↔◌, ◌≤◌, ◌-◌, Bool, length, IsTrue};
+ghost use Rattle.std.specs.Prelude.{◌≡◌, ◌↔◌, ◌≤◌, ◌-◌, ◌==◌, Bool, not, length, IsTrue};
 ghost use Rattle.superio_core.specs.Serial.Port.State.{fresh_state};
 ghost use Rattle.superio_core.specs.Serial.Port.Registers.{identification_of};
 ghost use Rattle.superio_core.specs.Serial.Port.SerialPort.{state_of_port, CoherentPort};
-ghost use Rattle.superio_core.specs.Serial.Step.Restore.{restore_calls};
+ghost use Rattle.superio_core.specs.Serial.Step.Restore.{is_line_up, restore_calls};
 ghost use Rattle.superio_core.specs.Serial.Port.Coherent.{ShowsHeldBytes};
 ghost use Rattle.superio_core.specs.Serial.Step.Calls.{IsPortRead, IsPortWrite, IsPortEnqueue, IsPortTimeout};
 
@@ -124,6 +124,16 @@ impl SerialPort {
         ensures at_most_2 { result ≤ 2 }
     {
         self.registers.interrupts_due()
+    }
+
+    /// Whether the interrupt line is up: while a condition is pending and enabled. For a controller that takes levels,
+    /// set your line to it after every call.
+    #[inline(always)]
+    pub fn interrupt_line(&self) -> bool
+        ensures line { result ≡ is_line_up (state_of_port self.now) }
+        ensures due { result ≡ not (length (restore_calls (state_of_port self.now)) == 0) }
+    {
+        self.registers.interrupt_line()
     }
 
     /// Whether the port is coherent, as `new` makes it: `len` is at most 64, data ready shows whether bytes are held,

@@ -70,3 +70,9 @@ refusal_in-other (Trigger refusal) other = absurd (other refusal refl)
 refusal_in-other (IOError fault) other = refl
 refusal_in-other FullFifo other = refl
 refusal_in-other Memory other = refl
+
+-- the accepted bytes, then those after the room, are all
+pub accepted-rest : (old : State) (bytes : List ℕ) → enqueued_bytes old bytes ++ drop (room_in old) bytes ≡ bytes
+accepted-rest old bytes =
+    ap (λ rest. enqueued_bytes old bytes ++ rest) (sym (drop-accepted old bytes))
+    ∙ taken-rest (is_loopback old.modem_control) (64 - length old.in_buffer) bytes

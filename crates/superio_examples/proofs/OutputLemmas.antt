@@ -1,21 +1,7 @@
--- The bits of a byte that a read gives, and the order of what goes through an output.
-use Rattle.std.proofs.Common.{arith, ◌≡◌, inl, inr, ℕ, ◌+◌, ◌-◌, ◌^◌, ◌<◌, ◌==◌, Bool, true, false, nat_lt, min, suc, if◌then◌else◌, List, [], ◌∷◌, ◌++◌, length, take, drop, bit_and, refl, sym, ap, ◌∙◌}
+-- The order of what goes through an output.
+use Rattle.std.proofs.Common.{arith, ◌≡◌, inl, inr, ℕ, ◌+◌, ◌-◌, ◌^◌, ◌<◌, Bool, true, false, nat_lt, min, suc, if◌then◌else◌, List, [], ◌∷◌, ◌++◌, length, take, drop, refl, sym, ap, ◌∙◌}
 use Rattle.std.proofs.lemmas.List.{append_assoc, append-nil, take-append-drop}
-use Rattle.superio_core.specs.Bits.{has_bits}
-use Rattle.superio_core.specs.Serial.Port.Operations.{Response, ByteRead}
 use Rattle.superio_examples.specs.Output.{Waiting, Turn, Sends, Takes, OutputLaw, IsInOrder, after_byte, after_turns, taken_in}
-
-abbrev byte_in : (response : Response) → ℕ
-byte_in (ByteRead byte) = byte
-byte_in _ = 0
-
-by-definition : (byte bits : ℕ) → (bit_and byte bits == bits) ≡ has_bits byte bits
-unfolding has_bits
-by-definition byte bits = refl
-
-pub bits-read : (read shown bits : ℕ) → ByteRead read ≡ ByteRead shown → (bit_and read bits == bits) ≡ has_bits shown bits
-bits-read read shown bits same =
-    ap (λ response. bit_and (byte_in response) bits == bits) same ∙ by-definition shown bits
 
 -- one byte more is counted
 one_more : (count number limit : ℕ) → min (min (count + 1) limit + number) limit ≡ min (count + suc number) limit

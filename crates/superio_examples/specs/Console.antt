@@ -1,5 +1,5 @@
--- A serial port whose waiting input goes in as the guest makes room.
-use Rattle.std.specs.Prelude.{◌≡◌, ℕ, ◌==◌, ◌||◌, Bool, List, ◌++◌, length, drop, Result, is_err, is_some}
+-- A serial port whose waiting input goes in as the guest makes room, once the guest is ready for it.
+use Rattle.std.specs.Prelude.{◌≡◌, ℕ, ◌==◌, ◌&&◌, ◌||◌, bit_and, Bool, List, ◌++◌, length, drop, Result, is_err, is_some}
 use Rattle.std.specs.Bool.{OnTrue, OnFalse}
 use Rattle.circular_buffer.specs.Buffer.{buffer}
 use Rattle.vm_superio.specs.declared.serial.errors.Error.{Error}
@@ -17,6 +17,14 @@ use Rattle.superio_examples.specs.Interrupts.{answers_none}
 use Rattle.superio_examples.specs.Input.{room_in, ForwardsEnqueue}
 use Rattle.superio_examples.specs.Output.{after_sent}
 
+-- IER enables RDA and not THRE, as a driver leaves it that has tested its port and wants input
+abbrev pub shows_ready : (enable : ℕ) → Bool
+shows_ready enable = bit_and enable 0x03 == 0x01
+
+-- input may go in: the guest is ready, or it is one that never says so
+abbrev pub is_open : {T E EV W : Type 0} → (console : Console T EV W E) → Bool
+is_open console = console.is_ready || console.is_early
+
 module _ {T E EV W : Type 0} (trigger : Link T (TriggerAnswer E)) (events : Link EV Event) (out : Link W OutCall) where
   -- the port is given the waiting bytes, as far as it has room, and a refusal of its trigger is remembered
   pub record Feeds (old new : Console T EV W E) : Type 0 where
@@ -26,10 +34,13 @@ module _ {T E EV W : Type 0} (trigger : Link T (TriggerAnswer E)) (events : Link
     pub kept : new.serial.state.in_buffer ++ new.input.items ≡ old.serial.state.in_buffer ++ old.input.items
     pub output : new.output ≡ old.output
     pub remembered : new.is_refused ≡ (old.is_refused || is_err answer)
+    pub early : new.is_early ≡ old.is_early
+    pub ready : new.is_ready ≡ old.is_ready
 
-  -- so if it `starts`; otherwise nothing changes
+  -- so if it `starts` and input may go in; otherwise nothing changes
   abbrev pub FeedsIf : (starts : Bool) (old new : Console T EV W E) → Type 0
-  FeedsIf starts old new = OnTrue starts (Feeds old new) × OnFalse starts (new ≡ old)
+  FeedsIf starts old new =
+      OnTrue (starts && is_open old) (Feeds old new) × OnFalse (starts && is_open old) (new ≡ old)
 
   -- a character timeout, whose refusal is remembered
   pub record TimesOut (old new : Console T EV W E) : Type 0 where
@@ -52,8 +63,8 @@ module _ {T E EV W : Type 0} (trigger : Link T (TriggerAnswer E)) (events : Link
     pub fed : FeedsIf (length between.serial.state.in_buffer == 0) between filled
     pub timed : TimesOutIf (answers_none offset byte) filled new
 
-  -- its write too. A byte that it sends waits in the output, or is dropped, and a refusal is remembered. Then input
-  -- goes in, if MCR was written
+  -- its write too. A byte that it sends waits in the output, or is dropped. A refusal is remembered, and that IER has
+  -- shown the guest ready. Then input goes in, if MCR or IER was written
   pub record WritesThenFeeds (offset value : ℕ) (answer : Result (Unit {0}) (Error E)) (old new : Console T EV W E) :
       Type 0 where
     pub between : Console T EV W E
@@ -63,8 +74,9 @@ module _ {T E EV W : Type 0} (trigger : Link T (TriggerAnswer E)) (events : Link
           serial = between.serial;
           output = after_sent (sent_by (kind_in_state old.serial.state (Write offset value))) old.output;
           is_refused = old.is_refused || is_some (refusal_in_result answer);
+          is_ready = old.is_ready || shows_ready between.serial.state.interrupt_enable;
         }
-    pub fed : FeedsIf (offset == 4) between new
+    pub fed : FeedsIf ((offset == 4) || (offset == 1)) between new
 
 -- the trigger was called for the conditions that are due, one after another, and refused the last of these calls
 abbrev pub RefusesAgain :

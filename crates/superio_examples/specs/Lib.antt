@@ -9,4 +9,6 @@ pub mod Mmio
 pub mod Output
 pub mod PortIo
 pub mod LastByte
+pub mod Monitor
 pub mod MonitorObject
+pub mod SavedMonitor

@@ -8,7 +8,7 @@ use vm_superio::Rtc;
 use vm_superio::rtc_pl031::RtcEvents;
 
 /// The offset of RTCMIS, the masked interrupt status.
-const RTCMIS: u16 = 0x018;
+pub(crate) const RTCMIS: u16 = 0x018;
 
 /// What a monitor sets after each access of a clock, and after a restore.
 #[derive(Clone, Copy, Debug, Eq, PartialEq)]

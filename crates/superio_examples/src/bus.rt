@@ -24,10 +24,10 @@ pub const COM4: u16 = 0x2E8;
 const SERIAL_PORTS: u16 = 8;
 
 /// The controller's data port.
-const I8042_DATA: u16 = 0x60;
+pub(crate) const I8042_DATA: u16 = 0x60;
 
 /// The controller's command port. On a PC, those in between are not its own: 0x61 is system control port B.
-const I8042_COMMAND: u16 = 0x64;
+pub(crate) const I8042_COMMAND: u16 = 0x64;
 
 /// What a guest reads at the controller's two ports. The reset command works with either.
 #[derive(Clone, Copy)]
@@ -65,7 +65,8 @@ impl<T: Trigger, EV: SerialEvents, W: Write, R: Trigger> Bus<T, EV, W, R> {
     /// Linux waits for its bit 0x20 when it measures the processor's clock.
     pub fn read(&mut self, port: u16) -> u8
         ensures serial { OnTrue (is_serial self.old.base port)
-            (IsReadStep T.link EV.link (WriterCalls W.contents) (port - self.old.base) result self.old.serial self.new.serial) }
+            (IsReadStep T.link EV.link (WriterCalls W.contents) (port - self.old.base) result self.old.serial
+            self.new.serial) }
         ensures serial_alone { OnFalse (is_serial self.old.base port) (self.new.serial ≡ self.old.serial) }
         ensures controller { OnTrue (is_i8042 self.old.base port) (result ≡ controller_byte self.old.keyboard) }
         ensures controller_alone { self.new.controller ≡ self.old.controller }
@@ -74,7 +75,7 @@ impl<T: Trigger, EV: SerialEvents, W: Write, R: Trigger> Bus<T, EV, W, R> {
         ensures keyboard { self.new.keyboard ≡ self.old.keyboard }
         ensures coherent { Coherent self.old.serial.state → Coherent self.new.serial.state }
     {
-        match (self.serial_offset(port), port, self.keyboard) {
+        match (serial_offset(self.base, port), port, self.keyboard) {
             (Some(offset), _, _) => self.serial.read(offset),
             (None, I8042_DATA | I8042_COMMAND, Keyboard::Silent) => {
                 self.controller.read((port - I8042_DATA) as u8)
@@ -100,12 +101,13 @@ impl<T: Trigger, EV: SerialEvents, W: Write, R: Trigger> Bus<T, EV, W, R> {
             (ForwardsReset R.link result self.old.controller self.new.controller) }
         ensures controller_alone { OnFalse (is_reset self.old.base port value)
             (self.new.controller ≡ self.old.controller) }
-        ensures otherwise_ok { OnFalse (is_serial self.old.base port || is_reset self.old.base port value) (result ≡ Ok tt) }
+        ensures otherwise_ok { OnFalse (is_serial self.old.base port || is_reset self.old.base port value)
+            (result ≡ Ok tt) }
         ensures base { self.new.base ≡ self.old.base }
         ensures keyboard { self.new.keyboard ≡ self.old.keyboard }
         ensures coherent { Coherent self.old.serial.state → Coherent self.new.serial.state }
     {
-        match (self.serial_offset(port), port) {
+        match (serial_offset(self.base, port), port) {
             (Some(offset), _) => match self.serial.write(offset, value) {
                 Ok(()) => Ok(()),
                 Err(error) => Err(BusError::Serial(error)),
@@ -120,14 +122,14 @@ impl<T: Trigger, EV: SerialEvents, W: Write, R: Trigger> Bus<T, EV, W, R> {
             (None, _) => Ok(()),
         }
     }
+}
 
-    /// The serial port's offset of a port that is its own.
-    fn serial_offset(&self, port: u16) -> Option<u8>
-        ensures { result ≡ (if is_serial self.now.base port then Some (port - self.now.base) else None) }
-    {
-        match port.checked_sub(self.base) {
-            Some(offset) if offset < SERIAL_PORTS => Some(offset as u8),
-            _ => None,
-        }
+/// The offset of a port at a serial port that begins at `base`, if it is one of its ports.
+pub(crate) fn serial_offset(base: u16, port: u16) -> Option<u8>
+    ensures { result ≡ (if is_serial base port then Some (port - base) else None) }
+{
+    match port.checked_sub(base) {
+        Some(offset) if offset < SERIAL_PORTS => Some(offset as u8),
+        _ => None,
     }
 }

@@ -1,5 +1,5 @@
-//! A serial port in a monitor's event loop. The loop stops reading its source while the input is full, retries a refused
-//! interrupt, and lets no received byte wait without one.
+//! A serial port in a monitor's event loop. The loop stops reading its source while the input is full, retries a
+//! refused interrupt, and lets no received byte wait without one. Input waits until the guest has tested its port.
 ghost use Rattle.vm_superio.specs.Links.OutCalls.{WriterCalls};
 ghost use Rattle.std.specs.Prelude.{◌≡◌, ◌-◌, ◌==◌, ◌++◌, length, take, min, is_some, false, true};
 ghost use Rattle.circular_buffer.specs.Buffer.{buffer};
@@ -8,15 +8,19 @@ ghost use Rattle.vm_superio.specs.Links.Objects.{all_ok};
 ghost use Rattle.vm_superio.specs.Serial.Port.Model.{refusal_in_result};
 ghost use Rattle.superio_core.specs.Serial.Step.Restore.{restore_calls};
 ghost use Rattle.vm_superio.specs.Serial.Step.PortStep.{with_trigger};
-ghost use Rattle.superio_examples.specs.Console.{Feeds, FeedsIf, TimesOut, TimesOutIf, ReadsThenFeeds, RefusesAgain, WritesThenFeeds};
+ghost use Rattle.superio_examples.specs.Console.{Feeds, FeedsIf, is_open, shows_ready, TimesOut, TimesOutIf, ReadsThenFeeds, RefusesAgain, WritesThenFeeds};
 ghost use Rattle.superio_examples.specs.Interrupts.{answers_none};
 
 use crate::input::Input;
 use crate::interrupts::shows_none;
 use crate::output::Output;
 use std::io::Write;
+use std::mem;
 use vm_superio::serial::{Error, SerialEvents};
 use vm_superio::{Serial, Trigger};
+
+/// The offset of IER.
+const IER: u8 = 1;
 
 /// The offset of IIR.
 const IIR: u8 = 2;
@@ -31,7 +35,8 @@ const MCR: u8 = 4;
 /// - polls its sink unless `output.is_empty()`, and passes it to `output.drain_into`;
 /// - passes each access of the guest to `read` or `write`, which may make room;
 /// - calls `character_timeout` once in each turn, for a guest that took some bytes and does not read IIR again;
-/// - calls `retry` on a timer while `is_refused`.
+/// - calls `retry` on a timer while `is_refused`;
+/// - calls `reset` when the guest resets its machine.
 #[derive(Drop)]
 pub struct Console<T: Trigger, EV: SerialEvents, W: Write> {
     pub serial: Serial<T, EV, W>,
@@ -39,28 +44,32 @@ pub struct Console<T: Trigger, EV: SerialEvents, W: Write> {
     pub output: Output,
     /// The trigger refused a call since the last successful `retry`: the guest may wait for an interrupt.
     pub is_refused: bool,
+    /// Input goes in although the guest is not ready, as one that polls needs it.
+    pub is_early: bool,
+    /// The guest has enabled RDA and not THRE since the last reset. No test of a port does so.
+    pub is_ready: bool,
 }
 
 impl<T: Trigger, EV: SerialEvents, W: Write> Console<T, EV, W> {
     /// Takes the first of these bytes, as many as there is room for, and returns how many. The source keeps the others.
-    /// Then feeds the port as far as it has room.
+    /// Then feeds the port as far as it has room, if the guest is ready.
     pub fn receive(&mut self, bytes: &[u8]) -> usize
         ensures count { result ≡ min (length bytes.now) (self.old.input.capacity - length self.old.input.items) }
         ensures kept { self.new.serial.state.in_buffer ++ self.new.input.items
             ≡ self.old.serial.state.in_buffer ++ (self.old.input.items ++ take result bytes.now) }
         ensures fed { let waiting = buffer (self.old.input.items ++ take result bytes.now) self.old.input.capacity in
-            Feeds T.link EV.link (WriterCalls W.contents) (record self.old { input = waiting }) self.new }
+            FeedsIf T.link EV.link (WriterCalls W.contents) true (record self.old { input = waiting }) self.new }
         ensures coherent { Coherent self.old.serial.state → Coherent self.new.serial.state }
     {
         let count = self.input.push(bytes);
-        self.feed();
+        self.feed_if(true);
         count
     }
 
     /// Reads a byte at `offset`, as the guest does. Feeds the port after each read that leaves no byte held: the one
     /// that takes the last byte, which the port reports as `in_buffer_empty`, and any later one, at any offset. After a
-    /// read of IIR that shows nothing pending, a character timeout follows, so that bytes which the guest has left in the
-    /// FIFO interrupt it again.
+    /// read of IIR that shows nothing pending, a character timeout follows, so that bytes which the guest has left in
+    /// the FIFO interrupt it again.
     pub fn read(&mut self, offset: u8) -> u8
         ensures step { ReadsThenFeeds T.link EV.link (WriterCalls W.contents) offset result self.old self.new }
         ensures shown { answers_none offset result ≡ true → ShowsHeldBytes self.new.serial.state }
@@ -83,8 +92,9 @@ impl<T: Trigger, EV: SerialEvents, W: Write> Console<T, EV, W> {
         self.is_refused |= is_refusal(&raised);
     }
 
-    /// Writes `value` at `offset`, as the guest does. A byte that the guest sends waits in the output, or is dropped and
-    /// counted, as by [`Output::forward`]. Feeds the port after a write to MCR, which may end loopback.
+    /// Writes `value` at `offset`, as the guest does. A byte that the guest sends waits in the output, or is dropped
+    /// and counted, as by [`Output::forward`]. Feeds the port after a write to MCR, which may end loopback, and after one
+    /// to IER, by which the guest may be ready.
     ///
     /// # Errors
     ///
@@ -95,7 +105,8 @@ impl<T: Trigger, EV: SerialEvents, W: Write> Console<T, EV, W> {
     {
         let written = self.output.forward(&mut self.serial, offset, value);
         self.is_refused |= is_refusal(&written);
-        self.feed_if(offset == MCR);
+        self.is_ready |= shows_ready(self.serial.interrupt_enable());
+        self.feed_if((offset == MCR) | (offset == IER));
         written
     }
 
@@ -117,6 +128,24 @@ impl<T: Trigger, EV: SerialEvents, W: Write> Console<T, EV, W> {
         }
     }
 
+    /// Resets the machine: takes a new port, and returns the old one. Input and output that wait stay. Input waits until
+    /// the new guest is ready.
+    pub fn reset(&mut self, serial: Serial<T, EV, W>) -> Serial<T, EV, W>
+        ensures old { result ≡ self.old.serial }
+        ensures new { self.new ≡ record self.old { serial = serial; is_refused = false; is_ready = false } }
+    {
+        self.is_refused = false;
+        self.is_ready = false;
+        mem::replace(&mut self.serial, serial)
+    }
+
+    /// Whether input may go in.
+    fn is_open(&self) -> bool
+        ensures { result ≡ is_open self.now }
+    {
+        self.is_ready || self.is_early
+    }
+
     /// Whether the port holds no byte.
     fn holds_none(&self) -> bool
         ensures { result ≡ (length self.now.serial.state.in_buffer == 0) }
@@ -135,12 +164,15 @@ impl<T: Trigger, EV: SerialEvents, W: Write> Console<T, EV, W> {
         }
     }
 
-    /// Gives the port input as far as it has room, if that `starts`.
+    /// Gives the port input as far as it has room, if that `starts` and input may go in.
     fn feed_if(&mut self, starts: bool)
         ensures fed { FeedsIf T.link EV.link (WriterCalls W.contents) starts self.old self.new }
+        ensures kept { self.new.serial.state.in_buffer ++ self.new.input.items
+            ≡ self.old.serial.state.in_buffer ++ self.old.input.items }
         ensures coherent { Coherent self.old.serial.state → Coherent self.new.serial.state }
     {
-        if starts {
+        let goes_in = starts & self.is_open();
+        if goes_in {
             self.feed();
         }
     }
@@ -154,6 +186,13 @@ impl<T: Trigger, EV: SerialEvents, W: Write> Console<T, EV, W> {
             self.is_refused = true;
         }
     }
+}
+
+/// Whether a guest that leaves IER so is ready for input: with RDA and without THRE.
+fn shows_ready(enable: u8) -> bool
+    ensures { result ≡ shows_ready enable }
+{
+    enable & 0x03 == 0x01
 }
 
 /// Whether a guest read IIR and found nothing pending.

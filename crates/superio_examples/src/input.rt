@@ -1,14 +1,20 @@
 //! Input for a guest. It waits until the serial port's FIFO has room, and no byte of it is lost.
 ghost use Rattle.vm_superio.specs.Links.OutCalls.{WriterCalls};
-ghost use Rattle.std.specs.Prelude.{◌≡◌, ◌+◌, ◌-◌, ℕ, List, [], ◌∷◌, ◌++◌, length, take, drop, min, OnOk, IfOk, IfErr};
+ghost use Rattle.std.specs.Prelude.{◌≡◌, ◌≤◌, ◌+◌, ◌-◌, ℕ, List, [], ◌∷◌, ◌++◌, length, take, drop, min, OnOk, IfOk, IfErr};
 ghost use Rattle.circular_buffer.specs.Buffer.{Buffer, buffer};
 ghost use Rattle.superio_core.specs.Serial.Port.Coherent.{Coherent};
+ghost use Rattle.superio_core.specs.declared.trace.Asked.{Asked};
+ghost use Rattle.superio_core.specs.Serial.Port.Operations.{Enqueue};
+ghost use Rattle.superio_core.specs.Serial.Port.SerialPort.{state_of_port, CoherentPort};
+ghost use Rattle.superio_core.specs.Serial.Step.Admissible.{step_calls};
+ghost use Rattle.superio_core.specs.Serial.Step.Transition.{step};
 ghost use Rattle.superio_examples.specs.Input.{room_in, ForwardsEnqueue};
 
 use circular_buffer::HeapCircularBuffer;
 use std::alloc::{AllocError, Global};
 use std::io::Write;
 use std::marker::Model;
+use superio_core::SerialPort;
 use vm_superio::serial::{Error, SerialEvents};
 use vm_superio::{Serial, Trigger, laws};
 
@@ -42,7 +48,15 @@ impl Input {
     pub fn room(&self) -> usize
         ensures { result ≡ self.now.capacity - length self.now.items }
     {
-        self.waiting.capacity() - self.waiting.len()
+        self.limit() - self.waiting.len()
+    }
+
+    /// How many bytes may wait.
+    pub fn limit(&self) -> usize
+        ensures value { result ≡ self.now.capacity }
+        ensures bound { length self.now.items ≤ self.now.capacity }
+    {
+        self.waiting.capacity()
     }
 
     /// A copy of the bytes that wait, oldest first.
@@ -79,7 +93,8 @@ impl Input {
         ensures room { self.new ≡ buffer (drop (room_in serial.old.state) self.old.items) self.old.capacity }
         ensures count { IfOk result (λ count. length self.old.items ≡ count + length self.new.items) }
         ensures refused { IfErr result (λ refusal. T.link serial.old.trigger (Err refusal ∷ []) serial.new.trigger) }
-        ensures step { ForwardsEnqueue T.link EV.link (WriterCalls W.contents) self.old.items result serial.old serial.new }
+        ensures step { ForwardsEnqueue T.link EV.link (WriterCalls W.contents) self.old.items result serial.old
+            serial.new }
         ensures coherent { Coherent serial.old.state → Coherent serial.new.state }
     {
         laws::one_call();
@@ -95,5 +110,19 @@ impl Input {
                 _ => Ok(count),
             },
         }
+    }
+
+    /// As `feed`, for a port without objects. Returns how often to raise the interrupt: 0 or 1 times.
+    pub fn feed_port(&mut self, port: &mut SerialPort) -> u8
+        ensures port { state_of_port port.new ≡ step (state_of_port port.old) (Enqueue self.old.items) Asked.Nothing }
+        ensures room { self.new ≡ buffer (drop (room_in (state_of_port port.old)) self.old.items) self.old.capacity }
+        ensures interrupts { result ≡ step_calls (state_of_port port.old) (Enqueue self.old.items) }
+        ensures at_most_1 { result ≤ 1 }
+        ensures coherent { CoherentPort port.old → CoherentPort port.new }
+    {
+        let enqueued = port.enqueue_raw_bytes(self.waiting.make_contiguous());
+        self.waiting
+            .truncate_front(self.waiting.len() - enqueued.taken);
+        enqueued.interrupts
     }
 }

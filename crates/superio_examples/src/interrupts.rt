@@ -21,7 +21,7 @@ use vm_superio::Serial;
 use vm_superio::serial::{SerialEvents, SerialPort};
 
 /// The offset of IIR.
-const IIR_OFFSET: u8 = 2;
+pub(crate) const IIR_OFFSET: u8 = 2;
 /// IIR: nothing is pending.
 const IIR_NONE_BIT: u8 = 0x01;
 

@@ -1,5 +1,5 @@
 //! Short modules to copy into a monitor: a bus, a clock's window in memory and its alarm, triggers, input and output in
-//! an event loop, a migration, and first claims about what a guest reads and sends.
+//! an event loop, a migration, a whole monitor, and first claims about the devices.
 #![tactic(auto)]
 
 pub mod alarm;
@@ -8,7 +8,7 @@ pub mod console;
 pub mod counter;
 pub mod driver;
 pub mod event_fd;
-pub mod first_claim;
+pub mod first_claims;
 pub mod input;
 pub mod interrupt_driver;
 pub mod interrupts;
@@ -19,3 +19,4 @@ pub mod monitor;
 pub mod monitor_object;
 pub mod output;
 pub mod port_io;
+pub mod saved_monitor;

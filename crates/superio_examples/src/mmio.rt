@@ -26,9 +26,9 @@ pub struct ClockWindow<EV: RtcEvents> {
 }
 
 impl<EV: RtcEvents> ClockWindow<EV> {
-    /// Reads at `address`, as the guest does at the moment `now`. Clears the bytes first, so an invalid read gives zeros,
-    /// and nothing of the monitor's memory. A read of another length, or of two bytes that lie in two registers, is
-    /// invalid. One outside the window gives zeros too, and changes nothing.
+    /// Reads at `address`, as the guest does at the moment `now`. Clears the bytes first, so an invalid read gives
+    /// zeros, and nothing of the monitor's memory. A read of another length, or of two bytes that lie in two registers,
+    /// is invalid. One outside the window gives zeros too, and changes nothing.
     pub fn read(&mut self, address: u64, bytes: &mut [u8], now: u64)
         ensures clock { OnTrue (is_read self.old.base address (length bytes.old))
             (ReadsClock EV.link (address - self.old.base) now bytes.new self.old.clock self.new.clock) }
@@ -40,7 +40,7 @@ impl<EV: RtcEvents> ClockWindow<EV> {
         ensures base { self.new.base ≡ self.old.base }
     {
         bytes.fill(0);
-        if let Some(offset) = self.offset(address) {
+        if let Some(offset) = offset_in(self.base, address) {
             let mut register = [0; 4];
             match (bytes.len(), offset % 4) {
                 (4, _) => {
@@ -68,7 +68,7 @@ impl<EV: RtcEvents> ClockWindow<EV> {
         ensures alone { OnFalse (is_inside self.old.base address) (self.new ≡ self.old) }
         ensures base { self.new.base ≡ self.old.base }
     {
-        if let Some(offset) = self.offset(address) {
+        if let Some(offset) = offset_in(self.base, address) {
             let mut register = [0; 4];
             if bytes.len() == 4 {
                 register.copy_from_slice(bytes);
@@ -78,14 +78,14 @@ impl<EV: RtcEvents> ClockWindow<EV> {
             }
         }
     }
+}
 
-    /// The clock's offset of an address in the window.
-    fn offset(&self, address: u64) -> Option<u16>
-        ensures { result ≡ (if is_inside self.now.base address then Some (address - self.now.base) else None) }
-    {
-        match address.checked_sub(self.base) {
-            Some(offset) if offset < LENGTH => Some(offset as u16),
-            _ => None,
-        }
+/// The clock's offset of an address, if it is in the window that begins at `base`.
+pub(crate) fn offset_in(base: u64, address: u64) -> Option<u16>
+    ensures { result ≡ (if is_inside base address then Some (address - base) else None) }
+{
+    match address.checked_sub(base) {
+        Some(offset) if offset < LENGTH => Some(offset as u16),
+        _ => None,
     }
 }

@@ -1,19 +1,307 @@
-//! Devices that a guest has used, with input that waits: what a migration saves.
-use crate::input::Input;
-use crate::migration::{Saved, save};
-use std::alloc::Global;
-use std::io::sink;
-use superio_script::{Line, LineRefused};
-use vm_superio::serial::{Error, Refused};
-use vm_superio::{Rtc, Serial};
+//! A whole monitor without its virtual processor: the devices of a machine, its input and its output, as one struct.
+//!
+//! A loop around it makes [`Event`]s of what its hypervisor, its terminal and its timers report, passes them to
+//! [`Monitor::run`], and carries out the replies. What `run` claims rests on no object: it calls none.
+ghost use Rattle.std.specs.Prelude.{◌≡◌, ◌≤◌, map, OnOk, OnErr, IfOk, Some};
+ghost use Rattle.superio_core.specs.Serial.Port.SerialPort.{state_of_port};
+ghost use Rattle.superio_core.specs.Serial.Port.Operations.{Read};
+ghost use Rattle.superio_examples.specs.Monitor.{shown_at, calls_by, after_call};
 
-pub fn saved_devices(alloc: Global) -> Result<Saved, Error<LineRefused>> {
-    let mut serial = Serial::new(alloc, Line::new(0), sink()).map_err(Refused::into_error)?;
-    serial.write(1, 0x01)?; // the guest enables interrupts for received data
-    serial.enqueue_raw_bytes(b"abc")?; // input for the guest, for which the trigger is called
-    let mut clock = Rtc::new();
-    clock.write(0x008, &1_000u32.to_le_bytes(), 5_000_000); // the guest sets the time
-    let mut input = Input::new(alloc, 4096)?; // what does not fit waits here
-    input.push(b"def");
-    Ok(save(alloc, &serial, &clock, &input)?)
+use crate::alarm::RTCMIS;
+use crate::bus::{COM1, I8042_COMMAND, I8042_DATA, serial_offset};
+use crate::input::Input;
+use crate::interrupts::{IIR_OFFSET, shows_none};
+use crate::mmio::offset_in;
+use crate::output::Output;
+use std::alloc::{AllocError, Global};
+use superio_core::fifo::FIFO_SIZE;
+use superio_core::{RtcState, SerialPort, is_reset_command};
+
+/// The offset of the command port.
+const COMMAND_OFFSET: u8 = (I8042_COMMAND - I8042_DATA) as u8;
+
+/// The address of the clock's window in memory.
+const CLOCK: u64 = 0x0901_0000;
+
+/// What happens to a machine.
+#[derive(Clone, Copy, Debug, Eq, PartialEq)]
+pub enum Event {
+    /// The guest reads the byte at this port.
+    PortRead(u16),
+    /// The guest writes this byte at this port.
+    PortWrite(u16, u8),
+    /// The guest reads four bytes at this address.
+    MemoryRead(u64),
+    /// The guest writes this number, in four bytes, at this address.
+    MemoryWrite(u64, u32),
+    /// A byte is typed for the guest.
+    Typed(u8),
+    /// The host's time is so many seconds since 1970.
+    Moment(u64),
+    /// The monitor's timer goes off: some milliseconds after any other event, and when the alarm is due.
+    Timer,
+    /// The hypervisor refused an interrupt of the serial port. The next timer asks again.
+    Refused,
+}
+
+/// What an event returns.
+#[derive(Clone, Copy, Debug, Eq, PartialEq)]
+pub enum Answer {
+    /// What the guest reads.
+    Shows(u32),
+    /// The event is done.
+    Done,
+    /// The input is full. The source keeps the byte, and passes it again later.
+    Full,
+    /// The guest resets its machine. The serial port is a new one, and the bytes that it held are lost.
+    Reset,
+}
+
+/// What an event returns, and what is left to do.
+#[derive(Clone, Copy, Debug, Eq, PartialEq)]
+pub struct Reply {
+    pub answer: Answer,
+    /// How often to raise the serial port's interrupt.
+    pub interrupts: u8,
+    /// The level of the clock's interrupt line.
+    pub clock_line: bool,
+}
+
+/// The devices of a machine, its input and its output.
+#[derive(Drop)]
+pub struct Monitor {
+    /// The serial port, at COM1.
+    pub port: SerialPort,
+    /// The clock, at 0x0901_0000.
+    pub clock: RtcState,
+    /// What was typed, until the serial port has room.
+    pub input: Input,
+    /// What the guest sent, until a sink takes it.
+    pub output: Output,
+    /// The host's time, in seconds since 1970.
+    pub moment: u64,
+    /// An interrupt was refused since the last timer.
+    pub is_refused: bool,
+}
+
+impl Monitor {
+    ghost use Rattle.superio_examples.specs.Monitor.{machine_of, new_machine, act, fed, after_event, after};
+    ghost use Rattle.superio_examples.specs.declared.monitor.Event.{Event};
+    ghost use Rattle.superio_examples.specs.Monitor.{in_each, sent_at, left_at, looped_at, typed_by, KeepsInput};
+    ghost use Rattle.superio_examples.specs.Monitor.{is_reset_reply, asks_reset};
+    ghost use Rattle.superio_examples.specs.Output.{after_sent};
+    ghost use Rattle.superio_examples.specs.Monitor.{answer_to, interrupts_by, feed_calls, reply_to, replies_to};
+
+    /// The monitor of a new machine. At most `input` bytes wait for the guest, and at most `output` for the sink.
+    ///
+    /// # Errors
+    ///
+    /// Returns `AllocError` if the allocator refuses memory for these bytes. No other call allocates for them.
+    pub fn new(alloc: Global, input: usize, output: usize) -> Result<Monitor, AllocError>
+        ensures { IfOk result (λ monitor. machine_of monitor ≡ new_machine input output) }
+    {
+        Ok(Monitor {
+            port: SerialPort::new(),
+            clock: RtcState::default(),
+            input: Input::new(alloc, input)?,
+            output: Output::new(alloc, output)?,
+            moment: 0,
+            is_refused: false,
+        })
+    }
+
+    /// Makes the events, in order, and returns a reply to each.
+    ///
+    /// # Errors
+    ///
+    /// Returns `AllocError` if memory is refused for the replies. Then no event was made.
+    pub fn run(&mut self, alloc: Global, events: &[Event]) -> Result<Vec<Reply>, AllocError>
+        ensures replies { IfOk result (λ replies. replies.items ≡ replies_to events.now (machine_of self.old)) }
+        ensures machine { OnOk result (machine_of self.new ≡ after events.now (machine_of self.old)) }
+        ensures refused { OnErr result (self.new ≡ self.old) }
+        // The output got the bytes that the guest wrote to THR, in order.
+        ensures output { OnOk result (self.new.output
+            ≡ after_sent (in_each sent_at events.now (machine_of self.old)) self.old.output) }
+        // A reset is asked for exactly where 0xFE is written at port 0x64.
+        ensures resets { IfOk result (λ replies. map is_reset_reply replies.items ≡ map asks_reset events.now) }
+        // The guest got each byte that was typed, in order, but those that a reset lost, and those that wait.
+        ensures input { let m = machine_of self.old in OnOk result (KeepsInput (in_each left_at events.now m)
+            (in_each looped_at events.now m) (in_each typed_by events.now m) m (machine_of self.new)) }
+    {
+        let mut replies = Vec::with_capacity(alloc, events.len())?;
+        for event in events {
+            replies.push_reserved(self.step(*event));
+        }
+        Ok(replies)
+    }
+
+    /// Makes an event.
+    pub fn step(&mut self, event: Event) -> Reply
+        ensures reply { result ≡ reply_to event (machine_of self.old) }
+        ensures machine { machine_of self.new ≡ after_event event (machine_of self.old) }
+    {
+        let (answer, asked) = self.act(event);
+        let clock_line = self.clock.interrupt_line();
+        let fed = self.feed();
+        Reply {
+            answer,
+            interrupts: asked + fed,
+            clock_line,
+        }
+    }
+
+    /// Makes an event alone. Returns the answer, and how often to raise the interrupt.
+    fn act(&mut self, event: Event) -> (Answer, u8)
+        ensures answer { result.0 ≡ answer_to event (machine_of self.old) }
+        ensures interrupts { result.1 ≡ interrupts_by event (machine_of self.old) }
+        ensures at_most_2 { result.1 ≤ 2 }
+        ensures machine { machine_of self.new ≡ act event (machine_of self.old) }
+    {
+        match event {
+            Event::PortRead(port) => self.read_port(port),
+            Event::PortWrite(port, value) => self.write_port(port, value),
+            Event::MemoryRead(address) => self.read_memory(address),
+            Event::MemoryWrite(address, value) => self.write_memory(address, value),
+            Event::Typed(byte) => self.take_typed(byte),
+            Event::Moment(moment) => {
+                self.moment = moment;
+                (Answer::Done, 0)
+            }
+            Event::Timer => self.time_out(),
+            Event::Refused => {
+                self.is_refused = true;
+                (Answer::Done, 0)
+            }
+        }
+    }
+
+    /// A guest's read of a port. One of IIR that shows nothing pending is followed by a character timeout, so that bytes
+    /// which the guest left in the FIFO interrupt it again.
+    fn read_port(&mut self, port: u16) -> (Answer, u8)
+        ensures answer { result.0 ≡ answer_to (Event.PortRead port) (machine_of self.old) }
+        ensures interrupts { result.1 ≡ interrupts_by (Event.PortRead port) (machine_of self.old) }
+        ensures at_most_2 { result.1 ≤ 2 }
+        ensures machine { machine_of self.new ≡ act (Event.PortRead port) (machine_of self.old) }
+    {
+        match (serial_offset(COM1, port), port) {
+            (Some(offset), _) => {
+                let (byte, interrupts) = read_serial(&mut self.port, offset);
+                (Answer::Shows(u32::from(byte)), interrupts)
+            }
+            (None, I8042_DATA | I8042_COMMAND) => (Answer::Shows(0), 0),
+            (None, _) => (Answer::Shows(0xFF), 0),
+        }
+    }
+
+    /// A guest's write of a port. A byte that it sends waits in the output.
+    fn write_port(&mut self, port: u16, value: u8) -> (Answer, u8)
+        ensures answer { result.0 ≡ answer_to (Event.PortWrite port value) (machine_of self.old) }
+        ensures interrupts { result.1 ≡ interrupts_by (Event.PortWrite port value) (machine_of self.old) }
+        ensures at_most_2 { result.1 ≤ 2 }
+        ensures machine { machine_of self.new ≡ act (Event.PortWrite port value) (machine_of self.old) }
+    {
+        match (serial_offset(COM1, port), port) {
+            (Some(offset), _) => {
+                let effects = self.port.write(offset, value);
+                if effects.sends {
+                    self.output.push(value);
+                }
+                (Answer::Done, effects.interrupts)
+            }
+            (None, I8042_COMMAND) if is_reset_command(COMMAND_OFFSET, value) => {
+                self.port = SerialPort::new();
+                (Answer::Reset, 0)
+            }
+            (None, _) => (Answer::Done, 0),
+        }
+    }
+
+    /// A guest's read of memory.
+    fn read_memory(&mut self, address: u64) -> (Answer, u8)
+        ensures answer { result.0 ≡ answer_to (Event.MemoryRead address) (machine_of self.old) }
+        ensures interrupts { result.1 ≡ interrupts_by (Event.MemoryRead address) (machine_of self.old) }
+        ensures at_most_2 { result.1 ≤ 2 }
+        ensures machine { machine_of self.new ≡ act (Event.MemoryRead address) (machine_of self.old) }
+    {
+        match offset_in(CLOCK, address) {
+            Some(offset) => {
+                let shown = self.clock.read(offset, self.moment).unwrap_or(0);
+                (Answer::Shows(shown), 0)
+            }
+            None => (Answer::Shows(0), 0),
+        }
+    }
+
+    /// A guest's write of memory.
+    fn write_memory(&mut self, address: u64, value: u32) -> (Answer, u8)
+        ensures answer { result.0 ≡ answer_to (Event.MemoryWrite address value) (machine_of self.old) }
+        ensures interrupts { result.1 ≡ interrupts_by (Event.MemoryWrite address value) (machine_of self.old) }
+        ensures at_most_2 { result.1 ≤ 2 }
+        ensures machine { machine_of self.new ≡ act (Event.MemoryWrite address value) (machine_of self.old) }
+    {
+        if let Some(offset) = offset_in(CLOCK, address) {
+            self.clock.write(offset, value, self.moment);
+        }
+        (Answer::Done, 0)
+    }
+
+    /// A typed byte waits if there is room.
+    fn take_typed(&mut self, byte: u8) -> (Answer, u8)
+        ensures answer { result.0 ≡ answer_to (Event.Typed byte) (machine_of self.old) }
+        ensures interrupts { result.1 ≡ interrupts_by (Event.Typed byte) (machine_of self.old) }
+        ensures at_most_2 { result.1 ≤ 2 }
+        ensures machine { machine_of self.new ≡ act (Event.Typed byte) (machine_of self.old) }
+    {
+        if self.input.room() == 0 {
+            return (Answer::Full, 0);
+        }
+        self.input.push(&[byte]);
+        (Answer::Done, 0)
+    }
+
+    /// A timer: the clock finds its alarm, bytes that are held interrupt the guest, and refused interrupts are retried.
+    fn time_out(&mut self) -> (Answer, u8)
+        ensures answer { result.0 ≡ answer_to Event.Timer (machine_of self.old) }
+        ensures interrupts { result.1 ≡ interrupts_by Event.Timer (machine_of self.old) }
+        ensures at_most_2 { result.1 ≤ 2 }
+        ensures machine { machine_of self.new ≡ act Event.Timer (machine_of self.old) }
+    {
+        self.clock.read(RTCMIS, self.moment);
+        let raised = self.port.character_timeout();
+        let interrupts = if self.is_refused {
+            self.port.interrupts_due()
+        } else {
+            raised
+        };
+        self.is_refused = false;
+        (Answer::Done, interrupts)
+    }
+
+    /// Gives the serial port input if it holds no byte, and returns how often to raise the interrupt.
+    fn feed(&mut self) -> u8
+        ensures interrupts { result ≡ feed_calls (machine_of self.old) }
+        ensures at_most_1 { result ≤ 1 }
+        ensures machine { machine_of self.new ≡ fed (machine_of self.old) }
+    {
+        if self.port.fifo_capacity() < FIFO_SIZE {
+            return 0;
+        }
+        self.input.feed_port(&mut self.port)
+    }
+}
+
+/// Reads the serial port. Returns the byte, and how often to raise the interrupt.
+fn read_serial(port: &mut SerialPort, offset: u8) -> (u8, u8)
+    ensures byte { result.0 ≡ shown_at offset (state_of_port port.old) }
+    ensures interrupts { result.1 ≡ calls_by (Some (Read offset)) (state_of_port port.old) }
+    ensures at_most_1 { result.1 ≤ 1 }
+    ensures state { state_of_port port.new ≡ after_call (Some (Read offset)) (state_of_port port.old) }
+{
+    let byte = port.read(offset).byte;
+    let interrupts = if offset == IIR_OFFSET && shows_none(byte) {
+        port.character_timeout()
+    } else {
+        0
+    };
+    (byte, interrupts)
 }

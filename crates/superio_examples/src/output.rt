@@ -1,12 +1,11 @@
 //! Output of a guest. It waits until the monitor's sink takes it, and the guest never waits for the sink.
 ghost use Rattle.vm_superio.specs.Links.OutCalls.{WriterCalls};
-ghost use Rattle.std.specs.Prelude.{◌≡◌, ◌-◌, ◌==◌, ◌++◌, ℕ, [], ◌∷◌, if◌then◌else◌, length, drop, min, Some, IfOk, OnErr};
+ghost use Rattle.std.specs.Prelude.{◌≡◌, ◌≤◌, ◌-◌, ◌==◌, ◌++◌, [], ◌∷◌, length, drop, min, max, Some, IfOk, OnErr};
 ghost use Rattle.std.specs.Io.{WritesAtMost};
 ghost use Rattle.std.specs.Io.KnownBytes.{WriteAppends, Appends, Keeps};
 ghost use Rattle.superio_core.specs.Serial.Port.Coherent.{Coherent};
 ghost use Rattle.superio_core.specs.Serial.Port.OpKinds.{sent_by};
 ghost use Rattle.superio_core.specs.Serial.Port.Operations.{Write};
-ghost use Rattle.superio_core.specs.Serial.Port.Registers.{is_dlab, is_loopback};
 ghost use Rattle.superio_core.specs.Serial.Step.Admissible.{kind_in_state};
 ghost use Rattle.vm_superio.specs.Serial.Step.PortStep.{IsWriteStep};
 ghost use Rattle.superio_examples.specs.Output.{Waiting, OutputLaw, after_sent, dropped_by};
@@ -19,19 +18,8 @@ use std::marker::Model;
 use vm_superio::serial::{Error, SerialEvents};
 use vm_superio::{Serial, Trigger};
 
-/// The offsets of THR, LCR and MCR, and the bits of DLAB and loopback in the last two.
-const THR: u8 = 0;
-
-const LCR: u8 = 3;
-
-const MCR: u8 = 4;
-
-const DLAB: u8 = 0x80;
-
-const LOOPBACK: u8 = 0x10;
-
-/// The bytes that wait for the monitor's sink, oldest first, in a ring. Their number is limited, and `new` allocates the
-/// memory for this limit. A byte that finds no room is dropped, and counted.
+/// The bytes that wait for the monitor's sink, oldest first, in a ring. Their number is limited, and `new` allocates
+/// the memory for this limit. A byte that finds no room is dropped, and counted.
 ///
 /// A monitor passes each write of the guest to [`Output::forward`], as a `Console` does. An `Output` may also be the
 /// port's own writer. Then the guest's write returns an I/O error of the kind `WriteZero` for a byte that is dropped,
@@ -66,6 +54,40 @@ impl Output {
             waiting,
             dropped: 0,
         })
+    }
+
+    /// An output where these bytes wait, and `dropped` were dropped. At most `limit` may wait, or as many as wait now if
+    /// these are more.
+    ///
+    /// # Errors
+    ///
+    /// Returns `AllocError` if the allocator refuses memory.
+    pub fn restored(
+        alloc: Global,
+        waiting: &[u8],
+        limit: usize,
+        dropped: u64,
+    ) -> Result<Output, AllocError>
+        ensures { IfOk result (λ output. output ≡ record {
+          items = waiting.now;
+          capacity = max limit (length waiting.now);
+          dropped = dropped;
+        }) }
+    {
+        let mut ring = HeapCircularBuffer::with_capacity(alloc, limit.max(waiting.len()))?;
+        ring.fill_from_slice(waiting);
+        Ok(Output {
+            waiting: ring,
+            dropped,
+        })
+    }
+
+    /// How many bytes may wait.
+    pub fn limit(&self) -> usize
+        ensures value { result ≡ self.now.capacity }
+        ensures bound { length self.now.items ≤ self.now.capacity }
+    {
+        self.waiting.capacity()
     }
 
     /// Whether no byte waits. If some do, the monitor polls its sink.
@@ -110,14 +132,14 @@ impl Output {
         ensures step { IsWriteStep T.link EV.link (WriterCalls W.contents) offset value result serial.old serial.new }
         ensures coherent { Coherent serial.old.state → Coherent serial.new.state }
     {
-        if sends(serial, offset) {
+        if serial.sends(offset) {
             self.push(value);
         }
         serial.write(offset, value)
     }
 
     /// Takes a byte if there is room, and otherwise drops and counts it.
-    fn push(&mut self, byte: u8)
+    pub(crate) fn push(&mut self, byte: u8)
         ensures { self.new ≡ after_sent (byte ∷ []) self.old }
     {
         if self.waiting.try_push_back(byte).is_err() {
@@ -173,35 +195,8 @@ impl Write for Output {
 }
 
 /// A law, for proofs about many calls: a guest sends bytes, by `forward`, and sinks take them, by `drain_into`, in any
-/// order. What sinks took, then what waits, is what waited at the start, then what the guest sent, in order, without the
-/// bytes that were dropped. The count has grown by the number of these, up to 2^64 - 1.
+/// order. What sinks took, then what waits, is what waited at the start, then what the guest sent, in order, without
+/// the bytes that were dropped. The count has grown by the number of these, up to 2^64 - 1.
 pub fn in_order()
     ensures { OutputLaw }
 {}
-
-/// Whether a write at `offset` sends a byte.
-fn sends<T: Trigger, EV: SerialEvents, W: Write>(serial: &mut Serial<T, EV, W>, offset: u8) -> bool
-    ensures byte { (value : ℕ) → sent_by (kind_in_state serial.old.state (Write offset value))
-        ≡ (if result then value ∷ [] else []) }
-    ensures port { serial.new ≡ serial.old }
-{
-    let is_dlab = has_dlab(serial);
-    let is_loopback = has_loopback(serial);
-    offset == THR && !is_dlab && !is_loopback
-}
-
-/// Whether LCR has the bit of DLAB.
-fn has_dlab<T: Trigger, EV: SerialEvents, W: Write>(serial: &mut Serial<T, EV, W>) -> bool
-    ensures bit { result ≡ is_dlab serial.old.state.line_control }
-    ensures port { serial.new ≡ serial.old }
-{
-    serial.read(LCR) & DLAB == DLAB
-}
-
-/// Whether MCR has the bit of loopback.
-fn has_loopback<T: Trigger, EV: SerialEvents, W: Write>(serial: &mut Serial<T, EV, W>) -> bool
-    ensures bit { result ≡ is_loopback serial.old.state.modem_control }
-    ensures port { serial.new ≡ serial.old }
-{
-    serial.read(MCR) & LOOPBACK == LOOPBACK
-}

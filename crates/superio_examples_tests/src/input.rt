@@ -3,10 +3,9 @@ use std::alloc::Global;
 use std::test::Fail;
 use superio_examples::console::Console;
 use superio_examples::driver::{receive_all, run_polled};
-use superio_examples::first_claim::read_back;
+use superio_examples::first_claims::read_back;
 use superio_examples::input::Input;
-use superio_examples::migration::{RestoreError, restore, restore_input, save};
-use superio_examples::monitor::saved_devices;
+use superio_examples::migration::{RestoreError, Saved, restore, restore_input, save};
 use superio_examples::output::Output;
 use superio_tests::objects::{Log, Object, port};
 use vm_superio::Rtc;
@@ -74,6 +73,8 @@ fn input_stops_and_starts_and_a_refused_interrupt_is_tried_again(
         input: Input::new(rt.alloc(), 16)?,
         output: Output::new(rt.alloc(), 0)?,
         is_refused: false,
+        is_early: false,
+        is_ready: false,
     };
     log.refused.set(1);
     for ((register, value), input, taken, read, (room, is_refused, calls)) in [
@@ -155,6 +156,8 @@ fn bytes_served(alloc: Global, log: &Log, stops: bool) -> Result<usize, Fail> {
         input: Input::new(alloc, 16)?,
         output: Output::new(alloc, 0)?,
         is_refused: false,
+        is_early: false,
+        is_ready: false,
     };
     console.write(1, 0x01)?;
     let bytes = INPUT;
@@ -186,6 +189,37 @@ fn a_loop_without_poll_serves_what_its_source_left(rt: HostRuntime) -> Result<()
     let (stopping, going_on) = (Log::new(), Log::new());
     assert!(rt; bytes_served(rt.alloc(), &stopping, true)? == 0);
     assert!(rt; bytes_served(rt.alloc(), &going_on, false)? == 80);
+    Ok(())
+}
+
+/// The guest tests its port, and is ready later. SeaBIOS finds a port after a reset if IIR shows THRE alone.
+#[test]
+fn input_waits_until_the_guest_is_ready_and_over_a_reset(rt: HostRuntime) -> Result<(), Fail> {
+    let source = INPUT;
+    let log = Log::new();
+    let mut console = Console {
+        serial: port(rt.alloc(), &log)?,
+        input: Input::new(rt.alloc(), 100)?,
+        output: Output::new(rt.alloc(), 0)?,
+        is_refused: false,
+        is_early: false,
+        is_ready: false,
+    };
+    console.write(1, 0x0F)?;
+    assert!(rt; console.receive(&source[..70]) == 70 && console.input.room() == 30);
+    assert!(rt; console.read(0) == 0 && console.input.room() == 30);
+    console.write(1, 0x05)?;
+    assert!(rt; console.input.room() == 94 && console.read(5) == 0x61);
+    console.write(1, 0x07)?;
+    let old = console.reset(port(rt.alloc(), &log)?);
+    assert!(rt; old.fifo_capacity() == 0 && console.serial.fifo_capacity() == 64);
+    console.write(1, 0x02)?;
+    assert!(rt; console.read(2) == 0xC2 && console.input.room() == 94);
+    console.write(1, 0x01)?;
+    assert!(rt; console.input.room() == 100 && console.read(0) == source[64]);
+    console.is_early = true;
+    let _ = console.reset(port(rt.alloc(), &log)?);
+    assert!(rt; console.receive(&source[..1]) == 1 && console.input.room() == 100);
     Ok(())
 }
 
@@ -234,6 +268,19 @@ fn waiting_input_of_any_length_is_saved_and_restored(rt: HostRuntime) -> Result<
         }
     }
     Ok(())
+}
+
+/// Devices that a guest has used, with input that waits.
+fn saved_devices(alloc: Global) -> Result<Saved, Fail> {
+    let log = Log::new();
+    let mut serial = port(alloc, &log)?;
+    serial.write(1, 0x01)?; // the guest enables interrupts for received data
+    serial.enqueue_raw_bytes(b"abc")?; // input for the guest, for which the trigger is called
+    let mut clock = Rtc::new();
+    clock.write(0x008, &1_000u32.to_le_bytes(), 5_000_000); // the guest sets the time
+    let mut input = Input::new(alloc, 4096)?; // what does not fit waits here
+    input.push(b"def");
+    Ok(save(alloc, &serial, &clock, &input)?)
 }
 
 #[test]

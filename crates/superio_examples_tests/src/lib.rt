@@ -6,6 +6,8 @@ mod input;
 #[cfg(test)]
 mod interrupts;
 #[cfg(test)]
+mod monitor;
+#[cfg(test)]
 mod output;
 #[cfg(test)]
 mod ports;

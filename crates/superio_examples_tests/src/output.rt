@@ -1,13 +1,15 @@
 //! Output of a guest that waits for the monitor's sink.
 use std::alloc::{AllocError, Global};
+use std::io;
 use std::io::{ErrorKind, Write};
 use std::test::Fail;
 use superio_examples::console::Console;
-use superio_examples::first_claim::send_byte;
+use superio_examples::first_claims::send_byte;
 use superio_examples::input::Input;
 use superio_examples::monitor_object::{MonitorObject, write_in_order};
 use superio_examples::output::{Output, in_order};
 use superio_script::Output as Sink;
+use superio_tests::faults::{faults, is_same};
 use superio_tests::objects::{Log, Object, port};
 use vm_superio::serial::Port;
 
@@ -21,6 +23,8 @@ fn console(alloc: Global, log: &Log, limit: usize) -> Result<TestConsole<'_>, Fa
         input: Input::new(alloc, 0)?,
         output: Output::new(alloc, limit)?,
         is_refused: false,
+        is_early: false,
+        is_ready: false,
     })
 }
 
@@ -55,7 +59,8 @@ fn output_waits_for_its_sink_and_then_goes_on_in_order(rt: HostRuntime) -> Resul
     let log = Log::new();
     let mut console = console(rt.alloc(), &log, 300)?;
     // The guest sends 310 bytes, while the sink has no room, and the port's own writer fails. The last ten are dropped.
-    log.write_fault.set(11);
+    log.write_fault
+        .set(Some(io::Error::from(ErrorKind::WouldBlock)));
     let mut object = Object::new(&log);
     for number in 0..310u32 {
         assert!(rt; console.write(0, (number % 251) as u8).is_err(), "{number}");
@@ -63,12 +68,12 @@ fn output_waits_for_its_sink_and_then_goes_on_in_order(rt: HostRuntime) -> Resul
         assert!(rt; refused.map_err(|error| error.kind()).err() == Some(ErrorKind::WouldBlock));
     }
     assert!(rt; console.output.dropped() == 10 && log.writes.get() == 620);
-    // A sink takes 256 of them, and another one the others, with a byte that came since. No byte is sent in loopback, to
-    // the divisor, or to another register.
+    // A sink takes 256 of them, and another one the others, with a byte that came since. No byte is sent in loopback,
+    // to the divisor, or to another register.
     let (mut first, mut second) = (Sink::new(), Sink::new());
     assert!(rt; console.output.drain_into(&mut first).ok() == Some(256));
     assert!(rt; console.output.drain_into(&mut first).ok() == Some(0));
-    log.write_fault.set(0);
+    log.write_fault.set(None);
     for (register, value) in [
         (4, 0x10),
         (0, b'?'),
@@ -88,7 +93,27 @@ fn output_waits_for_its_sink_and_then_goes_on_in_order(rt: HostRuntime) -> Resul
         assert!(rt; usize::from(*byte) == number % 251, "{number}");
     }
     assert!(rt; second.bytes().get(44).copied() == Some(b'!'));
-    assert!(rt; send_byte(&mut console.serial, b'!').is_ok() && log.writes.get() == 622);
+    assert!(rt; send_byte(rt.alloc(), object, object, b'!').is_ok() && log.writes.get() == 622);
+    Ok(())
+}
+
+#[test]
+fn a_sink_that_fails_returns_its_error_and_takes_nothing(rt: HostRuntime) -> Result<(), Fail> {
+    let log = Log::new();
+    let mut output = Output::new(rt.alloc(), 8)?;
+    assert!(rt; output.write(b"waiting").ok() == Some(7));
+    for fault in faults(rt.alloc())?.iter() {
+        log.write_fault.set(Some(*fault));
+        log.writes.set(0);
+        let is_its_fault = match output.drain_into(&mut Object::new(&log)) {
+            Err(found) => is_same(rt.alloc(), &found, fault)?,
+            Ok(_) => false,
+        };
+        assert!(rt; is_its_fault && log.writes.get() == 1 && log.flushes.get() == 0);
+    }
+    assert!(rt;
+        output.waiting(rt.alloc())?.as_slice() == b"waiting".as_slice() && output.dropped() == 0
+    );
     Ok(())
 }
 

@@ -1,23 +1,19 @@
 //! What a guest reaches by port and by address, and a trigger that is a file descriptor.
 use std::alloc::Global;
+use std::io::ErrorKind;
 use std::test::Fail;
 use superio_examples::alarm::{Alarm, alarm_at, find_alarm};
 use superio_examples::bus::{Bus, BusError, COM1, COM2, COM3, COM4, Keyboard};
 use superio_examples::counter::Counter;
 use superio_examples::event_fd::EventFd;
 use superio_examples::mmio::ClockWindow;
+use superio_tests::faults::{faults, is_same};
 use superio_tests::objects::{Log, Object, port};
 use vm_superio::serial::Error;
 use vm_superio::{I8042Device, Rtc, Trigger};
 
 /// A bus over the tests' objects.
 type TestBus<'a> = Bus<Object<'a>, Object<'a>, Object<'a>, Object<'a>>;
-
-/// The largest error number of the operating system.
-const LARGEST: i32 = 133;
-
-/// The error number of an interrupted call, which is made again.
-const INTERRUPTED: i32 = 4;
 
 /// A bus over a log's objects, whose serial port begins at `base`.
 fn bus_at(alloc: Global, log: &Log, base: u16) -> Result<TestBus<'_>, Fail> {
@@ -144,16 +140,18 @@ fn serial_ports_side_by_side_do_not_mix(rt: HostRuntime) -> Result<(), Fail> {
 fn a_bus_returns_the_fault_of_the_writer(rt: HostRuntime) -> Result<(), Fail> {
     let log = Log::new();
     let mut bus = bus_at(rt.alloc(), &log, COM1)?;
-    for number in 1..=LARGEST {
-        if number == INTERRUPTED {
-            continue;
+    for fault in faults(rt.alloc())?.iter() {
+        // After an interruption the byte is written again.
+        if fault.kind() != ErrorKind::Interrupted {
+            log.write_fault.set(Some(*fault));
+            let is_its_fault = match bus.write(0x3F8, b'A') {
+                Err(BusError::Serial(Error::IOError(found))) => {
+                    is_same(rt.alloc(), &found, fault)?
+                }
+                _ => false,
+            };
+            assert!(rt; is_its_fault);
         }
-        log.write_fault.set(number);
-        let fault = match bus.write(0x3F8, b'A') {
-            Err(BusError::Serial(Error::IOError(fault))) => fault.raw_os_error(),
-            _ => None,
-        };
-        assert!(rt; fault == Some(number), "{number}");
     }
     Ok(())
 }
@@ -225,23 +223,26 @@ fn a_clock_is_reached_in_its_window(rt: HostRuntime) {
 }
 
 #[test]
-fn an_event_is_one_write_of_eight_bytes(rt: HostRuntime) {
+fn an_event_is_one_write_of_eight_bytes(rt: HostRuntime) -> Result<(), Fail> {
     let log = Log::new();
     let mut event = EventFd {
         file: Object::new(&log),
     };
-    for fault in 0..=LARGEST {
-        if fault == INTERRUPTED {
-            continue;
+    assert!(rt; event.trigger().is_ok() && log.writes.get() == 1);
+    for fault in faults(rt.alloc())?.iter() {
+        // After an interruption the bytes are written again.
+        if fault.kind() != ErrorKind::Interrupted {
+            log.write_fault.set(Some(*fault));
+            log.writes.set(0);
+            let is_its_fault = match event.trigger() {
+                Err(found) => is_same(rt.alloc(), &found, fault)?,
+                Ok(()) => false,
+            };
+            assert!(rt; is_its_fault && log.writes.get() == 1);
         }
-        log.write_fault.set(fault);
-        log.writes.set(0);
-        assert!(rt;
-            event.trigger().is_ok() == (fault == 0) && log.writes.get() == 1,
-            "{fault}"
-        );
     }
     assert!(rt; log.flushes.get() == 0);
+    Ok(())
 }
 
 #[test]

@@ -3,11 +3,19 @@
 //! Each line of standard input has the name of a call and a number. The program first allocates that many blocks of
 //! memory and frees each at once. `tools/refused_memory` refuses one allocation by its number. So the blocks choose
 //! which allocation of the call it is.
+//!
+//! A line `any SEED` makes each call of `any_state` in states of any registers, with lists of each length to 300 and of
+//! 65,536. A line begins with `+` before the call, after what it takes is prepared, and a line after it says whether the
+//! call returned that memory was refused. `tools/refused_memory` refuses an allocation between the two lines.
 #![tactic(auto)]
 
+mod any_state;
 mod boards;
 mod ports;
+mod source;
 
+use any_state::{CALLS, is_refused, prepare};
+use source::Source;
 use std::alloc::{AllocError, Global};
 use std::io::Read;
 use std::{io, str};
@@ -48,15 +56,53 @@ fn outcome_after(alloc: Global, call: &str, blocks: u32) -> Result<&'static str,
     outcome_of(alloc, call)
 }
 
+/// The length of the longest list.
+const LONGEST: usize = 65_536;
+
+/// Makes each call with a list of this length, and prints what it returned.
+fn make_calls(rt: &HostRuntime, source: &mut Source, length: usize) -> io::Result<()> {
+    for (number, name) in CALLS.iter().enumerate() {
+        let Ok(call) = prepare(rt.alloc(), number, source, length) else {
+            println!(rt; "{name}, {length}: not prepared")?;
+            continue;
+        };
+        println!(rt; "+ {name}, {length}")?;
+        let outcome = if is_refused(rt.alloc(), call) {
+            "refused"
+        } else {
+            "not refused"
+        };
+        println!(rt; "{name}, {length}: {outcome}")?;
+    }
+    Ok(())
+}
+
+/// Makes each call with a list of each length.
+fn make_all(rt: &HostRuntime, seed: u64) -> io::Result<()> {
+    let mut source = Source::new(seed);
+    for length in 0..=300 {
+        make_calls(rt, &mut source, length)?;
+    }
+    make_calls(rt, &mut source, LONGEST)
+}
+
+/// Carries out a line of standard input.
+fn answer(rt: &HostRuntime, line: &str) -> io::Result<()> {
+    let (call, number) = line.split_once(' ').unwrap_or((line, ""));
+    if call == "any" {
+        return make_all(rt, number.parse().unwrap_or(0));
+    }
+    let blocks = number.parse().unwrap_or(0);
+    let outcome = outcome_after(rt.alloc(), call, blocks).unwrap_or("not prepared");
+    println!(rt; "{call}: {outcome}")
+}
+
 fn main(rt: HostRuntime) -> io::Result<()> {
     let mut room = [0; 1024];
     let count = rt.reader().read(&mut room)?;
     let text = str::from_utf8(&room[..count]).unwrap_or("");
     for line in text.lines() {
-        let (call, number) = line.split_once(' ').unwrap_or((line, ""));
-        let blocks = number.parse().unwrap_or(0);
-        let outcome = outcome_after(rt.alloc(), call, blocks).unwrap_or("not prepared");
-        println!(rt; "{call}: {outcome}")?;
+        answer(&rt, line)?;
     }
     Ok(())
 }

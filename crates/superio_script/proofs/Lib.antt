@@ -1,5 +1,6 @@
 pub mod SplittingLemmas
 pub mod ReadLemmas
+pub mod PartLemmas
 pub mod PortSessionLemmas
 pub mod ClockLineLemmas
 pub mod LoadingLemmas

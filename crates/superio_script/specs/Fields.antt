@@ -48,7 +48,7 @@ abbrev pub number : {A : Type 0} (width : Width) (next : (value : ℕ) → List 
     (fields : List (List ℕ)) → Option A
 number width next fields = option_and_then (λ value. next value (later_fields fields)) (first_number width fields)
 
--- bytes, and no field after them
+-- bytes, of one field or none, and the fields after it
 abbrev pub bytes : {A : Type 0} (next : (value : List ℕ) → List (List ℕ) → Option A)
     (fields : List (List ℕ)) → Option A
 bytes next fields = option_and_then (λ value. next value (later_fields fields)) (first_bytes fields)

@@ -16,17 +16,17 @@ fn a_port_is_dropped_and_taken_apart_in_silence(rt: HostRuntime) -> Result<(), F
         for enable in 0..=0x03 {
             state.interrupt_identification = identification;
             state.interrupt_enable = enable;
-            for is_taken_apart in [true, false] {
+            for way in 0..3u8 {
                 let log = Log::new();
                 let object = Object::new(&log);
                 let port = Serial::from_state(rt.alloc(), &state, object, object, object).ok();
                 let mut port = port.expect(&rt, "a port");
                 assert!(rt; port.write(0, b'A').is_ok());
                 let calls = log.calls();
-                if is_taken_apart {
-                    let _ = port.into_writer();
-                } else {
-                    drop(port);
+                match way {
+                    0 => drop(port),
+                    1 => drop(port.into_writer()),
+                    _ => drop(port.into_parts()),
                 }
                 assert!(rt; calls >= 3 && log.calls() == calls, "{state:?}");
             }
@@ -36,18 +36,25 @@ fn a_port_is_dropped_and_taken_apart_in_silence(rt: HostRuntime) -> Result<(), F
 }
 
 #[test]
-fn a_clock_and_a_controller_are_dropped_in_silence(rt: HostRuntime) {
-    let log = Log::new();
-    let object = Object::new(&log);
-    let mut clock = Rtc::with_events(object);
-    let mut controller = I8042Device::new(object);
-    // An invalid write, and the reset command.
-    clock.write(0x000, &[0; 4], 1_000);
-    assert!(rt; controller.write(0x04, 0xFE).is_ok());
-    assert!(rt; log.calls() == 2);
-    drop(clock);
-    drop(controller);
-    assert!(rt; log.calls() == 2);
+fn a_clock_and_a_controller_are_dropped_and_taken_apart_in_silence(rt: HostRuntime) {
+    for is_taken_apart in [true, false] {
+        let log = Log::new();
+        let object = Object::new(&log);
+        let mut clock = Rtc::with_events(object);
+        let mut controller = I8042Device::new(object);
+        // An invalid write, and the reset command.
+        clock.write(0x000, &[0; 4], 1_000);
+        assert!(rt; controller.write(0x04, 0xFE).is_ok());
+        assert!(rt; log.calls() == 2);
+        if is_taken_apart {
+            drop(clock.into_parts());
+            drop(controller.into_reset_evt());
+        } else {
+            drop(clock);
+            drop(controller);
+        }
+        assert!(rt; log.calls() == 2);
+    }
 }
 
 /// How many calls of objects `into_error` makes.

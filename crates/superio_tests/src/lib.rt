@@ -8,6 +8,7 @@ mod clock;
 mod dropped;
 #[cfg(test)]
 mod errors;
+pub mod faults;
 #[cfg(test)]
 mod lent;
 #[cfg(test)]

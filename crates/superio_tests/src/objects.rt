@@ -21,11 +21,12 @@ pub struct Log {
     pub flushes: Cell<u64>,
     /// The number of the trigger call to refuse, from 1. 0: no call.
     pub refused: Cell<u64>,
-    /// Interrupts this many calls of `write`.
+    /// Lets this many calls of `write` fail with that error.
     pub interruptions: Cell<u64>,
-    /// Each later `write`, or `flush`, fails with this error number of the operating system. 0: it succeeds.
-    pub write_fault: Cell<i32>,
-    pub flush_fault: Cell<i32>,
+    pub interruption: Cell<io::Error>,
+    /// Each later `write`, or `flush`, fails with this error. `None`: it succeeds.
+    pub write_fault: Cell<Option<io::Error>>,
+    pub flush_fault: Cell<Option<io::Error>>,
 }
 
 impl Log {
@@ -38,8 +39,9 @@ impl Log {
             flushes: Cell::new(0),
             refused: Cell::new(0),
             interruptions: Cell::new(0),
-            write_fault: Cell::new(0),
-            flush_fault: Cell::new(0),
+            interruption: Cell::new(io::Error::from(ErrorKind::Interrupted)),
+            write_fault: Cell::new(None),
+            flush_fault: Cell::new(None),
         }
     }
 
@@ -61,10 +63,10 @@ fn counted(calls: &Cell<u64>) -> u64 {
 }
 
 /// What a call of a writer with this fault returns.
-fn outcome(fault: i32) -> io::Result<()> {
+fn outcome(fault: Option<io::Error>) -> io::Result<()> {
     match fault {
-        0 => Ok(()),
-        number => Err(io::Error::from_raw_os_error(number)),
+        None => Ok(()),
+        Some(error) => Err(error),
     }
 }
 
@@ -150,7 +152,7 @@ impl RtcEvents for Object<'_> {
 impl Write for Object<'_> {
     fn write(&mut self, buf: &[u8]) -> io::Result<usize> {
         if counted(&self.log.writes) <= self.log.interruptions.get() {
-            return Err(io::Error::from(ErrorKind::Interrupted));
+            return Err(self.log.interruption.get());
         }
         outcome(self.log.write_fault.get())?;
         Ok(buf.len())

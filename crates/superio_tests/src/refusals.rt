@@ -20,10 +20,12 @@ fn a_refusal_of_any_call_fails_that_call_alone(rt: HostRuntime) -> Result<(), Fa
                 is_refused == (call == refused) && (is_refused || came.is_ok()),
                 "{call}"
             );
+            assert!(rt; serial.interrupts_due() == 1, "{call}");
             assert!(rt;
                 serial.read(0) == b'a' && log.triggers.get() == call,
                 "{call}"
             );
+            assert!(rt; serial.interrupts_due() == 0, "{call}");
         }
     }
     Ok(())

@@ -2,6 +2,7 @@
 use crate::memory::all_memory;
 use crate::objects::{Log, Object, Port, port};
 use std::alloc::{AllocError, Global};
+use std::io;
 use std::test::Fail;
 use vm_superio::run::{Asked, Call, Done, Reply, Sent};
 use vm_superio::serial::{Three, WriterOut};
@@ -35,7 +36,7 @@ fn a_run_records_each_call_and_goes_on_over_restores(rt: HostRuntime) -> Result<
     let (first, refusing, other) = (Log::new(), Log::new(), Log::new());
     first.refused.set(1);
     refusing.refused.set(2);
-    other.write_fault.set(5);
+    other.write_fault.set(Some(io::Error::from_raw_os_error(5)));
     let mut serial = port(alloc, &first)?;
     let bytes = b"ab".to_vec(alloc)?;
     let done = run_two(
@@ -78,14 +79,19 @@ fn records_of_many<'a>(alloc: Global, log: &'a Log) -> Result<usize, Fail> {
 #[test]
 fn a_run_of_many_calls_asks_the_writer_once_for_each_byte(rt: HostRuntime) -> Result<(), Fail> {
     // The faults of `write` and `flush`, and how often `flush` is called.
-    for (write_fault, flush_fault, flushes) in [(0, 0, 1_000_000), (5, 0, 0), (0, 5, 1_000_000)] {
+    let fault = Some(io::Error::from_raw_os_error(5));
+    for (write_fault, flush_fault, flushes) in [
+        (None, None, 1_000_000),
+        (fault, None, 0),
+        (None, fault, 1_000_000),
+    ] {
         let log = Log::new();
         log.write_fault.set(write_fault);
         log.flush_fault.set(flush_fault);
         assert!(rt; records_of_many(rt.alloc(), &log)? == 1_000_000);
         assert!(rt;
             log.writes.get() == 1_000_000 && log.flushes.get() == flushes,
-            "{write_fault}"
+            "{flushes}"
         );
     }
     Ok(())

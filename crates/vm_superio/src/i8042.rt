@@ -32,6 +32,14 @@ impl<T: Trigger> I8042Device<T> {
         I8042Device { reset_evt }
     }
 
+    /// Returns the reset trigger unchanged.
+    pub fn into_reset_evt(self) -> T
+        ensures { result ≡ self }
+    {
+        let I8042Device { reset_evt } = self;
+        reset_evt
+    }
+
     /// The reset trigger.
     pub fn reset_evt(&self) -> &T
         ensures { result.now ≡ self.now }
@@ -58,8 +66,8 @@ impl<T: Trigger> I8042Device<T> {
 
     /// Writes `value` at `offset`.
     ///
-    /// The reset command, 0xFE at offset 4, calls the trigger once and returns its answer. No access makes another call.
-    /// Any other write returns `Ok` and has no effect.
+    /// The reset command, 0xFE at offset 4, calls the trigger once and returns its answer. No access makes another
+    /// call. Any other write returns `Ok` and has no effect.
     pub fn write(&mut self, offset: u8, value: u8) -> Result<(), T::E>
         ensures reset { OnTrue (is_reset_command offset value) (T.link self.old (result ∷ []) self.new) }
         ensures otherwise_ok { OnFalse (is_reset_command offset value) (result ≡ Ok tt) }

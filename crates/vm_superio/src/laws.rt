@@ -7,6 +7,7 @@ ghost use Rattle.vm_superio.specs.Serial.Laws.Agreement.{RegisterLaw, HeldBytesL
 ghost use Rattle.vm_superio.specs.Serial.Laws.Consequences.{PendingByPrefixesLaw, TriggerBoundLaw, WaitingBytesLaw, SameReadsLaw, TakenThenHeldLaw, ReadsAreTakenLaw, ReadThenHeldLaw, OutputLaw};
 ghost use Rattle.vm_superio.specs.Serial.Laws.CharacterTimeout.{NoByteWaitsLaw, TimeoutCallsLaw, TimeoutsShowLaw};
 ghost use Rattle.vm_superio.specs.Serial.Laws.InterruptDriver.{OwedAfterRunLaw, TakenAfterRunsLaw};
+ghost use Rattle.vm_superio.specs.Serial.Laws.InterruptLine.{LineAfterLaw, UpAfterCallLaw, GoesUpLaw, StaysUpLaw, LineOfHistoryLaw};
 ghost use Rattle.vm_superio.specs.Serial.Laws.PollingDriver.{PollingDriverLaw, DriverGetsAllLaw, PollsAfterDataReadyLaw};
 ghost use Rattle.vm_superio.specs.Links.Writer.{KnownOutputLaw};
 ghost use Rattle.vm_superio.specs.Serial.Laws.PortRun.{PortRunLaw, PortOutputLaw, PortBoundLaw};
@@ -15,7 +16,7 @@ ghost use Rattle.vm_superio.specs.Serial.Laws.OneCall.{OneCallLaw, OneReadLaw, R
 mod clock;
 pub mod saved;
 
-pub use clock::{alarm_due_by_history, clock_is_history, raw_bits_by_history};
+pub use clock::{alarm_due_by_history, clock_is_history, raw_bits_by_history, set_time};
 use std::io::Write;
 
 /// From any start, each register that stores writes holds its last effective one, and MSR never changes.
@@ -80,9 +81,9 @@ pub fn whole_runs()
 {}
 
 /// Calls of a coherent `SerialPort` have the effects that the history says, by the start and the operations
-/// alone: the byte and events of each read, the bytes taken, and how often to ask for the interrupt. They end in the state
-/// of the history, which is coherent. The bytes that the caller is told to send are the output. It is told to ask for the
-/// interrupt at most twice, plus twice for each IIR read and once for each RBR read; restores do not count.
+/// alone: the byte and events of each read, the bytes taken, and how often to ask for the interrupt. They end in the
+/// state of the history, which is coherent. The bytes that the caller is told to send are the output. It is told to ask
+/// for the interrupt at most twice, plus twice for each IIR read and once for each RBR read; restores do not count.
 #[tactic(auto, using(crate::proofs::Lemmas::Serial::Laws::WholeRunsOfPorts::port_run_laws))]
 pub fn whole_runs_of_ports()
     ensures run { PortRunLaw }
@@ -121,12 +122,25 @@ pub fn no_byte_waits()
 {}
 
 /// From any start, for any driver that takes at least one held byte at each interrupt and ends its run with a read of
-/// IIR: if a character timeout follows the run, and bytes are held, the interrupt is asked for again. After as many runs
-/// as bytes are held, the driver has taken all of these, in order, whatever arrives meanwhile.
+/// IIR: if a character timeout follows the run, and bytes are held, the interrupt is asked for again. After as many
+/// runs as bytes are held, the driver has taken all of these, in order, whatever arrives meanwhile.
 #[tactic(auto, using(crate::proofs::Lemmas::Serial::Laws::InterruptDriver::interrupt_driver_laws))]
 pub fn interrupt_driver()
     ensures owed { OwedAfterRunLaw }
     ensures taken { TakenAfterRunsLaw }
+{}
+
+/// One call in any state, and the level of the interrupt line. A call that calls the trigger, which may refuse, leaves the
+/// line up. The line goes up in such a call, or in an IER write that enables a pending condition, for which the trigger
+/// is not called again. It goes down only in a read of IIR or RBR, or in an IER write. From a start whose IIR is 1, 2, 4
+/// or 6, the line is up exactly while the trace has a condition pending that IER enables.
+#[tactic(auto, using(crate::proofs::Lemmas::Serial::Laws::InterruptLine::interrupt_line_laws))]
+pub fn interrupt_line()
+    ensures after { LineAfterLaw }
+    ensures called { UpAfterCallLaw }
+    ensures goes_up { GoesUpLaw }
+    ensures stays_up { StaysUpLaw }
+    ensures history { LineOfHistoryLaw }
 {}
 
 /// From any start, two traces with the same operations and trigger answers, restores left out, give the same guest

@@ -24,7 +24,8 @@ mod trace;
 /// An implementation states its `link`: the relation of the value before some calls, the answers to them in order, and
 /// the value after them. The devices' contracts state which answers link a trigger.
 pub trait Trigger {
-    /// Why a call was refused.
+    /// Why a call was refused. A type without values, such as `Infallible`, states that no call ever is: contracts then
+    /// rule out the device's errors for a refusal.
     type E: Debug + Drop;
 
     /// Calls with these answers turn the first value into the second.

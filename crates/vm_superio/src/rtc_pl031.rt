@@ -129,6 +129,15 @@ impl<EV: RtcEvents> Rtc<EV> {
         self.clock.state()
     }
 
+    /// Returns the state and the events object, unchanged.
+    pub fn into_parts(self) -> (RtcState, EV)
+        ensures state { result.0 ≡ self.state }
+        ensures events { result.1 ≡ self.events }
+    {
+        let state = self.clock.state();
+        (state, self.events)
+    }
+
     /// The events object.
     pub fn events(&self) -> &EV
         ensures { result.now ≡ self.now.events }
@@ -181,8 +190,8 @@ impl<EV: RtcEvents> Rtc<EV> {
     /// values have no effect. RTCIMSC (0x010) stores bit 0 only. RTCICR (0x01C) clears the raw interrupt status bits
     /// that the value has set.
     ///
-    /// A write at any other offset stores nothing and calls the events object's `invalid_write` once, before it returns.
-    /// No write makes another call.
+    /// A write at any other offset stores nothing and calls the events object's `invalid_write` once, before it
+    /// returns. No write makes another call.
     pub fn write(&mut self, offset: u16, bytes: &[u8; 4], now: u64)
         ensures state { self.new.state ≡ clock_step self.old.state (write_of offset bytes.now now) }
         ensures invalid { OnFalse (is_writable (clock_register_at offset))

@@ -1,11 +1,11 @@
 //! A serial port with the registers of a 16550.
 ghost use Rattle.vm_superio.specs.Links.OutCalls.{WriterCalls};
-ghost use Rattle.std.specs.Prelude.{◌≡◌, ◌<◌, ◌≤◌, ◌+◌, ◌-◌, ◌∷◌, ◌++◌, false, length, vec_len, IsErr, IfOk, OnOk, OnErr, IfErr};
+ghost use Rattle.std.specs.Prelude.{◌≡◌, ◌<◌, ◌≤◌, ◌+◌, ◌-◌, ◌==◌, not, ℕ, [], ◌∷◌, ◌++◌, if◌then◌else◌, false, length, vec_len, IsErr, IfOk, OnOk, OnErr, IfErr};
 ghost use Rattle.superio_core.specs.Serial.Port.Coherent.{Coherent};
 ghost use Rattle.vm_superio.specs.Links.Objects.{all_ok, RefusesOwnState};
 ghost use Rattle.superio_core.specs.Serial.Port.State.{fresh_state};
 ghost use Rattle.vm_superio.specs.Serial.Port.SavedState.{state_of};
-ghost use Rattle.superio_core.specs.Serial.Step.Restore.{restore_calls};
+ghost use Rattle.superio_core.specs.Serial.Step.Restore.{is_line_up, restore_calls};
 ghost use Rattle.vm_superio.specs.Serial.Step.Restore.{RefusesRestore};
 
 mod errors;
@@ -97,6 +97,7 @@ impl<T: Trigger, EV: SerialEvents, W: Write> Serial<T, EV, W> {
     ghost use Rattle.vm_superio.specs.contracts.serial.Serial.{the_row};
     ghost use Rattle.vm_superio.specs.Serial.Step.PortStep.{with_trigger, with_events, with_writer};
     ghost use Rattle.vm_superio.specs.Serial.Step.PortStep.{IsReadStep, IsWriteStep, IsEnqueueStep, IsTimeoutStep, IsRetryStep};
+    ghost use Rattle.vm_superio.specs.Serial.Step.Fate.{WriteFate, EnqueueFate, TimeoutFate};
     ghost use Rattle.vm_superio.specs.Links.Three.{ThreeLink};
     ghost use Rattle.vm_superio.specs.Links.WriterOut.{WriterLink};
     ghost use Rattle.vm_superio.specs.Serial.Step.ObjectStep.{one_port};
@@ -238,6 +239,16 @@ impl<T: Trigger, EV: SerialEvents, W: Write> Serial<T, EV, W> {
         out.writer
     }
 
+    /// Returns the trigger, the events object and the writer, unchanged. Calls none of them.
+    pub fn into_parts(self) -> (T, EV, W)
+        ensures trigger { result.0 ≡ self.trigger }
+        ensures events { result.1 ≡ self.events }
+        ensures out { result.2 ≡ self.out }
+    {
+        let objects = self.objects;
+        (objects.trigger, objects.events, objects.out.writer)
+    }
+
     /// The trigger of the interrupt line.
     pub fn interrupt_evt(&self) -> &T
         ensures { result.now ≡ self.now.trigger }
@@ -288,9 +299,23 @@ impl<T: Trigger, EV: SerialEvents, W: Write> Serial<T, EV, W> {
             (taken_calls (sent_by (kind_in_state self.old.state (Write offset value)))) self.new.out) }
         // Only a THR write outside loopback reaches the writer.
         ensures silent { sends_byte self.old.state (Write offset value) ≡ false → self.new.out ≡ self.old.out }
+        // What stands after an error.
+        ensures fate { IfErr result (λ error. WriteFate offset value error self.old.state self.new.state) }
         ensures coherent { Coherent self.old.state → Coherent self.new.state }
     {
         self.recorded_write(offset, value).reply
+    }
+
+    /// Whether a write at `offset` sends its byte, as a THR write outside loopback does. Changes nothing: an event loop may
+    /// ask before the write whether its sink has room.
+    pub fn sends(&self, offset: u8) -> bool
+        ensures { (value : ℕ) → sent_by (kind_in_state self.now.state (Write offset value))
+            ≡ (if result then value ∷ [] else []) }
+    {
+        match self.registers.at(offset) {
+            Register::RbrThr => !self.registers.is_loopback(),
+            _ => false,
+        }
     }
 
     /// Reads the byte at `offset`, as a guest does. Neither calls the trigger nor uses the writer.
@@ -334,6 +359,31 @@ impl<T: Trigger, EV: SerialEvents, W: Write> Serial<T, EV, W> {
         reassert(&self.registers, &mut self.objects)
     }
 
+    /// How many interrupts are due, 0 to 2: the conditions that are both pending and enabled. A retry calls the trigger
+    /// once for each.
+    pub fn interrupts_due(&self) -> u8
+        ensures calls { result ≡ length (restore_calls self.now.state) }
+        ensures at_most_2 { result ≤ 2 }
+    {
+        self.registers.interrupts_due()
+    }
+
+    /// IER, as `state` has it. A driver that has tested the port and wants input leaves it with 0x01 and without 0x02.
+    pub fn interrupt_enable(&self) -> u8
+        ensures { result ≡ self.now.state.interrupt_enable }
+    {
+        self.registers.interrupt_enable
+    }
+
+    /// Whether the interrupt line is up: while a condition is pending and enabled. For a controller that takes levels,
+    /// set your line to it after every call, and leave the trigger out.
+    pub fn interrupt_line(&self) -> bool
+        ensures line { result ≡ is_line_up self.now.state }
+        ensures due { result ≡ not (length (restore_calls self.now.state) == 0) }
+    {
+        self.registers.interrupt_line()
+    }
+
     /// How many bytes may still be enqueued: 64 minus the number of held bytes.
     pub fn fifo_capacity(&self) -> usize
         ensures value { result ≡ 64 - length self.now.state.in_buffer }
@@ -356,6 +406,8 @@ impl<T: Trigger, EV: SerialEvents, W: Write> Serial<T, EV, W> {
         ensures held { self.new.state.in_buffer ≡ self.old.state.in_buffer ++ enqueued_bytes self.old.state input.now }
         ensures settings { SameSettings self.old.state self.new.state }
         ensures full { result ≡ Err Error.FullFifo → self.new ≡ self.old }
+        // What stands after an error.
+        ensures fate { IfErr result (λ error. EnqueueFate input.now error self.old.state self.new.state) }
         ensures quiet { self.old.state.interrupt_enable ≡ 0 → self.new.trigger ≡ self.old.trigger }
         ensures out { self.new.out ≡ self.old.out }
         ensures coherent { Coherent self.old.state → Coherent self.new.state }
@@ -374,6 +426,8 @@ impl<T: Trigger, EV: SerialEvents, W: Write> Serial<T, EV, W> {
         ensures step { IsTimeoutStep T.link EV.link (WriterCalls W.contents) result self.old self.new }
         // No byte waits without an interrupt.
         ensures pending { ShowsHeldBytes self.new.state }
+        // What stands after an error.
+        ensures fate { IfErr result (λ error. TimeoutFate error self.old.state self.new.state) }
         ensures quiet { self.old.state.interrupt_enable ≡ 0 → self.new.trigger ≡ self.old.trigger }
         ensures events { self.new.events ≡ self.old.events }
         ensures out { self.new.out ≡ self.old.out }

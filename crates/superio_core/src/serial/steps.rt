@@ -1,7 +1,7 @@
 //! The steps of a serial port's calls, as methods of the registers. They take the received bytes if they use them, work
 //! with every receive FIFO, and call no object: a step returns what is left to do, which is a byte to send, an
 //! interrupt to ask for, or an event to report.
-ghost use Rattle.std.specs.Prelude.{◌≡◌, ◌≤◌, if◌then◌else◌, [], length, slice_index};
+ghost use Rattle.std.specs.Prelude.{◌≡◌, ◌≤◌, ◌==◌, not, if◌then◌else◌, [], length, slice_index};
 ghost use Rattle.superio_core.specs.Serial.Port.State.{not_empty, state_with};
 ghost use Rattle.superio_core.specs.Bits.{only_bits, with_bits};
 ghost use Rattle.superio_core.specs.Serial.Port.Bits.{lsr_dr_bit};
@@ -11,7 +11,7 @@ ghost use Rattle.superio_core.specs.Serial.Port.OpKinds.{write_kind, sent_by};
 ghost use Rattle.superio_core.specs.Serial.Port.Effects.{events_of_read};
 ghost use Rattle.superio_core.specs.Serial.Step.Raising.{becomes_pending, raise, raise_rda_while_held, lower, bytes_that_fit, receive_bytes};
 ghost use Rattle.superio_core.specs.Serial.Step.Transition.{rbr_read, ier_write, read_step, write_step, character_timeout, read_events};
-ghost use Rattle.superio_core.specs.Serial.Step.Restore.{is_asserted, restore_calls};
+ghost use Rattle.superio_core.specs.Serial.Step.Restore.{is_asserted, is_line_up, restore_calls};
 ghost use Rattle.superio_core.specs.Serial.Step.Admissible.{ier_write_calls, arrival_calls, timeout_calls, kind_calls};
 
 use super::super::fifo::ReceiveFifo;
@@ -239,5 +239,15 @@ impl Registers {
         ensures at_most_2 { result ≤ 2 }
     {
         u8::from(self.is_asserted(Condition::Thre)) + u8::from(self.is_asserted(Condition::Rda))
+    }
+
+    /// Whether the interrupt line is up: a condition is pending and enabled.
+    #[inline(always)]
+    #[tactic(auto, using(crate::proofs::Lemmas::Serial::Step::Restore::up_while_due))]
+    pub fn interrupt_line(&self) -> bool
+        ensures line { result ≡ is_line_up (state_with self.now []) }
+        ensures due { result ≡ not (length (restore_calls (state_with self.now [])) == 0) }
+    {
+        self.is_asserted(Condition::Thre) || self.is_asserted(Condition::Rda)
     }
 }

@@ -1,9 +1,9 @@
 -- The laws by which the steps and the history of a clock agree.
-use Rattle.std.specs.Prelude.{◌≡◌, ℕ, ◌+◌, ◌<◌, Bool, true, false, ◌==◌, ◌&&◌, if◌then◌else◌, List, ◌∷◌, Option, None, pos, ◌+ℤ◌}
-use Rattle.std.specs.Int.{bit_at}
+use Rattle.std.specs.Prelude.{◌≡◌, ℕ, ◌+◌, ◌^◌, ◌<◌, Bool, true, false, ◌==◌, ◌&&◌, if◌then◌else◌, List, [], ◌∷◌, Option, None, pos, ◌+ℤ◌}
+use Rattle.std.specs.Int.{bit_at, w32, to_le_bytes}
 use Rattle.std.specs.List.{list_any}
 use Rattle.superio_core.specs.declared.rtc_pl031.state.RtcState.{RtcState}
-use Rattle.superio_core.specs.Rtc.Registers.{Access, read, moment_of, bytes_left}
+use Rattle.superio_core.specs.Rtc.Registers.{Access, read, write_of, moment_of, bytes_left}
 use Rattle.superio_core.specs.Rtc.Step.{clock_response, clock_step, state_after_accesses}
 use Rattle.superio_core.specs.Rtc.Alarm.{IsDueIn, IsAlarmDue}
 use Rattle.vm_superio.specs.Rtc.History.{counter, clock_of_history, clock_history_response, cleared_by, match_written, raises_alarm, is_alarm_raised}
@@ -82,3 +82,12 @@ pub record AlarmDueByHistory : Type 0 where
   pub waits :
       (state : RtcState) (now seconds : ℕ) → IsDueIn state now seconds
       → (offset sooner : ℕ) → sooner < seconds → clock_step state (read offset (now + sooner)) ≡ state
+
+-- a clock that was set shows the value that it was set to, and as many seconds more as have passed since, if 32 bits
+-- hold both times. `bytes` are those written, and `shown` those that a read leaves
+abbrev pub SetTimeLaw : Type 0
+SetTimeLaw = (before after : RtcState) (value now seconds : ℕ) (bytes shown : List ℕ)
+    → bytes ≡ to_le_bytes w32 value → after ≡ clock_step before (write_of 0x008 bytes now)
+    → shown ≡ bytes_left (clock_response after (read 0x000 (now + seconds))) []
+    → now + seconds < 2 ^ 32 → value + seconds < 2 ^ 32
+    → shown ≡ to_le_bytes w32 (value + seconds)

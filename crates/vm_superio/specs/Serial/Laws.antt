@@ -6,3 +6,4 @@ pub mod PollingDriver
 pub mod PortRun
 pub mod CharacterTimeout
 pub mod InterruptDriver
+pub mod InterruptLine

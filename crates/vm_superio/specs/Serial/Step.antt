@@ -7,3 +7,4 @@ pub use Rattle.superio_core.specs.Serial.Step.Admissible
 pub use Rattle.superio_core.specs.Serial.Step.Calls
 pub mod CallsOf
 pub mod ObjectStep
+pub mod Fate

@@ -1,5 +1,5 @@
 //! The clock's laws, each as the contract of a function that does nothing.
-ghost use Rattle.vm_superio.specs.Rtc.Laws.{ClockIsHistory, RawBitsByHistory, AlarmDueByHistory};
+ghost use Rattle.vm_superio.specs.Rtc.Laws.{ClockIsHistory, RawBitsByHistory, AlarmDueByHistory, SetTimeLaw};
 
 /// The clock is its history: from any state and over any accesses, a search of the accesses so far gives its states and
 /// answers.
@@ -19,4 +19,10 @@ pub fn raw_bits_by_history()
 #[tactic(auto, using(crate::proofs::Lemmas::Rtc::AlarmDueByHistory::alarm_due_law))]
 pub fn alarm_due_by_history()
     ensures { AlarmDueByHistory }
+{}
+
+/// From any state, a clock that was set by a write of RTCLR shows the value written and as many seconds more as have passed
+/// since, if 32 bits hold both times.
+pub fn set_time()
+    ensures { SetTimeLaw }
 {}

@@ -1,10 +1,10 @@
 //! A serial port with one object for all three roles: its contract states the order of the calls.
-ghost use Rattle.std.specs.Prelude.{◌≡◌, ◌≤◌, ◌+◌, List, Result, length, map, [], ◌∷◌, is_some, IsTrue, IfOk, IfErr, OnOk, OnErr};
+ghost use Rattle.std.specs.Prelude.{◌≡◌, ◌≤◌, ◌+◌, ◌==◌, not, List, Result, length, map, [], ◌∷◌, is_some, IsTrue, IfOk, IfErr, OnOk, OnErr};
 ghost use Rattle.superio_core.specs.Serial.Port.Coherent.{Coherent};
 ghost use Rattle.superio_core.specs.Serial.Port.State.{fresh_state};
 ghost use Rattle.vm_superio.specs.Serial.Run.Steps.{IsRun};
 ghost use Rattle.vm_superio.specs.Serial.Run.HistoryTheorem.{HistoryTheorem};
-ghost use Rattle.superio_core.specs.Serial.Step.Restore.{restore_calls};
+ghost use Rattle.superio_core.specs.Serial.Step.Restore.{is_line_up, restore_calls};
 ghost use Rattle.vm_superio.specs.Serial.Port.SavedState.{state_of};
 ghost use Rattle.vm_superio.specs.Serial.Step.Restore.{RefusesRestore};
 ghost use Rattle.superio_core.specs.Serial.Port.Operations.{Read, Write, Enqueue, CharacterTimeout, ByteRead, is_sent, is_lost, ends_in_refusal, out_byte, tx_lost_byte};
@@ -202,6 +202,14 @@ impl<O: Objects> Port<O> {
         ensures coherent { Coherent self.old.state → Coherent self.new.state }
     {
         reassert(&self.registers, &mut self.objects)
+    }
+
+    /// Whether the interrupt line is up: while a condition is pending and enabled.
+    pub fn interrupt_line(&self) -> bool
+        ensures line { result ≡ is_line_up self.now.state }
+        ensures due { result ≡ not (length (restore_calls self.now.state) == 0) }
+    {
+        self.registers.interrupt_line()
     }
 
     /// Tells the port that the time of a few characters has passed without a read or a new byte.

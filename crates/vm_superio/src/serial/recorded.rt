@@ -52,8 +52,8 @@ impl<T: Trigger, EV: SerialEvents, W: Write> Serial<T, EV, W> {
 
     /// `enqueue_raw_bytes`, with the trigger's answers.
     pub(crate) fn recorded_enqueue(&mut self, input: &[u8]) -> Recorded<Result<usize, Error<T::E>>>
-        ensures { IsPortStep (port_links T.link EV.link (WriterCalls W.contents)) (Enqueue input.now) result.asked result.sent
-            (enqueue_response result.reply) (refusal_in_result result.reply) self.old self.new }
+        ensures { IsPortStep (port_links T.link EV.link (WriterCalls W.contents)) (Enqueue input.now) result.asked
+            result.sent (enqueue_response result.reply) (refusal_in_result result.reply) self.old self.new }
     {
         enqueue_with(
             &mut self.registers,
@@ -65,8 +65,8 @@ impl<T: Trigger, EV: SerialEvents, W: Write> Serial<T, EV, W> {
 
     /// `character_timeout`, with the trigger's answers.
     pub(crate) fn recorded_timeout(&mut self) -> Recorded<Result<(), Error<T::E>>>
-        ensures step { IsPortStep (port_links T.link EV.link (WriterCalls W.contents)) CharacterTimeout result.asked result.sent
-            (timeout_response result.reply) (refusal_in_result result.reply) self.old self.new }
+        ensures step { IsPortStep (port_links T.link EV.link (WriterCalls W.contents)) CharacterTimeout result.asked
+            result.sent (timeout_response result.reply) (refusal_in_result result.reply) self.old self.new }
         ensures sent { result.sent ≡ Sent.Nothing }
     {
         timeout_with(&mut self.registers, &self.in_buffer, &mut self.objects)

@@ -1,7 +1,9 @@
 -- There are no more lines than bytes, and these are few. A bad line of the text that was read is one of the script.
 use Rattle.std.proofs.Common.{rules, arith, ◌≡◌, Some, None, IfSome, List, ℕ}
 use Rattle.std.proofs.lemmas.Option.{IfSome_then}
-use Rattle.superio_script.specs.Script.{RunsUpTo}
+use Rattle.std.proofs.KnownBytes.{Keeps-refl}
+use Rattle.superio_script.specs.Script.{body_of, RunsUpTo, WritesPartOf}
+use Rattle.superio_script.proofs.PartLemmas.{IfSome-always, WritesPart-nothing, WritesPart-kept}
 use Rattle.superio_script.proofs.SplittingLemmas.{length-lines_of-le}
 use Rattle.superio_script.proofs.script.run_script.Goals as goal
 
@@ -27,3 +29,22 @@ returns-clause-ok g c =
     c.in_ok-script.ensures.whole
     (λ script same. record { within_limit = search rules; none_left = search rules; first_bad = search (rules, ok.0); text = search (rules, ok.1) }) in
     search (rules, runs)
+
+pub returns-in_err-script-clause-part : goal.returns-in_err-script-clause-part
+returns-in_err-script-clause-part g c =
+    let start = g.W.Write.contents c.args.writer.now in
+    IfSome-always (g.R.Read.remaining c.args.reader.now)
+    (λ script. WritesPart-nothing (body_of script).mask (body_of script).lines start start (Keeps-refl start))
+
+pub returns-clause-part : goal.returns-clause-part
+returns-clause-part g c =
+    let start = g.W.Write.contents c.args.writer.now in
+    let middle = g.W.Write.contents c.write_replies.new.writer in
+    let end = g.W.Write.contents c.flush.new.self in
+    IfSome_then (g.R.Read.remaining c.args.reader.now)
+    {P = λ (script : List ℕ). c.in_ok-script.script.items ≡ script}
+    {Q = λ (script : List ℕ). WritesPartOf script start end}
+    c.in_ok-script.ensures.whole
+    (λ script same.
+    let part : WritesPartOf script start middle = search rules in
+    WritesPart-kept (body_of script).mask (body_of script).lines start middle end part c.flush.ensures.bytes)

@@ -1,7 +1,9 @@
 -- Each reply that is written goes from what is still to come to what was carried out.
 use Rattle.std.proofs.Common.{◌≡◌, ap, ◌∙◌, Err, Some, inr, arith, length, length-append, ◌++◌, ◌+◌}
+use Rattle.std.proofs.KnownBytes.{Keeps-refl}
 use Rattle.superio_script.specs.Splitting.{lines_of}
 use Rattle.superio_script.proofs.ScriptLemmas.{HasCarriedOut-at_start, HasCarriedOut-after_line, first_bad_line-here, Prints-before_bad, Stops-here, none-bad, Prints-all}
+use Rattle.superio_script.proofs.PartLemmas.{WritesPart-nothing, WritesPart-all, WritesPart-stopped, WritesPart-in_reply}
 use Rattle.superio_script.proofs.script.write_replies.Goals as goal
 
 pub loop-line-init : goal.loop-line-init
@@ -55,3 +57,37 @@ returns-clause-ok g c =
       none-bad c.args.mask (g.W.Write.contents c.args.writer.now) (lines_of c.args.lines.rest.now) rest (g.W.Write.contents c.loop-line.writer) c.loop-line.board c.loop-line.invariant.count carried (c.args.skipped + 1) done,
       Prints-all c.args.mask (g.W.Write.contents c.args.writer.now) (lines_of c.args.lines.rest.now) rest (g.W.Write.contents c.loop-line.writer) c.loop-line.board c.loop-line.invariant.count carried done,
     )
+
+pub returns-in_err-board-clause-part : goal.returns-in_err-board-clause-part
+returns-in_err-board-clause-part g c =
+    let start = g.W.Write.contents c.args.writer.now in
+    WritesPart-nothing c.args.mask (lines_of c.args.lines.rest.now) start start (Keeps-refl start)
+
+pub returns-in-Err-Bad-clause-part : goal.returns-in-Err-Bad-clause-part
+returns-in-Err-Bad-clause-part g c =
+    let rest = lines_of c.loop-line.lines.rest.now in
+    let more = lines_of c.next_line.new.self.rest.now in
+    WritesPart-all c.args.mask (lines_of c.args.lines.rest.now) (g.W.Write.contents c.args.writer.now) (g.W.Write.contents c.loop-line.writer)
+    (Prints-before_bad c.args.mask (g.W.Write.contents c.args.writer.now) (lines_of c.args.lines.rest.now) rest (g.W.Write.contents c.loop-line.writer) c.loop-line.board c.loop-line.invariant.count c.loop-line.invariant.carried c.in-Some.line.now more c.in-Some.ensures
+    (c.in-Err-Bad.ensures.bad.0 (ap Err c.in-Err-Bad.field-0-is)))
+
+pub returns-in-Err-Memory-clause-part : goal.returns-in-Err-Memory-clause-part
+returns-in-Err-Memory-clause-part g c =
+    let rest = lines_of c.loop-line.lines.rest.now in
+    let more = lines_of c.next_line.new.self.rest.now in
+    WritesPart-stopped c.args.mask (lines_of c.args.lines.rest.now) (g.W.Write.contents c.args.writer.now) (g.W.Write.contents c.loop-line.writer)
+    (Stops-here c.args.mask (g.W.Write.contents c.args.writer.now) (lines_of c.args.lines.rest.now) rest (g.W.Write.contents c.loop-line.writer) c.loop-line.board c.loop-line.invariant.count c.loop-line.invariant.carried c.in-Some.line.now more c.in-Some.ensures
+    (c.in-Err-Memory.ensures.memory (ap Err c.in-Err-Memory.field-0-is)))
+
+pub returns-in_err-print-clause-part : goal.returns-in_err-print-clause-part
+returns-in_err-print-clause-part g c =
+    let rest = lines_of c.loop-line.lines.rest.now in
+    let more = lines_of c.next_line.new.self.rest.now in
+    WritesPart-in_reply c.args.mask (g.W.Write.contents c.args.writer.now) (lines_of c.args.lines.rest.now) rest (g.W.Write.contents c.loop-line.writer) c.loop-line.board c.loop-line.invariant.count c.loop-line.invariant.carried
+    c.in-Some.line.now more c.in-Some.ensures (g.W.Write.contents c.print.new.writer) c.in-Ok.reply.items c.line.new.self c.in_err-print.ensures.part c.in-Ok.ensures.step
+
+pub returns-clause-part : goal.returns-clause-part
+returns-clause-part g c =
+    let rest = lines_of c.loop-line.lines.rest.now in
+    WritesPart-all c.args.mask (lines_of c.args.lines.rest.now) (g.W.Write.contents c.args.writer.now) (g.W.Write.contents c.loop-line.writer)
+    (Prints-all c.args.mask (g.W.Write.contents c.args.writer.now) (lines_of c.args.lines.rest.now) rest (g.W.Write.contents c.loop-line.writer) c.loop-line.board c.loop-line.invariant.count c.loop-line.invariant.carried c.in_default.ensures)

@@ -3,3 +3,4 @@ pub mod FreshPort
 pub mod LongRuns
 pub mod Order
 pub mod OtherStates
+pub mod PollingDriver

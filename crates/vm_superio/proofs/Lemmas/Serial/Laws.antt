@@ -2,6 +2,7 @@ pub mod CharacterTimeout
 pub mod Coherence
 pub mod HeldBytes
 pub mod InterruptDriver
+pub mod InterruptLine
 pub mod Interrupts
 pub mod OneCall
 pub mod OutcomeEvents

@@ -1,4 +1,5 @@
 pub mod ByKind
+pub mod Fate
 pub mod ObjectStep
 pub mod PortStep
 pub mod Quiet

@@ -6,7 +6,7 @@ use Rattle.superio_core.specs.declared.trace.Sent.{Sent}
 use Rattle.vm_superio.specs.declared.serial.errors.Error.{Error}
 use Rattle.vm_superio.specs.declared.serial.objects.Three.{Three}
 use Rattle.vm_superio.specs.declared.serial.out.WriterOut.{WriterOut}
-use Rattle.superio_core.specs.Serial.Port.State.{State, state_with}
+use Rattle.superio_core.specs.Serial.Port.State.{state_with}
 use Rattle.superio_core.specs.declared.serial.registers.Registers.{Registers}
 use Rattle.superio_core.specs.Serial.Port.Operations.{Op, Read, Write, Enqueue, CharacterTimeout, Response, ByteRead, ends_in_refusal}
 use Rattle.vm_superio.specs.Links.Objects.{Link}

@@ -1,12 +1,14 @@
 -- Worked examples from other states.
-use Rattle.std.proofs.Common.{◌≡◌, [], ◌∷◌, refl}
-use Rattle.superio_core.specs.declared.trace.Asked.TheVariants.{Took}
+use Rattle.std.proofs.Common.{◌≡◌, true, false, [], ◌∷◌, refl}
+use Rattle.superio_core.specs.declared.trace.Asked.TheVariants.{Nothing, Took}
 use Rattle.superio_core.specs.declared.trace.Sent.TheVariants as sent
 use Rattle.superio_core.specs.Serial.Port.State.{State, fresh_state}
 use Rattle.superio_core.specs.Bits.{has_bits, only_bits, with_bits}
 use Rattle.superio_core.specs.declared.serial.registers.Condition.TheVariants.{Rda, Thre}
-use Rattle.superio_core.specs.Serial.Port.Operations.{buffer_read, in_buffer_empty}
-use Rattle.superio_core.specs.Serial.Step.Restore.{restore_calls}
+use Rattle.superio_core.specs.Serial.Port.Operations.{Read, Write, buffer_read, in_buffer_empty}
+use Rattle.superio_core.specs.Serial.Step.Transition.{step}
+use Rattle.superio_core.specs.Serial.Step.Admissible.{step_calls}
+use Rattle.superio_core.specs.Serial.Step.Restore.{is_line_up, restore_calls}
 use Rattle.vm_superio.proofs.Lemmas.Serial.Examples.Calls.{read, write, store, restore, reported_events, GivenByCases, GivenByBoth, RestoresWith}
 
 -- both conditions are pending and enabled, and a byte is held
@@ -21,6 +23,35 @@ both_called_for = (refl, refl)
 both_still_pending : GivenByBoth both_pending (restore ∷ read 2 0xC6 ∷ [])
 unfolding has_bits only_bits with_bits both_pending
 both_still_pending = (refl, refl)
+
+up_for_both : is_line_up both_pending ≡ true
+unfolding has_bits both_pending
+up_for_both = refl
+
+-- an RBR read ends RDA, and the line stays up for THRE; an IIR read ends both
+up_after_data : is_line_up (step both_pending (Read 0) Nothing) ≡ true
+unfolding has_bits both_pending
+up_after_data = refl
+
+down_after_identification : is_line_up (step both_pending (Read 2) Nothing) ≡ false
+unfolding has_bits both_pending
+down_after_identification = refl
+
+-- a guest masks THRE while it is pending, and then enables it: the line goes up, and the trigger is not called
+masked_thre : State
+masked_thre = record fresh_state { interrupt_identification = 0x02 }
+
+down_while_masked : is_line_up masked_thre ≡ false
+unfolding has_bits masked_thre
+down_while_masked = refl
+
+up_when_enabled : is_line_up (step masked_thre (Write 1 0x02) Nothing) ≡ true
+unfolding has_bits only_bits masked_thre
+up_when_enabled = refl
+
+not_called_when_enabled : step_calls masked_thre (Write 1 0x02) ≡ 0
+unfolding has_bits only_bits masked_thre
+not_called_when_enabled = refl
 
 -- a state may have any bits of IER; the next write keeps four
 all_enabled : State

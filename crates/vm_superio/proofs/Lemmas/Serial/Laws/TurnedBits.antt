@@ -79,17 +79,17 @@ module _ (old : ℕ) where
 
   -- ---- raising, if IIR is any byte
 
-  rda_other : (new : Bool) → has_bits (if new then with_bits (without_bits old 0x01) 0x04 else old) 0x02 ≡ has_bits old 0x02
+  pub rda_other : (new : Bool) → has_bits (if new then with_bits (without_bits old 0x01) 0x04 else old) 0x02 ≡ has_bits old 0x02
   rda_other true = rda_leaves
   rda_other false = refl
 
-  thre_asked : (enabled pending : Bool) → has_bits old 0x02 ≡ pending
+  pub thre_asked : (enabled pending : Bool) → has_bits old 0x02 ≡ pending
       → has_bits (if enabled && not pending then with_bits (without_bits old 0x01) 0x02 else old) 0x02 ≡ (enabled || pending)
   thre_asked true true e = e
   thre_asked true false e = thre_sets
   thre_asked false pending e = e
 
-  thre_other : (new : Bool)
+  pub thre_other : (new : Bool)
       → has_bits (if new then with_bits (without_bits old 0x01) 0x02 else old) 0x04 ≡ has_bits old 0x04
   thre_other true = thre_leaves
   thre_other false = refl
@@ -155,7 +155,7 @@ thre_turned enable old =
 
 -- an IER write, first for RDA
 module _ (enable old : ℕ) where
-  first : Bool → ℕ
+  unfoldable pub first : Bool → ℕ
   first held = if held then raise Rda enable old else old
 
   first_turns : (held : Bool) → turns_on 0x04 old (first held) ≡ (held && becomes_pending Rda enable old)
@@ -166,7 +166,7 @@ module _ (enable old : ℕ) where
       ∙ set_once (has_bits enable 0x01) (has_bits old 0x04)
   first_turns false = kept (has_bits old 0x04)
 
-  first_leaves : (held : Bool) → has_bits (first held) 0x02 ≡ has_bits old 0x02
+  pub first_leaves : (held : Bool) → has_bits (first held) 0x02 ≡ has_bits old 0x02
   unfolding first
   first_leaves true = rda_other old (becomes_pending Rda enable old)
   first_leaves false = refl
@@ -214,7 +214,7 @@ received_turned [] s asked fit = no_answers asked fit ∙ none_turned s.interrup
 received_turned (byte ∷ bytes) s asked fit =
     one_answer _ asked fit ∙ rda_turned s.interrupt_enable s.interrupt_identification
 
-turned_by_kind : (k : OpKind) (asked : Asked) (s : State)
+pub turned_by_kind : (k : OpKind) (asked : Asked) (s : State)
     → IsTrue (answers_all (kind_calls k s) asked)
     → answer_count asked ≡ count s.interrupt_identification (by_kind k asked s).interrupt_identification
 unfolding first second

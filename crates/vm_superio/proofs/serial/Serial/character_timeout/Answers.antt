@@ -8,6 +8,7 @@ use Rattle.superio_core.specs.Serial.Port.Operations.{CharacterTimeout}
 use Rattle.vm_superio.specs.Links.Writer.{port_links}
 use Rattle.vm_superio.specs.Serial.Step.PortStep.{IsPortStep}
 use Rattle.vm_superio.proofs.Lemmas.Serial.Step.PortStep.{length-answers_of-step}
+use Rattle.vm_superio.proofs.Lemmas.Serial.Step.Fate.{timeout_fate}
 use Rattle.superio_core.proofs.Lemmas.Serial.Laws.Coherence.{coherence_law}
 use Rattle.superio_core.specs.Serial.Port.Coherent.{ShowsHeldBytes}
 use Rattle.superio_core.proofs.Lemmas.Serial.Step.CharacterTimeout.{shows_held_bytes}
@@ -41,3 +42,6 @@ returns-clause-quiet g c = λ off.
     let made = c.recorded_timeout.ensures.step in
     quiet (port_links g.T.Trigger.link g.EV.SerialEvents.link (WriterCalls g.W.Write.contents)) _ _ _ _ _ _ _ g.met.T.Trigger.no_call made
     (ap (λ (s : State). s.interrupt_enable) made.state ∙ off)
+
+pub returns-clause-fate : goal.returns-clause-fate
+returns-clause-fate g c = timeout_fate (port_links g.T.Trigger.link g.EV.SerialEvents.link (WriterCalls g.W.Write.contents)) _ _ _ _ _ c.recorded_timeout.ensures.step

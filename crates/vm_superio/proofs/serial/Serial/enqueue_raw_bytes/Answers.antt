@@ -6,6 +6,7 @@ use Rattle.vm_superio.proofs.Lemmas.Serial.Step.PortStep.{length-answers_of-step
 use Rattle.std.proofs.Common.{ap, ◌∙◌}
 use Rattle.superio_core.specs.Serial.Port.State.{State}
 use Rattle.vm_superio.proofs.Lemmas.Serial.Step.Quiet.{quiet, enable_kept, settings_kept}
+use Rattle.vm_superio.proofs.Lemmas.Serial.Step.Fate.{enqueue_fate}
 use Rattle.superio_core.proofs.Lemmas.Serial.Laws.Coherence.{coherence_law}
 use Rattle.superio_core.specs.Serial.Step.Raising.{enqueued_bytes}
 use Rattle.vm_superio.proofs.Lemmas.Serial.Laws.OneCall.{received_bytes}
@@ -41,3 +42,6 @@ pub returns-clause-settings : goal.returns-clause-settings
 returns-clause-settings g c =
     rw c.recorded_enqueue.ensures.state
     (settings_kept (enqueued_bytes c.args.self.now.state c.args.input.now) c.args.self.now.state)
+
+pub returns-clause-fate : goal.returns-clause-fate
+returns-clause-fate g c = enqueue_fate (port_links g.T.Trigger.link g.EV.SerialEvents.link (WriterCalls g.W.Write.contents)) _ _ _ _ _ _ c.recorded_enqueue.ensures

@@ -4,6 +4,7 @@ use Rattle.superio_core.specs.Serial.Port.Operations.{Write}
 use Rattle.vm_superio.specs.Links.Writer.{port_links}
 use Rattle.vm_superio.proofs.Lemmas.Serial.Step.PortStep.{length-answers_of-step}
 use Rattle.vm_superio.proofs.Lemmas.Serial.Step.Quiet.{quiet, silent, sends}
+use Rattle.vm_superio.proofs.Lemmas.Serial.Step.Fate.{write_fate}
 use Rattle.superio_core.proofs.Lemmas.Serial.Laws.Coherence.{coherence_law}
 use Rattle.vm_superio.proofs.serial.Serial.write.Goals as goal
 
@@ -31,3 +32,6 @@ returns-clause-silent g c = silent (port_links g.T.Trigger.link g.EV.SerialEvent
 
 pub returns-clause-sends : goal.returns-clause-sends
 returns-clause-sends g c = sends (port_links g.T.Trigger.link g.EV.SerialEvents.link (WriterCalls g.W.Write.contents)) _ _ _ _ _ _ _ _ c.recorded_write.ensures.step
+
+pub returns-clause-fate : goal.returns-clause-fate
+returns-clause-fate g c = write_fate (port_links g.T.Trigger.link g.EV.SerialEvents.link (WriterCalls g.W.Write.contents)) _ _ _ _ _ _ _ c.recorded_write.ensures.step

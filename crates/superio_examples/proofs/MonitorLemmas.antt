@@ -1,0 +1,227 @@
+-- What one event keeps, and what a list of events keeps.
+use Rattle.std.proofs.Common.{◌≡◌, ℕ, Bool, true, false, List, [], ◌∷◌, ◌++◌, length, refl, sym, ap, subst, ◌∙◌, append_assoc, append-nil, inl, inr}
+use Rattle.std.specs.Prelude.{if◌then◌else◌, Option, Some, None, map, ◌&&◌, ◌==◌, nat_lt}
+use Rattle.std.specs.Option.{option_map_or}
+use Rattle.std.proofs.lemmas.Bool.{false≢true, eqb-true}
+use Rattle.superio_core.specs.declared.trace.Asked.{Asked}
+use Rattle.superio_core.specs.declared.trace.Sent.{Sent}
+use Rattle.superio_core.specs.Serial.Port.State.{State, fresh_state, not_empty}
+use Rattle.superio_core.specs.Serial.Port.Operations.{Op, Read, Write, Enqueue, CharacterTimeout, Restore}
+use Rattle.superio_core.specs.Serial.Step.Raising.{enqueued_bytes}
+use Rattle.superio_core.specs.Serial.Step.Transition.{step, step_response}
+use Rattle.superio_core.specs.Serial.Step.Admissible.{kind_in_state}
+use Rattle.vm_superio.specs.Serial.History.Reads.{byte_read}
+use Rattle.vm_superio.specs.Serial.History.Registers.{accepted_by}
+use Rattle.vm_superio.proofs.Lemmas.Serial.Laws.OneCall.{one_read}
+use Rattle.superio_examples.specs.Interrupts.{answers_none}
+use Rattle.superio_examples.specs.Output.{Waiting, after_sent, after_byte, IsSplit}
+use Rattle.superio_examples.specs.declared.monitor.Answer.TheVariants as answer
+use Rattle.superio_examples.specs.declared.monitor.Event.{Event}
+use Rattle.superio_examples.specs.declared.monitor.Event.TheVariants.{PortRead, PortWrite, MemoryRead, MemoryWrite, Typed, Moment, Timer, Refused}
+use Rattle.superio_examples.specs.Monitor.{Machine, call_of, asks_reset, shown_at, after_call, serial_after, typed_by, sent_at, act, fed, after_event, answer_to, reply_to, after, replies_to, in_each, is_reset_answer, is_reset_reply, left_at, looped_at, KeepsInput}
+use Rattle.superio_examples.proofs.InputLemmas.{accepted-rest}
+use Rattle.superio_examples.proofs.InterruptLemmas.{received_held}
+
+-- ---- a list in two parts
+
+pub after-append : (first second : List Event) (m : Machine) → after (first ++ second) m ≡ after second (after first m)
+after-append [] second m = refl
+after-append (event ∷ first) second m = after-append first second (after_event event m)
+
+pub replies-append : (first second : List Event) (m : Machine)
+    → replies_to (first ++ second) m ≡ replies_to first m ++ replies_to second (after first m)
+replies-append [] second m = refl
+replies-append (event ∷ first) second m =
+    ap (λ replies. reply_to event m ∷ replies) (replies-append first second (after_event event m))
+
+-- ---- output
+
+sent-append : (first second : List ℕ) (output : Waiting) → after_sent (first ++ second) output ≡ after_sent second (after_sent first output)
+sent-append [] second output = refl
+sent-append (byte ∷ first) second output = sent-append first second (after_byte byte output)
+
+fed-output : (held : Bool) (m more : Machine) → more.output ≡ m.output → (if held then m else more).output ≡ m.output
+fed-output true m more same = refl
+fed-output false m more same = same
+
+pub output-run : (events : List Event) (m : Machine) → (after events m).output ≡ after_sent (in_each sent_at events m) m.output
+output-run [] m = refl
+output-run (event ∷ events) m =
+    output-run events (after_event event m)
+    ∙ ap (after_sent (in_each sent_at events (after_event event m)))
+    (fed-output (not_empty (serial_after event m).in_buffer) (act event m) _ refl)
+    ∙ sym (sent-append (sent_at event m) (in_each sent_at events (after_event event m)) m.output)
+
+-- ---- resets
+
+reset-choice : (asked : Bool) → is_reset_answer (if asked then answer.Reset else answer.Done) ≡ asked
+reset-choice true = refl
+reset-choice false = refl
+
+no-reset-choice : (room : Bool) → is_reset_answer (if room then answer.Done else answer.Full) ≡ false
+no-reset-choice true = refl
+no-reset-choice false = refl
+
+reset-answer : (event : Event) (m : Machine) → is_reset_answer (answer_to event m) ≡ asks_reset event
+reset-answer (PortRead port) m = refl
+reset-answer (PortWrite port value) m = reset-choice ((port == 0x64) && (value == 0xFE))
+reset-answer (MemoryRead address) m = refl
+reset-answer (MemoryWrite address value) m = refl
+reset-answer (Typed byte) m = no-reset-choice (nat_lt (length m.input.items) m.input.capacity)
+reset-answer (Moment now) m = refl
+reset-answer Timer m = refl
+reset-answer Refused m = refl
+
+pub resets-run : (events : List Event) (m : Machine) → map is_reset_reply (replies_to events m) ≡ map asks_reset events
+resets-run [] m = refl
+resets-run (event ∷ events) m =
+    ap (λ asked. asked ∷ map is_reset_reply (replies_to events (after_event event m))) (reset-answer event m)
+    ∙ ap (λ resets. asks_reset event ∷ resets) (resets-run events (after_event event m))
+
+-- ---- input: lists that are split
+
+split-first : (bytes : List ℕ) → IsSplit bytes bytes []
+split-first [] = (refl, refl)
+split-first (byte ∷ bytes) = inl (bytes, refl, split-first bytes)
+
+split-second : (bytes : List ℕ) → IsSplit bytes [] bytes
+split-second [] = (refl, refl)
+split-second (byte ∷ bytes) = inr (bytes, refl, split-second bytes)
+
+split-append : (all more first second first_more second_more : List ℕ) → IsSplit all first second → IsSplit more first_more second_more
+    → IsSplit (all ++ more) (first ++ first_more) (second ++ second_more)
+split-append [] more first second first_more second_more (no_first, no_second) later = rw (no_first, no_second) later
+split-append (byte ∷ all) more first second first_more second_more (inl (others, is, split)) later =
+    inl (others ++ first_more, ap (λ bytes. bytes ++ first_more) is, split-append all more others second first_more second_more split later)
+split-append (byte ∷ all) more first second first_more second_more (inr (others, is, split)) later =
+    inr (others ++ second_more, ap (λ bytes. bytes ++ second_more) is, split-append all more first others first_more second_more split later)
+
+-- ---- input: an event alone
+
+-- a character timeout keeps the bytes
+read-held : (none : Bool) (s : State) →
+    (if none then step s CharacterTimeout Asked.Nothing else s).in_buffer ≡ s.in_buffer
+read-held true s = refl
+read-held false s = refl
+
+call-held : (op : Op) (s : State) → (after_call (Some op) s).in_buffer ≡ (step s op Asked.Nothing).in_buffer
+call-held (Read offset) s = read-held (answers_none offset (shown_at offset s)) (step s (Read offset) Asked.Nothing)
+call-held (Write offset value) s = refl
+call-held (Enqueue bytes) s = refl
+call-held CharacterTimeout s = refl
+call-held Restore s = refl
+
+abbrev left_by : (call : Option Op) (s : State) → List ℕ
+left_by call s =
+    option_map_or (λ op. byte_read (kind_in_state s op) s.in_buffer (step_response s op Asked.Nothing Sent.Nothing)) call []
+
+abbrev looped_by : (call : Option Op) (s : State) → List ℕ
+looped_by call s = option_map_or (λ op. accepted_by (kind_in_state s op) s.in_buffer) call []
+
+call-in-order : (call : Option Op) (s : State) → left_by call s ++ (after_call call s).in_buffer ≡ s.in_buffer ++ looped_by call s
+call-in-order None s = sym (append-nil s.in_buffer)
+call-in-order (Some op) s =
+    ap (λ held. left_by (Some op) s ++ held) (call-held op s) ∙ one_read s op Asked.Nothing Sent.Nothing
+
+-- a reset is no call of the serial port
+and-first : (first second : Bool) → first && second ≡ true → first ≡ true
+and-first true second both = refl
+and-first false second both = both
+
+reset-call : (event : Event) → asks_reset event ≡ true → call_of event ≡ None
+reset-call (PortRead port) asked = absurd (false≢true asked)
+reset-call (PortWrite port value) asked =
+    ap (λ port. call_of (PortWrite port value)) (eqb-true port 0x64 (and-first (port == 0x64) (value == 0xFE) asked))
+reset-call (MemoryRead address) asked = absurd (false≢true asked)
+reset-call (MemoryWrite address value) asked = absurd (false≢true asked)
+reset-call (Typed byte) asked = absurd (false≢true asked)
+reset-call (Moment now) asked = absurd (false≢true asked)
+reset-call Timer asked = absurd (false≢true asked)
+reset-call Refused asked = absurd (false≢true asked)
+
+act-choice : (asked : Bool) (call : Option Op) (s : State) → (asked ≡ true → call ≡ None)
+    → (if asked then s.in_buffer else left_by call s) ++ (if asked then fresh_state else after_call call s).in_buffer
+    ≡ s.in_buffer ++ looped_by call s
+act-choice true call s none = ap (λ (call : Option Op). s.in_buffer ++ looped_by call s) (sym (none refl))
+act-choice false call s none = call-in-order call s
+
+act-in-order : (event : Event) (m : Machine) → left_at event m ++ (act event m).serial.in_buffer ≡ m.serial.in_buffer ++ looped_at event m
+act-in-order event m = act-choice (asks_reset event) (call_of event) m.serial (reset-call event)
+
+-- ---- input: what the serial port takes
+
+abbrev fed_bytes : (m : Machine) → List ℕ
+fed_bytes m = if not_empty m.serial.in_buffer then [] else enqueued_bytes m.serial m.input.items
+
+record Feeds (bytes : List ℕ) (old new : Machine) : Type 0 where
+  held : new.serial.in_buffer ≡ old.serial.in_buffer ++ bytes
+  waiting : bytes ++ new.input.items ≡ old.input.items
+
+fed-choice : (held : Bool) (m more : Machine) (bytes : List ℕ) → Feeds bytes m more
+    → Feeds (if held then [] else bytes) m (if held then m else more)
+fed-choice true m more bytes feeds = record { held = sym (append-nil m.serial.in_buffer); waiting = refl }
+fed-choice false m more bytes feeds = feeds
+
+feeds : (m : Machine) → Feeds (fed_bytes m) m (fed m)
+feeds m =
+    let bytes = enqueued_bytes m.serial m.input.items in
+    fed-choice (not_empty m.serial.in_buffer) m _ bytes (record {
+      held = received_held bytes m.serial;
+      waiting = accepted-rest m.serial m.input.items;
+    })
+
+-- ---- input: an event, and a list of events
+
+keeps-event : (event : Event) (m : Machine) → KeepsInput (left_at event m) (looped_at event m) (typed_by event m) m (after_event event m)
+keeps-event event m =
+    let made = act event m in
+    let bytes = fed_bytes made in
+    let fed_now = feeds made in
+    let looped = looped_at event m in
+    record {
+      arrived = looped ++ bytes;
+      input = bytes;
+      in_order =
+          ap (λ held. left_at event m ++ held) fed_now.held
+          ∙ sym (append_assoc (left_at event m) made.serial.in_buffer bytes)
+          ∙ ap (λ held. held ++ bytes) (act-in-order event m)
+          ∙ append_assoc m.serial.in_buffer looped bytes;
+      sources = subst (λ (second : List ℕ). IsSplit (looped ++ bytes) bytes second) (append-nil looped)
+          (split-append looped bytes [] looped bytes [] (split-second looped) (split-first bytes));
+      none_lost = fed_now.waiting;
+    }
+
+keeps-then : (left looped typed left_more looped_more typed_more : List ℕ) (old middle new : Machine)
+    → KeepsInput left looped typed old middle → KeepsInput left_more looped_more typed_more middle new
+    → KeepsInput (left ++ left_more) (looped ++ looped_more) (typed ++ typed_more) old new
+keeps-then left looped typed left_more looped_more typed_more old middle new first second = record {
+  arrived = first.arrived ++ second.arrived;
+  input = first.input ++ second.input;
+  in_order =
+      append_assoc left left_more new.serial.in_buffer
+      ∙ ap (λ bytes. left ++ bytes) second.in_order
+      ∙ sym (append_assoc left middle.serial.in_buffer second.arrived)
+      ∙ ap (λ bytes. bytes ++ second.arrived) first.in_order
+      ∙ append_assoc old.serial.in_buffer first.arrived second.arrived;
+  sources = split-append first.arrived second.arrived first.input looped second.input looped_more first.sources second.sources;
+  none_lost =
+      append_assoc first.input second.input new.input.items
+      ∙ ap (λ bytes. first.input ++ bytes) second.none_lost
+      ∙ sym (append_assoc first.input middle.input.items typed_more)
+      ∙ ap (λ bytes. bytes ++ typed_more) first.none_lost
+      ∙ append_assoc old.input.items typed typed_more;
+}
+
+pub keeps-run : (events : List Event) (m : Machine)
+    → KeepsInput (in_each left_at events m) (in_each looped_at events m) (in_each typed_by events m) m (after events m)
+keeps-run [] m = record {
+  arrived = [];
+  input = [];
+  in_order = sym (append-nil m.serial.in_buffer);
+  sources = (refl, refl);
+  none_lost = sym (append-nil m.input.items);
+}
+keeps-run (event ∷ events) m =
+    let next = after_event event m in
+    keeps-then (left_at event m) (looped_at event m) (typed_by event m) _ _ _ m next (after events next)
+    (keeps-event event m) (keeps-run events next)

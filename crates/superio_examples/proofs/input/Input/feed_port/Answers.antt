@@ -1,0 +1,22 @@
+-- The bytes that the port took are the first that waited.
+use Rattle.std.proofs.Common.{◌≡◌, ◌≤◌, length, arith, rules, refl, ap, ◌∙◌}
+use Rattle.std.specs.List.{refill}
+use Rattle.superio_core.specs.Serial.Port.SerialPort.{state_of_port}
+use Rattle.superio_core.specs.Serial.Step.Raising.{enqueued_bytes}
+use Rattle.superio_examples.proofs.InputLemmas.{length-accepted, drop-accepted, keep-drop}
+use Rattle.superio_examples.proofs.input.Input.feed_port.Goals as goal
+
+pub returns-clause-room : goal.returns-clause-room
+returns-clause-room c =
+    let old = state_of_port c.args.port.now in
+    let items = c.args.self.now.items in
+    let same : c.make_contiguous.result.now ≡ items = search rules in
+    let one : refill (length c.self.inside.waiting.items) c.self.inside.waiting.items c.make_contiguous.result.now ≡ items =
+    c.make_contiguous.ensures.same_len c.make_contiguous.result.now (ap length c.make_contiguous.ensures.value) ∙ same in
+    let accepted = length (enqueued_bytes old items) in
+    let taken : c.enqueue_raw_bytes-enqueued.result.taken ≡ accepted =
+    c.enqueue_raw_bytes-enqueued.ensures.step.taken ∙ ap (λ bytes. length (enqueued_bytes old bytes)) same in
+    let few : accepted ≤ length items = omega (arith, length-accepted old items) in
+    let all : c.len.result ≡ length items = c.len.ensures.len ∙ ap length one in
+    let limit : c.self.inside.waiting.capacity ≡ c.args.self.now.capacity = search rules in
+    c.truncate_front.ensures ∙ rw (one, all, taken, keep-drop accepted items few, limit) (rw (drop-accepted old items) refl)

@@ -1,0 +1,245 @@
+-- A whole machine as one value: what an event does to it, what is replied, and what a list of events does.
+use Rattle.std.specs.Prelude.{◌≡◌, ℕ, ◌+◌, ◌-◌, Bool, true, false, ◌&&◌, ◌==◌, nat_lt, if◌then◌else◌, List, [], ◌∷◌, ◌++◌, length, drop, Option, Some, None, unwrap_or}
+use Rattle.std.specs.Option.{option_map, option_map_or}
+use Rattle.circular_buffer.specs.Buffer.{Buffer, buffer}
+use Rattle.superio_core.specs.declared.trace.Asked.{Asked}
+use Rattle.superio_core.specs.declared.trace.Sent.{Sent}
+use Rattle.superio_core.specs.declared.rtc_pl031.state.RtcState.{RtcState}
+use Rattle.superio_core.specs.Serial.Port.State.{State, fresh_state, not_empty}
+use Rattle.superio_core.specs.Serial.Port.Registers.{register_at, register_read, is_dlab}
+use Rattle.superio_core.specs.Serial.Port.Operations.{Op, Read, Write, Enqueue, CharacterTimeout}
+use Rattle.superio_core.specs.Serial.Port.OpKinds.{sent_by}
+use Rattle.superio_core.specs.Serial.Port.SerialPort.{state_of_port}
+use Rattle.superio_core.specs.Serial.Step.Transition.{step, step_response}
+use Rattle.superio_core.specs.Serial.Step.Admissible.{kind_in_state, step_calls}
+use Rattle.superio_core.specs.Serial.Step.Restore.{restore_calls}
+use Rattle.superio_core.specs.Rtc.Alarm.{is_line_up}
+use Rattle.superio_core.specs.Rtc.Registers.{Access, read, write, fresh_clock}
+use Rattle.superio_core.specs.Rtc.Step.{clock_step, clock_response}
+use Rattle.vm_superio.specs.Serial.History.Reads.{byte_read}
+use Rattle.vm_superio.specs.Serial.History.Registers.{accepted_by}
+use Rattle.superio_examples.specs.Bus.{is_serial}
+use Rattle.superio_examples.specs.Input.{room_in}
+use Rattle.superio_examples.specs.Interrupts.{answers_none, state_after_read}
+use Rattle.superio_examples.specs.Mmio.{is_inside}
+use Rattle.superio_examples.specs.Output.{Waiting, after_sent, IsSplit}
+use Rattle.superio_examples.specs.declared.monitor.Answer.{Answer}
+use Rattle.superio_examples.specs.declared.monitor.Answer.TheVariants as answer
+use Rattle.superio_examples.specs.declared.monitor.Event.{Event}
+use Rattle.superio_examples.specs.declared.monitor.Event.TheVariants.{PortRead, PortWrite, MemoryRead, MemoryWrite, Typed, Moment, Timer, Refused}
+use Rattle.superio_examples.specs.declared.monitor.Reply.{Reply}
+use Rattle.superio_examples.specs.declared.monitor.Monitor.{Monitor}
+
+-- ---- the machine
+
+pub record Machine : Type 0 where
+  pub serial : State
+  pub clock : RtcState
+  -- input that waits for room in the serial port
+  pub input : Buffer ℕ
+  -- what the guest sent, until a sink takes it
+  pub output : Waiting
+  -- the host's time, in seconds since 1970
+  pub moment : ℕ
+  -- an interrupt was refused since the last timer
+  pub is_refused : Bool
+
+abbrev pub machine_of : (monitor : Monitor) → Machine
+machine_of monitor = record {
+  serial = state_of_port monitor.port;
+  clock = monitor.clock;
+  input = monitor.input;
+  output = monitor.output;
+  moment = monitor.moment;
+  is_refused = monitor.is_refused;
+}
+
+abbrev pub new_machine : (input output : ℕ) → Machine
+new_machine input output = record {
+  serial = fresh_state;
+  clock = fresh_clock;
+  input = buffer [] input;
+  output = record { items = []; capacity = output; dropped = 0 };
+  moment = 0;
+  is_refused = false;
+}
+
+-- ---- what an event calls
+
+-- the serial port at COM1
+abbrev pub serial_offset : (port : ℕ) → Option ℕ
+serial_offset port = if is_serial 0x3F8 port then Some (port - 0x3F8) else None
+
+abbrev pub call_of : (event : Event) → Option Op
+call_of (PortRead port) = option_map Read (serial_offset port)
+call_of (PortWrite port value) = option_map (λ offset. Write offset value) (serial_offset port)
+call_of Timer = Some CharacterTimeout
+call_of _ = None
+
+-- the clock, in a window of memory. A timer reads RTCMIS
+abbrev pub clock_offset : (address : ℕ) → Option ℕ
+clock_offset address = if is_inside 0x09010000 address then Some (address - 0x09010000) else None
+
+abbrev pub access_of : (event : Event) (now : ℕ) → Option Access
+access_of (MemoryRead address) now = option_map (λ offset. read offset now) (clock_offset address)
+access_of (MemoryWrite address value) now = option_map (λ offset. write offset value now) (clock_offset address)
+access_of Timer now = Some (read 0x018 now)
+access_of _ now = None
+
+-- the reset command of the controller
+abbrev pub asks_reset : (event : Event) → Bool
+asks_reset (PortWrite port value) = (port == 0x64) && (value == 0xFE)
+asks_reset _ = false
+
+-- ---- what becomes of the machine
+
+-- what a guest's read of the serial port shows
+abbrev pub shown_at : (offset : ℕ) (s : State) → ℕ
+shown_at offset s = register_read (register_at (is_dlab s.line_control) offset) s
+
+-- a character timeout follows each read of IIR that shows nothing pending
+abbrev pub after_call : (call : Option Op) (s : State) → State
+after_call None s = s
+after_call (Some (Read offset)) s = state_after_read offset (shown_at offset s) s
+after_call (Some op) s = step s op Asked.Nothing
+
+-- a reset makes the serial port anew. The clock goes on, and input that waits is for the guest that starts
+abbrev pub serial_after : (event : Event) (m : Machine) → State
+serial_after event m = if asks_reset event then fresh_state else after_call (call_of event) m.serial
+
+abbrev pub clock_after : (event : Event) (m : Machine) → RtcState
+clock_after event m = option_map_or (clock_step m.clock) (access_of event m.moment) m.clock
+
+-- a byte that is typed waits if there is room
+abbrev pub typed_by : (event : Event) (m : Machine) → List ℕ
+typed_by (Typed byte) m = if nat_lt (length m.input.items) m.input.capacity then byte ∷ [] else []
+typed_by _ m = []
+
+-- the byte that a write to THR sends
+abbrev pub sent_at : (event : Event) (m : Machine) → List ℕ
+sent_at event m = option_map_or (λ op. sent_by (kind_in_state m.serial op)) (call_of event) []
+
+abbrev pub moment_after : (event : Event) (m : Machine) → ℕ
+moment_after (Moment moment) m = moment
+moment_after _ m = m.moment
+
+abbrev pub refused_after : (event : Event) (m : Machine) → Bool
+refused_after Refused m = true
+refused_after Timer m = false
+refused_after _ m = m.is_refused
+
+-- the event alone
+abbrev pub act : (event : Event) (m : Machine) → Machine
+act event m = record {
+  serial = serial_after event m;
+  clock = clock_after event m;
+  input = buffer (m.input.items ++ typed_by event m) m.input.capacity;
+  output = after_sent (sent_at event m) m.output;
+  moment = moment_after event m;
+  is_refused = refused_after event m;
+}
+
+-- the serial port takes input if it holds no byte
+abbrev pub fed : (m : Machine) → Machine
+fed m =
+    if not_empty m.serial.in_buffer then m else record m {
+      serial = step m.serial (Enqueue m.input.items) Asked.Nothing;
+      input = buffer (drop (room_in m.serial) m.input.items) m.input.capacity;
+    }
+
+abbrev pub after_event : (event : Event) (m : Machine) → Machine
+after_event event m = fed (act event m)
+
+-- ---- what is replied
+
+-- a port of no device shows 0xFF. The controller shows 0, as a keyboard that never answers
+abbrev pub port_shown : (port : ℕ) (s : State) → ℕ
+port_shown port s =
+    option_map_or (λ offset. shown_at offset s) (serial_offset port)
+    (if port == 0x60 then 0 else (if port == 0x64 then 0 else 0xFF))
+
+-- an invalid read shows 0
+abbrev pub memory_shown : (address : ℕ) (m : Machine) → ℕ
+memory_shown address m =
+    option_map_or (λ offset. unwrap_or (clock_response m.clock (read offset m.moment)) 0) (clock_offset address) 0
+
+abbrev pub answer_to : (event : Event) (m : Machine) → Answer
+answer_to (PortRead port) m = answer.Shows (port_shown port m.serial)
+answer_to (PortWrite port value) m = if asks_reset (PortWrite port value) then answer.Reset else answer.Done
+answer_to (MemoryRead address) m = answer.Shows (memory_shown address m)
+answer_to (Typed byte) m = if nat_lt (length m.input.items) m.input.capacity then answer.Done else answer.Full
+answer_to _ m = answer.Done
+
+-- how often the event asks for the interrupt. After a refusal a timer asks again for all that are due
+abbrev pub calls_by : (call : Option Op) (s : State) → ℕ
+calls_by None s = 0
+calls_by (Some (Read offset)) s =
+    let read = step s (Read offset) Asked.Nothing in
+    if answers_none offset (shown_at offset s) then step_calls read CharacterTimeout else 0
+calls_by (Some op) s = step_calls s op
+
+abbrev pub is_retry : (event : Event) (is_refused : Bool) → Bool
+is_retry Timer is_refused = is_refused
+is_retry _ is_refused = false
+
+abbrev pub interrupts_by : (event : Event) (m : Machine) → ℕ
+interrupts_by event m =
+    if is_retry event m.is_refused then length (restore_calls (serial_after event m))
+    else calls_by (call_of event) m.serial
+
+abbrev pub feed_calls : (m : Machine) → ℕ
+feed_calls m = if not_empty m.serial.in_buffer then 0 else step_calls m.serial (Enqueue m.input.items)
+
+abbrev pub reply_to : (event : Event) (m : Machine) → Reply
+reply_to event m = record {
+  answer = answer_to event m;
+  interrupts = interrupts_by event m + feed_calls (act event m);
+  clock_line = is_line_up (clock_after event m);
+}
+
+-- ---- several events, in order
+
+abbrev pub after : (events : List Event) (m : Machine) → Machine
+after [] m = m
+after (event ∷ events) m = after events (after_event event m)
+
+abbrev pub replies_to : (events : List Event) (m : Machine) → List Reply
+replies_to [] m = []
+replies_to (event ∷ events) m = reply_to event m ∷ replies_to events (after_event event m)
+
+-- what each event has, one after the other
+abbrev pub in_each : (of : Event → Machine → List ℕ) (events : List Event) (m : Machine) → List ℕ
+in_each of [] m = []
+in_each of (event ∷ events) m = of event m ++ in_each of events (after_event event m)
+
+-- ---- the claims
+
+-- a reply asks for a reset
+abbrev pub is_reset_answer : (answer : Answer) → Bool
+is_reset_answer answer.Reset = true
+is_reset_answer _ = false
+
+abbrev pub is_reset_reply : (reply : Reply) → Bool
+is_reset_reply reply = is_reset_answer reply.answer
+
+-- the byte that a read of RBR takes from the FIFO and shows. A reset takes all that are held
+abbrev pub left_at : (event : Event) (m : Machine) → List ℕ
+left_at event m =
+    if asks_reset event then m.serial.in_buffer
+    else option_map_or (λ op.
+    byte_read (kind_in_state m.serial op) m.serial.in_buffer (step_response m.serial op Asked.Nothing Sent.Nothing))
+    (call_of event) []
+
+-- the byte that comes back to the guest in loopback
+abbrev pub looped_at : (event : Event) (m : Machine) → List ℕ
+looped_at event m =
+    option_map_or (λ op. accepted_by (kind_in_state m.serial op) m.serial.in_buffer) (call_of event) []
+
+-- what left the FIFO, then what is held, is what was held, then what arrived. What arrived is input and looped bytes,
+-- each in order. The input that arrived, then what waits, is what waited, then what was typed
+pub record KeepsInput (left looped typed : List ℕ) (old new : Machine) : Type 0 where
+  pub arrived : List ℕ
+  pub input : List ℕ
+  pub in_order : left ++ new.serial.in_buffer ≡ old.serial.in_buffer ++ arrived
+  pub sources : IsSplit arrived input looped
+  pub none_lost : input ++ new.input.items ≡ old.input.items ++ typed

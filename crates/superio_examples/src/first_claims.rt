@@ -1,0 +1,446 @@
+//! First claims about the devices. Each states one sentence as a contract, and its proof is empty: the calls and their
+//! contracts are enough. Copy the one that is nearest to yours.
+#![tactic(auto, unfolding(superio_core::specs::Bits::has_bits, superio_core::specs::Bits::only_bits, superio_core::specs::Bits::with_bits))]
+
+ghost use Rattle.std.specs.Prelude.{◌≡◌, ◌+◌, ◌-◌, ◌<◌, ◌^◌, [], ◌∷◌, ◌++◌, take, length, true, false, IsTrue, IfOk, IfErr, OnOk};
+ghost use Rattle.vm_superio.specs.Claims.{is_fresh, held, shows_data, is_outside, is_inside, is_masked, wants_data, data_pending};
+ghost use Rattle.vm_superio.specs.Claims.{SameSettings, has_bits, not_empty, Coherent, is_reset_command, fresh_clock};
+ghost use Rattle.std.specs.Int.{w32, to_le_bytes};
+ghost use Rattle.std.specs.Io.KnownBytes.{Appends};
+
+use crate::counter::Counter;
+use std::alloc::{AllocError, Global};
+use std::convert::Infallible;
+use std::io::Write;
+use vm_superio::rtc_pl031::RtcEvents;
+use vm_superio::serial::{Error, NoEvents, Refused, SerialEvents};
+use vm_superio::{I8042Device, Rtc, Serial, Trigger, laws};
+
+// ---- received bytes
+
+/// A byte that is enqueued while none is held is the next one read.
+pub fn enqueued_is_read<T: Trigger, EV: SerialEvents, W: Write>(
+    serial: &mut Serial<T, EV, W>,
+    byte: u8,
+) -> u8
+    requires data { shows_data serial.old }
+    requires outside { is_outside serial.old }
+    requires empty { held serial.old ≡ [] }
+    ensures { result ≡ byte }
+{
+    let _ = serial.enqueue_raw_bytes(&[byte]);
+    serial.read(0)
+}
+
+/// An enqueued byte waits behind those held, whether or not the trigger refuses. Only FIFO, LSR and IIR change.
+pub fn enqueued_waits_last<T: Trigger, EV: SerialEvents, W: Write>(
+    serial: &mut Serial<T, EV, W>,
+    last: u8,
+)
+    requires outside { is_outside serial.old }
+    requires room { length (held serial.old) < 64 }
+    ensures last { held serial.new ≡ held serial.old ++ last ∷ [] }
+    ensures settings { SameSettings serial.old.state serial.new.state }
+{
+    let _ = serial.enqueue_raw_bytes(&[last]);
+}
+
+/// A read of the data register takes the oldest byte. Only FIFO, LSR and IIR change.
+pub fn read_takes_oldest<T: Trigger, EV: SerialEvents, W: Write>(
+    serial: &mut Serial<T, EV, W>,
+) -> u8
+    requires data { shows_data serial.old }
+    requires some { 0 < length (held serial.old) }
+    ensures oldest { result ∷ held serial.new ≡ held serial.old }
+    ensures settings { SameSettings serial.old.state serial.new.state }
+{
+    serial.read(0)
+}
+
+/// Bytes are read in the order in which they were enqueued.
+pub fn read_in_order<T: Trigger, EV: SerialEvents, W: Write>(
+    serial: &mut Serial<T, EV, W>,
+    bytes: [u8; 3],
+) -> [u8; 3]
+    requires { is_fresh serial.old }
+    ensures { result ≡ bytes }
+{
+    let _ = serial.enqueue_raw_bytes(&bytes);
+    [serial.read(0), serial.read(0), serial.read(0)]
+}
+
+/// As many reads as bytes are held give these bytes, in order.
+pub fn read_all<T: Trigger, EV: SerialEvents, W: Write>(
+    alloc: Global,
+    serial: &mut Serial<T, EV, W>,
+) -> Result<Vec<u8>, AllocError>
+    requires data { shows_data serial.old }
+    ensures { IfOk result (λ read. read.items ≡ held serial.old) }
+{
+    let count = 64 - serial.fifo_capacity();
+    let mut read = Vec::with_capacity(alloc, count)?;
+    for _ in 0..count {
+        read.push(serial.read(0))?;
+    }
+    Ok(read)
+}
+
+/// What the host and the guest did with a port.
+#[derive(Drop)]
+pub struct Passed {
+    /// The bytes enqueued.
+    pub enqueued: Vec<u8>,
+    /// The bytes read.
+    pub read: Vec<u8>,
+}
+
+/// Over any enqueues and reads, the bytes read, then those held, are those held at first, then those enqueued. `Some`
+/// enqueues a byte if there is room, and `None` reads one if there is any.
+pub fn interleaved_in_order<T: Trigger, EV: SerialEvents, W: Write>(
+    alloc: Global,
+    serial: &mut Serial<T, EV, W>,
+    turns: &[Option<u8>],
+) -> Result<Passed, AllocError>
+    requires data { shows_data serial.old }
+    requires outside { is_outside serial.old }
+    ensures { IfOk result (λ passed. passed.read.items ++ held serial.new ≡ held serial.old ++ passed.enqueued.items) }
+{
+    let mut enqueued = Vec::new(alloc);
+    let mut read = Vec::new(alloc);
+    for turn in turns {
+        match turn {
+            Some(byte) if serial.fifo_capacity() > 0 => {
+                enqueued_waits_last(serial, *byte);
+                enqueued.push(*byte)?;
+            }
+            None if serial.fifo_capacity() < 64 => read.push(read_takes_oldest(serial))?,
+            _ => {}
+        }
+    }
+    Ok(Passed { enqueued, read })
+}
+
+/// A full FIFO accepts nothing and says so.
+pub fn full_accepts_nothing<T: Trigger, EV: SerialEvents, W: Write>(
+    serial: &mut Serial<T, EV, W>,
+    more: u8,
+) -> Result<usize, Error<T::E>>
+    requires outside { is_outside serial.old }
+    requires full { length (held serial.old) ≡ 64 }
+    ensures reply { result ≡ Err Error.FullFifo }
+    ensures same { serial.new ≡ serial.old }
+{
+    serial.enqueue_raw_bytes(&[more])
+}
+
+/// A refused trigger loses no byte: as many as fit are held.
+pub fn refused_keeps_bytes<T: Trigger, EV: SerialEvents, W: Write>(
+    serial: &mut Serial<T, EV, W>,
+    bytes: &[u8],
+) -> Result<usize, Error<T::E>>
+    requires outside { is_outside serial.old }
+    ensures { (refusal : T.E) → result ≡ Err (Error.Trigger refusal) →
+        held serial.new ≡ held serial.old ++ take (64 - length (held serial.old)) bytes.now }
+{
+    serial.enqueue_raw_bytes(bytes)
+}
+
+// ---- sent bytes
+
+/// `Ok` of a THR write says that the writer took the byte, and nothing else, whatever writer of known contents it is.
+pub fn sent_is_appended<T: Trigger, EV: SerialEvents, W: Write>(
+    serial: &mut Serial<T, EV, W>,
+    byte: u8,
+) -> Result<(), Error<T::E>>
+    requires data { shows_data serial.old }
+    requires outside { is_outside serial.old }
+    ensures { OnOk result (Appends (W.contents serial.old.out) (W.contents serial.new.out) (byte ∷ [])) }
+{
+    serial.write(0, byte)
+}
+
+/// A `Vec` grows by the bytes that a guest sends, in order.
+pub fn vec_gets_both<T: Trigger, EV: SerialEvents>(
+    serial: &mut Serial<T, EV, Vec<u8>>,
+    first: u8,
+    second: u8,
+) -> Result<(), Error<T::E>>
+    requires data { shows_data serial.old }
+    requires outside { is_outside serial.old }
+    ensures { OnOk result (serial.new.out.items ≡ serial.old.out.items ++ first ∷ second ∷ []) }
+{
+    serial.write(0, first)?;
+    serial.write(0, second)
+}
+
+/// In loopback a sent byte is received, and the writer gets nothing.
+pub fn loopback_returns_byte<T: Trigger, EV: SerialEvents, W: Write>(
+    serial: &mut Serial<T, EV, W>,
+    sent: u8,
+) -> u8
+    requires data { shows_data serial.old }
+    requires inside { is_inside serial.old }
+    requires empty { held serial.old ≡ [] }
+    ensures back { result ≡ sent }
+    ensures out { serial.new.out ≡ serial.old.out }
+{
+    let _ = serial.write(0, sent);
+    serial.read(0)
+}
+
+// ---- registers
+
+/// SCR keeps any byte.
+pub fn scratch_keeps<T: Trigger, EV: SerialEvents, W: Write>(
+    serial: &mut Serial<T, EV, W>,
+    value: u8,
+) -> u8
+    ensures { result ≡ value }
+{
+    let _ = serial.write(7, value);
+    serial.read(7)
+}
+
+/// With DLAB set, offsets 0 and 1 keep the divisor.
+pub fn divisor_keeps<T: Trigger, EV: SerialEvents, W: Write>(
+    serial: &mut Serial<T, EV, W>,
+    low: u8,
+    high: u8,
+) -> (u8, u8)
+    ensures low { result.0 ≡ low }
+    ensures high { result.1 ≡ high }
+{
+    let _ = serial.write(3, 0x80);
+    let _ = serial.write(0, low);
+    let _ = serial.write(1, high);
+    (serial.read(0), serial.read(1))
+}
+
+/// LSR shows data ready exactly while a byte is held.
+pub fn line_status_shows_data<T: Trigger, EV: SerialEvents, W: Write>(
+    serial: &mut Serial<T, EV, W>,
+) -> u8
+    requires { Coherent serial.old.state }
+    ensures { has_bits result 0x01 ≡ not_empty (held serial.old) }
+{
+    serial.read(5)
+}
+
+/// In loopback MSR shows DTR of MCR as DSR, and OUT2 as DCD.
+pub fn loopback_shows_outputs<T: Trigger, EV: SerialEvents, W: Write>(
+    serial: &mut Serial<T, EV, W>,
+    value: u8,
+) -> u8
+    requires { has_bits value 0x10 ≡ true }
+    ensures dtr { has_bits result 0x20 ≡ has_bits value 0x01 }
+    ensures out2 { has_bits result 0x80 ≡ has_bits value 0x08 }
+{
+    let _ = serial.write(4, value);
+    serial.read(6)
+}
+
+// ---- interrupts
+
+/// While IER is 0, input and time call no trigger.
+pub fn masked_input_is_quiet<T: Trigger, EV: SerialEvents, W: Write>(
+    serial: &mut Serial<T, EV, W>,
+    input: &[u8],
+    offset: u8,
+)
+    requires { is_masked serial.old }
+    ensures { serial.new.trigger ≡ serial.old.trigger }
+{
+    let _ = serial.enqueue_raw_bytes(input);
+    let _ = serial.character_timeout();
+    serial.read(offset);
+}
+
+/// A write that leaves IER 0 calls no trigger.
+pub fn masked_write_is_quiet<T: Trigger, EV: SerialEvents, W: Write>(
+    serial: &mut Serial<T, EV, W>,
+    offset: u8,
+    value: u8,
+)
+    ensures { is_masked serial.new → serial.new.trigger ≡ serial.old.trigger }
+{
+    let _ = serial.write(offset, value);
+}
+
+/// A guest that enables received data while a byte waits is interrupted once.
+pub fn enabling_calls_once<EV: SerialEvents, W: Write>(serial: &mut Serial<Counter, EV, W>)
+    requires data { shows_data serial.old }
+    requires some { 0 < length (held serial.old) }
+    requires none_pending { data_pending serial.old ≡ false }
+    requires countable { serial.old.trigger.calls < 1000 }
+    ensures { serial.new.trigger.calls ≡ serial.old.trigger.calls + 1 }
+{
+    let _ = serial.write(1, 0x01);
+}
+
+/// A read of IIR acknowledges: the next one shows that no interrupt is pending.
+pub fn read_acknowledges<T: Trigger, EV: SerialEvents, W: Write>(
+    serial: &mut Serial<T, EV, W>,
+) -> u8
+    ensures { result ≡ 0xC1 }
+{
+    serial.read(2);
+    serial.read(2)
+}
+
+/// After a character timeout IIR shows received data to a guest that wants to hear of the bytes that it left.
+pub fn timeout_shows_data<T: Trigger, EV: SerialEvents, W: Write>(
+    serial: &mut Serial<T, EV, W>,
+) -> u8
+    requires some { IsTrue (not_empty (held serial.old)) }
+    requires wanted { IsTrue (wants_data serial.old) }
+    ensures { IsTrue (has_bits result 0x04) }
+{
+    let _answer = serial.character_timeout();
+    serial.read(2)
+}
+
+/// If the trigger never refuses, an enqueue fails only at a full FIFO.
+pub fn only_full_fails<T: Trigger<E = Infallible>, EV: SerialEvents, W: Write>(
+    serial: &mut Serial<T, EV, W>,
+    pieces: &[u8],
+) -> Result<usize, Error<Infallible>>
+    ensures { IfErr result (λ error. error ≡ Error.FullFifo) }
+{
+    serial.enqueue_raw_bytes(pieces)
+}
+
+/// If the trigger never refuses, a character timeout cannot fail.
+pub fn timeout_cannot_fail<T: Trigger<E = Infallible>, EV: SerialEvents, W: Write>(
+    serial: &mut Serial<T, EV, W>,
+) -> Result<(), Error<Infallible>>
+    ensures { result ≡ Ok tt }
+{
+    serial.character_timeout()
+}
+
+/// Nor can a write at any offset but 0, which sends no byte.
+pub fn setting_cannot_fail<T: Trigger<E = Infallible>, EV: SerialEvents, W: Write>(
+    serial: &mut Serial<T, EV, W>,
+    setting: u8,
+    value: u8,
+) -> Result<(), Error<Infallible>>
+    requires { 0 < setting }
+    ensures { result ≡ Ok tt }
+{
+    serial.write(setting, value)
+}
+
+// ---- saved ports
+
+/// A restored port gives a guest the same byte at any read.
+pub fn restored_reads_same<
+    T: Trigger,
+    EV: SerialEvents,
+    W: Write,
+    NewT: Trigger + Drop,
+    NewEV: SerialEvents + Drop,
+    NewW: Write + Drop,
+>(
+    alloc: Global,
+    serial: &mut Serial<T, EV, W>,
+    trigger: NewT,
+    events: NewEV,
+    out: NewW,
+    offset: u8,
+) -> Result<(u8, u8), Error<NewT::E>>
+    ensures { IfOk result (λ bytes. bytes.0 ≡ bytes.1) }
+{
+    let saved = serial.state(alloc)?;
+    let mut restored = Serial::from_state(alloc, &saved, trigger, events, out).map_err(
+        Refused::into_error,
+    )?;
+    Ok((serial.read(offset), restored.read(offset)))
+}
+
+// ---- the other devices
+
+/// Only the command byte resets: no other access calls the trigger.
+pub fn only_command_resets<T: Trigger>(device: &mut I8042Device<T>, offset: u8, value: u8)
+    requires { is_reset_command offset value ≡ false }
+    ensures { device.new ≡ device.old }
+{
+    device.read(offset);
+    let _ = device.write(offset, value);
+}
+
+/// A clock that was set goes on from there.
+pub fn clock_goes_on<EV: RtcEvents>(clock: &mut Rtc<EV>, value: u32, now: u64) -> [u8; 4]
+    requires time { now + 7 < 2 ^ 32 }
+    requires value { value + 7 < 2 ^ 32 }
+    ensures { result ≡ to_le_bytes w32 (value + 7) }
+{
+    laws::set_time();
+    clock.write(0x008, &value.to_le_bytes(), now);
+    let mut bytes = [0; 4];
+    clock.read(0x000, &mut bytes, now + 7);
+    bytes
+}
+
+/// An unmasked alarm raises the line at an access at its second, and at none before.
+pub fn alarm_raises_line<EV: RtcEvents>(
+    clock: &mut Rtc<EV>,
+    now: u64,
+    sooner: u64,
+    second: u32,
+) -> (bool, bool)
+    requires fresh { clock.old.state ≡ fresh_clock }
+    requires future { now < second }
+    requires before { sooner < second }
+    ensures before { result.0 ≡ false }
+    ensures at { result.1 ≡ true }
+{
+    clock.write(0x010, &[0x01, 0, 0, 0], now);
+    clock.write(0x004, &second.to_le_bytes(), now);
+    let mut bytes = [0; 4];
+    clock.read(0x018, &mut bytes, sooner);
+    let before = clock.interrupt_line();
+    clock.read(0x018, &mut bytes, u64::from(second));
+    (before, clock.interrupt_line())
+}
+
+// ---- from a new port
+
+/// A new port, with the fact that a claim about it begins with.
+fn new_port<T: Trigger + Drop, W: Write + Drop>(
+    alloc: Global,
+    trigger: T,
+    out: W,
+) -> Result<Serial<T, NoEvents, W>, Error<T::E>>
+    ensures fresh { IfOk result (λ serial. is_fresh serial) }
+    ensures out { IfOk result (λ serial. serial.out ≡ out) }
+{
+    Serial::new(alloc, trigger, out).map_err(Refused::into_error)
+}
+
+/// A guest reads back the input of a new port, as far as there is room for it.
+pub fn read_back<T: Trigger + Drop, W: Write + Drop>(
+    alloc: Global,
+    trigger: T,
+    out: W,
+    input: &[u8],
+) -> Result<Vec<u8>, Error<T::E>>
+    ensures { IfOk result (λ read. read.items ≡ take 64 input.now) }
+{
+    let mut serial = new_port(alloc, trigger, out)?;
+    serial.enqueue_raw_bytes(input)?;
+    Ok(read_all(alloc, &mut serial)?)
+}
+
+/// A byte that a guest sends by a new port follows those that the writer has.
+pub fn send_byte<T: Trigger + Drop, W: Write + Drop>(
+    alloc: Global,
+    trigger: T,
+    out: W,
+    last: u8,
+) -> Result<W, Error<T::E>>
+    ensures { IfOk result (λ sent. Appends (W.contents out) (W.contents sent) (last ∷ [])) }
+{
+    let mut serial = new_port(alloc, trigger, out)?;
+    serial.write(0, last)?;
+    Ok(serial.into_writer())
+}

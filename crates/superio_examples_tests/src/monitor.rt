@@ -1,0 +1,117 @@
+//! A whole monitor, and one that moves.
+use std::alloc::Global;
+use std::test::Fail;
+use superio_examples::monitor::Answer::{Done, Full, Reset, Shows};
+use superio_examples::monitor::Event::{
+    MemoryRead, MemoryWrite, Moment, PortRead, PortWrite, Refused, Timer, Typed,
+};
+use superio_examples::monitor::{Answer, Event, Monitor, Reply};
+use superio_examples::saved_monitor::{restore_monitor, run_on_two, save_monitor};
+use vm_superio::saved::{Error, Fault};
+
+/// The clock's window.
+const CLOCK: u64 = 0x0901_0000;
+
+/// Events, and to each the answer, how often the interrupt is raised, and whether the clock's line is up. At most one
+/// byte waits.
+const SESSION: [(Event, Answer, u8, bool); 36] = [
+    (Typed(b'a'), Done, 0, false),
+    (Typed(b'b'), Done, 0, false),
+    (Typed(b'c'), Full, 0, false),
+    // The guest enables the interrupts for received data, and takes a byte. The next one comes from the input.
+    (PortWrite(0x3F9, 0x01), Done, 1, false),
+    (PortRead(0x3FA), Shows(0xC4), 0, false),
+    (PortRead(0x3FD), Shows(0x61), 0, false),
+    (PortRead(0x3F8), Shows(0x61), 1, false),
+    (PortRead(0x3FA), Shows(0xC4), 0, false),
+    // It leaves the byte in the FIFO.
+    (PortRead(0x3FA), Shows(0xC1), 1, false),
+    (Refused, Done, 0, false),
+    (Timer, Done, 1, false),
+    (Timer, Done, 0, false),
+    (PortRead(0x3F8), Shows(0x62), 0, false),
+    (PortRead(0x3F8), Shows(0), 0, false),
+    (PortRead(0x3FA), Shows(0xC1), 0, false),
+    // It sends two bytes. A third stays in loopback.
+    (PortWrite(0x3F8, b'x'), Done, 0, false),
+    (PortWrite(0x3F8, b'y'), Done, 0, false),
+    (PortWrite(0x3FC, 0x10), Done, 0, false),
+    (PortWrite(0x3F8, b'z'), Done, 1, false),
+    (PortRead(0x3F8), Shows(0x7A), 0, false),
+    // It sets an alarm.
+    (Moment(100), Done, 0, false),
+    (MemoryWrite(CLOCK + 0x010, 1), Done, 0, false),
+    (MemoryWrite(CLOCK + 0x004, 105), Done, 0, false),
+    (MemoryRead(CLOCK), Shows(100), 0, false),
+    (Moment(105), Done, 0, false),
+    (Timer, Done, 0, true),
+    (MemoryWrite(CLOCK + 0x01C, 1), Done, 0, false),
+    // Nothing is there.
+    (MemoryRead(CLOCK + 0x01C), Shows(0), 0, false),
+    (MemoryRead(CLOCK - 4), Shows(0), 0, false),
+    (PortRead(0x64), Shows(0), 0, false),
+    (PortRead(0x61), Shows(0xFF), 0, false),
+    (PortRead(0x400), Shows(0xFF), 0, false),
+    // It resets the machine.
+    (PortWrite(0x60, 0xFE), Done, 0, false),
+    (PortWrite(0x64, 0xFF), Done, 0, false),
+    (PortWrite(0x64, 0xFE), Reset, 0, false),
+    (PortRead(0x3FC), Shows(0x08), 0, false),
+];
+
+fn events(alloc: Global) -> Result<Vec<Event>, Fail> {
+    let mut events = Vec::new(alloc);
+    for (event, _, _, _) in SESSION.iter() {
+        events.push(*event)?;
+    }
+    Ok(events)
+}
+
+/// The place of the first reply that is not as in the session.
+fn first_wrong(before: &[Reply], after: &[Reply]) -> Option<usize> {
+    let replies = before.iter().chain(after.iter());
+    SESSION.iter().zip(replies).position(|((_, answer, interrupts, line), reply)| {
+        reply.answer != *answer || reply.interrupts != *interrupts || reply.clock_line != *line
+    })
+}
+
+#[test]
+fn a_monitor_replies_to_each_event(rt: HostRuntime) -> Result<(), Fail> {
+    let mut monitor = Monitor::new(rt.alloc(), 1, 100)?;
+    let replies = monitor.run(rt.alloc(), &events(rt.alloc())?)?;
+    assert!(rt; replies.len() == SESSION.len() && first_wrong(&replies, &[]).is_none());
+    assert!(rt; monitor.output.waiting(rt.alloc())?.as_slice() == b"xy".as_slice());
+    Ok(())
+}
+
+#[test]
+fn a_monitor_goes_on_elsewhere(rt: HostRuntime) -> Result<(), Fail> {
+    let events = events(rt.alloc())?;
+    for place in 0..=SESSION.len() {
+        let mut monitor = Monitor::new(rt.alloc(), 1, 100)?;
+        let (first, others) = events.split_at(place.min(events.len()));
+        let moved = run_on_two(rt.alloc(), &mut monitor, first, others)
+            .ok()
+            .expect(&rt, "memory");
+        assert!(rt; moved.before.len() == place, "{place}");
+        assert!(rt; moved.after.len() == SESSION.len() - place, "{place}");
+        assert!(rt;
+            first_wrong(&moved.before, &moved.after).is_none(),
+            "{place}"
+        );
+        let sent = moved.monitor.output.waiting(rt.alloc())?;
+        assert!(rt; sent.as_slice() == b"xy".as_slice(), "{place}");
+    }
+    Ok(())
+}
+
+#[test]
+fn a_monitor_is_not_restored_from_other_bytes(rt: HostRuntime) -> Result<(), Fail> {
+    let monitor = Monitor::new(rt.alloc(), 1, 100)?;
+    let mut saved = save_monitor(rt.alloc(), &monitor)?;
+    assert!(rt; restore_monitor(rt.alloc(), &saved).is_ok());
+    saved.devices.serial = saved.devices.clock.clone()?;
+    let error = restore_monitor(rt.alloc(), &saved).err();
+    assert!(rt; matches!(error, Some(Error::Bytes(Fault::OtherDevice))));
+    Ok(())
+}

@@ -1,0 +1,45 @@
+-- Words for a caller's claims. A first contract needs two `ghost use` lines: one of this file, and one of the signs,
+-- which come from `Rattle.std.specs.Prelude`.
+use Rattle.std.specs.Prelude.{◌≡◌, ℕ, Bool, true, false, List}
+pub use Rattle.superio_core.specs.Bits.{has_bits}
+pub use Rattle.superio_core.specs.I8042.{is_reset_command}
+pub use Rattle.superio_core.specs.Rtc.Registers.{fresh_clock}
+pub use Rattle.superio_core.specs.Serial.Port.Coherent.{Coherent}
+pub use Rattle.superio_core.specs.Serial.Port.State.{State, fresh_state, not_empty, SameSettings}
+pub use Rattle.vm_superio.specs.Serial.Port.Model.{Port}
+pub use Rattle.vm_superio.specs.Serial.Port.SavedState.{state_of}
+use Rattle.superio_core.specs.declared.serial.registers.Condition.TheVariants.{Rda}
+use Rattle.superio_core.specs.Serial.Port.Registers.{is_dlab, is_loopback, ier_bit, iir_bit}
+
+module _ {T EV W : Type 0} (port : Port T EV W) where
+  -- a port in the state of a new one
+  abbrev pub is_fresh : Type 0
+  is_fresh = port.state ≡ fresh_state
+
+  -- the bytes that wait for the guest, oldest first
+  abbrev pub held : List ℕ
+  held = port.state.in_buffer
+
+  -- offsets 0 and 1 reach the data register and IER, and not the divisor
+  abbrev pub shows_data : Type 0
+  shows_data = is_dlab port.state.line_control ≡ false
+
+  -- no loopback: what the guest sends goes out, and what the monitor enqueues comes in
+  abbrev pub is_outside : Type 0
+  is_outside = is_loopback port.state.modem_control ≡ false
+
+  -- loopback: what the guest sends comes back to it
+  abbrev pub is_inside : Type 0
+  is_inside = is_loopback port.state.modem_control ≡ true
+
+  -- IER is 0: the guest wants no interrupt
+  abbrev pub is_masked : Type 0
+  is_masked = port.state.interrupt_enable ≡ 0
+
+  -- IER has the bit of received data: the guest wants an interrupt for it
+  abbrev pub wants_data : Bool
+  wants_data = has_bits port.state.interrupt_enable (ier_bit Rda)
+
+  -- IIR has the bit of received data: the guest has not acknowledged it
+  abbrev pub data_pending : Bool
+  data_pending = has_bits port.state.interrupt_identification (iir_bit Rda)

@@ -1,0 +1,77 @@
+-- The level of the interrupt line and the trigger: the one rises where the other is called. In any state, coherent or not.
+use Rattle.std.specs.Prelude.{◌≡◌, ◌⊎◌, ℕ, Bool, true, false, not, ◌==◌, ◌&&◌, ◌||◌, IsTrue}
+use Rattle.std.specs.Bool.{IsFalse}
+use Rattle.superio_core.specs.declared.trace.Asked.{Asked}
+use Rattle.superio_core.specs.declared.trace.Sent.{Sent}
+use Rattle.superio_core.specs.Bits.{has_bits, only_bits}
+use Rattle.superio_core.specs.Serial.Port.Bits.{ier_bits}
+use Rattle.superio_core.specs.Serial.Port.State.{State}
+use Rattle.superio_core.specs.declared.serial.registers.Condition.{Condition}
+use Rattle.superio_core.specs.declared.serial.registers.Condition.TheVariants.{Rda, Thre}
+use Rattle.superio_core.specs.Serial.Port.Registers.{ier_bit, identification_of}
+use Rattle.superio_core.specs.Serial.Port.Operations.{Op, Trace, answer_count}
+use Rattle.superio_core.specs.Serial.Port.OpKinds.{OpKind, RbrRead, IirRead, IerWrite}
+use Rattle.superio_core.specs.Serial.Step.Transition.{step}
+use Rattle.superio_core.specs.Serial.Step.Admissible.{kind_in_state, is_admissible}
+use Rattle.superio_core.specs.Serial.Step.Restore.{is_asserted, is_line_up}
+use Rattle.vm_superio.specs.Serial.History.Registers.{interrupt_enable}
+use Rattle.vm_superio.specs.Serial.History.Interrupts.{is_pending}
+use Rattle.vm_superio.specs.Serial.Laws.Agreement.{state_after}
+
+-- the trigger was called, whatever it answered
+abbrev pub is_called : (asked : Asked) → Bool
+is_called asked = not (answer_count asked == 0)
+
+-- the level that an IER write of this value gives the conditions that are pending already
+abbrev pub is_line_up_under : (value : ℕ) (s : State) → Bool
+is_line_up_under value s = is_line_up (record s { interrupt_enable = only_bits value ier_bits })
+
+-- the level after a call, by what the call means and whether it called the trigger: an IIR read leaves the line down;
+-- an RBR read leaves it up for THRE alone; an IER write by the new value, or if the trigger was called; every other
+-- call leaves it up if it was up, or if the trigger was called
+abbrev pub line_after : (kind : OpKind) (called : Bool) (s : State) → Bool
+line_after IirRead called s = false
+line_after RbrRead called s = is_asserted Thre s
+line_after (IerWrite value) called s = called || is_line_up_under value s
+line_after kind called s = called || is_line_up s
+
+abbrev pub LineAfterLaw : Type 0
+LineAfterLaw = (s : State) (op : Op) (asked : Asked) (sent : Sent) → IsTrue (is_admissible s op asked sent)
+    → is_line_up (step s op asked) ≡ line_after (kind_in_state s op) (is_called asked) s
+
+-- a call that calls the trigger leaves the line up, even if the trigger refuses
+abbrev pub UpAfterCallLaw : Type 0
+UpAfterCallLaw = (s : State) (op : Op) (asked : Asked) (sent : Sent) → IsTrue (is_admissible s op asked sent)
+    → IsTrue (is_called asked) → IsTrue (is_line_up (step s op asked))
+
+-- an IER write enables a condition that is pending already. The trigger is not called for it again
+abbrev pub EnablesPending : (kind : OpKind) (s : State) → Type 0
+EnablesPending kind s = (value : ℕ) × (kind ≡ IerWrite value) × IsTrue (is_line_up_under value s)
+
+-- where the line goes up, the trigger was called, or an IER write enabled a pending condition
+abbrev pub GoesUpLaw : Type 0
+GoesUpLaw = (s : State) (op : Op) (asked : Asked) (sent : Sent) → IsTrue (is_admissible s op asked sent)
+    → IsFalse (is_line_up s) → IsTrue (is_line_up (step s op asked))
+    → IsTrue (is_called asked) ⊎ EnablesPending (kind_in_state s op) s
+
+-- a read of IIR or RBR, or an IER write
+abbrev pub may_lower_line : (kind : OpKind) → Bool
+may_lower_line IirRead = true
+may_lower_line RbrRead = true
+may_lower_line (IerWrite value) = true
+may_lower_line kind = false
+
+-- no other call lowers the line
+abbrev pub StaysUpLaw : Type 0
+StaysUpLaw = (s : State) (op : Op) (asked : Asked) (sent : Sent) → IsTrue (is_admissible s op asked sent)
+    → IsFalse (may_lower_line (kind_in_state s op)) → IsTrue (is_line_up s) → IsTrue (is_line_up (step s op asked))
+
+-- by the history: a condition is pending, and the last effective write of IER enables it
+abbrev pub is_asserted_at : (condition : Condition) (start : State) (trace : Trace) → Bool
+is_asserted_at condition start trace =
+    is_pending condition start trace && has_bits (interrupt_enable start trace) (ier_bit condition)
+
+abbrev pub LineOfHistoryLaw : Type 0
+LineOfHistoryLaw = (start : State) (trace : Trace) (thre rda : Bool)
+    → start.interrupt_identification ≡ identification_of thre rda
+    → is_line_up (state_after start trace) ≡ (is_asserted_at Thre start trace || is_asserted_at Rda start trace)
