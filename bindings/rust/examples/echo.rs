@@ -4,6 +4,7 @@
 //! called for the interrupt, reads bytes that have come, and sends its answer. The end of input (Ctrl-D) ends the
 //! program.
 use std::cell::Cell;
+use std::collections::VecDeque;
 use std::convert::Infallible;
 use std::io::{self, BufRead, Stdout};
 use std::rc::Rc;
@@ -15,7 +16,10 @@ use vm_superio::{Serial, Trigger};
 const DATA: u8 = 0;
 const INTERRUPT_ENABLE: u8 = 1;
 const INTERRUPT_IDENTIFICATION: u8 = 2;
+const MODEM_CONTROL: u8 = 4;
 const LINE_STATUS: u8 = 5;
+
+const FIFO_SIZE: usize = 64;
 
 /// How many bytes the guest's driver takes at an interrupt. It leaves the others to the next one, as many drivers do.
 const MOST: usize = 16;
@@ -33,52 +37,82 @@ impl Trigger for Line {
     }
 }
 
-type Port = Serial<Line, NoEvents, Stdout>;
 type PortError = vm_superio::serial::Error<Infallible>;
 
-/// The guest reads a register. Bytes that it has left in the FIFO interrupt it again once it has read that nothing is
-/// pending: a monitor that leaves this out leaves such bytes, and the guest, waiting.
-fn read(port: &mut Port, offset: u8) -> Result<u8, PortError> {
-    let value = port.read(offset);
-    if offset == INTERRUPT_IDENTIFICATION && value & 1 != 0 {
-        port.character_timeout()?;
-    }
-    Ok(value)
+/// The monitor: the port, its interrupt line, and input that the FIFO had no room for yet.
+struct Machine {
+    port: Serial<Line, NoEvents, Stdout>,
+    line: Line,
+    waiting: VecDeque<u8>,
 }
 
-/// The guest's interrupt handler, as drivers of a 16550 have it.
-fn handle_interrupt(port: &mut Port) -> Result<(), PortError> {
-    while read(port, INTERRUPT_IDENTIFICATION)? & 1 == 0 {
-        for _ in 0..MOST {
-            if read(port, LINE_STATUS)? & 1 == 0 {
-                break;
+impl Machine {
+    fn new() -> Machine {
+        let line = Line::default();
+        Machine { port: Serial::new(line.clone(), io::stdout()), line, waiting: VecDeque::new() }
+    }
+
+    /// Offers the input that waits, once: a guest need not read, and takes nothing while it is in loopback.
+    fn offer(&mut self) -> Result<(), PortError> {
+        if !self.waiting.is_empty() && self.port.fifo_capacity() > 0 {
+            let taken = self.port.enqueue_raw_bytes(self.waiting.make_contiguous())?;
+            self.waiting.drain(..taken);
+        }
+        Ok(())
+    }
+
+    /// The guest reads a register. Bytes that it has left in the FIFO interrupt it again once it has read that nothing
+    /// is pending: a monitor that leaves this out leaves such bytes, and the guest, waiting.
+    fn read(&mut self, offset: u8) -> Result<u8, PortError> {
+        let value = self.port.read(offset);
+        if offset == DATA && self.port.fifo_capacity() == FIFO_SIZE {
+            self.offer()?;
+        }
+        if offset == INTERRUPT_IDENTIFICATION && value & 1 != 0 {
+            self.port.character_timeout()?;
+        }
+        Ok(value)
+    }
+
+    /// The guest writes a register. A write to MCR may have ended loopback.
+    fn write(&mut self, offset: u8, value: u8) -> Result<(), PortError> {
+        self.port.write(offset, value)?;
+        if offset == MODEM_CONTROL {
+            self.offer()?;
+        }
+        Ok(())
+    }
+
+    /// What the event loop does when input has arrived. A monitor bounds what waits.
+    fn input(&mut self, bytes: &[u8]) -> Result<(), PortError> {
+        self.waiting.extend(bytes);
+        self.offer()?;
+        self.port.character_timeout()
+    }
+
+    /// The guest's interrupt handler, as drivers of a 16550 have it.
+    fn handle_interrupt(&mut self) -> Result<(), PortError> {
+        while self.read(INTERRUPT_IDENTIFICATION)? & 1 == 0 {
+            for _ in 0..MOST {
+                if self.read(LINE_STATUS)? & 1 == 0 {
+                    break;
+                }
+                let byte = self.read(DATA)?.to_ascii_uppercase();
+                self.write(DATA, byte)?;
             }
-            let byte = read(port, DATA)?.to_ascii_uppercase();
-            port.write(DATA, byte)?;
         }
+        Ok(())
     }
-    Ok(())
-}
-
-/// Offers a line to the guest, as much at a time as the FIFO has room for. This is the monitor's event loop.
-fn type_line(port: &mut Port, line: &Line, mut bytes: &[u8]) -> Result<(), PortError> {
-    while !bytes.is_empty() {
-        let taken = port.enqueue_raw_bytes(bytes)?;
-        bytes = &bytes[taken..];
-        port.character_timeout()?;
-        while line.0.replace(false) {
-            handle_interrupt(port)?;
-        }
-    }
-    Ok(())
 }
 
 fn main() -> Result<(), Box<dyn std::error::Error>> {
-    let line = Line::default();
-    let mut port = Serial::new(line.clone(), io::stdout());
-    port.write(INTERRUPT_ENABLE, 0x01)?; // the guest's driver starts
+    let mut machine = Machine::new();
+    machine.write(INTERRUPT_ENABLE, 0x01)?; // the guest's driver starts
     for typed in io::stdin().lock().lines() {
-        type_line(&mut port, &line, format!("{}\n", typed?).as_bytes())?;
+        machine.input(format!("{}\n", typed?).as_bytes())?;
+        while machine.line.0.replace(false) {
+            machine.handle_interrupt()?;
+        }
     }
     Ok(())
 }

@@ -40,6 +40,31 @@
 //! assert_eq!(serial.enqueue_raw_bytes(b"xyz").unwrap(), 3); // input for the guest
 //! assert_eq!(serial.read(0), b'x');
 //! ```
+//!
+//! The FIFO holds 64 bytes. What it has no room for waits, and is offered again:
+//!
+//! ```
+//! # use std::convert::Infallible;
+//! # use vm_superio::{Serial, Trigger};
+//! # struct Silent;
+//! # impl Trigger for Silent {
+//! #     type E = Infallible;
+//! #     fn trigger(&self) -> Result<(), Infallible> {
+//! #         Ok(())
+//! #     }
+//! # }
+//! let mut serial = Serial::new(Silent, std::io::sink());
+//! let paste: Vec<u8> = (0..1000).map(|number| number as u8).collect();
+//! let (mut waiting, mut read) = (&paste[..], Vec::new());
+//! while !waiting.is_empty() {
+//!     let taken = serial.enqueue_raw_bytes(waiting).unwrap();
+//!     waiting = &waiting[taken..];
+//!     while serial.read(5) & 1 != 0 {
+//!         read.push(serial.read(0)); // the guest saw data ready, and takes a byte
+//!     }
+//! }
+//! assert_eq!(read, paste);
+//! ```
 #![forbid(unsafe_code)]
 #![deny(missing_docs)]
 #![deny(missing_copy_implementations)]
@@ -53,21 +78,91 @@ pub mod saved;
 #[cfg(feature = "std")]
 pub mod serial;
 
-/// # Example
+/// # Examples
+///
+/// A port and a clock, and the effects that a monitor carries out.
 ///
 /// ```
+/// use vm_superio::values::serial::{EnqueueEffects, ReadEffects, WriteEffects};
 /// use vm_superio::values::{is_reset_command, Clock, SerialPort};
 ///
 /// let mut port = SerialPort::new();
 /// port.write(1, 0x01); // the guest enables the interrupt of received data
-/// let effects = port.enqueue_raw_bytes(b"hi"); // the host types
-/// assert_eq!(effects.interrupts, 1); // so raise the interrupt once
-/// assert_eq!(port.read(0).byte, b'h'); // the guest reads
+/// let EnqueueEffects { taken, full, interrupts } = port.enqueue_raw_bytes(b"hi"); // the host types
+/// assert_eq!((taken, full, interrupts), (2, false, 1)); // so raise the interrupt once
+/// let ReadEffects { byte, buffer_read, in_buffer_empty } = port.read(0); // the guest reads
+/// assert_eq!((byte, buffer_read, in_buffer_empty), (b'h', true, false));
+/// let WriteEffects { sends, interrupts } = port.write(0, b'!'); // and sends a byte
+/// assert_eq!((sends, interrupts), (true, 0));
+/// assert_eq!((port.fifo_capacity(), port.interrupt_line()), (63, false)); // one byte is left, and nothing is pending
+/// assert_eq!((port.character_timeout(), port.interrupts_due(), port.interrupt_line()), (1, 1, true));
+/// assert!(port.is_coherent());
 ///
 /// let mut clock = Clock::new();
 /// assert_eq!(clock.read(0x000, 1_000), Some(1_000)); // guest time is the host's
+/// assert!(clock.write(0x004, 1_060, 1_000)); // the guest sets an alarm
+/// assert_eq!((clock.alarm_due(1_010), clock.interrupt_line()), (Some(50), false));
 /// assert!(is_reset_command(4, 0xFE)); // the guest resets its machine
 /// ```
+///
+/// Saved states, and why bytes are refused. A monitor may also keep the state of a clock alone.
+///
+/// ```
+/// use vm_superio::values::rtc_pl031::saved_form::SAVED_SIZE;
+/// use vm_superio::values::saved::Error;
+/// use vm_superio::values::serial::saved_form::{registers_of, SAVED_MAX};
+/// use vm_superio::values::{Clock, RtcState, SerialPort};
+///
+/// let mut port = SerialPort::new();
+/// port.enqueue_raw_bytes(b"hi");
+/// let mut form = [0; SAVED_MAX];
+/// let length = port.to_bytes(&mut form);
+/// let restored = SerialPort::from_bytes(&form[..length]).unwrap();
+/// assert_eq!(restored.fifo_capacity(), 62);
+/// let (registers, held) = registers_of(&form[..length]).unwrap();
+/// assert_eq!(held, b"hi");
+/// let mut again = [0; SAVED_MAX];
+/// assert_eq!((registers.write_form(held, &mut again), again), (length, form));
+/// assert_eq!(SerialPort::from_bytes(&form).err(), Some(Error::WrongLength)); // the rest of `form` is no part of it
+///
+/// let mut state = RtcState::from_five(0, 60, 0, 1, 0); // a minute ahead of the host, and no alarm
+/// assert_eq!(state.read(0x000, 1_000), Some(1_060));
+/// assert!(state.write(0x004, 1_070, 1_000)); // the guest sets an alarm
+/// assert_eq!((state.alarm_due(1_000), state.interrupt_line()), (Some(10), false));
+/// let bytes: [u8; SAVED_SIZE] = state.to_bytes();
+/// let clock = Clock::from_state(&RtcState::from_bytes(&bytes).unwrap());
+/// assert!(clock.state().armed);
+/// assert_eq!(RtcState::from_bytes(&form[..length]).err(), Some(Error::OtherDevice));
+/// ```
+///
+/// The registers over a receive FIFO of the monitor's own, which is a [`ReceiveFifo`](values::fifo::ReceiveFifo), or
+/// over the ring of a port.
+///
+/// ```
+/// use vm_superio::values::fifo::{ReceiveFifo, FIFO_SIZE};
+/// use vm_superio::values::serial::registers::Register;
+/// use vm_superio::values::serial::{Registers, RxRing};
+/// use vm_superio::values::trace::Asked;
+/// use vm_superio::values::SerialPort;
+///
+/// let mut registers = Registers::new();
+/// let mut ring: RxRing = SerialPort::new().in_buffer;
+/// assert_eq!(registers.receive(&mut ring, b"hi"), (2, false)); // no condition is enabled
+/// let due = registers.write(&mut ring, Register::Ier, 0x03).interrupts;
+/// assert_eq!((due, registers.interrupts_due()), (2, 2)); // received data, and an empty transmitter
+/// registers.take_back(due, Asked::Refused); // the first interrupt was refused, so there is no second
+/// assert_eq!((registers.interrupts_due(), registers.interrupt_line()), (1, true));
+/// assert!(matches!(registers.at(0), Register::RbrThr));
+/// assert_eq!(registers.read(&mut ring, Register::RbrThr).byte, b'h');
+/// assert_eq!(registers.character_timeout(&ring), 1); // one byte is left
+/// assert!(registers.is_coherent(!ring.is_empty()) && !registers.is_loopback());
+/// assert_eq!((ring.len(), ring.push(7), ring.fill(&[8; 100]), FIFO_SIZE), (1, true, 62, 64));
+/// assert_eq!(ring.take_first(), Some(b'i'));
+/// ```
+///
+/// No call takes or returns a [`Condition`](values::serial::registers::Condition), a
+/// [`ClockRegister`](values::rtc_pl031::ClockRegister) or a [`Sent`](values::trace::Sent): the contracts of the proved
+/// source name their cases.
 #[path = "core/mod.rs"]
 // These lines are those of the proved source, in the layout and style of its language. A name in a pattern that is no
 // constant, or a result that is not used, would mean another thing here than there.

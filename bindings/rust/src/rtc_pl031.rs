@@ -6,7 +6,9 @@
 //! first access that finds guest time at or past the match raises bit 0 of the raw interrupt status, unless the match
 //! was past when it was written. The clock has no trigger. If your monitor has an interrupt line for it, set the line
 //! to [`Rtc::line`] after each access, and make an access when [`Rtc::due`] says so.
+use std::error::Error as StdError;
 use std::fmt;
+use std::ops::Range;
 use std::sync::Arc;
 use std::time::{SystemTime, UNIX_EPOCH};
 
@@ -19,6 +21,8 @@ const RTCDR: u16 = 0x000;
 const RTCMR: u16 = 0x004;
 /// The offset of RTCLR, which sets guest time.
 const RTCLR: u16 = 0x008;
+/// The offsets between the last register and the identification, at which the clock has nothing.
+const RESERVED: Range<u16> = 0x020..0xFE0;
 
 /// Receives a clock's invalid accesses. The clock calls it for nothing else.
 ///
@@ -86,7 +90,8 @@ impl<EV: RtcEvents> RtcEvents for Arc<EV> {
 /// zeros.
 ///
 /// These five fields do not say whether an alarm is set, so a clock restored from them has none.
-/// [`RtcSnapshot`] has the whole state.
+/// [`RtcSnapshot`] has the whole state. `RtcState::try_from` makes the five fields of one, and refuses if that loses an
+/// alarm.
 ///
 /// # Example
 ///
@@ -166,6 +171,56 @@ impl RtcSnapshot {
     }
 }
 
+/// The five fields were asked of a clock with an alarm set, which they cannot hold.
+///
+/// # Example
+///
+/// ```
+/// use vm_superio::rtc_pl031::{AlarmIsSet, Rtc, RtcState};
+///
+/// let mut clock = Rtc::new();
+/// clock.write_at(0x004, &1_000u32.to_le_bytes(), 900); // an alarm in 100 seconds
+/// assert_eq!(RtcState::try_from(clock.snapshot()), Err(AlarmIsSet));
+///
+/// let mut data = [0; 4];
+/// clock.read_at(0x000, &mut data, 1_000); // the alarm comes
+/// assert_eq!(RtcState::try_from(clock.snapshot()), Ok(clock.state()));
+/// ```
+#[derive(Clone, Copy, Debug, Eq, PartialEq)]
+pub struct AlarmIsSet;
+
+impl fmt::Display for AlarmIsSet {
+    fn fmt(&self, f: &mut fmt::Formatter) -> fmt::Result {
+        f.write_str("an alarm is set, and the five fields of RtcState cannot hold it")
+    }
+}
+
+impl StdError for AlarmIsSet {}
+
+impl TryFrom<RtcSnapshot> for RtcState {
+    type Error = AlarmIsSet;
+
+    /// The registers, for a program that knows no alarm.
+    ///
+    /// # Errors
+    ///
+    /// [`AlarmIsSet`] if an alarm is set and has not fired.
+    fn try_from(snapshot: RtcSnapshot) -> Result<RtcState, AlarmIsSet> {
+        if snapshot.armed {
+            Err(AlarmIsSet)
+        } else {
+            Ok(snapshot.state)
+        }
+    }
+}
+
+impl From<RtcState> for RtcSnapshot {
+    /// The whole state of a clock with these registers and no alarm set.
+    fn from(state: RtcState) -> RtcSnapshot {
+        RtcSnapshot { state, armed: false }
+    }
+}
+
 /// A PL031 real-time clock, which shows the host's time until the guest sets another.
 ///
 /// # Example
@@ -233,7 +288,7 @@ impl Rtc<NoEvents> {
 impl<EV: RtcEvents> Rtc<EV> {
     /// Makes a clock from `state`, whatever its values, with no alarm set. Does not call the events object.
     pub fn from_state(state: &RtcState, rtc_events: EV) -> Self {
-        Self::from_snapshot(&RtcSnapshot { state: *state, armed: false }, rtc_events)
+        Self::from_snapshot(&RtcSnapshot::from(*state), rtc_events)
     }
 
     /// Makes a clock from a whole state, whatever its values. Does not call the events object.
@@ -246,7 +301,8 @@ impl<EV: RtcEvents> Rtc<EV> {
         Rtc { clock: Clock::new(), events: rtc_events }
     }
 
-    /// A snapshot of the registers; [`from_state`](Rtc::from_state) recreates the clock without its alarm.
+    /// A snapshot of the registers, as vm-superio has it; [`from_state`](Rtc::from_state) recreates the clock without its
+    /// alarm. To lose no alarm, save a [`snapshot`](Rtc::snapshot).
     pub fn state(&self) -> RtcState {
         self.snapshot().state
     }
@@ -282,7 +338,7 @@ impl<EV: RtcEvents> Rtc<EV> {
     /// A write to an unwritable offset stores nothing and calls the events object's `invalid_write` once.
     pub fn write(&mut self, offset: u16, data: &[u8; 4]) {
         if self.is_armed() {
-            return self.write_while_armed(offset, data);
+            return self.write_while_armed(offset, u32::from_le_bytes(*data));
         }
         match offset {
             RTCMR => self.write_at(RTCMR, data, moment()),
@@ -302,37 +358,54 @@ impl<EV: RtcEvents> Rtc<EV> {
     ///
     /// A read of an unreadable offset leaves `data` unchanged and calls the events object's `invalid_read` once.
     pub fn read(&mut self, offset: u16, data: &mut [u8; 4]) {
-        if self.is_armed() {
-            return self.read_while_armed(offset, data);
+        // These come first so that they cost no search of the registers.
+        if RESERVED.contains(&offset) {
+            if self.is_armed() {
+                self.read_while_armed(offset);
+            }
+            return self.events.invalid_read();
         }
         match offset {
             RTCDR => self.read_at(RTCDR, data, moment()),
+            _ if self.is_armed() => {
+                let read = self.read_while_armed(offset);
+                self.show(read, data);
+            }
             _ => self.read_at(offset, data, 0),
         }
     }
 
     /// Reads as [`read`](Rtc::read) does, at the moment `now`, in seconds since 1970, instead of the host's time.
     pub fn read_at(&mut self, offset: u16, data: &mut [u8; 4], now: u64) {
-        match self.clock.read(offset, now) {
+        let read = self.clock.read(offset, now);
+        self.show(read, data);
+    }
+
+    fn show(&self, read: Option<u32>, data: &mut [u8; 4]) {
+        match read {
             Some(value) => *data = value.to_le_bytes(),
             None => self.events.invalid_read(),
         }
     }
 
     #[cold]
-    fn write_while_armed(&mut self, offset: u16, data: &[u8; 4]) {
-        self.write_at(offset, data, moment());
+    #[inline(never)]
+    fn write_while_armed(&mut self, offset: u16, value: u32) {
+        self.write_at(offset, &value.to_le_bytes(), moment());
     }
 
     #[cold]
-    fn read_while_armed(&mut self, offset: u16, data: &mut [u8; 4]) {
-        self.read_at(offset, data, moment());
+    #[inline(never)]
+    fn read_while_armed(&mut self, offset: u16) -> Option<u32> {
+        self.clock.read(offset, moment())
     }
 }
 
 #[cfg(test)]
 mod tests {
-    use super::{moment_of, UNIX_EPOCH};
+    use super::{moment, moment_of, Rtc, RtcEvents, RtcSnapshot, RtcState, RTCDR, UNIX_EPOCH};
+    use crate::values::Clock;
+    use std::cell::Cell;
     use std::time::Duration;
 
     #[test]
@@ -342,5 +415,37 @@ mod tests {
         }
         assert_eq!(moment_of(UNIX_EPOCH), 0);
         assert_eq!(moment_of(UNIX_EPOCH + Duration::from_millis(70_999)), 70);
+    }
+
+    /// Counts invalid reads.
+    #[derive(Default)]
+    struct Invalid(Cell<u32>);
+
+    impl RtcEvents for Invalid {
+        fn invalid_read(&self) {
+            self.0.set(self.0.get() + 1);
+        }
+
+        fn invalid_write(&self) {}
+    }
+
+    #[test]
+    fn a_read_at_any_offset_is_that_of_the_proved_clock() {
+        for armed in [false, true] {
+            let state = RtcState { lr: 7, imsc: 1, ..RtcState::default() };
+            let snapshot = RtcSnapshot { state, armed }; // the alarm is reached at any moment
+            for offset in 0..=u16::MAX {
+                let mut clock = Rtc::from_snapshot(&snapshot, Invalid::default());
+                let mut proved = Clock::from_state(&snapshot.value());
+                let mut data = *b"left";
+                clock.read(offset, &mut data);
+                let read = proved.read(offset, moment());
+                assert_eq!(clock.events().0.get(), u32::from(read.is_none()), "{offset:#x}");
+                if offset != RTCDR {
+                    assert_eq!(data, read.map_or(*b"left", u32::to_le_bytes), "{offset:#x}");
+                }
+                assert_eq!(clock.snapshot(), RtcSnapshot::of(proved.state()), "{offset:#x}");
+            }
+        }
     }
 }

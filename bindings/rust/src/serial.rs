@@ -7,6 +7,7 @@ use crate::values::SerialPort;
 use crate::Trigger;
 
 mod events;
+pub mod line;
 mod state;
 pub mod timeout;
 
@@ -237,6 +238,8 @@ impl<T: Trigger, EV: SerialEvents, W: Write> Serial<T, EV, W> {
 
     /// Calls the trigger for both conditions that a write to IER raised. In vm-superio the second one, THRE, becomes
     /// pending after the first call has succeeded, so a call that refuses or panics leaves RDA alone.
+    #[cold]
+    #[inline(never)]
     fn trigger_twice(&mut self) -> Result<(), T::E> {
         let both_pending = self.port.registers.interrupt_identification;
         self.port.registers.interrupt_identification = both_pending & !THRE; // RDA is left, so 'none' stays clear

@@ -302,6 +302,40 @@ fn an_alarm_raises_the_interrupt_and_can_be_carried_over() {
 }
 
 #[test]
+fn an_alarm_is_due_when_guest_time_reaches_it() {
+    let edges = [0, 1, 1 << 16, (1 << 31) - 1, 1 << 31, (1 << 32) - 2, (1 << 32) - 1];
+    let moments = [1 << 32, (1 << 53) + 1, (1 << 63) - 1, 1 << 63, u64::MAX];
+    for &now in edges.iter().chain(&moments) {
+        for (mr, time) in edges.iter().flat_map(|&mr| edges.iter().map(move |&time| (mr, time))) {
+            let state = RtcState { mr: mr as u32, offset: time as i64 - i64::from(now as u32), ..RtcState::default() };
+            let snapshot = rtc_pl031::RtcSnapshot { state, armed: true };
+            let mut clock = Rtc::from_snapshot(&snapshot, rtc_pl031::NoEvents);
+            // The host's seconds do not begin anew until then.
+            if u64::from(now as u32) + mr.saturating_sub(time) < 1 << 32 {
+                assert_eq!(clock.due(now), Some(mr.saturating_sub(time)), "{mr} {time} {now}");
+            }
+            let mut data = [0; 4];
+            clock.read_at(0, &mut data, now);
+            assert_eq!(u64::from(u32::from_le_bytes(data)), time);
+            assert_eq!(clock.is_armed(), mr > time);
+        }
+    }
+}
+
+#[test]
+fn an_enqueue_of_any_length_takes_the_first_bytes_that_fit() {
+    for power in [8, 16, 20] {
+        for length in [(1 << power) - 1, 1 << power, (1 << power) + 1] {
+            let mut port = Serial::new(Line::default(), io::sink());
+            let input: Vec<u8> = (0..length).map(|number| number as u8).collect();
+            assert_eq!(port.enqueue_raw_bytes(&input).unwrap(), 64);
+            assert_eq!(port.state().in_buffer, input[..64]);
+            assert!(matches!(port.enqueue_raw_bytes(&input), Err(Error::FullFifo)));
+        }
+    }
+}
+
+#[test]
 fn one_write_resets_the_machine_and_a_refusal_is_passed_on() {
     let mut controller = I8042Device::new(Line::refusing(0b10));
     assert_eq!(controller.read(4), 0);

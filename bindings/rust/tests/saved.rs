@@ -2,7 +2,7 @@
 use std::io;
 use std::sync::Arc;
 
-use vm_superio::rtc_pl031::{self, RtcEvents, RtcSnapshot};
+use vm_superio::rtc_pl031::{self, AlarmIsSet, RtcEvents, RtcSnapshot};
 use vm_superio::saved::SavedStateError;
 use vm_superio::serial::{self, SerialEvents};
 use vm_superio::{I8042Device, Rtc, RtcState, Serial, SerialState, Trigger};
@@ -87,6 +87,16 @@ fn coherent_states_are_those_that_a_new_port_can_come_to() {
     assert!(!SerialState { line_status: 0x61, ..fresh.clone() }.is_coherent());
     assert!(!SerialState { interrupt_identification: 0x04, ..fresh.clone() }.is_coherent());
     assert!(!SerialState { in_buffer: vec![0], ..fresh }.is_coherent());
+}
+
+#[test]
+fn five_fields_are_made_only_without_an_alarm() {
+    let state = RtcState { lr: 1, offset: -2, mr: 3, imsc: 4, ris: 5 };
+    assert_eq!(RtcSnapshot::from(state), RtcSnapshot { state, armed: false });
+    assert_eq!(RtcState::try_from(RtcSnapshot { state, armed: false }), Ok(state));
+    assert_eq!(RtcState::try_from(RtcSnapshot { state, armed: true }), Err(AlarmIsSet));
+    let error: Box<dyn std::error::Error> = AlarmIsSet.into();
+    assert_eq!(error.to_string(), "an alarm is set, and the five fields of RtcState cannot hold it");
 }
 
 #[test]
@@ -185,4 +195,32 @@ fn an_arc_and_no_events_pass_each_event_on() {
     quiet.write(0, b'a').unwrap();
     quiet.read(0);
     Rtc::with_events(rtc_pl031::NoEvents).read(0x01C, &mut [0; 4]);
+}
+
+#[test]
+fn an_alarm_may_be_due_in_2_to_the_31_seconds_or_more() {
+    const START: u64 = 1 << 32; // where 32 bits of the host's seconds begin again
+    for (guest_time, seconds) in [(0, u32::MAX), (1, u32::MAX - 1), (7, 1 << 31), (7, (1 << 31) - 1)] {
+        let mut clock = Rtc::new();
+        clock.write_at(0x008, &u32::to_le_bytes(guest_time), START);
+        clock.write_at(0x004, &(guest_time + seconds).to_le_bytes(), START);
+        let seconds = u64::from(seconds);
+        assert_eq!(clock.due(START), Some(seconds));
+        let before = clock.snapshot();
+        for (moment, raised) in [(START + seconds - 1, 0), (START + seconds, 1)] {
+            let mut clock = Rtc::from_snapshot(&before, rtc_pl031::NoEvents);
+            let mut data = [0; 4];
+            clock.read_at(0x014, &mut data, moment);
+            assert_eq!(data, [raised, 0, 0, 0], "{seconds} seconds, at {moment}");
+        }
+    }
+}
+
+#[test]
+fn a_match_may_be_written_at_the_moment_0_before_any_time_was_set() {
+    for (value, due, raised) in [(0, None, 1), (1, Some(1), 0), (u32::MAX, Some(u64::from(u32::MAX)), 0)] {
+        let mut clock = Rtc::new();
+        clock.write_at(0x004, &u32::to_le_bytes(value), 0);
+        assert_eq!((clock.due(0), clock.state().ris, clock.state().mr), (due, raised, value));
+    }
 }

@@ -53,6 +53,12 @@ pub extern "C" fn superio_serial_interrupts_due(port: &SerialPort) -> u8 {
     port.interrupts_due()
 }
 
+/// Whether the interrupt line is up.
+#[no_mangle]
+pub extern "C" fn superio_serial_interrupt_line(port: &SerialPort) -> bool {
+    port.interrupt_line()
+}
+
 /// Whether the port is coherent.
 #[no_mangle]
 pub extern "C" fn superio_serial_is_coherent(port: &SerialPort) -> bool {

@@ -167,7 +167,7 @@ fn the_functions_are_those_of_the_header() {
         // Before it stands the end of a declaration, or the brace of C++'s `extern "C"`.
         assert!([";", "{"].iter().any(|end| code.contains(&format!("{end}{wanted}"))), "{wanted}");
     }
-    assert_eq!(declared.len(), 20);
+    assert_eq!(declared.len(), 21);
 }
 
 #[test]

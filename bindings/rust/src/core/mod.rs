@@ -2,6 +2,21 @@
 // These are the lines that the prover checks, without their contracts. Change them there.
 //! The devices of a virtual machine monitor as values: a call changes the value and returns what is left to do. No object,
 //! no heap, no dependency.
+//!
+//! ```text
+//! let mut port = SerialPort::new();
+//! port.write(1, 0x01); // the guest enables the interrupt of received data
+//! let typed = port.enqueue_raw_bytes(b"hi"); // `typed.interrupts` is 1: raise the interrupt
+//! let found = port.read(2).byte; // 0xC4: the guest's handler finds received data,
+//! let first = port.read(0).byte; // b'h': takes one byte,
+//! let found = port.read(2).byte; // 0xC1: and finds nothing more pending, though `i` is held
+//! let again = port.character_timeout(); // 1: raise the interrupt again
+//!
+//! let mut clock = Clock::new();
+//! let time = clock.read(0x000, 1_000); // Some(1_000): guest time is the host's
+//!
+//! let resets = is_reset_command(4, 0xFE); // true: the guest resets its machine
+//! ```
 
 pub mod fifo;
 pub mod i8042;

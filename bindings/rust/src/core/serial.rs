@@ -110,6 +110,15 @@ impl SerialPort {
         self.registers.interrupts_due()
     }
 
+    /// Whether the interrupt line is up: while a condition is pending and enabled. For a controller that takes levels,
+    /// set your line to it after every call.
+    #[inline(always)]
+    // Clauses in crates/superio_core/src/serial.rt: line, due.
+    pub fn interrupt_line(&self) -> bool
+    {
+        self.registers.interrupt_line()
+    }
+
     /// Whether the port is coherent, as `new` makes it: `len` is at most 64, data ready shows whether bytes are held,
     /// and IIR is 1, 2, 4 or 6, with RDA pending only while bytes are held.
     // Clauses in crates/superio_core/src/serial.rt: returns.

@@ -6,6 +6,9 @@
 mod call;
 #[path = "../../../compare/original/src/moment.rs"]
 mod moment;
+#[allow(dead_code)] // as above
+#[path = "../../../compare/bindings/src/observed.rs"]
+mod observed;
 #[allow(dead_code)] // a replay writes no call
 #[path = "../../../compare/bindings/src/text.rs"]
 mod text;
@@ -15,18 +18,26 @@ mod by_ours {
     pub use ours as superio;
     #[allow(dead_code)]
     pub mod devices;
+    pub mod objects;
 }
 
 use std::io::{self, BufRead};
 use std::process::ExitCode;
 
 use by_ours::devices::Devices;
-use call::{Action, Call, Observed};
+use call::{Action, Call};
+use observed::Observed;
+use ours::serial::Error;
+use ours::serial::line::InterruptLine;
 use ours::serial::timeout::CharacterTimeout;
 
 fn make(devices: &mut Devices, call: &Call) -> Observed {
     match call.action {
         Action::SerialTimeout => devices.observe(call, |devices| devices.serial.character_timeout().map(|()| 0)),
+        Action::SerialRetry => {
+            devices.observe(call, |devices| devices.serial.retry_interrupts().map(|()| 0).map_err(Error::Trigger))
+        }
+        Action::SerialLine => devices.observe(call, |devices| Ok(devices.serial.interrupt_line().into())),
         _ => devices.make(call),
     }
 }

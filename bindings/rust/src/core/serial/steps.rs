@@ -181,4 +181,12 @@ impl Registers {
     {
         u8::from(self.is_asserted(Condition::Thre)) + u8::from(self.is_asserted(Condition::Rda))
     }
+
+    /// Whether the interrupt line is up: a condition is pending and enabled.
+    #[inline(always)]
+    // Clauses in crates/superio_core/src/serial/steps.rt: line, due.
+    pub fn interrupt_line(&self) -> bool
+    {
+        self.is_asserted(Condition::Thre) || self.is_asserted(Condition::Rda)
+    }
 }

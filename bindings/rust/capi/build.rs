@@ -1,0 +1,7 @@
+//! Gives the shared library the name under which programs look for it: it ends with the number of the binary interface.
+fn main() {
+    println!("cargo:rerun-if-changed=build.rs");
+    if std::env::var("CARGO_CFG_TARGET_OS").as_deref() == Ok("linux") {
+        println!("cargo:rustc-cdylib-link-arg=-Wl,-soname,libsuperio.so.3");
+    }
+}

@@ -1,0 +1,174 @@
+//! The interrupt line as edges and as a level, under models of both kinds of interrupt controller.
+use std::cell::Cell;
+use std::convert::Infallible;
+use std::io::{self, Sink};
+
+use vm_superio::serial::line::InterruptLine;
+use vm_superio::serial::timeout::CharacterTimeout;
+use vm_superio::serial::{Error, NoEvents};
+use vm_superio::{Serial, SerialState, Trigger};
+
+const RDA: u8 = 0x04;
+const THRE: u8 = 0x02;
+
+type PortError = Error<Infallible>;
+
+/// A monitor with its guest's interrupt controller.
+trait Board {
+    fn read(&mut self, offset: u8) -> Result<u8, PortError>;
+    fn write(&mut self, offset: u8, value: u8) -> Result<(), PortError>;
+    fn enqueue(&mut self, bytes: &[u8]) -> Result<usize, PortError>;
+    /// Whether the controller interrupts the guest now.
+    fn is_interrupted(&mut self) -> bool;
+}
+
+/// A controller for edges keeps that there was a pulse.
+#[derive(Default)]
+struct Pulse(Cell<bool>);
+
+impl Trigger for Pulse {
+    type E = Infallible;
+
+    fn trigger(&self) -> Result<(), Infallible> {
+        self.0.set(true); // a monitor writes to an eventfd
+        Ok(())
+    }
+}
+
+struct Edges(Serial<Pulse, NoEvents, Sink>);
+
+impl Board for Edges {
+    fn read(&mut self, offset: u8) -> Result<u8, PortError> {
+        let value = self.0.read(offset);
+        if offset == 2 && value & 0x01 != 0 {
+            self.0.character_timeout()?;
+        }
+        Ok(value)
+    }
+
+    fn write(&mut self, offset: u8, value: u8) -> Result<(), PortError> {
+        self.0.write(offset, value)
+    }
+
+    fn enqueue(&mut self, bytes: &[u8]) -> Result<usize, PortError> {
+        self.0.enqueue_raw_bytes(bytes)
+    }
+
+    fn is_interrupted(&mut self) -> bool {
+        self.0.interrupt_evt().0.replace(false)
+    }
+}
+
+/// The line is set after each call instead.
+struct NoPulse;
+
+impl Trigger for NoPulse {
+    type E = Infallible;
+
+    fn trigger(&self) -> Result<(), Infallible> {
+        Ok(())
+    }
+}
+
+struct Level {
+    port: Serial<NoPulse, NoEvents, Sink>,
+    line: bool,
+}
+
+impl Level {
+    /// After each call of the port, reads among them, the line is what the port says.
+    fn set_line<T>(&mut self, returned: T) -> T {
+        self.line = self.port.interrupt_line(); // a monitor passes this level to KVM
+        returned
+    }
+}
+
+impl Board for Level {
+    fn read(&mut self, offset: u8) -> Result<u8, PortError> {
+        let value = self.port.read(offset);
+        if offset == 2 && value & 0x01 != 0 {
+            self.port.character_timeout()?;
+        }
+        self.set_line(Ok(value))
+    }
+
+    fn write(&mut self, offset: u8, value: u8) -> Result<(), PortError> {
+        let written = self.port.write(offset, value);
+        self.set_line(written)
+    }
+
+    fn enqueue(&mut self, bytes: &[u8]) -> Result<usize, PortError> {
+        let taken = self.port.enqueue_raw_bytes(bytes);
+        self.set_line(taken)
+    }
+
+    fn is_interrupted(&mut self) -> bool {
+        self.line
+    }
+}
+
+fn boards() -> [Box<dyn Board>; 2] {
+    let edges = Edges(Serial::new(Pulse::default(), io::sink()));
+    let level = Level { port: Serial::new(NoPulse, io::sink()), line: false };
+    [Box::new(edges), Box::new(level)]
+}
+
+/// What a guest receives of a paste that takes at most `most` bytes for each look at IIR.
+fn received(board: &mut dyn Board, paste: &[u8], most: usize) -> Vec<u8> {
+    board.write(1, 0x01).unwrap();
+    let (mut offered, mut received) = (0, Vec::new());
+    while offered < paste.len() {
+        offered += board.enqueue(&paste[offered..]).unwrap();
+        while board.is_interrupted() {
+            while board.read(2).unwrap() & 0x01 == 0 {
+                for _ in 0..most {
+                    if board.read(5).unwrap() & 0x01 != 0 {
+                        received.push(board.read(0).unwrap());
+                    }
+                }
+            }
+        }
+    }
+    received
+}
+
+#[test]
+fn pastes_arrive_whole_by_edges_and_by_levels() {
+    let paste: Vec<u8> = (0..1_000).map(|number| (number % 251) as u8).collect();
+    for most in [1, 16, 63, 64, 256] {
+        for mut board in boards() {
+            assert_eq!(received(board.as_mut(), &paste, most), paste, "{most} bytes at a look");
+        }
+    }
+}
+
+/// The guest masks THRE while it is pending, and unmasks it. That makes no edge, since the first one was made.
+#[test]
+fn an_unmasked_condition_raises_the_level_alone() {
+    let interrupted = boards().map(|mut board| {
+        board.write(1, 0x02).unwrap();
+        board.write(1, 0x00).unwrap();
+        let while_masked = board.is_interrupted();
+        board.write(1, 0x02).unwrap();
+        (while_masked, board.is_interrupted())
+    });
+    assert_eq!(interrupted, [(true, false), (false, true)]);
+}
+
+#[test]
+fn the_line_is_up_exactly_while_an_enabled_condition_is_pending() {
+    let mut ups = 0;
+    for (enabled, identification) in (0..=255).flat_map(|ier| (0..=255).map(move |iir| (ier, iir))) {
+        let state = SerialState {
+            interrupt_enable: enabled,
+            interrupt_identification: identification,
+            ..SerialState::default()
+        };
+        let port = Serial::from_state(&state, NoPulse, NoEvents, io::sink()).unwrap();
+        let is_up =
+            identification & THRE != 0 && enabled & 0x02 != 0 || identification & RDA != 0 && enabled & 0x01 != 0;
+        assert_eq!(port.interrupt_line(), is_up, "{enabled:#x} {identification:#x}");
+        ups += u32::from(is_up);
+    }
+    assert_eq!(ups, 256 * 256 * 7 / 16);
+}
