@@ -68,7 +68,7 @@
  * - CET marks: a program linked with it is not marked for shadow stacks or
  *   indirect branch tracking;
  * - hidden symbols: a shared library that links the static one exports its
- *   functions too, unless it is linked with -Wl,--exclude-libs,libsuperio_c.a;
+ *   functions too, unless it is linked with -Wl,--exclude-libs,ALL;
  * - instrumentation: a sanitizer sees the caller's accesses to a struct, and
  *   not the library's.
  */
@@ -139,9 +139,9 @@ extern "C" {
 
 /* The version of the library that this header belongs to. */
 #define SUPERIO_VERSION_MAJOR 0
-#define SUPERIO_VERSION_MINOR 1
+#define SUPERIO_VERSION_MINOR 2
 #define SUPERIO_VERSION_PATCH 0
-#define SUPERIO_VERSION "0.1.0"
+#define SUPERIO_VERSION "0.2.0"
 
 /*
  * The binary interface that this header describes. Its number changes whenever
@@ -321,6 +321,18 @@ size_t superio_serial_fifo_capacity(const superio_serial *port)
  * interrupted again for a condition that it knows of.
  */
 uint8_t superio_serial_interrupts_due(const superio_serial *port)
+    SUPERIO_MUST_USE SUPERIO_NONNULL SUPERIO_ACCESS(read_only, 1);
+
+/*
+ * Whether the interrupt line is up: while a condition is pending that IER
+ * enables. The port does not change.
+ *
+ * If your interrupt controller takes levels, set your line to it after every
+ * call, reads among them, and raise no interrupt. The line also goes up when
+ * IER enables a condition that is pending already, for which no call asks for
+ * an interrupt.
+ */
+bool superio_serial_interrupt_line(const superio_serial *port)
     SUPERIO_MUST_USE SUPERIO_NONNULL SUPERIO_ACCESS(read_only, 1);
 
 /*

@@ -1,6 +1,6 @@
 /*
- * A monitor in small: a bus, an input loop, a refused interrupt, a clock with an alarm, and a migration. The "guest" is
- * the calls in main and in handle, and time is what main says.
+ * A monitor in small: a bus, an input loop, a refused interrupt, a clock with an alarm, a migration, and a reset. The
+ * "guest" is the calls in main and in handle, and time is what main says.
  */
 #include <ctype.h>
 #include <stdio.h>
@@ -15,6 +15,8 @@ struct machine {
     superio_serial serial;
     superio_rtc clock;
     char input[128];     /* what has not gone to the guest yet */
+    bool feeds_early;    /* input need not wait until the guest is ready: one that polls never says so */
+    bool is_ready;       /* the guest has enabled the interrupt of received data, and no other test of its port */
     bool line_is_down;   /* the interrupt line takes nothing now */
     bool was_refused;    /* the event loop is to ask for interrupts again */
     bool is_interrupted; /* the guest's handler is to run */
@@ -51,8 +53,10 @@ static void turn(struct machine *machine) {
     interrupt(machine, times);
 }
 
-/* Offers the input, and keeps what does not fit. */
+/* Offers the input once the guest is ready for it, and keeps what does not fit. */
 static void feed(struct machine *machine) {
+    if (!machine->is_ready && !machine->feeds_early)
+        return;
     size_t count = strlen(machine->input);
     superio_serial_enqueue_effects done =
         superio_serial_enqueue(&machine->serial, (const uint8_t *)machine->input, count);
@@ -65,17 +69,37 @@ static void print_output(uint8_t byte) {
     printf(isprint(byte) && byte != '\\' ? "output: %c\n" : "output: \\x%02x\n", byte);
 }
 
+/* What follows each access of the clock: its line is a level, and a timer has to go off when the alarm is due. */
+static void follow_clock(const struct machine *machine) {
+    uint64_t due = superio_rtc_due(&machine->clock, machine->now);
+    printf("clock: line %s, ", superio_rtc_line(&machine->clock) ? "up" : "down");
+    if (due == SUPERIO_RTC_NEVER)
+        puts("no alarm");
+    else
+        printf("alarm in %llu s\n", (unsigned long long)due);
+}
+
+/* Resets the machine: its devices are new. The time and the input that waits stay, until the new guest is ready. */
+static void reset(struct machine *machine) {
+    puts("reset");
+    machine->serial = superio_serial_new();
+    machine->clock = superio_rtc_new();
+    machine->is_ready = machine->was_refused = machine->is_interrupted = false;
+    follow_clock(machine);
+}
+
 /* The guest's `out`. */
 static void port_write(struct machine *machine, uint16_t port, uint8_t value) {
     if (port == SUPERIO_I8042_DATA_PORT || port == SUPERIO_I8042_COMMAND_PORT) {
         if (superio_i8042_write((uint8_t)(port - SUPERIO_I8042_DATA_PORT), value).resets)
-            puts("reset");
+            reset(machine);
     } else if (port >= COM1 && port < COM1 + SUPERIO_SERIAL_PORTS) {
         superio_serial_write_effects done = superio_serial_write(&machine->serial, (uint8_t)(port - COM1), value);
         if (done.sends)
             print_output(value);
         interrupt(machine, done.interrupts);
-        if (port == COM1 + 4) /* loopback may have ended */
+        machine->is_ready |= (machine->serial.interrupt_enable & 0x03) == 0x01; /* RDA, and THRE not */
+        if (port == COM1 + 1 || port == COM1 + 4) /* the guest may be ready now, or have left loopback */
             feed(machine);
     }
 }
@@ -94,21 +118,13 @@ static uint8_t port_read(struct machine *machine, uint16_t port) {
     return done.byte;
 }
 
-/* What follows each access of the clock: its line is a level, and a timer has to go off when the alarm is due. */
-static void follow_clock(const struct machine *machine) {
-    uint64_t due = superio_rtc_due(&machine->clock, machine->now);
-    printf("clock: line %s, ", superio_rtc_line(&machine->clock) ? "up" : "down");
-    if (due == SUPERIO_RTC_NEVER)
-        puts("no alarm");
-    else
-        printf("alarm in %llu s\n", (unsigned long long)due);
-}
-
-/* The guest writes four bytes to memory. */
+/* The guest writes four bytes to memory. A driver that starts the clock, by RTCCR, would reset the time that was set. */
 static void memory_write(struct machine *machine, uint64_t address, uint32_t value) {
     if (address < CLOCK || address - CLOCK >= SUPERIO_RTC_WINDOW)
         return;
-    superio_rtc_write(&machine->clock, (uint16_t)(address - CLOCK), value, machine->now);
+    uint16_t offset = (uint16_t)(address - CLOCK);
+    if (offset != 0x00C)
+        superio_rtc_write(&machine->clock, offset, value, machine->now);
     follow_clock(machine);
 }
 
@@ -123,7 +139,8 @@ static struct machine migrate(const struct machine *machine) {
     uint8_t serial[SUPERIO_SERIAL_SAVED_MAX], clock[SUPERIO_RTC_SAVED_SIZE];
     size_t count = superio_serial_save(&machine->serial, serial);
     superio_rtc_save(&machine->clock, clock);
-    struct machine other = {.now = machine->now};
+    struct machine other = {
+        .now = machine->now, .is_ready = machine->is_ready, .feeds_early = machine->feeds_early};
     strcpy(other.input, machine->input);
     check(superio_serial_load(&other.serial, serial, count) == SUPERIO_LOAD_OK, "loading the serial port");
     check(superio_rtc_load(&other.clock, clock, sizeof clock) == SUPERIO_LOAD_OK, "loading the clock");
@@ -147,8 +164,11 @@ int main(void) {
     struct machine machine = {.serial = superio_serial_new(), .clock = superio_rtc_new(), .now = 1000};
 
     memset(machine.input, 'x', 100);
-    port_write(&machine, COM1 + 4, 0x18); /* the guest tests its port in loopback, so no input goes in */
     feed(&machine);
+    printf("%zu of 100 bytes wait for the guest\n", strlen(machine.input));
+    port_write(&machine, COM1 + 4, 0x18); /* loopback, in which no input goes in, */
+    port_write(&machine, COM1 + 1, 0x01); /* although the guest is ready for it now */
+    port_write(&machine, COM1 + 1, 0x00);
     printf("%zu of 100 bytes wait in loopback\n", strlen(machine.input));
     port_write(&machine, COM1 + 4, 0x08);
     printf("%zu of 100 bytes wait after it\n", strlen(machine.input));

@@ -169,7 +169,6 @@ def assertions():
 
 
 def versions():
-    """What the header has to have: the number of the binary interface, and the version that CHANGELOG.md begins with."""
+    """What the header has to have: the number of the binary interface, and the version of the file VERSION."""
     abi = next(found[1] for text in sources() if (found := re.search(r"^const ABI: u32 = (\d+);", text, re.M)))
-    changes = (ROOT / "CHANGELOG.md").read_text(encoding="utf-8")
-    return abi, re.search(r"^## (\d+\.\d+\.\d+)", changes, re.M)[1]
+    return abi, (ROOT / "VERSION").read_text(encoding="ascii").strip()

@@ -1,19 +1,16 @@
-"""The libraries that the repository holds, and what tools/c/install makes of them."""
-import os
+"""The libraries that the repository holds."""
 import re
-import sys
 import tempfile
 from pathlib import Path
 
 from declarations import declared, differences, versions
-from libraries import (HEADER, NEEDS_KIT, PREBUILT, ROOT, SHARED, STATIC, TARGETS, BuildError, build, host_target,
-                       source_line, sums_of)
-from programs import DEMO, check_demo
+from libraries import (HEADER, PREBUILT, SHARED, STATIC, TARGETS, BuildError, build, library_sums, source_line,
+                       sums_of)
+from programs import DEMO
 from tally import run
 
 # What the libraries may need: a compiler copies structs by it, so each C program has it.
 NEEDED = {"memcpy"}
-INSTALL = ROOT / "tools" / "c" / "install"
 # The number that the header of an object file gives to a processor.
 PROCESSORS = {"aarch64-linux": 183, "x86_64-linux": 62}
 
@@ -21,9 +18,11 @@ PROCESSORS = {"aarch64-linux": 183, "x86_64-linux": 62}
 def check_prebuilt(tally):
     """Counts whether the libraries are those of SHA256SUMS, and of the sources as they are."""
     try:
-        sums, line = ((PREBUILT / name).read_text(encoding="ascii") for name in ("SHA256SUMS", "SOURCES"))
-        tally.check(sums == sums_of(PREBUILT), "prebuilt/SHA256SUMS has other sums than the files")
-        tally.check(line == source_line(), "prebuilt was built from other sources: run tools/c/prebuild")
+        sums, lines = ((PREBUILT / name).read_text(encoding="ascii").splitlines() for name in ("SHA256SUMS", "SOURCES"))
+        files = [path.relative_to(PREBUILT).as_posix() for path in PREBUILT.glob("*/*")]
+        tally.check(sorted(sums) == sorted(sums_of(PREBUILT, files)), "prebuilt/SHA256SUMS has other sums than the files")
+        tally.check(set(library_sums(PREBUILT)) <= set(sums), "prebuilt/SHA256SUMS lacks a library")
+        tally.check(source_line() in lines, "prebuilt was built from other sources: run tools/c/prebuild")
     except OSError as error:
         tally.check(False, f"prebuilt is not whole: {error}")
 
@@ -92,39 +91,7 @@ def check_versions(tally):
     parts = re.findall(r"^#define SUPERIO_VERSION_(MAJOR|MINOR|PATCH) (\d+)$", text, re.M)
     wanted = list(zip(["MAJOR", "MINOR", "PATCH"], version.split(".")))
     tally.check(parts == wanted, f"the header's numbers are not {version}")
-    tally.check(f'\n#define SUPERIO_VERSION "{version}"\n' in text, f"SUPERIO_VERSION is not {version}, of CHANGELOG.md")
-
-
-def check_installed_files(tally, machine, prefix):
-    """Counts whether an installation has the files of the repository."""
-    for source, place in ((machine.library, "lib"), (machine.library.parent / SHARED, "lib"), (HEADER, "include"),
-                          (ROOT / "LICENSE", "share/licenses/superio")):
-        installed = prefix / place / source.name
-        tally.check(has_same_bytes(installed, source), f"{installed} is not {source}")
-
-
-def check_installed_demo(tally, machine, prefix, folder):
-    """Counts whether pkg-config knows an installation, and the demo builds with it."""
-    if not all(tally.has(tool, "the installed demo") for tool in ("pkg-config", "make", "cc")):
-        return
-    environment = dict(os.environ, PKG_CONFIG_PATH=str(prefix / "lib" / "pkgconfig"))
-    found = run(["pkg-config", "--modversion", "superio"], env=environment).stdout.strip()
-    tally.check(found == versions()[1], f"pkg-config says version {found}")
-    flags = run(["pkg-config", "--cflags", "--libs", "superio"], env=environment).stdout.strip()
-    check_demo(tally, "the installed demo", [f"FLAGS={flags}"], machine, folder)
-
-
-def check_install(tally, machine, folder):
-    """Counts what an installation has, and what an installation from the proofs says without the kit."""
-    prefix = folder / "prefix"
-    ran = run([sys.executable, INSTALL, "--prove", prefix], env=dict(os.environ, PATH=""))
-    tally.check((ran.returncode, ran.stdout) == (1, f"tools/c/install: {NEEDS_KIT}\n"),
-                f"tools/c/install --prove without rt: status {ran.returncode}\n{ran.stdout}")
-    if host_target() is None:
-        tally.skip("a library for this processor", "an installation")
-    elif tally.run("tools/c/install", [INSTALL, prefix], ""):
-        check_installed_files(tally, machine, prefix)
-        check_installed_demo(tally, machine, prefix, folder)
+    tally.check(f'\n#define SUPERIO_VERSION "{version}"\n' in text, f"SUPERIO_VERSION is not {version}, of VERSION")
 
 
 def check_missing_library(tally, folder):

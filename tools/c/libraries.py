@@ -14,7 +14,7 @@ PREBUILT = ROOT / "prebuilt"
 HEADER = ROOT / "include" / "superio.h"
 
 STATIC = "libsuperio_c.a"
-SHARED = "libsuperio.so.0"
+SHARED = "libsuperio.so.3"
 # Beside each folder of `prebuilt`: what `rt lib` is told to build for, and the linker's name of it. The host's is last,
 # so that it is what `out/` keeps.
 TARGETS = {
@@ -34,18 +34,29 @@ def digest(path):
     return hashlib.sha256(path.read_bytes()).hexdigest()
 
 
-def sums_of(folder):
-    """The text of SHA256SUMS for the libraries of a folder, as `sha256sum --check` reads it."""
-    names = [f"{target}/{name}" for target in sorted(TARGETS) for name in (STATIC, SHARED)]
-    return "".join(f"{digest(folder / name)}  {name}\n" for name in names)
+def sums_of(folder, names):
+    """The lines of SHA256SUMS for files of a folder, as `sha256sum --check` reads them."""
+    return [f"{digest(folder / name)}  {name}" for name in names]
 
 
-def source_line():
-    """What SOURCES says: the digest of what `sha256sum` prints of the sources, in the order of their paths."""
-    paths = sorted(path for folder in SOURCE_FOLDERS for path in (ROOT / folder).rglob("*.rt"))
+def library_sums(folder):
+    """The lines of SHA256SUMS for the libraries of a folder."""
+    return sums_of(folder, [f"{target}/{name}" for target in TARGETS for name in (STATIC, SHARED)])
+
+
+def source_line(folders=SOURCE_FOLDERS, ending=".rt"):
+    """A line of SOURCES: the digest of what `sha256sum` prints of the sources, in the order of their paths."""
+    paths = sorted(path for folder in folders for path in (ROOT / folder).rglob(f"*{ending}"))
     names = sorted(path.relative_to(ROOT).as_posix() for path in paths)
     listing = "".join(f"{digest(ROOT / name)}  {name}\n" for name in names)
-    return f"{hashlib.sha256(listing.encode()).hexdigest()}  the sources in {' and '.join(SOURCE_FOLDERS)}\n"
+    return f"{hashlib.sha256(listing.encode()).hexdigest()}  the sources in {' and '.join(folders)}"
+
+
+def replace_lines(path, lines):
+    """Writes lines of a digest and a name into a file, in the place of those with the same names."""
+    old = path.read_text(encoding="ascii").splitlines() if path.exists() else []
+    by_name = {line.partition("  ")[2]: line for line in [*old, *lines]}
+    path.write_text("".join(line + "\n" for line in by_name.values()), encoding="ascii")
 
 
 def host_target():
@@ -76,7 +87,8 @@ def linker():
 
 
 def link_shared(static, emulation, shared):
-    command = [linker(), "-shared", "-m", emulation, "-soname", SHARED, "--whole-archive", static, "-o", shared]
+    command = [linker(), "-shared", "--build-id=sha1", "-z", "now", "-m", emulation, "-soname", SHARED,
+               "--whole-archive", static, "-o", shared]
     ran = subprocess.run(command, stdout=subprocess.PIPE, stderr=subprocess.STDOUT, text=True)
     if ran.returncode != 0:
         raise BuildError(f"linking {SHARED} failed: {ran.stdout}")
@@ -95,5 +107,5 @@ def build(folder):
         shutil.copyfile(built, place / STATIC)
         link_shared(place / STATIC, emulation, place / SHARED)
     shutil.rmtree(log.parent)
-    (folder / "SHA256SUMS").write_text(sums_of(folder), encoding="ascii")
-    (folder / "SOURCES").write_text(source_line(), encoding="ascii")
+    replace_lines(folder / "SHA256SUMS", library_sums(folder))
+    replace_lines(folder / "SOURCES", [source_line()])

@@ -32,6 +32,7 @@ def warned(compiler, number):
 def check_misuse(tally):
     """Counts whether each compiler warns of each mistake, and of nothing else."""
     for place, compiler in enumerate(COMPILERS):
+        tally.of(f"mistakes and right calls under {compiler.name}")
         if not tally.has(compiler.name, "warnings of misuse"):
             continue
         with ThreadPoolExecutor() as pool:

@@ -1,5 +1,6 @@
 """The programs that are built with the C library: tests, the comparison with a model, and the demo."""
 import random
+import re
 import shutil
 
 from declarations import assertions
@@ -9,6 +10,12 @@ from tally import run
 
 TESTS = ROOT / "tools" / "c" / "tests"
 DEMO = ROOT / "examples" / "c"
+# What the examples beside the monitor print.
+EXAMPLES = {
+    "paste": "1000 bytes in 16 pieces, in order\n",
+    "lines": "edges: 1000 bytes received, and after an unmasking none\n"
+             "level: 1000 bytes received, and after an unmasking an interrupt\n",
+}
 CALLS = 1000000
 SANITIZERS = ["-g", "-O1", "-fsanitize=address,undefined", "-fno-sanitize-recover=all"]
 # A library whose number is another by DIFFERENCE.
@@ -85,23 +92,36 @@ def fuzz_build(machine, compiler, program):
 def check_fuzz(tally, machine, folder):
     """Counts whether a million random calls do what the model does."""
     compiler = next((it for it in machine.compilers if it.language == C and shutil.which(it.name)), machine.compilers[0])
+    tally.of(f"random calls for {machine.target}")
     if machine.can(tally, compiler, "random calls"):
         program = folder / "fuzz"
-        if tally.run("the comparison with the model is built", fuzz_build(machine, compiler, program)):
+        if tally.run("the comparison with the model is built", fuzz_build(machine, compiler, program), number=0):
             command = [*machine.runner, program, str(CALLS), "1"]
-            tally.run(f"random calls for {machine.target}", command, f"{CALLS} calls\n")
+            tally.run(tally.kind, command, f"{CALLS} calls\n", CALLS)
 
 
 def check_pastes(tally, machine, folder):
     """Counts whether pastes reach the guests whole with the character timeout, and get stuck without it."""
     program, seed = folder / "pastes", str(random.randrange(10**9))
+    tally.of(f"pastes for {machine.target}")
     for compiler in machine.compilers:
         if compiler.language != C or not machine.can(tally, compiler, "pastes"):
             continue
-        what = f"pastes for {machine.target} under {compiler.name}"
-        if tally.run(f"{what} are built", machine.program(compiler, [TESTS / "pastes.c"], program, watched(machine))):
+        build = machine.program(compiler, [TESTS / "pastes.c"], program, watched(machine))
+        if tally.run(f"{tally.kind} under {compiler.name} are built", build, number=0):
             for options in ([], ["--without-timeout"]):
-                tally.run(" ".join([what, *options]), [*machine.runner, program, *options, seed])
+                ran = run([*machine.runner, program, *options, seed])
+                tally.check(ran.returncode == 0, f"{tally.kind} under {' '.join([compiler.name, *options])}:\n{ran.stdout}",
+                            sum(map(int, re.findall(r"(\d+) pastes", ran.stdout))))
+
+
+def check_examples(tally, compiler, machine, folder):
+    """Counts whether the examples of a paste, which is more than the FIFO holds, reach the guest whole: by polling, and by
+    interrupts of both kinds."""
+    for name, printed in EXAMPLES.items():
+        what = f"{name}.c for {machine.target} under {compiler.name}"
+        build = machine.program(compiler, [DEMO / f"{name}.c"], folder / name, ["-O1"])
+        build_and_run(tally, what, build, folder / name, printed, machine.runner)
 
 
 def check_demo(tally, what, make, machine, folder):
@@ -117,6 +137,9 @@ def check_demo(tally, what, make, machine, folder):
 def check_demos(tally, machine, folder):
     """Counts what the demo does with the library of the repository."""
     for compiler in machine.compilers:
-        if compiler.language == C and machine.can(tally, compiler, "the demo") and tally.has("make", "the demo"):
+        if compiler.language != C or not machine.can(tally, compiler, "the demo"):
+            continue
+        check_examples(tally, compiler, machine, folder)
+        if tally.has("make", "the demo"):
             make = [f"CC={' '.join([compiler.name, *machine.options])}", f"ROOT={ROOT}", f"LIBRARY={machine.library}"]
             check_demo(tally, f"the demo for {machine.target} under {compiler.name}", make, machine, folder)

@@ -159,20 +159,33 @@ static void serial_timeout(void)
     strcpy(reply, ask(superio_serial_character_timeout(&port)) ? "ok" : "trigger");
 }
 
+/* Raises what is pending and enabled, up to the first refusal. A refusal changes nothing. */
+static bool raise_due(void)
+{
+    int due = superio_serial_interrupts_due(&port);
+
+    while (due > 0 && trigger())
+        due--;
+    return due == 0;
+}
+
+static void serial_retry(void)
+{
+    strcpy(reply, raise_due() ? "ok" : "trigger");
+}
+
 /* A port takes the place of this one if its interrupts are not refused. */
 static void serial_restore(superio_serial restored)
 {
     superio_serial before = port;
 
     port = restored;
-    for (int due = superio_serial_interrupts_due(&port); due > 0; due--) {
-        if (!trigger()) {
-            port = before;
-            strcpy(reply, "trigger");
-            return;
-        }
+    if (raise_due()) {
+        reply_port();
+        return;
     }
-    reply_port();
+    port = before;
+    strcpy(reply, "trigger");
 }
 
 static void serial_load(const char *registers, const char *digits)
@@ -233,8 +246,12 @@ static void make(const char *name, char **word)
         serial_enqueue(word[0]);
     else if (strcmp(name, "si") == 0)
         serial_timeout();
+    else if (strcmp(name, "sp") == 0)
+        serial_retry();
     else if (strcmp(name, "sc") == 0)
         sprintf(reply, "%02zx", superio_serial_fifo_capacity(&port));
+    else if (strcmp(name, "sh") == 0)
+        sprintf(reply, "%02x", superio_serial_interrupt_line(&port));
     else if (strcmp(name, "ss") == 0)
         serial_restore(port);
     else if (strcmp(name, "sl") == 0)

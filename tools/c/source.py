@@ -12,7 +12,9 @@ sys.path.insert(0, str(ROOT / "tools"))
 from toolchains import toolchain_for  # noqa: E402
 
 CRATE = ROOT / "bindings" / "rust" / "capi"
-CHECKS = (check_calls, check_fuzz, check_pastes, check_demos)
+# What a machine runs, each with the name of its kind.
+CHECKS = {check_calls: "checks of calls", check_fuzz: "random calls", check_pastes: "pastes",
+          check_demos: "checks of demos"}
 # What a compiler calls to copy and to clear memory.
 NEEDED = {"memcpy", "memmove", "memset"}
 # Beside each target of Rust: the cross compiler of Debian, and the name that qemu gives to the processor.
@@ -63,21 +65,39 @@ def dynamic_symbols(shared):
 
 def check_machine(tally, one, folder):
     """Counts the checks of a machine whose library is there. The model counts in 128 bits, which C has where it has 64."""
-    for check in CHECKS:
+    for check, kind in CHECKS.items():
+        tally.of(f"{kind} for {one.target}")
         if check is check_fuzz and one.is_narrow:
             tally.skip("a C compiler with numbers of 128 bits", f"random calls for {one.target}")
         else:
             check(tally, one, folder)
 
 
+def leave_out(tally, target):
+    """Names what cannot run, since there is no library for a target."""
+    for kind in CHECKS.values():
+        tally.tried.leave_out(f"{kind} for {target} from source")
+    if target in OTHERS:
+        tally.tried.leave_out(f"builds of bindings/rust/capi for {target}")
+
+
 def check_source(tally, folder):
     """Counts whether the library from source does what the header says: on this processor, and on the others that can be
     emulated."""
-    check_own(tally, folder / "capi")
     host = host_target()
+    if not tally.has("cc", "the library from source"):  # by which Cargo links programs
+        for target in [*([host] if host else []), *OTHERS]:
+            leave_out(tally, target)
+        return
+    check_own(tally, folder / "capi")
     if host and (built := build(tally, HOSTS[host], folder / "capi")):
         check_machine(tally, replace(machine(host), target=f"{host} from source", built=built / STATIC), folder)
+    elif host:
+        leave_out(tally, host)
     for target, (compiler, processor) in OTHERS.items():
+        tally.of(f"builds of bindings/rust/capi for {target}")
         if built := build(tally, target, folder / "capi"):
             one = emulated(f"{target} from source", compiler, processor, built / STATIC)
             check_machine(tally, replace(one, is_narrow=processor == "arm"), folder)
+        else:
+            leave_out(tally, target)

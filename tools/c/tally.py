@@ -1,6 +1,11 @@
 """What a check passed, failed and could not run."""
 import shutil
 import subprocess
+import sys
+from pathlib import Path
+
+sys.path.insert(0, str(Path(__file__).resolve().parent.parent))
+from tried import Tried  # noqa: E402
 
 LIMIT = 300  # seconds, after which a program counts as one that does not end
 
@@ -15,14 +20,20 @@ def run(command, **options):
 
 
 class Tally:
-    """Counts checks, and prints what failed and what is missing."""
+    """Counts checks by their kind, and prints what failed and what is missing."""
 
-    def __init__(self):
+    def __init__(self, kind="checks"):
         self.passed = self.failed = self.skipped = 0
         self.missing = set()
+        self.tried, self.kind = Tried(), kind
 
-    def check(self, is_good, message):
-        """Counts a check. The message says what failed."""
+    def of(self, kind):
+        """Names the kind of what is counted from now on."""
+        self.kind = kind
+
+    def check(self, is_good, message, number=1):
+        """Counts a check, which tries so many of its kind. The message says what failed."""
+        self.tried.add(self.kind, number)
         self.passed += bool(is_good)
         self.failed += not is_good
         if not is_good:
@@ -32,6 +43,7 @@ class Tally:
     def skip(self, missing, what):
         """Counts a check that cannot run, for want of something that is named once."""
         self.skipped += 1
+        self.tried.leave_out(self.kind)
         if missing not in self.missing:
             self.missing.add(missing)
             print(f"skipped: {missing} is not there, for {what} and perhaps more")
@@ -43,13 +55,14 @@ class Tally:
         self.skip(tool, what)
         return False
 
-    def run(self, what, command, expected=None, **options):
-        """Counts whether a command succeeds and, if a text is expected, prints that. Returns whether it does."""
+    def run(self, what, command, expected=None, number=1, **options):
+        """Counts whether a command succeeds and, if a text is expected, prints that. It tries so many of its kind. Returns
+        whether it does."""
         ran = run(command, **options)
         return self.check(ran.returncode == 0 and expected in (None, ran.stdout),
-                          f"{what}: status {ran.returncode}\n{ran.stdout}")
+                          f"{what}: status {ran.returncode}\n{ran.stdout}", number)
 
-    def line(self):
-        """The sum, as the last line of each check of the repository."""
+    def summary(self):
+        """What was tried of each kind, and the sum, as the last lines of each check of the repository."""
         skipped = f", {self.skipped} skipped" if self.skipped else ""
-        return f"{self.passed} passed, {self.failed} failed{skipped}"
+        return "\n".join([*self.tried.lines(), f"{self.passed} passed, {self.failed} failed{skipped}"])

@@ -162,10 +162,11 @@ static void interrupts(void) {
     superio_serial port = superio_serial_new();
     CHECK(superio_serial_enqueue(&port, (const uint8_t *)"x", 1).interrupts == 0);
     CHECK(write_at(&port, 1, 0x03).interrupts == 2 && port.interrupt_identification == 0x06);
-    CHECK(superio_serial_interrupts_due(&port) == 2);
+    CHECK(superio_serial_interrupts_due(&port) == 2 && superio_serial_interrupt_line(&port));
     superio_serial_write_effects done = write_at(&port, 0, '!');
     CHECK(done.sends && done.interrupts == 0 && superio_serial_interrupts_due(&port) == 2);
     CHECK(read_at(&port, 2) == 0xC6 && superio_serial_interrupts_due(&port) == 0);
+    CHECK(!superio_serial_interrupt_line(&port));
     done = write_at(&port, 0, '!');
     CHECK(done.sends && done.interrupts == 1 && superio_serial_interrupts_due(&port) == 1);
     CHECK(read_at(&port, 2) == 0xC2 && superio_serial_is_coherent(&port));

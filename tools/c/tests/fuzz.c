@@ -158,6 +158,7 @@ static void time_out(void) {
 static void ask_port(void) {
     must(superio_serial_fifo_capacity(port) == 64 - model.held, "superio_serial_fifo_capacity");
     must(superio_serial_interrupts_due(port) == model_interrupts_due(&model), "superio_serial_interrupts_due");
+    must(superio_serial_interrupt_line(port) == model_interrupt_line(&model), "superio_serial_interrupt_line");
     must(superio_serial_is_coherent(port) == (port->len <= 64 && model_is_coherent(&model)),
          "superio_serial_is_coherent");
     reached[ASK_PORT]++;

@@ -138,6 +138,11 @@ uint8_t model_interrupts_due(const struct model_port *port) {
     return (uint8_t)((enable & 0x01 && pending & 0x04) + (enable & 0x02 && pending & 0x02));
 }
 
+bool model_interrupt_line(const struct model_port *port) {
+    uint8_t enable = port->registers[IER], pending = port->registers[IIR];
+    return (enable & 0x01 && pending & 0x04) || (enable & 0x02 && pending & 0x02);
+}
+
 bool model_is_coherent(const struct model_port *port) {
     uint8_t pending = port->registers[IIR];
     return (pending == 1 || pending == 2 || pending == 4 || pending == 6) && (port->held > 0 || !(pending & 0x04)) &&

@@ -24,6 +24,7 @@ superio_serial_write_effects model_write(struct model_port *port, uint8_t offset
 superio_serial_enqueue_effects model_enqueue(struct model_port *port, const uint8_t *bytes, size_t count);
 uint8_t model_character_timeout(struct model_port *port);
 uint8_t model_interrupts_due(const struct model_port *port);
+bool model_interrupt_line(const struct model_port *port);
 bool model_is_coherent(const struct model_port *port);
 size_t model_save(const struct model_port *port, uint8_t *bytes);
 uint32_t model_load(struct model_port *port, const uint8_t *bytes, size_t count);

@@ -3,8 +3,9 @@
  *
  *     pastes [--without-timeout] SEED
  *
- * The monitor follows the rules of superio.h. It offers input when bytes arrive
- * and when a read reports in_buffer_empty. It calls
+ * The monitor follows the rules of superio.h. For one half of the pastes it raises
+ * edges, and for the other half its line is superio_serial_interrupt_line. It
+ * offers input when bytes arrive and when a read reports in_buffer_empty. It calls
  * superio_serial_character_timeout after each read of IIR whose answer says
  * that nothing is pending, and once in each turn of its event loop. Every paste
  * must reach its guest whole and in order.
@@ -45,7 +46,8 @@ struct machine {
     const struct guest *guest;
     struct tally *tally;
     bool has_timeout;       /* whether the monitor makes the call */
-    unsigned interrupts;    /* raised, and not yet served by the guest */
+    bool is_level;          /* whether the guest's interrupt controller looks at the level of the line, or takes edges */
+    unsigned interrupts;    /* edges that were raised, and not yet served by the guest */
     unsigned long accesses; /* how many the guest may still make, so that each loop ends */
     uint64_t pace;          /* bytes arrive at one in so many accesses */
     uint8_t text[LONGEST];  /* the paste, */
@@ -179,13 +181,18 @@ static bool random_handler(struct machine *machine) {
     return true;
 }
 
-/* The guest serves its interrupts. They are edges: all that are raised before a handler begins are one. */
+/* Whether the guest is interrupted. All edges that are raised before a handler begins are one. */
+static bool is_interrupted(struct machine *machine) {
+    bool has_edge = machine->interrupts > 0;
+    machine->interrupts = 0;
+    return machine->is_level ? superio_serial_interrupt_line(&machine->port) : has_edge;
+}
+
+/* The guest serves its interrupts. */
 static bool serve_interrupts(struct machine *machine) {
     bool has_looked = true;
-    while (machine->interrupts > 0) {
-        machine->interrupts = 0;
+    while (is_interrupted(machine))
         has_looked = machine->guest->handler(machine);
-    }
     return has_looked;
 }
 
@@ -246,7 +253,7 @@ static const struct guest GUESTS[] = {
 };
 enum { GUEST_COUNT = sizeof GUESTS / sizeof *GUESTS };
 
-/* Each guest gets every third paste. */
+/* Each guest gets every third paste, by edges and by the level of the line in turn. */
 static bool paste_all(uint64_t seed, bool has_timeout) {
     static struct machine machine;
     struct tally tallies[GUEST_COUNT] = {{0}};
@@ -256,6 +263,7 @@ static bool paste_all(uint64_t seed, bool has_timeout) {
         state = (seed * PASTES + i) * 0x9E3779B97F4A7C15 | 1;
         machine.guest = &GUESTS[i % GUEST_COUNT];
         machine.tally = &tallies[i % GUEST_COUNT];
+        machine.is_level = i / GUEST_COUNT % 2 == 1;
         paste(&machine);
     }
     for (unsigned i = 0; i < GUEST_COUNT; i++) {

@@ -1,0 +1,219 @@
+/** What a call did and by which rule, in sentences. docs/DEVICES.md has the rules, and a sentence names its part. */
+import { SERIAL, clockRegister, serialRegister } from "../registers.mjs";
+import { hex } from "./board.mjs";
+
+const LOOP = 0x10;
+// Each condition with its bit of IIR, its bit of IER, and what acknowledges it.
+export const CONDITIONS = [["RDA", 0x04, 0x01, "A read of IIR or of RBR acknowledges it."],
+  ["THRE", 0x02, 0x02, "A read of IIR acknowledges it."]];
+
+export const plural = (count, noun) => `${count.toLocaleString("en")} ${noun}${count === 1 ? "" : "s"}`;
+
+/** A byte as a character in quotes, or its number. */
+export const quoted = (byte) => byte > 31 && byte < 127 ? `"${String.fromCharCode(byte)}"` : `0x${hex(byte, 2)}`;
+
+/** A second of 1970 to 2106 as a date and time of UTC. */
+export const dateOf = (seconds) => new Date(seconds * 1000).toISOString().replace("T", " ").slice(0, 19);
+
+/** The names of the bits that are set. LCR begins with the character format, as 8N1. */
+export function bitNames(register, value) {
+  const names = register.bits.filter(([bit]) => value & bit).map(([, name]) => name);
+  if (register.name === "LCR") names.unshift(lineFormat(value));
+  if (register.name === "IIR" && !names.length && value & 0x01) names.push("none");
+  return names;
+}
+
+export function lineFormat(value) {
+  return `${5 + (value & 3)}${value & 0x08 ? "OEMS"[(value >> 4) & 3] : "N"}${value & 0x04 ? 2 : 1}`;
+}
+
+const isPending = (board, bit) => (board.serial.state.interruptIdentification & bit) !== 0;
+
+/** What the interrupt line answered, as the end of a sentence. */
+function asked({ before, after }) {
+  if (!after.answers.length) return "";
+  const raised = CONDITIONS.filter(([, bit]) => isPending(after, bit) && !isPending(before, bit)).map(([name]) => name);
+  const pending = CONDITIONS.filter(([, bit]) => isPending(after, bit)).map(([name]) => name);
+  const names = raised.length ? raised : pending;
+  const answers = after.answers.map((isTaken, place) => `${names[place] ?? "it"}${isTaken ? "" : " refused"}`);
+  return `; interrupt for ${answers.join(", ")}`;
+}
+
+const readRules = {
+  RBR: ["RBR gives the oldest byte, or 0 if none is held. The read acknowledges RDA, even if bytes are left: they " +
+    "wait until another byte arrives, IER is written, or the monitor makes a character timeout.",
+  "reading-and-writing-data"],
+  IIR: ["IIR has a bit for each pending condition, and the read acknowledges both.", "interrupts"],
+  LSR: ["Bit 0x01 says that a byte is held. 0x20 and 0x40 are always set: each byte is sent at once.", "registers"],
+  MSR: ["No access changes MSR. In loopback it shows the outputs of MCR.", "registers"],
+  MCR: ["MCR keeps what was written. Bit 0x10 is loopback.", "registers"],
+};
+const writeRules = {
+  THR: ["A byte for THR goes to the writer at once. Then THRE is raised, whatever becomes of the byte.",
+    "reading-and-writing-data"],
+  IER: ["A write to IER raises each condition that holds and is enabled: RDA if bytes are held, and THRE always. It " +
+    "never withdraws one that is pending.", "interrupts"],
+  LCR: ["LCR keeps what was written. Bit 0x80, DLAB, puts the divisor at offsets 0 and 1.", "registers"],
+  MCR: ["MCR keeps what was written. Bit 0x10 is loopback: bytes for THR then come back into the FIFO.",
+    "reading-and-writing-data"],
+  DLL: ["The divisor is kept. It has no effect: a byte takes no time.", "registers"],
+  DLM: ["The divisor is kept. It has no effect: a byte takes no time.", "registers"],
+  SCR: ["The scratch register keeps what was written. Drivers find the port by it.", "registers"],
+};
+const IGNORED = ["This write is ignored: it succeeds, and changes nothing.", "registers"];
+const LOOPED = ["In loopback a byte for THR is received: it goes into the FIFO, and raises RDA.",
+  "reading-and-writing-data"];
+const KEPT = ["The register shows what was written last.", "registers"];
+const NOWHERE = ["No register is at this offset: it reads as 0.", "registers"];
+const alarmRule = "Any access first finds an alarm that is due, and raises bit 0 of RIS.";
+const clockRules = {
+  DR: ["Guest time is the host's time plus the clock's offset.", "the-clock"],
+  MR: ["A match after guest time sets the alarm. A match of guest time itself raises the interrupt at once.",
+    "the-alarm"],
+  LR: ["A load makes guest time the value: the offset becomes the value less the host's time.", "the-clock"],
+  CR: ["The clock always runs. A write of 1 resets it, and guest time is the host's again.", "the-clock"],
+  IMSC: ["The mask keeps bit 0. The interrupt line is up while RIS and the mask have it.", "the-alarm"],
+  RIS: [`Raw interrupt status. ${alarmRule}`, "the-alarm"],
+  MIS: [`RIS under the mask, as the interrupt line shows. ${alarmRule}`, "the-alarm"],
+  ICR: ["The write clears in RIS the bits that the value has.", "the-clock"],
+};
+const otherRules = {
+  sq: ["Bytes arrive for the guest: as many of the first as fit, and in loopback none. They raise RDA.",
+    "reading-and-writing-data"],
+  si: ["A character timeout raises RDA again for bytes that are held, if IER enables it and it is not pending.",
+    "the-character-timeout"],
+  sd: ["The guest's driver reads RBR while LSR shows data ready.", "reading-and-writing-data"],
+  ss: ["A restore asks for the interrupt once for each condition that is pending and enabled. If that is refused, " +
+    "the old port stays.", "saving-and-restoring"],
+  sl: ["A saved state is taken unchanged. The restore then asks for each condition that is pending and enabled.",
+    "saving-and-restoring"],
+  sb: ["A port is saved as its nine registers and the held bytes. No byte that the guest has read is in it.",
+    "saving-and-restoring"],
+  cb: ["A clock is saved as its registers, its offset and its alarm.", "the-clock"],
+  cl: ["Any numbers may be restored, and reads show them.", "the-clock"],
+  kr: ["Every read of the controller gives 0.", "the-reset-controller"],
+  kw: ["0xFE at offset 4 resets the machine. Any other write has no effect.", "the-reset-controller"],
+};
+
+/** The rule of a call as a sentence, and the heading of docs/DEVICES.md where it stands. */
+export function ruleOf({ command: { name, values }, before }) {
+  const { lineControl, modemControl } = before.serial.state;
+  if (name === "sr") {
+    const register = serialRegister(values[0], lineControl, false);
+    return register ? readRules[register.name] ?? KEPT : NOWHERE;
+  }
+  if (name === "sw") {
+    const register = serialRegister(values[0], lineControl, true);
+    return register?.name === "THR" && modemControl & LOOP ? LOOPED : writeRules[register?.name] ?? IGNORED;
+  }
+  if (name === "cr" || name === "cw") {
+    const register = clockRegister(values[1]);
+    return clockRules[register?.name] ?? [register ? "It names the chip: a driver looks for it." :
+      "Nothing is here: the access is invalid.", "the-clock"];
+  }
+  return otherRules[name] ?? ["The board tells what it counted.", "the-serial-port"];
+}
+
+function toldOfRead(call) {
+  const { lineControl, inBuffer } = call.before.serial.state;
+  const register = serialRegister(call.command.values[0], lineControl, false);
+  const value = parseInt(call.reply, 16);
+  const name = register?.name ?? `offset 0x${hex(call.command.values[0], 2)}`;
+  const byte = quoted(value);
+  const names = name === "RBR" ? (!inBuffer.length ? "no byte was held" : byte.startsWith("0x") ? "" : byte) :
+    register ? bitNames(register, value).join(" ") : "";
+  return `${name} = 0x${call.reply}  ${names}`.trim();
+}
+
+function toldOfWrite(call) {
+  const [offset, value] = call.command.values;
+  const name = serialRegister(offset, call.before.serial.state.lineControl, true)?.name;
+  const to = `${name ?? `offset 0x${hex(offset, 2)}`} gets 0x${hex(value, 2)}`;
+  if (!name || ["FCR", "LSR", "MSR"].includes(name)) return `${to}: ignored`;
+  const why = call.after.fails ? "the writer fails" : "the output is full";
+  if (call.after.isLost) return `${quoted(value)} is lost: ${why}`;
+  return call.after.output.length > call.before.output.length ? `sent ${quoted(value)}` : to;
+}
+
+function toldOfInput(call) {
+  const [bytes] = call.command.values;
+  const { inBuffer, modemControl, interruptEnable } = call.after.serial.state;
+  const taken = inBuffer.length - call.before.serial.state.inBuffer.length;
+  const offered = call.waiting ?? bytes.length;
+  const of = taken < offered ? ` of ${offered.toLocaleString("en")}` : "";
+  const text = `${taken}${of} ${offered === 1 ? "byte" : "bytes"} received`;
+  if (taken < bytes.length) return `${text}: the ${modemControl & LOOP ? "port is in loopback" : "FIFO is full"}`;
+  if (call.after.answers.length) return text;
+  return `${text}; no interrupt: ${interruptEnable & 1 ? "RDA is pending already" : "IER does not enable RDA"}`;
+}
+
+function toldOfTimeout(call) {
+  const { inBuffer, interruptEnable } = call.before.serial.state;
+  if (!inBuffer.length) return "no interrupt: no byte is held";
+  const held = `${plural(inBuffer.length, "byte")} held`;
+  if (call.after.answers.length) return held;
+  return `${held}; no interrupt: ${interruptEnable & 1 ? "RDA is pending already" : "IER does not enable RDA"}`;
+}
+
+function toldOfClock(call) {
+  const isWrite = call.command.name === "cw";
+  const [, offset, value] = call.command.values;
+  const name = clockRegister(offset)?.name ?? `offset 0x${hex(offset, 4)}`;
+  if (call.reply === "invalid") return `invalid: nothing can be ${isWrite ? "written" : "read"} at ${name}`;
+  if (!isWrite) return `${name} = 0x${call.reply}${name === "DR" ? `  ${dateOf(parseInt(call.reply, 16))} UTC` : ""}`;
+  if (name === "MR" && call.after.clock.state.armed) return `alarm set for guest time ${dateOf(value)} UTC`;
+  return `${name} gets 0x${hex(value, 8)}`;
+}
+
+const TELLERS = {
+  sr: toldOfRead, sw: toldOfWrite, sq: toldOfInput, si: toldOfTimeout, cr: toldOfClock, cw: toldOfClock,
+};
+
+/** What a call did, in words. */
+export function told(call) {
+  const { name } = call.command;
+  if (TELLERS[name]) return TELLERS[name](call) + asked(call);
+  const restored = call.reply === "ok" ? "restored" : `not restored: ${call.reply}`;
+  if (name === "ss" || name === "sl") return restored + asked(call);
+  return call.reply;
+}
+
+/** The newest call up to `at` by which a condition became pending or was acknowledged, by this test of it. */
+function newest(calls, at, test) {
+  for (let place = at; place >= 0; place -= 1) if (test(calls[place])) return place;
+  return -1;
+}
+
+/** Why a condition is pending or not, in a sentence or two, by the calls up to `at`. */
+export function storyOf([name, bit, enable, how], calls, at, board) {
+  const { interruptEnable, inBuffer } = board.serial.state;
+  const isEnabled = (interruptEnable & enable) !== 0;
+  const turn = (before, after) => isPending(after, bit) !== isPending(before, bit);
+  const place = newest(calls, at, (call) => turn(call.before, call.after));
+  const by = place < 0 ? "" : `call ${place + 1}, ${short(calls[place].line)},`;
+  if (isPending(board, bit)) {
+    if (place < 0) return `${name} is pending: it was at the start.`;
+    const { answers } = calls[place].after;
+    const answer = answers.length ? `, and the line ${answers.at(-1) ? "took" : "refused"} the interrupt` : "";
+    return `${name} is pending: ${by} raised it${answer}. ${isEnabled ? how : "IER does not enable it now."}`;
+  }
+  const reason = place < 0 ? "no call has raised it" : `${by} acknowledged it`;
+  if (!isEnabled) return `${name} is not pending: ${reason}. IER does not enable it.`;
+  const held = `${plural(inBuffer.length, "byte")} held: a timeout, the next byte or a write to IER raises it.`;
+  const next = name === "THRE" ? "The next byte that goes out raises it, or a write to IER." :
+    inBuffer.length ? held : "The next byte raises it.";
+  return `${name} is not pending: ${reason}. ${next}`;
+}
+
+export const short = (line) => line.length <= 24 ? line : `${line.slice(0, 22)}..`;
+
+/** The registers of a board as a guest would read them, by name, without changing it. */
+export function shownRegisters(board) {
+  const port = board.serial.clone();
+  const state = port.state;
+  return {
+    RBR: state.inBuffer[0] ?? 0, DLL: state.baudDivisorLow, IER: state.interruptEnable, DLM: state.baudDivisorHigh,
+    LCR: state.lineControl, MCR: state.modemControl, LSR: state.lineStatus, MSR: port.read(SERIAL.MSR.offset).byte,
+    SCR: state.scratch, IIR: port.read(SERIAL.IIR.offset).byte,
+  };
+}

@@ -1,0 +1,226 @@
+/** What the package does by itself: results, layouts, saved bytes, copies, and refused arguments. */
+import assert from "node:assert/strict";
+import test from "node:test";
+import { I8042, RegisterError, Rtc, SavedStateError, Serial } from "../superio.mjs";
+
+const bytes = (text) => new TextEncoder().encode(text);
+const fromHex = (digits) => Uint8Array.from(digits.match(/../g) ?? [], (two) => parseInt(two, 16));
+// Each field has a value of its own, so that two that are swapped are found.
+const PORT = {
+  baudDivisorLow: 0x11, baudDivisorHigh: 0x22, interruptEnable: 0x03, interruptIdentification: 0x06, lineControl: 0x44,
+  lineStatus: 0x61, modemControl: 0x08, modemStatus: 0xb5, scratch: 0x77, inBuffer: Uint8Array.of(0xa1, 0xa2, 0xa3),
+};
+const PORT_SAVED = "53494f5301010c0011220306446108b577a1a2a3";
+const CLOCK = { lr: 0x01020304, mr: 0x05060708, imsc: 1, ris: 0x0a0b0c0d, offset: -2n, armed: true };
+const CLOCK_SAVED = "53494f53020119000403020108070605010000000d0c0b0afeffffffffffffff01";
+
+test("a guest reads what arrived, and is interrupted once", () => {
+  const port = new Serial();
+  assert.deepEqual(port.write("IER", 0x01), { sends: false, interrupts: 0 });
+  assert.deepEqual(port.enqueue(bytes("hi")), { taken: 2, full: false, interrupts: 1 });
+  assert.deepEqual(port.read("IIR"), { byte: 0xc4, bufferRead: false, inBufferEmpty: false });
+  assert.deepEqual(port.read("RBR"), { byte: 0x68, bufferRead: true, inBufferEmpty: false });
+  assert.equal(port.fifoCapacity(), 63);
+  assert.equal(port.characterTimeout(), 1);
+  assert.equal(port.characterTimeout(), 0);
+  assert.deepEqual(port.read(0), { byte: 0x69, bufferRead: true, inBufferEmpty: true });
+});
+
+test("a write's offset comes before its value", () => {
+  const port = new Serial();
+  port.write(7, 3);
+  assert.equal(port.state.scratch, 3);
+  assert.deepEqual(port.write(0, 2), { sends: true, interrupts: 0 });
+  assert.equal(port.write(1, 2).interrupts, 1);
+  const clock = new Rtc();
+  clock.write(0x010, 0x008, 4);
+  clock.write(0x008, 0x010, 4);
+  assert.deepEqual([clock.state.imsc, clock.state.lr, clock.state.offset], [0, 0x010, 12n]);
+  assert.equal(clock.read(0, 8).value, 20);
+  assert.deepEqual(new I8042().write(4, 0xfe), { resets: true });
+  assert.deepEqual(new I8042().write(0xfe, 4), { resets: false });
+  assert.equal(new I8042().read(4), 0);
+});
+
+test("an IER write can ask twice, and a full FIFO takes nothing", () => {
+  const port = new Serial();
+  assert.deepEqual(port.enqueue(new Uint8Array(70_000)), { taken: 64, full: false, interrupts: 0 });
+  assert.deepEqual(port.enqueue(bytes("x")), { taken: 0, full: true, interrupts: 0 });
+  assert.deepEqual(port.enqueue(new Uint8Array()), { taken: 0, full: false, interrupts: 0 });
+  assert.deepEqual(port.write("IER", 0x03), { sends: false, interrupts: 2 });
+  assert.equal(port.interruptsDue(), 2);
+  assert.equal(port.interruptLine(), true);
+  port.read("IIR");
+  assert.equal(port.interruptLine(), false);
+});
+
+test("each field of a state has its place", () => {
+  const port = Serial.fromState(PORT);
+  assert.deepEqual(port.state, PORT);
+  assert.deepEqual(port.toBytes(), fromHex(PORT_SAVED));
+  assert.deepEqual(Serial.fromBytes(fromHex(PORT_SAVED)).state, PORT);
+  assert.equal(port.isCoherent(), true);
+  assert.equal(Serial.fromState({ ...PORT, inBuffer: new Uint8Array() }).isCoherent(), false);
+  const clock = Rtc.fromState(CLOCK);
+  assert.deepEqual(clock.state, CLOCK);
+  assert.deepEqual(clock.toBytes(), fromHex(CLOCK_SAVED));
+  assert.deepEqual(Rtc.fromBytes(fromHex(CLOCK_SAVED)).state, CLOCK);
+});
+
+test("held bytes go round the end of the ring", () => {
+  const port = new Serial();
+  port.enqueue(new Uint8Array(60));
+  for (let count = 0; count < 60; count += 1) port.read(0);
+  port.enqueue(bytes("0123456789"));
+  assert.deepEqual(port.state.inBuffer, bytes("0123456789"));
+  assert.deepEqual(port.toBytes().subarray(17), bytes("0123456789"));
+});
+
+test("a clock's alarm", () => {
+  const clock = new Rtc();
+  assert.deepEqual(clock.write("MR", 1005, 1000), { invalidWrite: false });
+  clock.write("RTCIMSC", 1, 1000n);
+  assert.equal(clock.due(1000), 5);
+  assert.equal(clock.line(), false);
+  assert.deepEqual(clock.read("MIS", 1005), { value: 1, invalidRead: false });
+  assert.equal(clock.line(), true);
+  assert.equal(clock.due(1005), null);
+  assert.deepEqual(clock.read("ICR", 1006), { value: 0, invalidRead: true });
+  assert.deepEqual(clock.write("DR", 0, 1006), { invalidWrite: true });
+  assert.equal(clock.read("DR", 2n ** 64n - 1n).value, 0xffffffff);
+  assert.equal(clock.write("LR", 0xffffffff, 0).invalidWrite, false);
+  assert.equal(clock.state.lr, 0xffffffff);
+});
+
+// Numbers where one of fewer bits, or with a sign, would be another.
+const EDGES = [0n, 1n, 2n ** 16n, 2n ** 31n - 1n, 2n ** 31n, 2n ** 32n - 2n, 2n ** 32n - 1n];
+const MOMENTS = [...EDGES, 2n ** 32n, 2n ** 53n + 1n, 2n ** 63n - 1n, 2n ** 63n, 2n ** 64n - 1n];
+
+test("an alarm is due when guest time reaches it", () => {
+  for (const match of EDGES) {
+    for (const time of EDGES) {
+      for (const now of MOMENTS) {
+        const offset = time - BigInt.asUintN(32, now);
+        const clock = Rtc.fromState({ ...new Rtc().state, mr: Number(match), offset, armed: true });
+        const seconds = match > time ? match - time : 0n;
+        // The host's seconds do not begin anew until then.
+        const isBefore = BigInt.asUintN(32, now) + seconds < 2n ** 32n;
+        if (isBefore) assert.equal(clock.due(now), Number(seconds), `${match} ${time} ${now}`);
+        assert.equal(clock.read("DR", now).value, Number(time));
+      }
+    }
+  }
+});
+
+/** Numbers below a limit, the same ones in each run, by a generator of Lehmer's. */
+function chances(seed) {
+  let last = seed;
+  return (limit) => {
+    last = (last * 48271) % 0x7fffffff;
+    return last % limit;
+  };
+}
+
+test("after each of many calls the state is that of the saved form, and no form changes later", () => {
+  const below = chances(3);
+  const [port, clock, seen] = [new Serial(), new Rtc(), new Map()];
+  let forms = [];
+  for (let call = 0; call < 10_000; call += 1) {
+    const [offset, now, value] = [below(9), below(8), below(6)];
+    const made = [() => port.read(offset >> 1), () => port.write(offset, below(256)),
+      () => port.enqueue(Uint8Array.from({ length: 1 + below(5) }, () => below(256))), () => port.read(0),
+      () => clock.read(4 * offset, now), () => clock.write(4 * offset, value, now), () => clock.write(4, value, now)];
+    made[below(made.length)]();
+    forms = [port, clock].map((device) => device.toBytes());
+    const [ofPort, ofClock] = forms;
+    const { inBuffer, ...registers } = port.state;
+    assert.deepEqual([...Object.values(registers), ...inBuffer], [...ofPort.subarray(8)]);
+    const { lr, mr, imsc, ris, offset: ahead, armed } = clock.state;
+    const view = new DataView(ofClock.buffer, 8);
+    assert.deepEqual([lr, mr, imsc, ris], [0, 4, 8, 12].map((place) => view.getUint32(place, true)));
+    assert.deepEqual([ahead, armed], [view.getBigInt64(16, true), ofClock[32] === 1]);
+    assert.deepEqual([Serial.fromState(port.state), Rtc.fromState(clock.state)].map((one) => one.toBytes()), forms);
+    const key = [lr, mr, imsc, ris, ahead].join();
+    seen.set(key, (seen.get(key) ?? 0) | (armed ? 2 : 1));
+  }
+  assert.ok([...seen.values()].filter((both) => both === 3).length > 50);
+});
+
+test("devices share nothing", () => {
+  const [port, other] = [new Serial(), new Serial()];
+  port.write("SCR", 1);
+  const copy = port.clone();
+  copy.write("SCR", 2);
+  assert.deepEqual([port, other, copy].map((one) => one.read("SCR").byte), [1, 0, 2]);
+  const [clock, later] = [new Rtc(), new Rtc()];
+  clock.write("LR", 5, 0);
+  const twin = clock.clone();
+  twin.write("LR", 6, 0);
+  assert.deepEqual([clock, later, twin].map((one) => one.read("DR", 0).value), [5, 0, 6]);
+});
+
+test("saved bytes that are refused change nothing, and say why", () => {
+  const cases = [["5349", "too short"], ["58494f5301010900" + "00".repeat(9), "not a saved state"],
+    [CLOCK_SAVED, "other device"],
+    ["53494f5301020900" + "00".repeat(9), "unknown version"], ["53494f5301010900" + "00".repeat(8), "wrong length"],
+    ["53494f5301014a00" + "00".repeat(74), "too many bytes"],
+    ["53494f530101ffff" + "00".repeat(0xffff), "too many bytes"],
+    ["53494f530101ffff" + "00".repeat(0x1ffff), "wrong length"]];
+  for (const [digits, status] of cases) {
+    const isRight = (error) => error instanceof SavedStateError && error.status === status;
+    assert.throws(() => Serial.fromBytes(fromHex(digits)), isRight);
+  }
+  const armed = fromHex(CLOCK_SAVED);
+  armed[32] = 2;
+  assert.throws(() => Rtc.fromBytes(armed), { name: "SavedStateError", status: "invalid armed" });
+});
+
+/** A call that has to be refused, with the error and a text that its message has. */
+function refused(call, name, text) {
+  assert.throws(call, (error) => error.name === name && error.message.includes(text), `${call}: ${name}, ${text}`);
+}
+
+test("a wrong argument is named, with its value and the range", () => {
+  const [port, clock, controller] = [new Serial(), new Rtc(), new I8042()];
+  const before = [port.state, clock.state];
+  refused(() => port.read(256), "RangeError", "offset is 256, and a whole number from 0 to 255 is wanted");
+  refused(() => port.read(-1), "RangeError", "offset is -1");
+  refused(() => port.read(), "TypeError", "offset is undefined");
+  refused(() => port.write(7, 256), "RangeError", "value is 256");
+  refused(() => port.write(7, 1.5), "RangeError", "value is 1.5");
+  refused(() => port.write(7, NaN), "RangeError", "value is NaN");
+  refused(() => port.write(7, "A"), "TypeError", 'value is "A"');
+  refused(() => port.write(7, 65n), "TypeError", "value is 65n");
+  refused(() => port.write(7, true), "TypeError", "value is true");
+  refused(() => port.enqueue(65), "TypeError", "bytes is 65, and a Uint8Array is wanted");
+  refused(() => port.enqueue("A"), "TypeError", 'bytes is "A"');
+  refused(() => port.enqueue([65]), "TypeError", "bytes is of class Array, and a Uint8Array is wanted");
+  refused(() => Serial.fromBytes("53"), "TypeError", 'bytes is "53"');
+  refused(() => clock.read(0x10000, 0), "RangeError", "offset is 65536, and a whole number from 0 to 65535 is wanted");
+  refused(() => clock.write(8, 2 ** 32, 0), "RangeError", "value is 4294967296");
+  refused(() => clock.write(8, 0), "TypeError", "now is undefined");
+  refused(() => clock.read(0, -1), "RangeError", "now is -1");
+  refused(() => clock.read(0, 2n ** 64n), "RangeError", "now is 18446744073709551616n");
+  refused(() => clock.read(0, 2 ** 60), "RangeError", "as a BigInt");
+  refused(() => clock.due(0.5), "RangeError", "now is 0.5");
+  refused(() => controller.write(4, 256), "RangeError", "value is 256");
+  refused(() => controller.read(256), "RangeError", "offset is 256");
+  refused(() => Serial.fromState({ ...PORT, scratch: 256 }), "RangeError", "scratch is 256");
+  refused(() => Serial.fromState({ ...PORT, inBuffer: new Uint8Array(65) }), "RangeError", "inBuffer.length is 65");
+  refused(() => Rtc.fromState({ ...CLOCK, offset: 2n ** 63n }), "RangeError", "offset is 9223372036854775808n");
+  refused(() => Rtc.fromState({ ...CLOCK, armed: 1 }), "TypeError", "armed is 1, and true or false is wanted");
+  assert.deepEqual([port.state, clock.state], before);
+});
+
+test("a register's name reaches that register, or nothing", () => {
+  const port = new Serial();
+  refused(() => port.read("THR"), "RegisterError", "THR can only be written: a read at its offset reaches RBR");
+  refused(() => port.write("iir", 0), "RegisterError", "IIR can only be read: a write at its offset reaches FCR");
+  refused(() => port.read("DLL"), "RegisterError", "DLL is out of reach while DLAB is clear");
+  refused(() => port.read("toString"), "RegisterError", "no register has this name");
+  refused(() => new Rtc().read("constructor", 0), "RegisterError", "no register has this name");
+  port.write("LCR", 0x83);
+  assert.equal(port.read("DLL").byte, 0x0c);
+  refused(() => port.read("RBR"), "RegisterError", "RBR is out of reach while DLAB is set");
+  assert.equal(new RegisterError("x") instanceof RangeError, true);
+});

@@ -1,0 +1,26 @@
+/*
+ * 1,000 bytes of input for a guest. The FIFO holds 64, so the rest waits, and is offered again once a read empties it.
+ */
+#include <stdio.h>
+#include <string.h>
+#include <superio.h>
+
+int main(void) {
+    superio_serial port = superio_serial_new();
+    uint8_t paste[1000], got[1000];
+    size_t taken, received = 0, pieces = 1;
+
+    for (size_t i = 0; i < sizeof paste; i++)
+        paste[i] = (uint8_t)i;
+    taken = superio_serial_enqueue(&port, paste, sizeof paste).taken; /* what is left waits */
+    while (superio_serial_read(&port, 5).byte & 0x01) { /* the guest reads LSR: data is ready */
+        superio_serial_read_effects done = superio_serial_read(&port, 0);
+        got[received++] = done.byte;
+        if (done.in_buffer_empty && taken < sizeof paste) { /* there is room again */
+            taken += superio_serial_enqueue(&port, paste + taken, sizeof paste - taken).taken;
+            pieces++;
+        }
+    }
+    printf("%zu bytes in %zu pieces, %s\n", received, pieces, memcmp(got, paste, sizeof paste) ? "changed" : "in order");
+    return 0;
+}

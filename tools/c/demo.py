@@ -1,0 +1,134 @@
+"""The monitor of examples/c, driven by accesses of a guest and by what else may happen to it, and wrong ones.
+
+What a case expects was worked out from docs/DEVICES.md and from the duties of docs/THREATS.md, and not by running it.
+What a random script expects is what a second monitor does, that of `twin.py`.
+"""
+import random
+import re
+import shutil
+
+from programs import DEMO, TESTS
+from tally import run
+from twin import COM1, Script, shown
+
+WRAPPED = [f"-Wl,--wrap=superio_{name}" for name in ("abi", "serial_load", "rtc_load")]
+WRONG = TESTS / "wrong-demos.edits"
+CLOCK_IS_OFF = "clock: line down, no alarm"
+
+
+# How many random scripts there are, and the most lines of one.
+SCRIPTS, MOST_LINES = 300, 80
+BESIDE = [port for port in range(1 << 16) if not 0 <= port - COM1 < 8 and port not in (0x60, 0x64)]
+
+
+# Each case: its name, the lines of tests/demo.c, the lines that are printed, and the exit status.
+CASES = [
+    ("each byte of output", [f"w 3f8 {byte:x}" for byte in range(256)], [shown(byte) for byte in range(256)], 0),
+    ("a byte goes out before its interrupt", ["w 3f9 2", "w 3f8 41", "r 3fa", "w 3f8 42"],
+     ["interrupt", "output: A", "c2", "output: B", "interrupt"], 0),
+    ("a request that is refused three times, and is not made again once it was taken",
+     ["w 3f9 1", "d 1", "i 1 78", "t", "t", "d 0", "t", "t", "h"],
+     ["interrupt refused"] * 3 + ["interrupt", "received 1"], 0),
+    ("two requests of which the first is refused, and then a byte that is left",
+     ["e", "i 1 78", "d 1", "w 3f9 3", "d 0", "t", "r 3fa", "t", "r 3fa"],
+     ["interrupt refused", "interrupt", "interrupt", "c6", "interrupt", "c4"], 0),
+    ("bytes are left when the guest reads that nothing is pending", ["w 3f9 1", "i 2 78", "r 3fa", "r 3fa", "r 3fa"],
+     ["interrupt", "c4", "interrupt", "c1", "c4"], 0),
+    ("loopback, and input that waits for its end",
+     ["e", "w 3fc 10", "w 3f8 41", "r 3f8", "i 3 78", "r 3f8", "w 3fc 0", "r 3f8", "r 3fd"], ["41", "00", "78", "61"], 0),
+    ("input that waits until the guest enables RDA without THRE, and not while it tests the port",
+     ["i 3 78", "w 3f9 f", "r 3f8", "w 3f9 0", "w 3f9 3", "r 3f8", "r 3fa", "w 3f9 5", "h"],
+     ["interrupt", "00", "00", "c2", "interrupt", "received 3"], 0),
+    ("input that goes on when THRE is enabled too", ["w 3f9 1", "w 3f9 3", "i 1 78", "h"],
+     ["interrupt", "interrupt", "received 1"], 0),
+    ("a divisor enables nothing", ["w 3fb 80", "w 3f9 1", "w 3fb 3", "i 1 78", "r 3f8"], ["00"], 0),
+    ("more input than the FIFO holds", ["e", "i 46 78", *["r 3f8"] * 64, "r 3fd", *["r 3f8"] * 6, "r 3fd"],
+     ["78"] * 64 + ["61"] + ["78"] * 6 + ["60"], 0),
+    ("ports of the devices and beside them",
+     ["r 61", "r 3f7", "r 400", "r 3ff", "w 3ff 5a", "w 400 12", "w 3f7 34", "r 3ff", "w 3fd 0", "r 3fd", "r 60", "r 64",
+      "w 60 fe", "w 62 fe", "w 64 fd", "w 64 fe"],
+     ["ff", "ff", "ff", "00", "5a", "60", "00", "00", "reset", CLOCK_IS_OFF], 0),
+    ("a reset, after which a firmware finds the port by THRE, and gets the input that waits when it is ready",
+     ["w 3f9 5", "i 46 78", "w 64 fe", "h", "w 3f9 2", "r 3f9", "r 3fa", "w 3f9 0", "r 3f8", "w 3f9 1", "h"],
+     ["interrupt", "reset", CLOCK_IS_OFF, "received 0", "interrupt", "02", "c2", "00", "interrupt", "received 6"], 0),
+    ("a reset takes the guest's time and alarm away, and the host's time goes on",
+     ["m 8 64", "m 10 1", "m 4 a0", "n 3f2", "w 64 fe", "m 4 424"],
+     [CLOCK_IS_OFF, CLOCK_IS_OFF, "clock: line down, alarm in 60 s", "reset", CLOCK_IS_OFF,
+      "clock: line down, alarm in 50 s"], 0),
+    ("a driver's start of the clock keeps the time that was set", ["m 8 64", "m c 1", "m 4 a0"],
+     [CLOCK_IS_OFF, CLOCK_IS_OFF, "clock: line down, alarm in 60 s"], 0),
+    ("each port beside the devices", [line for port in BESIDE for line in (f"w {port:x} fe", f"r {port:x}")],
+     ["ff"] * len(BESIDE), 0),
+    ("an alarm, an access across two registers, and memory beside the clock",
+     ["m 10 1", "m 4 424", "m 6 7", "m 10004 5", "m -4 5", "m 100000004 5", "n 424", "a", "m 1c 1"],
+     [CLOCK_IS_OFF, *["clock: line down, alarm in 60 s"] * 2, "clock: line up, no alarm", CLOCK_IS_OFF], 0),
+    ("guest time goes on after a move", ["m 8 64", "n 3ea", "g", "m 10 1", "m 4 a0", "n 424", "a"],
+     [CLOCK_IS_OFF, "moved 17 and 33 bytes, and 0 of input", CLOCK_IS_OFF, CLOCK_IS_OFF, "clock: line down, alarm in 58 s",
+      "clock: line up, no alarm"], 0),
+    ("a move with an interrupt that was not taken, and with input that waits", ["w 3f9 1", "i 46 78", "g", "h"],
+     ["interrupt", "moved 81 and 33 bytes, and 6 of input", "interrupt", CLOCK_IS_OFF, "interrupt", "interrupt",
+      "received 70"], 0),
+    ("a move of a guest that polls", ["e", "g", "i 1 78", "r 3f8"],
+     ["moved 17 and 33 bytes, and 0 of input", CLOCK_IS_OFF, "78"], 0),
+    ("a load of the port that fails", ["i 1 78", "f 1", "g", "r 61"], ["loading the serial port failed"], 1),
+    ("a load of the clock that fails", ["i 1 78", "f 2", "g", "r 61"], ["loading the clock failed"], 1),
+]
+# Its own main, over a library of an older or a newer interface.
+OTHER_LIBRARY = (1, "the comparison of header and library failed\n")
+
+
+def differences(program, seed=0):
+    """The names of the cases in which a program does something else. `seed` is that of the random scripts."""
+    for name, lines, printed, status in (*CASES, *random_cases(seed)):
+        ran = run([program], input="".join(f"{line}\n" for line in lines))
+        if (ran.returncode, ran.stdout) != (status, "".join(f"{line}\n" for line in printed)):
+            yield f"{name}: status {ran.returncode}\n{ran.stdout[-2000:]}"
+    for difference in ("1", "-1"):
+        ran = run([program, difference])
+        if (ran.returncode, ran.stdout) != OTHER_LIBRARY:
+            yield f"a library of an interface that differs by {difference}: status {ran.returncode}\n{ran.stdout}"
+
+
+def random_cases(seed):
+    """Random scripts as cases."""
+    chance = random.Random(seed)
+    for number in range(SCRIPTS):
+        script = Script(chance, chance.randrange(MOST_LINES))
+        yield f"script {number} of seed {seed}:\n{script.lines}", script.lines, script.monitor.printed, 0
+
+
+def build(machine, compiler, place, program):
+    """The words that build the driver over the monitor of a folder."""
+    return machine.program(compiler, [TESTS / "demo.c"], program, ["-O1", "-I", place, *WRAPPED])
+
+
+def wrong_demos():
+    """Each wrong monitor: its name, the text of the demo, and the one in its place."""
+    entries = re.split(r"\n{2,}", WRONG.read_text(encoding="utf-8").strip())
+    for entry in entries:
+        yield re.fullmatch(r"edit: (\w+)\n# [^\n]+\nold:\n(.*)\nnew:\n(.*)", entry, re.S).groups()
+
+
+def check_driven_demo(tally, machine, folder):
+    """Counts whether the demo does what a guest and its host may expect, and whether each wrong one does something else."""
+    tally.of("cases of the demo")
+    compiler = machine.compilers[0]
+    if not machine.is_host or not tally.has(compiler.name, "the demo"):
+        if not machine.is_host:
+            tally.skip("a library for this processor", "the demo")
+        tally.tried.leave_out("random scripts of the demo")
+        tally.tried.leave_out("wrong demos")
+        return
+    program, place, source = folder / "driven", folder / "wrong-demo", (DEMO / "monitor.c").read_text(encoding="utf-8")
+    if tally.run("the driven demo is built", build(machine, compiler, DEMO, program), number=0):
+        found = list(differences(program, random.randrange(10**9)))
+        tally.check(not found, "\n".join(found[:3]), len(CASES) + 2)
+        tally.tried.add("random scripts of the demo", SCRIPTS)
+    tally.of("wrong demos")
+    shutil.rmtree(place, ignore_errors=True)
+    place.mkdir()
+    for name, old, new in wrong_demos():
+        (place / "monitor.c").write_text(source.replace(old, new), encoding="utf-8")
+        if tally.check(source.count(old) == 1, f"{name}: its text stands {source.count(old)} times in monitor.c", 0) \
+                and tally.run(f"the wrong demo {name} is built", build(machine, compiler, place, program), number=0):
+            tally.check(any(differences(program)), f"the wrong demo {name} is not refused")

@@ -1,0 +1,89 @@
+/*
+ * Drives the monitor of examples/c from standard input, in place of its `main`. A line is a letter and hexadecimal
+ * numbers:
+ *
+ *   w PORT VALUE     the guest's out              r PORT         the guest's in, whose byte is printed
+ *   m OFFSET VALUE   a write to memory, OFFSET from the clock's first address, which may be negative
+ *   i COUNT BYTE     as many of this byte are input, and offered
+ *   d DOWN           the interrupt line takes nothing, or takes requests again
+ *   n SECONDS        the time                     a              the alarm's timer goes off
+ *   t                a turn of the event loop     h              the guest's handler runs while it is interrupted
+ *   g                the machine moves            f WHICH        later loads of the port (1) or the clock (2) fail
+ *   e                input is offered although the guest is not ready
+ *
+ * With an argument it runs the monitor's own `main`, over a library whose binary interface differs by that number.
+ */
+#define main demo_main
+#include "monitor.c"
+#undef main
+
+static unsigned failing;
+static int difference;
+
+/* The linker gives the calls of the monitor to these, by its option --wrap. */
+uint32_t __real_superio_abi(void);
+uint32_t __real_superio_serial_load(superio_serial *port, const uint8_t *bytes, size_t count);
+uint32_t __real_superio_rtc_load(superio_rtc *clock, const uint8_t *bytes, size_t count);
+uint32_t __wrap_superio_abi(void);
+uint32_t __wrap_superio_serial_load(superio_serial *port, const uint8_t *bytes, size_t count);
+uint32_t __wrap_superio_rtc_load(superio_rtc *clock, const uint8_t *bytes, size_t count);
+
+uint32_t __wrap_superio_abi(void) {
+    return __real_superio_abi() + (uint32_t)difference;
+}
+
+uint32_t __wrap_superio_serial_load(superio_serial *port, const uint8_t *bytes, size_t count) {
+    return __real_superio_serial_load(port, bytes, failing == 1 ? count - 1 : count);
+}
+
+uint32_t __wrap_superio_rtc_load(superio_rtc *clock, const uint8_t *bytes, size_t count) {
+    return __real_superio_rtc_load(clock, bytes, failing == 2 ? count - 1 : count);
+}
+
+static void run_handler(struct machine *machine) {
+    int received = 0;
+    while (machine->is_interrupted) {
+        machine->is_interrupted = false;
+        received += handle(machine);
+    }
+    printf("received %d\n", received);
+}
+
+static void serve(struct machine *machine, char word, long long first, long long second) {
+    size_t length;
+    switch (word) {
+    case 'w': port_write(machine, (uint16_t)first, (uint8_t)second); break;
+    case 'r': printf("%02x\n", port_read(machine, (uint16_t)first)); break;
+    case 'm': memory_write(machine, (uint64_t)(CLOCK + first), (uint32_t)second); break;
+    case 'i':
+        length = strlen(machine->input);
+        memset(machine->input + length, (int)second, (size_t)first);
+        machine->input[length + (size_t)first] = 0;
+        feed(machine);
+        break;
+    case 'd': machine->line_is_down = first != 0; break;
+    case 'n': machine->now = (uint64_t)first; break;
+    case 'a': alarm_is_due(machine); break;
+    case 't': turn(machine); break;
+    case 'h': run_handler(machine); break;
+    case 'g': *machine = migrate(machine); break;
+    case 'e': machine->feeds_early = true; break;
+    case 'f': failing = (unsigned)first; break;
+    default: check(false, "a word of no form");
+    }
+}
+
+int main(int count, char **arguments) {
+    struct machine machine = {.serial = superio_serial_new(), .clock = superio_rtc_new(), .now = 1000};
+    char line[80], word;
+    if (count > 1) {
+        difference = atoi(arguments[1]);
+        return demo_main();
+    }
+    while (fgets(line, sizeof line, stdin)) {
+        unsigned long long first = 0, second = 0;
+        check(sscanf(line, "%c %llx %llx", &word, &first, &second) >= 1, "reading a line");
+        serve(&machine, word, (long long)first, (long long)second);
+    }
+    return 0;
+}

@@ -1,0 +1,194 @@
+"""A second monitor like that of examples/c, over the devices of `oracle.py`, and random scripts for both.
+
+It takes the lines of tests/demo.c, and says what they print. It was written from docs/DEVICES.md and from the duties of
+docs/THREATS.md.
+"""
+from oracle import Clock, Port, resets
+
+COM1, RBR, IER, IIR, MCR, LSR = 0x3F8, 0, 1, 2, 4, 5
+MOST_INPUT = 127
+IS_MASKED = 0x018
+
+
+def shown(byte):
+    """How a byte of output is shown: nothing but plain characters reaches the terminal as it is."""
+    is_plain = 0x20 <= byte < 0x7F and byte != 0x5C
+    return f"output: {chr(byte)}" if is_plain else f"output: \\x{byte:02x}"
+
+
+def seconds_due(clock, now):
+    """In how many seconds an access finds the alarm, or None: the first of the moments at which that may change."""
+    time, match, ahead = now % 2**32, clock.last("RTCMR"), clock.last("ahead")
+
+    def is_reached(seconds):
+        later = (time + seconds) % 2**32
+        counter = later + ahead
+        return (counter if 0 <= counter < 2**32 else later) >= match
+
+    changes = (0, match - time, match - time - ahead, -time - ahead, 2**32 - time - ahead)
+    reached = [it for it in changes if it >= 0 and is_reached(it)]
+    return min(reached) if reached and clock.last("armed") else None
+
+
+class Monitor:
+    """The devices, what the monitor keeps beside them, and the lines that it has printed."""
+
+    def __init__(self):
+        # The requests of a call are made by the monitor, after it.
+        self.port, self.clock = Port(lambda _: False, lambda: ""), Clock()
+        self.input, self.now, self.printed = b"", 1000, []
+        self.is_down = self.was_refused = self.is_interrupted = self.is_ready = False
+
+    def call(self, name, *arguments):
+        """The reply of a call of the port, its events, and how many requests it asks for. Prints what it sends."""
+        start = len(self.port.past)
+        reply = getattr(self.port, name)(*arguments)
+        did = self.port.did(start)
+        self.printed += [shown(int(call[1:], 16)) for call in did if call[0] == "W"]
+        return reply, did, did.count("T")
+
+    def ask(self, times):
+        """Makes requests up to a refusal, which is remembered."""
+        for _ in range(times):
+            self.printed.append("interrupt refused" if self.is_down else "interrupt")
+            if self.is_down:
+                self.was_refused = True
+                return
+            self.is_interrupted = True
+
+    def feed(self):
+        if not self.is_ready:
+            return
+        reply, _, times = self.call("enqueue", self.input)
+        self.input = self.input[0 if reply == "full" else int(reply, 16):]
+        self.ask(times)
+
+    def follow_clock(self):
+        line = "up" if self.clock.raw_status() & self.clock.last("RTCIMSC") else "down"
+        due = seconds_due(self.clock, self.now)
+        self.printed.append(f"clock: line {line}, {'no alarm' if due is None else f'alarm in {due} s'}")
+
+    def read(self, port):
+        """What the guest reads at a port."""
+        if port in (0x60, 0x64):
+            return 0
+        if not 0 <= port - COM1 < 8:
+            return 0xFF
+        reply, did, _ = self.call("read", port - COM1)
+        if "e" in did:
+            self.feed()
+        if port == COM1 + IIR and int(reply, 16) & 0x01:
+            self.ask(self.call("character_timeout")[2])
+        return int(reply, 16)
+
+    # The words of tests/demo.c.
+
+    def w(self, port, value):
+        if port in (0x60, 0x64) and resets(port - 0x60, value):
+            self.port, self.clock = Port(lambda _: False, lambda: ""), Clock()
+            self.was_refused = self.is_interrupted = self.is_ready = False
+            self.printed.append("reset")
+            self.follow_clock()
+        if 0 <= port - COM1 < 8:
+            self.ask(self.call("write", port - COM1, value)[2])
+            self.is_ready = self.is_ready or self.port.last("IER") & 0x03 == 0x01
+            if port in (COM1 + IER, COM1 + MCR):
+                self.feed()
+
+    def r(self, port):
+        self.printed.append(f"{self.read(port):02x}")
+
+    def m(self, offset, value):
+        if 0 <= offset < 0x1000:
+            if offset != 0x00C:
+                self.clock.access(self.now, offset, value)
+            self.follow_clock()
+
+    def i(self, count, byte):
+        self.input += bytes([byte]) * count
+        self.feed()
+
+    def d(self, is_down):
+        self.is_down = is_down != 0
+
+    def n(self, now):
+        self.now = now
+
+    def a(self):
+        self.clock.access(self.now, IS_MASKED)
+        self.follow_clock()
+
+    def t(self):
+        times = self.call("character_timeout")[2]
+        times = self.port.due() if self.was_refused else times
+        self.was_refused = False
+        self.ask(times)
+
+    def h(self):
+        received = 0
+        while self.is_interrupted:
+            self.is_interrupted = False
+            while not self.read(COM1 + IIR) & 0x01:
+                for _ in range(40):
+                    if not self.read(COM1 + LSR) & 0x01:
+                        break
+                    received += self.read(COM1 + RBR) == ord("x")
+        self.printed.append(f"received {received}")
+
+    def g(self):
+        self.is_down = self.was_refused = self.is_interrupted = False
+        self.printed.append(f"moved {17 + len(self.port.held())} and 33 bytes, and {len(self.input)} of input")
+        self.ask(self.port.due())
+        self.follow_clock()
+
+
+class Script:
+    """Random lines, and what the monitor prints for them."""
+
+    def __init__(self, random, length):
+        self.random, self.monitor, self.lines = random, Monitor(), []
+        makers = [self.write, self.read, self.clock, self.type, self.serve, self.host]
+        for _ in range(length):
+            random.choices(makers, (3, 3, 2, 1, 2, 1))[0]()
+
+    def add(self, word, *numbers):
+        self.lines.append(" ".join([word, *(f"{number:x}" for number in numbers)]))
+        getattr(self.monitor, word)(*numbers)
+
+    def port(self, offsets):
+        """Mostly one of the serial port's, or else one of the controller's, beside one of them, or any."""
+        others = [0x60, 0x62, 0x64, 0x65, 0x264, COM1 - 1, COM1 + 8, COM1 - 0x100, self.random.randrange(1 << 16)]
+        return COM1 + self.random.choice(offsets) if self.random.randrange(8) else self.random.choice(others)
+
+    def write(self):
+        port, any_byte = self.port((0, 0, 1, 1, 1, 3, 4, 4, 7)), self.random.randrange(256)
+        values = {COM1 + 1: (0, 1, 1, 2, 3, 3), COM1 + 3: (3, 3, 3, 0x83), COM1 + 4: (8, 9, 8, 9, 0x18), 0x64: (0xFE,)}
+        self.add("w", port, self.random.choice((*values.get(port, ()), any_byte)))
+
+    def read(self):
+        self.add("r", self.port((0, 0, 1, 2, 2, 2, 3, 4, 5, 6, 7)))
+
+    def clock(self):
+        """A write, then or instead some time passes, and then perhaps the alarm's timer goes off."""
+        near = self.monitor.now + self.random.randrange(-3, 20)
+        beside = {offset: near for offset in (0x006, 0x014, 0xFFC, 0x1000, 0x1004, -4, -1, 0x10004, 1 << 32 | 4)}
+        writes = {0x004: near, 0x008: near, 0x00C: near & 1, 0x010: 1, 0x01C: near & 3}
+        chosen = self.random.choice((writes, {0x004: near, 0x010: 1}, {0x004: 0xFFFFFFFF, 0x010: 0}, beside, {}))
+        for offset in self.random.sample(sorted(chosen), min(1, len(chosen))):
+            self.add("m", offset, chosen[offset])
+        self.add("n", self.monitor.now + self.random.choice((0, 0, 1, 2, 10, 20)))
+        if self.random.randrange(2):
+            self.add("a")
+
+    def type(self):
+        room = MOST_INPUT - len(self.monitor.input)
+        self.add("i", min(self.random.choice((1, 1, 2, 40, 64, 65, 127)), room), self.random.choice(b"xy"))
+
+    def serve(self):
+        if self.random.randrange(3):
+            return self.add("t")
+        self.add("w", COM1 + 3, 3)  # with DLAB set the handler would not reach the bytes, and not end
+        return self.add("h")
+
+    def host(self):
+        self.add(*self.random.choice((("d", 1), ("d", 1), ("d", 0), ("d", 0), ("g",))))
