@@ -109,8 +109,16 @@ class Monitor:
         self.ask(self.port.character_timeout())
         return "ok"
 
+    def sp(self):
+        for _ in range(self.port.interrupts_due()):
+            self.trigger()
+        return "ok"
+
     def sc(self):
         return f"{self.port.fifo_capacity():02x}"
+
+    def sh(self):
+        return f"{self.port.interrupt_line():02x}"
 
     def ss(self):
         return self.restore(self.port)

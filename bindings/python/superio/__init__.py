@@ -12,10 +12,11 @@ from .library import LibraryError
 from .registers import RegisterError
 from .saved import LoadStatus, SavedStateError
 from .script import Command, ScriptError, parse
-from .states import RtcState, SerialState
+from .states import AlarmIsSetError, RtcState, SerialState
 
-__all__ = ["Board", "Call", "Command", "EnqueueEffects", "I8042", "I8042WriteEffects", "LibraryError", "LoadStatus",
-           "ReadEffects", "RegisterError", "Rtc", "RtcReadEffects", "RtcState", "RtcWriteEffects", "SavedStateError",
-           "ScriptError", "Serial", "SerialState", "WriteEffects", "parse", "__version__"]
+__all__ = ["AlarmIsSetError", "Board", "Call", "Command", "EnqueueEffects", "I8042", "I8042WriteEffects",
+           "LibraryError", "LoadStatus", "ReadEffects", "RegisterError", "Rtc", "RtcReadEffects", "RtcState",
+           "RtcWriteEffects", "SavedStateError", "ScriptError", "Serial", "SerialState", "WriteEffects", "parse",
+           "__version__"]
 
-__version__ = "0.1.0"
+__version__ = "0.2.0"

@@ -5,7 +5,8 @@ It replies to each line as the program `superio` does.
 from dataclasses import replace
 from typing import Callable, Dict, List, NamedTuple, Optional, Tuple
 
-from .devices import I8042, Rtc, Serial
+from .checks import check_kind
+from .devices import I8042, Rtc, Serial, clock_state, serial_state
 from .saved import SavedStateError, script_words
 from .script import Command
 from .states import RtcState, SerialState
@@ -43,15 +44,27 @@ class Counts(NamedTuple):
 
 
 class Snapshot(NamedTuple):
-    """What the board is at a moment."""
+    """What the board is at a moment. The states are decoded when they are asked for."""
 
-    serial: SerialState
-    clock: RtcState
+    port: bytes
+    """The serial port, as its struct of superio.h."""
+    rtc: bytes
+    """The clock, as its struct."""
     sent: int
     """How many bytes went out."""
     calls: int
     """How often the interrupt line was called."""
     counts: Counts
+
+    @property
+    def serial(self) -> SerialState:
+        """The state of the serial port."""
+        return serial_state(self.port)
+
+    @property
+    def clock(self) -> RtcState:
+        """The state of the clock."""
+        return clock_state(self.rtc)
 
 
 class Call(NamedTuple):
@@ -90,20 +103,14 @@ class Board:
         self.number = 0
         self._answers: List[bool] = []
         self._is_lost = False
-        self._replies: Dict[str, Callable[..., Optional[str]]] = {
-            "refuse": self._refuse, "sr": self._serial_read, "sw": self._serial_write, "sq": self._enqueue,
-            "si": self._character_timeout, "sc": self._capacity, "sd": self._drain, "ss": self._restore,
-            "so": self._output, "st": self._line_calls, "se": self._events, "cr": self._clock_read,
-            "cw": self._clock_write, "kr": self._controller_read, "kw": self._controller_write, "sb": self._save,
-            "sl": self._load, "cb": self._clock_save, "cl": self._clock_load,
-        }
 
     def reply(self, command: Command) -> Optional[str]:
         """Carries out a command. Returns the line that a script prints for it, without the LF, or `None` if none."""
+        check_kind("command", command, Command)
         self._answers = []
         self._is_lost = False
         self.number += 1
-        return self._replies[command.name](*command.values)
+        return _REPLIES[command.name](self, *command.values)
 
     def run(self, command: Command) -> Call:
         """Carries out a command. Returns what it did."""
@@ -113,7 +120,7 @@ class Board:
 
     def snapshot(self) -> Snapshot:
         """What the board is now."""
-        return Snapshot(self.serial.state, self.clock.state, len(self.output), self.line.calls, self.counts)
+        return Snapshot(self.serial.raw, self.clock.raw, len(self.output), self.line.calls, self.counts)
 
     def _refuse(self, mask: int) -> None:
         self.line = InterruptLine(mask)
@@ -131,7 +138,8 @@ class Board:
 
     def _read(self, offset: int) -> int:
         done = self.serial.read(offset)
-        self._count(buffer_read=done.buffer_read, in_buffer_empty=done.in_buffer_empty)
+        if done.buffer_read:
+            self._count(buffer_read=True, in_buffer_empty=done.in_buffer_empty)
         return done.byte
 
     def _serial_write(self, offset: int, value: int) -> str:
@@ -160,9 +168,8 @@ class Board:
         self._count(out_byte=not self._is_lost, tx_lost_byte=self._is_lost)
 
     def _count(self, **events: bool) -> None:
-        if any(events.values()):
-            self.counts = self.counts._replace(**{name: getattr(self.counts, name) + happened
-                                                  for name, happened in events.items()})
+        self.counts = self.counts._replace(**{name: getattr(self.counts, name) + happened
+                                              for name, happened in events.items()})
 
     def _enqueue(self, data: bytes = b"") -> str:
         done = self.serial.enqueue(data)
@@ -236,3 +243,12 @@ class Board:
 
     def _controller_write(self, offset: int, value: int) -> str:
         return "reset" if self.controller.write(offset, value).resets else "ok"
+
+
+_REPLIES: Dict[str, Callable[..., Optional[str]]] = {
+    "refuse": Board._refuse, "sr": Board._serial_read, "sw": Board._serial_write, "sq": Board._enqueue,
+    "si": Board._character_timeout, "sc": Board._capacity, "sd": Board._drain, "ss": Board._restore,
+    "so": Board._output, "st": Board._line_calls, "se": Board._events, "sb": Board._save, "sl": Board._load,
+    "cr": Board._clock_read, "cw": Board._clock_write, "cb": Board._clock_save, "cl": Board._clock_load,
+    "kr": Board._controller_read, "kw": Board._controller_write,
+}

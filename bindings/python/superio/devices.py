@@ -1,22 +1,26 @@
 """The devices as Python objects, over the functions of superio.h.
 
 A call returns its effects: what is left for the caller to do. There are no callbacks. An offset is a number, or the
-name of a register. A number out of range raises `ValueError` and changes nothing.
+name of a register. A number out of range raises `ValueError`, and an argument of another type `TypeError`. Then nothing
+changes.
 """
 from ctypes import byref
-from operator import index
-from typing import NamedTuple, Optional, Union
+from functools import lru_cache
+from typing import NamedTuple, Optional, Tuple, Type, Union
 
+from .checks import byte_string, check_kind, number
 from .library import load
 from .registers import CLOCK, SERIAL, Register, bit_names, clock_offset, serial_offset
-from .saved import RTC_SAVED_SIZE, SERIAL_SAVED_MAX, load_bytes, saved_bytes
+from .saved import RTC_SAVED_SIZE, SERIAL_SAVED_MAX, Saved, load_bytes, saved_bytes
 from .states import RtcState, SerialState
 from .structs import FIFO_SIZE, RtcStruct, SerialStruct
 
 __all__ = ["EnqueueEffects", "I8042", "I8042WriteEffects", "ReadEffects", "Rtc", "RtcReadEffects", "RtcWriteEffects",
-           "Serial", "WriteEffects"]
+           "Serial", "WriteEffects", "clock_state", "serial_state"]
 
 _NEVER = 2 ** 64 - 1
+_STATES = 1024
+_HEAD, _LENGTH, _RING = SerialStruct.head.offset, SerialStruct.len.offset, SerialStruct.bytes.offset
 _REGISTERS = ("baud_divisor_low", "baud_divisor_high", "interrupt_enable", "interrupt_identification", "line_control",
               "line_status", "modem_control", "modem_status", "scratch")
 
@@ -75,15 +79,8 @@ class I8042WriteEffects(NamedTuple):
     """The guest asks to reset the machine."""
 
 
-def _number(name: str, value: int, bits: int) -> int:
-    number = index(value)
-    if not 0 <= number < 1 << bits:
-        raise ValueError(f"{name} is {value}, and a number of {bits} bits is wanted")
-    return number
-
-
-class Serial:
-    """A 16550 serial port with a receive FIFO of 64 bytes.
+class Serial(Saved):
+    """A 16550 serial port with a receive FIFO of 64 bytes. `copy` and `pickle` take its saved state.
 
     >>> port = Serial()
     >>> port.write("IER", 0x01)
@@ -94,12 +91,13 @@ class Serial:
     'h'
     """
 
-    __slots__ = ("_library", "_struct", "_pointer", "_raw", "_state")
+    __slots__ = ("_library", "_struct", "_pointer")
 
     def __init__(self) -> None:
         """A new port: divisor 12, 8 bits a character, OUT2 set, and nothing enabled, pending or held."""
         self._library = load()
-        self._take(self._library.superio_serial_new())
+        self._struct = self._library.superio_serial_new()
+        self._pointer = byref(self._struct)
 
     def read(self, offset: Union[int, str]) -> ReadEffects:
         """The guest reads at an offset, 0 to 255, or a register by its name. A read asks for no interrupt.
@@ -119,7 +117,7 @@ class Serial:
 
         Raises `RegisterError` if no register has the name, or if the write would reach another one.
         """
-        done = self._library.superio_serial_write(self._pointer, self._offset(offset, True), _number("value", value, 8))
+        done = self._library.superio_serial_write(self._pointer, self._offset(offset, True), number("value", value, 8))
         return WriteEffects(done.sends, done.interrupts)
 
     def enqueue(self, data: bytes) -> EnqueueEffects:
@@ -128,7 +126,7 @@ class Serial:
         Afterwards ask for the interrupt as often as `interrupts` says. Keep the bytes that were not taken, and offer
         them again when a read tells `in_buffer_empty`, or when the guest leaves loopback.
         """
-        data = bytes(data)
+        data = byte_string("data", data)
         done = self._library.superio_serial_enqueue(self._pointer, data, len(data))
         return EnqueueEffects(done.taken, done.full, done.interrupts)
 
@@ -154,6 +152,14 @@ class Serial:
         """
         return self._library.superio_serial_interrupts_due(self._pointer)
 
+    def interrupt_line(self) -> bool:
+        """Whether the interrupt line is up: while a condition is pending that IER enables. The port does not change.
+
+        If your interrupt controller takes levels, set your line to it after every call, reads among them, in place of
+        asking for the interrupt.
+        """
+        return self._library.superio_serial_interrupt_line(self._pointer)
+
     def is_coherent(self) -> bool:
         """Whether the port is coherent, as a new one is and stays. A restored one need not be, and is safe anyway."""
         return self._library.superio_serial_is_coherent(self._pointer)
@@ -173,16 +179,19 @@ class Serial:
         return port
 
     @property
+    def raw(self) -> bytes:
+        """The struct of superio.h, as it is in this machine's memory. `serial_state` tells its state."""
+        return bytes(self._struct)
+
+    @property
     def state(self) -> SerialState:
         """The registers and the held bytes, as a value."""
-        raw = bytes(self._struct)
-        if raw != self._raw:
-            self._raw, self._state = raw, _serial_state(self._struct)
-        return self._state
+        return serial_state(bytes(self._struct))
 
     @classmethod
     def from_state(cls, state: SerialState) -> "Serial":
         """A port of this state. Afterwards ask for the interrupt as often as `interrupts_due` says."""
+        check_kind("state", state, SerialState)
         port = cls()
         device = port._struct
         for name in _REGISTERS:
@@ -191,11 +200,6 @@ class Serial:
         device.bytes[:] = state.in_buffer.ljust(FIFO_SIZE, b"\0")
         return port
 
-    def __copy__(self) -> "Serial":
-        other = type(self)()
-        other._take(SerialStruct.from_buffer_copy(self._struct))
-        return other
-
     def __repr__(self) -> str:
         state = self.state
         shown = [_decoded(SERIAL[name], getattr(state, field))
@@ -203,22 +207,17 @@ class Serial:
         divisor = state.baud_divisor_high << 8 | state.baud_divisor_low
         return f"<Serial divisor={divisor} {' '.join(shown)} in_buffer={state.in_buffer!r}>"
 
-    def _take(self, struct: SerialStruct) -> None:
-        self._struct = struct
-        self._pointer = byref(struct)
-        self._raw = b""
-
     def _offset(self, offset: Union[int, str], is_write: bool) -> int:
         if isinstance(offset, str):
             return serial_offset(offset, self._struct.line_control, is_write)
-        return _number("offset", offset, 8)
+        return number("offset", offset, 8, instead=", or the name of a register,")
 
 
-class Rtc:
-    """A PL031 real-time clock, which counts seconds.
+class Rtc(Saved):
+    """A PL031 real-time clock, which counts seconds. `copy` and `pickle` take its saved state.
 
-    It reads no clock of the host: each access is given its moment `now`, in seconds since 1970. Only the low 32 bits of
-    a moment count.
+    It reads no clock of the host: each access is given its moment `now`, in whole seconds since 1970, as
+    `int(time.time())`. Only the low 32 bits of a moment count.
 
     >>> clock = Rtc()
     >>> clock.write("LR", 100, now=1000)
@@ -227,19 +226,20 @@ class Rtc:
     107
     """
 
-    __slots__ = ("_library", "_struct", "_pointer", "_raw", "_state")
+    __slots__ = ("_library", "_struct", "_pointer")
 
     def __init__(self) -> None:
         """A new clock: guest time is the host's, and no alarm is set."""
         self._library = load()
-        self._take(self._library.superio_rtc_new())
+        self._struct = self._library.superio_rtc_new()
+        self._pointer = byref(self._struct)
 
     def read(self, offset: Union[int, str], now: int) -> RtcReadEffects:
         """The guest reads four bytes at an offset, 0 to 0xFFFF, or a register by its name, at a moment.
 
         Raises `RegisterError` if no register has the name.
         """
-        done = self._library.superio_rtc_read(self._pointer, _clock_offset(offset), _number("now", now, 64))
+        done = self._library.superio_rtc_read(self._pointer, _clock_offset(offset), number("now", now, 64))
         return RtcReadEffects(done.value, done.invalid_read)
 
     def write(self, offset: Union[int, str], value: int, now: int) -> RtcWriteEffects:
@@ -247,8 +247,8 @@ class Rtc:
 
         Raises `RegisterError` if no register has the name.
         """
-        done = self._library.superio_rtc_write(self._pointer, _clock_offset(offset), _number("value", value, 32),
-                                               _number("now", now, 64))
+        done = self._library.superio_rtc_write(self._pointer, _clock_offset(offset), number("value", value, 32),
+                                               number("now", now, 64))
         return RtcWriteEffects(done.invalid_write)
 
     def line(self) -> bool:
@@ -257,7 +257,7 @@ class Rtc:
 
     def due(self, now: int) -> Optional[int]:
         """In how many seconds from a moment the alarm is due if the guest does nothing, `None` if it never is."""
-        seconds = self._library.superio_rtc_due(self._pointer, _number("now", now, 64))
+        seconds = self._library.superio_rtc_due(self._pointer, number("now", now, 64))
         return None if seconds == _NEVER else seconds
 
     def to_bytes(self) -> bytes:
@@ -275,45 +275,46 @@ class Rtc:
         return clock
 
     @property
+    def raw(self) -> bytes:
+        """The struct of superio.h, as it is in this machine's memory. `clock_state` tells its state."""
+        return bytes(self._struct)
+
+    @property
     def state(self) -> RtcState:
         """The registers, the offset and the alarm, as a value."""
-        device = self._struct
-        raw = bytes(device)
-        if raw != self._raw:
-            self._raw = raw
-            self._state = RtcState(device.lr, device.mr, device.imsc, device.ris, device.offset, bool(device.armed))
-        return self._state
+        return clock_state(bytes(self._struct))
 
     @classmethod
     def from_state(cls, state: RtcState) -> "Rtc":
         """A clock of this state."""
+        check_kind("state", state, RtcState)
         clock = cls()
         device = clock._struct
         device.lr, device.mr, device.imsc, device.ris = state.lr, state.mr, state.imsc, state.ris
         device.offset, device.armed = state.offset, int(state.armed)
         return clock
 
-    def __copy__(self) -> "Rtc":
-        other = type(self)()
-        other._take(RtcStruct.from_buffer_copy(self._struct))
-        return other
-
     def __repr__(self) -> str:
         state = self.state
         shown = [_decoded(CLOCK[name], getattr(state, name.lower()), 10) for name in ("LR", "MR", "IMSC", "RIS")]
         return f"<Rtc {' '.join(shown)} offset={state.offset} armed={state.armed}>"
 
-    def _take(self, struct: RtcStruct) -> None:
-        self._struct = struct
-        self._pointer = byref(struct)
-        self._raw = b""
+
+@lru_cache(maxsize=_STATES)
+def serial_state(raw: bytes) -> SerialState:
+    """The state that a struct has. Nothing is left to check: its registers are bytes, and its ring is 64 long."""
+    ring = raw[_RING:] * 2
+    head = raw[_HEAD] % FIFO_SIZE
+    state = object.__new__(SerialState)
+    state.__dict__.update(zip(_REGISTERS, raw), in_buffer=ring[head:head + min(raw[_LENGTH], FIFO_SIZE)])
+    return state
 
 
-def _serial_state(device: SerialStruct) -> SerialState:
-    ring = bytes(device.bytes) * 2
-    head = device.head % FIFO_SIZE
-    held = ring[head:head + min(device.len, FIFO_SIZE)]
-    return SerialState(*[getattr(device, name) for name in _REGISTERS], in_buffer=held)
+@lru_cache(maxsize=_STATES)
+def clock_state(raw: bytes) -> RtcState:
+    """The state that a struct has."""
+    device = RtcStruct.from_buffer_copy(raw)
+    return RtcState(device.lr, device.mr, device.imsc, device.ris, device.offset, bool(device.armed))
 
 
 class I8042:
@@ -328,13 +329,16 @@ class I8042:
     def __init__(self) -> None:
         self._library = load()
 
+    def __reduce__(self) -> "Tuple[Type[I8042], Tuple[()]]":
+        return type(self), ()
+
     def read(self, offset: int) -> int:
         """What the guest reads at an offset, 0 to 255: 0, at every one."""
-        return self._library.superio_i8042_read(_number("offset", offset, 8))
+        return self._library.superio_i8042_read(number("offset", offset, 8))
 
     def write(self, offset: int, value: int) -> I8042WriteEffects:
         """The guest writes a value, 0 to 255, at an offset, 0 to 255."""
-        done = self._library.superio_i8042_write(_number("offset", offset, 8), _number("value", value, 8))
+        done = self._library.superio_i8042_write(number("offset", offset, 8), number("value", value, 8))
         return I8042WriteEffects(done.resets)
 
     def __repr__(self) -> str:
@@ -342,7 +346,9 @@ class I8042:
 
 
 def _clock_offset(offset: Union[int, str]) -> int:
-    return clock_offset(offset) if isinstance(offset, str) else _number("offset", offset, 16)
+    if isinstance(offset, str):
+        return clock_offset(offset)
+    return number("offset", offset, 16, instead=", or the name of a register,")
 
 
 def _decoded(register: Register, value: int, width: int = 4) -> str:

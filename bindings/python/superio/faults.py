@@ -1,9 +1,11 @@
-"""Why a line or a file is not carried out."""
-from typing import IO, Any
+"""Why a line or a file is not carried out, and how files are opened and replaced."""
+import os
+from contextlib import contextmanager
+from typing import IO, Any, Iterator
 
 from .script import shown
 
-__all__ = ["BadLine", "FileFault", "Leave", "open_file", "write_text"]
+__all__ = ["BadLine", "FileFault", "Leave", "open_file", "replaced", "write_text"]
 
 _SHOWN = 60
 
@@ -35,10 +37,33 @@ def open_file(path: str, mode: str) -> "IO[Any]":
         raise FileFault(path, error) from None
 
 
-def write_text(path: str, text: str) -> None:
-    """Writes a file. Raises `FileFault` if it cannot be written."""
+@contextmanager
+def replaced(path: str) -> Iterator[str]:
+    """Yields the name of a file to write in the place of `path`. It takes that place once it is whole and on the disk.
+    After a fault, such as a full disk, the file that was there is as it was.
+
+    What is no plain file, such as a terminal or a pipe, is written itself. Raises `FileFault` if something fails.
+    """
     try:
-        with open(path, "w") as file:
-            file.write(text)
-    except OSError as error:  # also of the close
+        if os.path.exists(path) and not os.path.isfile(path):
+            yield path
+            return
+        import shutil
+        import tempfile
+        target = os.path.realpath(path)
+        with tempfile.TemporaryDirectory(prefix=".superio-", dir=os.path.dirname(target)) as folder:
+            beside = os.path.join(folder, "new")
+            yield beside
+            with open(beside, "rb") as file:
+                os.fsync(file.fileno())
+            if os.path.exists(target):
+                shutil.copymode(target, beside)
+            os.replace(beside, target)
+    except OSError as error:
         raise FileFault(path, error) from None
+
+
+def write_text(path: str, text: str) -> None:
+    """Writes a file whole, or leaves what was there. Raises `FileFault` if it cannot be written."""
+    with replaced(path) as name, open(name, "w", encoding="utf-8", errors="backslashreplace") as file:
+        file.write(text)

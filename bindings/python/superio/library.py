@@ -14,7 +14,7 @@ __all__ = ["ABI", "FILE_NAME", "VARIABLE", "LibraryError", "Library", "candidate
 ABI = 3
 """The binary interface of superio.h that this package is written for."""
 
-FILE_NAME = "libsuperio.so.0"
+FILE_NAME = f"libsuperio.so.{ABI}"
 
 VARIABLE = "SUPERIO_LIBRARY"
 """The environment variable that can name the library's file."""
@@ -32,6 +32,7 @@ PROTOTYPES = {
     "superio_serial_character_timeout": (c_uint8, [_SERIAL]),
     "superio_serial_fifo_capacity": (c_size_t, [_SERIAL]),
     "superio_serial_interrupts_due": (c_uint8, [_SERIAL]),
+    "superio_serial_interrupt_line": (c_bool, [_SERIAL]),
     "superio_serial_is_coherent": (c_bool, [_SERIAL]),
     "superio_serial_save": (c_size_t, [_SERIAL, _BYTES_OUT]),
     "superio_serial_load": (c_uint32, [_SERIAL, c_char_p, c_size_t]),

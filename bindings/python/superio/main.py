@@ -3,7 +3,7 @@ import argparse
 import os
 import signal
 import sys
-from typing import IO, List, Optional
+from typing import IO, Iterator, List, Optional
 
 from . import __version__
 from .arguments import BAD_LINE, FAULT, NO_MEMORY, OK, TOO_LONG, Parser
@@ -14,6 +14,8 @@ from .session import Session
 from .style import Style, is_wanted
 
 __all__ = ["main"]
+
+_PIECE = 65_536
 
 _EPILOG = """\
 exit status:
@@ -41,13 +43,32 @@ def _parser() -> Parser:
 
 
 def _complain(text: str) -> None:
-    print(text, file=sys.stderr, flush=True)
+    if sys.stderr is not None:
+        print(text, file=sys.stderr, flush=True)
+
+
+def _lines_as_they_come(out: "IO[str]", file: "IO[bytes]") -> Iterator[bytes]:
+    """The lines of a file, perhaps of a pipe. Before it waits for more of them, the replies to those before go out."""
+    begun: List[bytes] = []
+    while True:
+        piece = file.read1(_PIECE)  # type: ignore[attr-defined]
+        *lines, rest = piece.split(b"\n")
+        if lines:
+            yield b"".join([*begun, lines[0]])
+            yield from lines[1:]
+            begun = []
+        begun.append(rest)
+        out.flush()
+        if not piece:
+            break
+    if any(begun):
+        yield b"".join(begun)
 
 
 def _run_file(session: Session, name: str, file: "IO[bytes]") -> int:
     """Carries out the lines of a file, or of a script as a whole if the session is strict."""
     if not session.is_strict:
-        session.run_lines(name, iter(file.readline, b""))
+        session.run_lines(name, _lines_as_they_come(session.out, file))
         return OK
     script = file.read(MAXIMUM + 1)
     if len(script) > MAXIMUM:
@@ -63,7 +84,6 @@ def _batch(path: Optional[str], is_strict: bool) -> int:
     session = Session(sys.stdout, is_strict=is_strict)
     try:
         if name == "<stdin>":
-            sys.stdout.reconfigure(line_buffering=True)  # type: ignore[union-attr]
             return _run_file(session, name, sys.stdin.buffer)
         with open_file(name, "rb") as file:
             return _run_file(session, name, file)
@@ -92,8 +112,7 @@ def _interactive(has_colours: bool) -> int:
 
 
 def _closed(what: str) -> int:
-    if sys.stderr is not None:
-        _complain(f"python3 -m superio: standard {what} is closed")
+    _complain(f"python3 -m superio: standard {what} is closed")
     return FAULT
 
 
@@ -103,9 +122,22 @@ def _give_up_output() -> None:
 
 
 def main(arguments: List[str]) -> int:
-    """Runs the command line. Returns the exit status."""
+    """Runs the command line. Returns the exit status. Afterwards Ctrl-C ends Python at once, without a traceback."""
+    if signal.getsignal(signal.SIGINT) is signal.SIG_DFL:  # as the starting program set it
+        signal.signal(signal.SIGINT, signal.default_int_handler)
+    try:
+        return _run(arguments)
+    except KeyboardInterrupt:
+        return 128 + signal.SIGINT
+    finally:
+        if signal.getsignal(signal.SIGINT) is signal.default_int_handler:
+            signal.signal(signal.SIGINT, signal.SIG_DFL)
+
+
+def _run(arguments: List[str]) -> int:
     if sys.stdout is None:
         return _closed("output")
+    sys.stdout.reconfigure(errors="backslashreplace")  # type: ignore[union-attr]
     if not sys.stdout.isatty():
         signal.signal(signal.SIGPIPE, signal.SIG_DFL)  # a closed pipe ends in silence
     try:
@@ -133,5 +165,3 @@ def main(arguments: List[str]) -> int:
     except MemoryError:
         _complain("out of memory")
         return NO_MEMORY
-    except KeyboardInterrupt:
-        return 128 + signal.SIGINT

@@ -10,6 +10,8 @@ try:
 except ImportError:  # a Python without it reads lines all the same
     readline = None  # type: ignore[assignment]
 
+from .faults import FileFault, replaced
+
 __all__ = ["HISTORY_VARIABLE", "run_prompt", "use_history"]
 
 HISTORY_VARIABLE = "SUPERIO_HISTORY"
@@ -20,14 +22,17 @@ _HISTORY_LENGTH = 1000
 
 def run_prompt(loop: cmd.Cmd) -> None:
     """Reads and carries out lines up to the end. Ctrl-C drops a line."""
+    is_interrupted = False
     while True:
         try:
+            if is_interrupted:
+                loop.preloop = lambda: None  # type: ignore[method-assign]
+                loop.intro = ""
+                loop.stdout.write("^C\n")
             loop.cmdloop()
             return
         except KeyboardInterrupt:
-            loop.preloop = lambda: None  # type: ignore[method-assign]
-            loop.intro = ""
-            loop.stdout.write("^C\n")
+            is_interrupted = True
 
 
 def _history_path() -> Optional[Path]:
@@ -55,6 +60,7 @@ def use_history() -> None:
 
 def _write_history(path: str) -> None:
     try:
-        readline.write_history_file(path)
-    except OSError:
+        with replaced(path) as name:
+            readline.write_history_file(name)
+    except FileFault:
         pass

@@ -2,8 +2,8 @@
 
 A row is a line of a script, with its reply after two spaces or more if it was recorded. A number before the line
 repeats it. `sent "TEXT"` stands for a write of each byte to THR, `polled "TEXT"` for the same after a read of LSR
-each, and `so "TEXT"` for the output. An empty row ends a piece, and the next begins on a fresh board. A row that
-begins with # is a comment.
+each, `received "TEXT"` for a read of LSR and one of RBR for each byte, `sq "TEXT"` for input, and `so "TEXT"` for the
+output. An empty row ends a piece, and the next begins on a fresh board. A row that begins with # is a comment.
 """
 import json
 import re
@@ -15,7 +15,7 @@ from .script import ScriptError, parse
 
 __all__ = ["Step", "entries_of", "replay"]
 
-_TEXT = re.compile(r'(polled|sent|so) +(".*")')
+_TEXT = re.compile(r'(polled|sent|received|so|sq) +(".*")(?: {2,}(\S+))?')
 _REPEATED = re.compile(r"(\d+) (.+)", re.DOTALL)
 
 EMPTY = "(empty)"
@@ -49,6 +49,10 @@ def entries_of(row: str) -> List[Entry]:
         kind, data = text[1], _data_of(text[2])
         if kind == "so":
             return [("so", data.hex())]
+        if kind == "sq":
+            return [(f"sq {data.hex()}", text[3])]
+        if kind == "received":
+            return [entry for byte in data for entry in [("sr 05", "61"), ("sr 00", f"{byte:02x}")]]
         polls: List[Entry] = [("sr 05", "60")] if kind == "polled" else []
         return [entry for byte in data for entry in [*polls, (f"sw 00 {byte:02x}", "ok")]]
     repeated = _REPEATED.fullmatch(row)

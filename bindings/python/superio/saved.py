@@ -1,9 +1,11 @@
 """Saved states: the bytes that a device is saved as, and why other bytes are refused."""
 from ctypes import byref, c_uint8
 from enum import IntEnum
-from typing import Any, Callable, Optional
+from typing import Any, Callable, Optional, Tuple, Type
 
-__all__ = ["LoadStatus", "RTC_SAVED_SIZE", "SERIAL_SAVED_MAX", "SavedStateError", "load_bytes", "saved_bytes",
+from .checks import byte_string
+
+__all__ = ["LoadStatus", "RTC_SAVED_SIZE", "SERIAL_SAVED_MAX", "Saved", "SavedStateError", "load_bytes", "saved_bytes",
            "script_words"]
 
 SERIAL_SAVED_MAX = 81
@@ -44,6 +46,35 @@ class SavedStateError(ValueError):
         super().__init__(_REASONS[status])
         self.status = status
 
+    def __reduce__(self) -> Tuple[Any, ...]:
+        return type(self), (self.status,)
+
+
+class Saved:
+    """A device that `copy` and `pickle` take as its saved state, so that equal states make the same pickle everywhere.
+
+    Where the ring of a port begins, and the bytes in it that the guest has read, are no part of its state.
+    """
+
+    __slots__ = ()
+
+    def to_bytes(self) -> bytes:
+        """The device as a saved state."""
+        raise NotImplementedError
+
+    @classmethod
+    def from_bytes(cls, data: bytes) -> "Saved":
+        """The device of a saved state."""
+        raise NotImplementedError
+
+    def __reduce__(self) -> Tuple[Any, ...]:
+        """Attributes of a subclass go along."""
+        return _restored, (type(self), self.to_bytes()), getattr(self, "__dict__", None)
+
+
+def _restored(kind: Type[Saved], data: bytes) -> Saved:
+    return kind.from_bytes(data)
+
 
 def script_words(status: LoadStatus, data: bytes) -> str:
     """The name of the status in words, as a script replies it for these bytes."""
@@ -63,7 +94,7 @@ def load_bytes(load: Callable[..., int], device: Any, data: bytes) -> None:
 
     Raises `SavedStateError` if the bytes are no saved state of the device.
     """
-    data = bytes(data)
+    data = byte_string("data", data)
     status = LoadStatus(load(byref(device), data, len(data)))
     if status is not LoadStatus.OK:
         raise SavedStateError(status)

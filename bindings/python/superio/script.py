@@ -3,7 +3,10 @@
 `parse` accepts exactly the lines that the program accepts, and says of any other why it has no form.
 """
 import re
+from functools import lru_cache
 from typing import Dict, NamedTuple, Optional, Tuple, Union
+
+from .checks import byte_string
 
 __all__ = ["Command", "FORMS", "Field", "MASK", "MAXIMUM", "ScriptError", "TOO_MANY", "lines_of",
            "missing", "parse", "shown", "text_of"]
@@ -13,6 +16,7 @@ MAXIMUM = 65_536
 
 _DIGITS = re.compile(rb"[0-9A-Fa-f]*")
 _MANY_BYTES = 128
+_LINES = 4096
 
 _SPACES = "one space separates two fields, and none follows the last"
 
@@ -127,6 +131,12 @@ def parse(line: bytes, is_first: bool = False) -> Command:
 
     Raises `ScriptError`, which says why, if the line has no form.
     """
+    return _parse(byte_string("line", line), bool(is_first))
+
+
+@lru_cache(maxsize=_LINES)
+def _parse(line: bytes, is_first: bool) -> Command:
+    """The same. A script has most of its lines many times."""
     name, *texts = line.split(b" ")
     known = name.decode("ascii", "replace")
     try:

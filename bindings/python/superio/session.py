@@ -1,8 +1,8 @@
 """A session: a board, and what a line can make of it."""
 import signal
 import time
-from contextlib import contextmanager
-from typing import IO, Callable, Iterable, Iterator, List, Optional
+from contextlib import contextmanager, nullcontext
+from typing import IO, Callable, ContextManager, Iterable, Iterator, List, Optional
 
 from .board import Board, Call
 from .commands import VERBS
@@ -47,6 +47,8 @@ class Session:
         self.is_strict = is_strict
         self.depth = 0
         self.trace = Trace(keeps_lines)
+        # Only a shell goes on after Ctrl-C. The protection costs more than a call of the board.
+        self._undisturbed: Callable[[], ContextManager[None]] = _undisturbed if keeps_lines else nullcontext
         self._host_time = host_time
         self.renew()
 
@@ -78,8 +80,13 @@ class Session:
         Raises `ScriptError` or `RegisterError`, which say why, if it is none; `FileFault` if a file that it names
         cannot be used; and `Leave` if it ends the session.
         """
-        if self.is_strict:
-            self.run(parse(line, is_first=self.board.number == 0), is_short=True)
+        try:
+            command = parse(line, is_first=self.board.number == 0)
+        except ScriptError:
+            if self.is_strict:
+                raise
+        else:
+            self.run(command, is_short=True)
             return
         text = plain_text(line)
         if not text:
@@ -94,16 +101,14 @@ class Session:
 
     def run(self, command: Command, is_short: bool) -> None:
         """Carries out a command, and writes what it replied: what a script prints if `is_short`, otherwise in words."""
-        with _undisturbed():
-            call = self.board.run(command)
-            self.last = call
+        with self._undisturbed():
+            call = self.last = self.board.run(command)
             self.story.note(call)
-        line = text_of(command)
         if self.trace.is_shown:
-            self.say(self.style.quiet(line))
+            self.say(self.style.quiet(text_of(command)))
         if call.reply is not None:
             self.say(call.reply if is_short else told(call))
-        self.trace.note(line)
+        self.trace.note(command)
 
     def run_lines(self, name: str, lines: Iterable[bytes]) -> None:
         """Carries out the lines of a file of this name.

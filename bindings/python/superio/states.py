@@ -1,16 +1,26 @@
-"""The states of the devices, as plain values."""
+"""The states of the devices, as plain values, and as the Rust crate vm-superio has them."""
 from dataclasses import dataclass, fields
-from operator import index
+from typing import Any, Dict, Mapping, Sequence
 
+from .checks import byte_string, number
 from .structs import FIFO_SIZE
 
-__all__ = ["RtcState", "SerialState"]
+__all__ = ["AlarmIsSetError", "RtcState", "SerialState"]
+
+# The fields of a clock in vm-superio, in its order.
+_FIVE = ("lr", "offset", "mr", "imsc", "ris")
 
 
-def _check_range(name: str, value: int, bits: int, is_signed: bool = False) -> None:
-    low, high = (-(1 << bits - 1), (1 << bits - 1) - 1) if is_signed else (0, (1 << bits) - 1)
-    if not low <= index(value) <= high:
-        raise ValueError(f"{name} is {value}, and {'a signed' if is_signed else 'a'} number of {bits} bits is wanted")
+class AlarmIsSetError(ValueError):
+    """vm-superio's state of a clock was asked of one with an alarm set, which its five fields cannot hold."""
+
+    def __init__(self) -> None:
+        super().__init__("an alarm is set, and the five fields of vm-superio's RtcState cannot hold it")
+
+
+def _check_names(named: Mapping[str, Any], wanted: Sequence[str]) -> None:
+    if set(named) != set(wanted):
+        raise ValueError(f"the fields are {', '.join(map(str, named))}: {', '.join(wanted)} are wanted")
 
 
 @dataclass(frozen=True)
@@ -34,10 +44,23 @@ class SerialState:
 
     def __post_init__(self) -> None:
         for field in fields(self)[:9]:
-            _check_range(field.name, getattr(self, field.name), 8)
-        object.__setattr__(self, "in_buffer", bytes(self.in_buffer))
+            number(field.name, getattr(self, field.name), 8)
+        object.__setattr__(self, "in_buffer", byte_string("in_buffer", self.in_buffer))
         if len(self.in_buffer) > FIFO_SIZE:
             raise ValueError(f"in_buffer has {len(self.in_buffer)} bytes, and a port holds at most {FIFO_SIZE}")
+
+    def to_vm_superio(self) -> Dict[str, Any]:
+        """The ten fields as serde's JSON has them. `json.dumps` makes the text."""
+        return {**vars(self), "in_buffer": list(self.in_buffer)}
+
+    @classmethod
+    def from_vm_superio(cls, named: Mapping[str, Any]) -> "SerialState":
+        """The state of ten fields, as `json.loads` reads them.
+
+        Raises `ValueError` if the names are others or a value is out of range, and `TypeError` if one is no number.
+        """
+        _check_names(named, [field.name for field in fields(cls)])
+        return cls(**{**named, "in_buffer": bytes(list(named["in_buffer"]))})
 
 
 @dataclass(frozen=True)
@@ -59,6 +82,24 @@ class RtcState:
 
     def __post_init__(self) -> None:
         for name in ("lr", "mr", "imsc", "ris"):
-            _check_range(name, getattr(self, name), 32)
-        _check_range("offset", self.offset, 64, is_signed=True)
+            number(name, getattr(self, name), 32)
+        number("offset", self.offset, 64, is_signed=True)
         object.__setattr__(self, "armed", bool(self.armed))
+
+    def to_vm_superio(self) -> Dict[str, Any]:
+        """The five fields as serde's JSON has them, which know no alarm. `json.dumps` makes the text.
+
+        Raises `AlarmIsSetError` if an alarm is set. `dataclasses.replace(state, armed=False)` gives it up.
+        """
+        if self.armed:
+            raise AlarmIsSetError
+        return {name: getattr(self, name) for name in _FIVE}
+
+    @classmethod
+    def from_vm_superio(cls, named: Mapping[str, Any]) -> "RtcState":
+        """The state of five fields, as `json.loads` reads them, with no alarm set.
+
+        Raises `ValueError` if the names are others or a value is out of range, and `TypeError` if one is no number.
+        """
+        _check_names(named, _FIVE)
+        return cls(**named)

@@ -2,10 +2,13 @@
 from typing import Dict, List, NamedTuple, Optional
 
 from .board import Board, Call
-from .script import text_of
+from .script import Command, text_of
+from .structs import SerialStruct
 from .tell import CONDITIONS, ENABLES, pending, plural
 
 __all__ = ["Story"]
+
+_IIR = SerialStruct.interrupt_identification.offset
 
 _ACKNOWLEDGED_BY = {"RDA": "A read of IIR or of RBR acknowledges it.", "THRE": "A read of IIR acknowledges it."}
 
@@ -14,9 +17,13 @@ class _Turn(NamedTuple):
     """A call that turned a condition on or off."""
 
     number: int
-    line: str
+    command: Command
     is_taken: Optional[bool] = None
     """What the interrupt line answered; `None` if it was not called."""
+
+    def __str__(self) -> str:
+        line = text_of(self.command)
+        return f"call {self.number}, {line if len(line) <= 24 else line[:22] + '..'}"
 
 
 class Story:
@@ -28,19 +35,16 @@ class Story:
 
     def note(self, call: Call) -> None:
         """Remembers what a call raised and acknowledged. Calls are noted in their order."""
+        if call.before.port[_IIR] == call.after.port[_IIR] and not call.answers:
+            return
         before, after = pending(call.before.serial), pending(call.after.serial)
         answers = list(call.answers)
         for name in CONDITIONS:
             asked = name in after and (name not in before or call.command.name in ("ss", "sl"))
             if asked and (name not in before or answers):
-                self._raised[name] = self._turn(call, answers.pop(0) if answers else None)
+                self._raised[name] = _Turn(call.number, call.command, answers.pop(0) if answers else None)
             elif name in before and name not in after:
-                self._acknowledged[name] = self._turn(call, None)
-
-    @staticmethod
-    def _turn(call: Call, is_taken: Optional[bool]) -> _Turn:
-        line = text_of(call.command)
-        return _Turn(call.number, line if len(line) <= 24 else line[:22] + "..", is_taken)
+                self._acknowledged[name] = _Turn(call.number, call.command)
 
     def lines(self, board: Board) -> List[str]:
         """A sentence or two about each condition."""
@@ -58,14 +62,14 @@ class Story:
         if raise_ is None:
             return "it was when the board was loaded."
         answer = {True: ", and the line took the interrupt", False: ", and the line refused the interrupt", None: ""}
-        reason = f"call {raise_.number}, {raise_.line}, raised it{answer[raise_.is_taken]}"
+        reason = f"{raise_}, raised it{answer[raise_.is_taken]}"
         if not is_enabled:
             return f"{reason}. IER does not enable it now."
         return f"{reason}. {_ACKNOWLEDGED_BY[name]}"
 
     def _why_not(self, name: str, is_enabled: bool, held: int) -> str:
         acknowledged = self._acknowledged.get(name)
-        reason = f"call {acknowledged.number}, {acknowledged.line}, acknowledged it" if acknowledged \
+        reason = f"{acknowledged}, acknowledged it" if acknowledged \
             else "no call has raised it"
         if name == "RDA":
             return f"{reason}. {self._next_rda(is_enabled, held)}"

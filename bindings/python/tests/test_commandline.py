@@ -1,16 +1,26 @@
 """`python3 -m superio` with a file, a pipe and wrong arguments: replies, statuses and messages."""
+import io
 import os
+import re
 import resource
+import shutil
 import signal
 import subprocess
 import sys
 import tempfile
+import threading
+import time
 import unittest
 from pathlib import Path
+from unittest import mock
 
 from support import ENVIRONMENT, ROOT, TIMEOUT, run
 
 import superio
+from superio import main
+from superio.faults import FileFault
+from superio.library import FILE_NAME
+from superio.session import Session
 
 EXAMPLE = ROOT / "examples" / "three_devices.script"
 BOOT = ROOT / "examples" / "linux-boot" / "boot.recording"
@@ -60,6 +70,22 @@ class Files(unittest.TestCase):
         status, output, _ = run(script=b"kr 04\n" * 20000)
         self.assertEqual((0, "00\n" * 20000), (status, output))
 
+    def test_lines_that_come_in_pieces(self):
+        for script in (b"read LSR", b"read LSR\n", b"\nread LSR\n\n", b"kr 04\nread LSR"):
+            for cut in range(len(script)):
+                with self.subTest(script[:cut]):
+                    self.assertEqual(run(script=script), self.run_in_pieces(script[:cut], script[cut:]))
+        long = b"# " + b"x" * 200_000 + b"\nkr 04\nkr"
+        self.assertEqual((1, "00\n", '<stdin>:3: "kr": an offset is missing\n'), run(script=long))
+
+    @staticmethod
+    def run_in_pieces(*pieces):
+        """The same as `run`, in this process, of a script that a pipe gives in pieces."""
+        source = mock.Mock(read1=mock.Mock(side_effect=[*filter(None, pieces), b""]))
+        out = io.StringIO()
+        main._run_file(Session(out), "<stdin>", source)
+        return 0, out.getvalue(), ""
+
     def test_line_numbers_of_many_lines(self):
         status, _, errors = run(script=b"kr 04\n" * 99999 + b"kr\n")
         self.assertEqual((1, '<stdin>:100000: "kr": an offset is missing\n'), (status, errors))
@@ -75,6 +101,25 @@ class Files(unittest.TestCase):
         done = subprocess.run([ROOT / "superio", EXAMPLE], cwd="/", env={"PATH": os.environ["PATH"]}, capture_output=True,
                               text=True, timeout=TIMEOUT)
         self.assertEqual(run(EXAMPLE), (done.returncode, done.stdout, done.stderr))
+
+    def test_the_program_at_the_top_through_a_link(self):
+        link = Path(self.folder.name, "link")
+        link.symlink_to(ROOT / "superio")
+        done = subprocess.run([link, EXAMPLE], cwd=self.folder.name, env={"PATH": os.environ["PATH"]}, capture_output=True,
+                              text=True, timeout=TIMEOUT)
+        self.assertEqual(run(EXAMPLE), (done.returncode, done.stdout, done.stderr))
+
+    def test_the_program_at_the_top_without_a_library_for_the_machine(self):
+        """As on a processor that `prebuilt` has no folder for: it says where it looked, and what to do."""
+        top = Path(self.folder.name, "top")
+        shutil.copytree(ROOT / "bindings" / "python" / "superio", top / "bindings" / "python" / "superio")
+        shutil.copy(ROOT / "superio", top)
+        done = subprocess.run([top / "superio"], input="", env={"PATH": os.environ["PATH"]}, capture_output=True, text=True,
+                              timeout=TIMEOUT)
+        self.assertEqual((2, ""), (done.returncode, done.stdout))
+        name = re.escape(FILE_NAME)
+        self.assertRegex(done.stderr, rf"^python3 -m superio: {name} was not found .*top/prebuilt/\w+-linux/{name}.*: "
+                                      r"set SUPERIO_LIBRARY to its path\n$")
 
     def test_folder_and_missing_file(self):
         self.assertEqual((2, "", "python3 -m superio: /: Is a directory\n"), run("/"))
@@ -139,6 +184,138 @@ class Files(unittest.TestCase):
 
     def test_reset(self):
         self.assertEqual((0, "ok\na fresh board\nSCR = 0x00\n", ""), run(script=b"write SCR 7\nreset\nread SCR\n"))
+
+
+class FullDisk(unittest.TestCase):
+    """A limit on the size of files stands for a full disk: the first bytes are written, and the next are refused."""
+
+    LIMIT = 10
+    TRACE = b"sw 01 03  ok\nsr 02  c2\n"
+
+    def setUp(self):
+        folder = tempfile.TemporaryDirectory()
+        self.addCleanup(folder.cleanup)
+        self.path = Path(folder.name, "file")
+
+    def run_limited(self, *arguments, script=b"", limit=LIMIT):
+        return run(*arguments, script=script,
+                   preexec_fn=lambda: resource.setrlimit(resource.RLIMIT_FSIZE, (limit, limit)))
+
+    def test_the_file_that_was_there_stays(self):
+        told = f"{self.path}: File too large"
+        for arguments, script, status in ((["-"], f"save {self.path}\n", 2),
+                                          (["-"], f"sr 05\nsave {self.path}\n", 2),
+                                          (["view", "-", "--svg", self.path], self.TRACE.decode(), 2),
+                                          (["view", "-", "--table", self.path], self.TRACE.decode(), 2)):
+            with self.subTest(arguments):
+                self.path.write_text("what was there\n")
+                self.path.chmod(0o640)
+                got = self.run_limited(*arguments, script=script.encode())
+                self.assertEqual((status, True), (got[0], told in got[2]), got)
+                self.assertNotIn("Traceback", got[2])
+                self.assertEqual("what was there\n", self.path.read_text())
+                self.assertEqual([self.path], list(self.path.parent.iterdir()))
+
+    def test_a_trace_that_cannot_begin(self):
+        """The shell keeps the calls, so it has to write them when `trace on FILE` comes."""
+        session = Session(io.StringIO(), keeps_lines=True)
+        for line in (b"kr 04", b"kr 04"):
+            session.carry_out(line)
+        self.path.write_text("what was there\n")
+        before = resource.getrlimit(resource.RLIMIT_FSIZE)
+        resource.setrlimit(resource.RLIMIT_FSIZE, (self.LIMIT, before[1]))
+        try:
+            with self.assertRaisesRegex(FileFault, "File too large"):
+                session.carry_out(f"trace on {self.path}".encode())
+        finally:
+            resource.setrlimit(resource.RLIMIT_FSIZE, before)
+        self.assertEqual("what was there\n", self.path.read_text())
+        self.assertEqual([self.path], list(self.path.parent.iterdir()))
+
+    def test_a_new_file_is_whole_or_not_there(self):
+        self.assertEqual(2, self.run_limited(script=f"save {self.path}\n".encode())[0])
+        self.assertEqual([], list(self.path.parent.iterdir()))
+        self.assertEqual(0, self.run_limited(script=f"save {self.path}\n".encode(), limit=10_000)[0])
+        self.assertEqual(2, self.path.read_text().count("\n"))
+
+    def test_a_file_keeps_its_mode_and_a_link_its_target(self):
+        link = self.path.parent / "link"
+        link.symlink_to(self.path.name)
+        self.path.write_text("")
+        self.path.chmod(0o640)
+        self.assertEqual(0, run(script=f"save {link}\n".encode())[0])
+        self.assertEqual((0o640, True), (self.path.stat().st_mode & 0o777, link.is_symlink()))
+        self.assertTrue(self.path.read_text().startswith("sl "))
+        new = self.path.parent / "new"
+        self.assertEqual(0, run(script=f"save {new}\n".encode(), preexec_fn=lambda: os.umask(0o027))[0])
+        self.assertEqual(0o640, new.stat().st_mode & 0o777)
+
+    def test_what_is_no_file_is_written_itself(self):
+        status, output, _ = run(script=b"save /dev/stdout\n")
+        self.assertEqual((0, ["sl", "cl", "po"]), (status, [line[:2] for line in output.splitlines()]))
+
+
+class Speed(unittest.TestCase):
+    def test_a_line_of_a_pipe_takes_little_more_than_its_call(self):
+        """Against calls of a device in a loop, in processor seconds, in the best of some tries, so that a busy machine is
+        no reason to fail. A line took some 30 calls when each one was decoded, and takes about 6."""
+        script = b"sw 01 01\n" + b"sq 61\nsr 02\nsr 00\nsr 05\n" * 5000
+        loop = "from superio import Serial\nport = Serial()\nfor _ in range(20001): port.read(5)"
+
+        def calls_of_a_line():
+            plain = self.seconds("-c", "from superio import Serial")
+            lines = self.seconds("-m", "superio", script=script) - plain
+            return lines / (self.seconds("-c", loop) - plain)
+
+        self.assertTrue(any(calls_of_a_line() < 15 for _ in range(5)))
+
+    @staticmethod
+    def seconds(*arguments, script=b""):
+        """The least of three runs."""
+        times = []
+        for _ in range(3):
+            before = resource.getrusage(resource.RUSAGE_CHILDREN).ru_utime
+            subprocess.run([sys.executable, *arguments], input=script, stdout=subprocess.PIPE, env=ENVIRONMENT,
+                           timeout=TIMEOUT, check=True)
+            times.append(resource.getrusage(resource.RUSAGE_CHILDREN).ru_utime - before)
+        return min(times)
+
+
+class Interrupted(unittest.TestCase):
+    """Ctrl-C at many moments, once and again, ends in silence. A shell that starts this in the background lets its
+    children ignore the signal."""
+
+    def interrupt(self, arguments, script, seconds, times):
+        command = [ROOT / "superio", *map(str, arguments)]
+        with subprocess.Popen(command, stdin=subprocess.PIPE, stdout=subprocess.PIPE, stderr=subprocess.PIPE, env=ENVIRONMENT,
+                              preexec_fn=lambda: signal.signal(signal.SIGINT, signal.SIG_DFL)) as process:
+            reader = threading.Thread(target=process.stdout.read)
+            reader.start()
+            try:
+                process.stdin.write(script)  # more than a pipe holds, so the program has begun to read
+                process.stdin.flush()
+                time.sleep(seconds)
+                for _ in range(times):
+                    process.send_signal(signal.SIGINT)
+                process.stdin.close()
+            except BrokenPipeError:
+                pass
+            said = process.stderr.read()
+            reader.join()
+            status = process.wait(TIMEOUT)
+        self.assertEqual(b"", said)
+        return status
+
+    def test_silence(self):
+        lines, rows = b"st\nread LSR\n" * 50_000, b"sr 05  60\n" * 60_000
+        ended = []
+        for arguments, script in (([], lines), (["view", "-", "--table"], rows),
+                                  (["view", "-", "--svg", "/dev/null"], rows)):
+            for seconds in (0, 0.05, 0.3):
+                for times in (1, 3):
+                    ended.append(self.interrupt(arguments, script, seconds, times))
+        self.assertLessEqual(set(ended), {0, 128 + signal.SIGINT, -signal.SIGINT})
+        self.assertGreater(sum(status in (128 + signal.SIGINT, -signal.SIGINT) for status in ended), len(ended) // 2)
 
 
 class Streams(unittest.TestCase):

@@ -3,18 +3,24 @@ import copy
 import dataclasses
 import doctest
 import itertools
+import json
 import os
+import pickle
 import random
 import re
+import struct
 import unittest
 from unittest import mock
 
 from support import ROOT
 
-from superio import (Board, EnqueueEffects, I8042, LibraryError, LoadStatus, ReadEffects, RegisterError, Rtc, RtcState,
-                     SavedStateError, Serial, SerialState, WriteEffects, board, devices, library, parse, registers)
+from superio import (AlarmIsSetError, Board, EnqueueEffects, I8042, LibraryError, LoadStatus, ReadEffects,
+                     RegisterError, Rtc, RtcState, SavedStateError, Serial, SerialState, WriteEffects, board, devices,
+                     library, parse, registers)
 
 SAVED_STATES = ROOT / "docs" / "SAVED-STATES.md"
+# What programs over vm-superio 0.8.2 saved: the device, the format, and the contents.
+RECORDED = ROOT / "tools" / "rust" / "moved" / "recorded.txt"
 
 # The registers of a 16550 by name, with a value that the guest writes and the field of the state that keeps it.
 KEPT = [("IER", 0x0A, "interrupt_enable"), ("LCR", 0x1B, "line_control"), ("MCR", 0x0B, "modem_control"),
@@ -32,6 +38,12 @@ BITS = {"IER": "RDA THRE RLS MS - - - -", "IIR": "- THRE RDA - - - - -", "LCR": 
         **dict.fromkeys(("IMSC", "RIS", "MIS", "ICR"), "ALARM - - - - - - -")}
 FORMATS = [(0x00, "5N1"), (0x01, "6N1"), (0x02, "7N1"), (0x03, "8N1"), (0x06, "7N2"), (0x07, "8N2"), (0x0B, "8O1"), (0x1B, "8E1"),
            (0x2B, "8M1"), (0x3B, "8S1"), (0x33, "8N1")]
+
+
+# Numbers where one of fewer bits, or with a sign, would be another.
+EDGES_OF_32 = [0, 1, 2 ** 16, 2 ** 31 - 1, 2 ** 31, 2 ** 32 - 2, 2 ** 32 - 1]
+EDGES_OF_64 = [*EDGES_OF_32, 2 ** 32, 2 ** 32 + 7, 2 ** 53 + 1, 2 ** 63 - 1, 2 ** 63, 2 ** 64 - 1]
+LENGTHS = [count for power in (8, 16, 20) for count in (2 ** power - 1, 2 ** power, 2 ** power + 1)]
 
 
 class Registers(unittest.TestCase):
@@ -117,6 +129,13 @@ class SerialPort(unittest.TestCase):
         self.assertEqual(0, self.port.fifo_capacity())
         self.assertEqual(bytes(range(60)) + bytes(4), self.port.state.in_buffer)
 
+    def test_an_enqueue_of_any_length_takes_the_first_that_fit(self):
+        for length in LENGTHS:
+            port = Serial()
+            self.assertEqual(EnqueueEffects(64, False, 0), port.enqueue(bytes(range(255)) + bytes(length - 255)))
+            self.assertEqual(bytes(range(64)), port.state.in_buffer)
+            self.assertEqual(EnqueueEffects(0, True, 0), port.enqueue(bytes(length)))
+
     def test_character_timeout_raises_rda_again_while_bytes_are_held(self):
         self.port.write("IER", 0x01)
         self.port.enqueue(b"ab")
@@ -149,6 +168,23 @@ class SerialPort(unittest.TestCase):
         self.assertEqual((0x06, 2), (self.port.state.interrupt_identification, self.port.interrupts_due()))
         self.port.read("IIR")
         self.assertEqual(0, self.port.interrupts_due())
+
+    def test_line_is_up_while_an_enabled_condition_is_pending(self):
+        ups = 0
+        for enabled, identification in itertools.product(range(256), range(256)):
+            port = Serial.from_state(SerialState(interrupt_enable=enabled, interrupt_identification=identification))
+            is_up = bool(enabled & 0x02 and identification & 0x02 or enabled & 0x01 and identification & 0x04)
+            self.assertIs(is_up, port.interrupt_line())
+            ups += is_up
+        self.assertEqual(256 * 256 * 7 // 16, ups)
+
+    def test_line_goes_up_again_for_a_condition_that_is_unmasked(self):
+        levels = []
+        for value in (0x02, 0x00, 0x02):
+            levels.append((self.port.write("IER", value).interrupts, self.port.interrupt_line()))
+        self.assertEqual([(1, True), (0, False), (0, True)], levels)
+        self.port.read("IIR")
+        self.assertFalse(self.port.interrupt_line())
 
     def test_coherence(self):
         self.assertTrue(self.port.is_coherent())
@@ -212,6 +248,22 @@ class Clock(unittest.TestCase):
         self.assertTrue(clock.line())
         self.assertIsNone(clock.due(106))
 
+    def test_an_alarm_is_due_when_guest_time_reaches_it(self):
+        for match, time, now in itertools.product(EDGES_OF_32, EDGES_OF_32, EDGES_OF_64):
+            clock = Rtc.from_state(RtcState(mr=match, offset=time - now % 2 ** 32, armed=True))
+            if now % 2 ** 32 + match - time < 2 ** 32:  # the host's seconds do not begin anew until then
+                self.assertEqual(max(match - time, 0), clock.due(now), (match, time, now))
+
+    def test_moments_with_the_same_low_32_bits_are_the_same(self):
+        for now in EDGES_OF_64:
+            clocks = []
+            for moment in (now, now % 2 ** 32):
+                clock = Rtc()
+                clock.write("LR", 7, moment)
+                clock.write("MR", 9, moment)
+                clocks.append((clock.read("DR", moment), clock.due(moment), clock.state))
+            self.assertEqual(*clocks, now)
+
     def test_states(self):
         state = RtcState(1, 2, 3, 4, -5, True)
         clock = Rtc.from_state(state)
@@ -223,6 +275,152 @@ class Clock(unittest.TestCase):
         for wrong in ({"lr": 1 << 32}, {"offset": 1 << 63}, {"offset": -(1 << 63) - 1}):
             with self.subTest(wrong), self.assertRaises(ValueError):
                 RtcState(**wrong)
+
+
+# Calls with a wrong argument, and what is said of each.
+REFUSED = [
+    (lambda: Serial().enqueue(0x41), TypeError, "data is 65, of type int: a bytes-like object is wanted"),
+    (lambda: Serial().enqueue("A"), TypeError, "data is 'A', of type str: a bytes-like object is wanted"),
+    (lambda: Serial().enqueue([65]), TypeError, "data is [65], of type list: a bytes-like object is wanted"),
+    (lambda: Serial().write(7, 256), ValueError, "value is 256, of type int: an int from 0 to 255 is wanted"),
+    (lambda: Serial().write(7, -1), ValueError, "value is -1, of type int: an int from 0 to 255 is wanted"),
+    (lambda: Serial().write(7, 10 ** 5000), ValueError, "value is .*: an int from 0 to 255 is wanted"),
+    (lambda: Serial().write(7, "A"), TypeError, "value is 'A', of type str: an int from 0 to 255 is wanted"),
+    (lambda: Serial().read(256), ValueError,
+     "offset is 256, of type int: an int from 0 to 255, or the name of a register, is wanted"),
+    (lambda: Serial().read(None), TypeError,
+     "offset is None, of type NoneType: an int from 0 to 255, or the name of a register, is wanted"),
+    (lambda: Serial.from_bytes(8), TypeError, "data is 8, of type int: a bytes-like object is wanted"),
+    (lambda: Serial.from_state(RtcState()), TypeError, "state is RtcState(.*), of type RtcState: SerialState is wanted"),
+    (lambda: SerialState(scratch=256), ValueError, "scratch is 256, of type int: an int from 0 to 255 is wanted"),
+    (lambda: SerialState(in_buffer=3), TypeError, "in_buffer is 3, of type int: a bytes-like object is wanted"),
+    (lambda: SerialState(in_buffer=bytes(65)), ValueError, "in_buffer has 65 bytes, and a port holds at most 64"),
+    (lambda: Rtc().read("DR", 1.5), TypeError, "now is 1.5, of type float: an int from 0 to 2**64 - 1 is wanted"),
+    (lambda: Rtc().write("LR", 1, "now"), TypeError, "now is 'now', of type str: an int from 0 to 2**64 - 1 is wanted"),
+    (lambda: Rtc().due(-1), ValueError, "now is -1, of type int: an int from 0 to 2**64 - 1 is wanted"),
+    (lambda: Rtc().write("LR", 1 << 32, 0), ValueError,
+     "value is 4294967296, of type int: an int from 0 to 2**32 - 1 is wanted"),
+    (lambda: Rtc().read(1 << 16, 0), ValueError,
+     "offset is 65536, of type int: an int from 0 to 65535, or the name of a register, is wanted"),
+    (lambda: Rtc.from_bytes("SIOS"), TypeError, "data is 'SIOS', of type str: a bytes-like object is wanted"),
+    (lambda: Rtc.from_state(None), TypeError, "state is None, of type NoneType: RtcState is wanted"),
+    (lambda: RtcState(lr=-1), ValueError, "lr is -1, of type int: an int from 0 to 2**32 - 1 is wanted"),
+    (lambda: RtcState(offset=1 << 63), ValueError,
+     "offset is 9223372036854775808, of type int: an int from -2**63 to 2**63 - 1 is wanted"),
+    (lambda: I8042().read("LSR"), TypeError, "offset is 'LSR', of type str: an int from 0 to 255 is wanted"),
+    (lambda: I8042().write(4, 0x1FE), ValueError, "value is 510, of type int: an int from 0 to 255 is wanted"),
+    (lambda: parse("sr 05"), TypeError, "line is 'sr 05', of type str: a bytes-like object is wanted"),
+    (lambda: Board().run("sr 05"), TypeError, "command is 'sr 05', of type str: Command is wanted"),
+]
+
+
+class Arguments(unittest.TestCase):
+    def test_a_refusal_names_the_argument_its_value_and_what_is_wanted(self):
+        for place, (call, kind, said) in enumerate(REFUSED):
+            with self.subTest(place), self.assertRaises(kind) as caught:
+                call()
+            self.assertRegex(str(caught.exception), f"^{re.escape(said)}$".replace(re.escape(".*"), ".*"))
+
+    def test_a_refused_argument_changes_nothing(self):
+        port, clock = Serial(), Rtc()
+        for call in (lambda: port.enqueue(0x41), lambda: port.enqueue("A"), lambda: port.write(7, 256),
+                     lambda: port.write(1.5, 1), lambda: clock.write("LR", 1, 1.5), lambda: clock.write("LR", -1, 1)):
+            self.assertRaises((TypeError, ValueError), call)
+        self.assertEqual((SerialState(), RtcState()), (port.state, clock.state))
+
+    def test_what_has_bytes_in_memory_is_taken(self):
+        port = Serial()
+        for data in (b"ab", bytearray(b"cd"), memoryview(b"exfx")[::2], memoryview(b"gh")):
+            self.assertEqual(2, port.enqueue(data).taken)
+        self.assertEqual(b"abcdefgh", port.state.in_buffer)
+
+
+class Copies(unittest.TestCase):
+    WAYS = [copy.copy, copy.deepcopy, *(lambda it, protocol=protocol: pickle.loads(pickle.dumps(it, protocol))
+                                        for protocol in range(pickle.HIGHEST_PROTOCOL + 1))]
+
+    def test_a_copy_has_the_state_and_goes_its_own_way(self):
+        port = Serial()
+        port.enqueue(b"abc")
+        port.read("RBR")
+        clock = Rtc.from_state(RtcState(1, 2, 3, 4, -5, True))
+        for way in self.WAYS:
+            for device, change in ((port, lambda it: it.read("RBR")), (clock, lambda it: it.write("LR", 9, 0))):
+                before, other = device.state, way(device)
+                self.assertIs(type(device), type(other))
+                self.assertEqual(before, other.state)
+                change(other)
+                self.assertEqual((before, False), (device.state, other.state == before))
+            self.assertTrue(way(I8042()).write(4, 0xFE).resets)
+
+    def test_equal_states_have_the_same_pickle(self):
+        """Wherever the ring of a port begins, and without a byte that the guest has read."""
+        port = Serial()
+        port.enqueue(b"?secret")
+        for _ in range(7):
+            port.read("RBR")
+        port.enqueue(b"ab")
+        pickled = pickle.dumps(port, 2)
+        self.assertEqual(pickle.dumps(Serial.from_state(SerialState(in_buffer=b"ab", line_status=0x61)), 2), pickled)
+        self.assertNotIn(b"secret", pickled)
+        stored = (b"csuperio.saved\n_restored\n(csuperio.devices\nRtc\nc_codecs\nencode\n(VSIOS\\u0002\\u0001\\u0019"
+                  b"\\u0000\\u0007" + 24 * b"\\u0000" + b"\nVlatin1\ntRtR.")
+        self.assertEqual(RtcState(lr=7), pickle.loads(stored).state)
+
+    def test_a_board_goes_its_own_way(self):
+        for way in self.WAYS[1:]:
+            board = Board()
+            board.reply(parse(b"sq 6162"))
+            other = way(board)
+            self.assertEqual(("61", "62"), (other.reply(parse(b"sr 00")), other.reply(parse(b"sr 00"))))
+            self.assertEqual(("3e", "40"), (board.reply(parse(b"sc")), other.reply(parse(b"sc"))))
+
+    def test_attributes_of_a_subclass_go_along(self):
+        port = NamedPort()
+        port.name = "ttyS0"
+        for way in self.WAYS:
+            self.assertEqual("ttyS0", way(port).name)
+
+    def test_an_error_keeps_its_status(self):
+        for way in self.WAYS:
+            error = way(SavedStateError(LoadStatus.OTHER_DEVICE))
+            self.assertEqual((LoadStatus.OTHER_DEVICE, "the saved state of another device"), (error.status, str(error)))
+
+
+class NamedPort(Serial):
+    """A port with an attribute of its own."""
+
+
+class Walks(unittest.TestCase):
+    """After each of many calls the state is that of the saved form, which the library writes and docs/SAVED-STATES.md
+    describes."""
+
+    def test_a_port_whose_ring_begins_at_each_place(self):
+        chance, heads, port = random.Random(3), set(), Serial()
+        for _ in range(10000):
+            offset, count = chance.choice((0, 0, 0, 1, 2, 3, 4, 5, 7)), chance.choice((1, 1, 2, 3, 64))
+            call = chance.choice((lambda: port.read(offset), lambda: port.write(offset, chance.randrange(256)),
+                                  lambda: port.enqueue(bytes(chance.randrange(256) for _ in range(count)))))
+            call()
+            form = port.to_bytes()
+            self.assertEqual(SerialState(*form[8:17], in_buffer=form[17:]), port.state)
+            self.assertEqual(form, Serial.from_state(port.state).to_bytes())
+            heads.add(port._struct.head)
+        self.assertEqual(set(range(64)), heads)
+
+    def test_a_clock_with_and_without_an_alarm_at_the_same_registers(self):
+        chance, seen, clock = random.Random(3), {}, Rtc()
+        for _ in range(10000):
+            offset = chance.choice((0x000, 0x004, 0x004, 0x008, 0x00C, 0x010, 0x014, 0x01C, 0x020))
+            value, now = chance.randrange(6), chance.randrange(8)
+            call = chance.choice((lambda: clock.read(offset, now), lambda: clock.write(offset, value, now)))
+            call()
+            form = clock.to_bytes()
+            *fields, armed = struct.unpack("<4IqB", form[8:])
+            self.assertEqual(RtcState(*fields, armed == 1), clock.state)
+            self.assertEqual(form, Rtc.from_state(clock.state).to_bytes())
+            seen.setdefault(tuple(fields), set()).add(armed)
+        self.assertGreater(sum(len(armed) == 2 for armed in seen.values()), 50)
 
 
 class Controller(unittest.TestCase):
@@ -324,10 +522,49 @@ class SavedStates(unittest.TestCase):
         self.assertEqual(7, Serial.from_state(state).read("SCR").byte)
 
 
+class MovedStates(unittest.TestCase):
+    """States in the form of the Rust crate vm-superio."""
+
+    def test_recorded_states_come_and_go(self):
+        kinds = {"port": (Serial, SerialState), "clock": (Rtc, RtcState)}
+        lines = [line.split(" ", 2) for line in RECORDED.read_text(encoding="utf-8").splitlines()]
+        texts = [(*kinds[kind], text) for kind, form, text in lines if form == "json"]
+        self.assertEqual({Serial, Rtc}, {kind for kind, _, _ in texts})
+        for kind, state, text in texts:
+            device = kind.from_state(state.from_vm_superio(json.loads(text)))
+            self.assertEqual(text, json.dumps(device.state.to_vm_superio(), separators=(",", ":")))
+
+    def test_an_alarm_is_not_lost(self):
+        clock = Rtc()
+        clock.write("MR", 2000, now=1000)
+        with self.assertRaisesRegex(AlarmIsSetError, "an alarm is set"):
+            clock.state.to_vm_superio()
+        self.assertEqual(2000, dataclasses.replace(clock.state, armed=False).to_vm_superio()["mr"])
+        clock.read("DR", now=2000)
+        five = clock.state.to_vm_superio()
+        self.assertEqual({"lr": 0, "offset": 0, "mr": 2000, "imsc": 0, "ris": 1}, five)
+        self.assertFalse(RtcState.from_vm_superio(five).armed)
+
+    def test_other_names_and_values_are_refused(self):
+        port, clock = SerialState().to_vm_superio(), RtcState().to_vm_superio()
+        for kind, named in ((SerialState, port), (RtcState, clock)):
+            for wrong in ({**named, "armed": True}, {name: named[name] for name in list(named)[1:]}):
+                self.assertRaisesRegex(ValueError, "are wanted", kind.from_vm_superio, wrong)
+        for kind, named, error in ((SerialState, {**port, "in_buffer": [256]}, ValueError),
+                                   (SerialState, {**port, "in_buffer": 5}, TypeError),
+                                   (SerialState, {**port, "scratch": 256}, ValueError),
+                                   (RtcState, {**clock, "mr": -1}, ValueError),
+                                   (RtcState, {**clock, "offset": "1"}, TypeError)):
+            self.assertRaises(error, kind.from_vm_superio, named)
+
+
 class Finding(unittest.TestCase):
     def test_another_interface_is_refused(self):
-        with mock.patch.object(library, "ABI", 99), self.assertRaisesRegex(LibraryError, r"interface \d+, .* needs 99"):
-            library.open_library()
+        own = library.ABI
+        for other in (own - 1, own + 1):  # the library is newer than the package, and older
+            with self.subTest(needs=other), mock.patch.object(library, "ABI", other), \
+                    self.assertRaisesRegex(LibraryError, f"interface {own}, .* needs {other}:"):
+                library.open_library()
 
     def test_a_named_library_that_is_not_there(self):
         with mock.patch.dict(os.environ, {library.VARIABLE: "/nowhere/lib.so"}), \

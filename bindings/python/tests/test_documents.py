@@ -8,7 +8,7 @@ from support import PACKAGE, ROOT, run
 
 from superio.session import Session
 
-DOCUMENTS = [PACKAGE / "README.md", ROOT / "docs" / "USING.md"]
+DOCUMENTS = [PACKAGE / "README.md", ROOT / "README.md", *sorted((ROOT / "docs").glob("*.md"))]
 RECORDING = ROOT / "examples" / "linux-boot" / "boot.recording"
 
 

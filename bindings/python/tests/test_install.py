@@ -4,12 +4,13 @@ import os
 import re
 import subprocess
 import sys
+import tarfile
 import tempfile
 import unittest
 import zipfile
 from pathlib import Path
 
-from support import ENVIRONMENT, PACKAGE, TIMEOUT
+from support import ENVIRONMENT, PACKAGE, ROOT, TIMEOUT
 
 from superio import library
 
@@ -24,7 +25,7 @@ except library.LibraryError:
 
 class Sources(unittest.TestCase):
     def test_syntax_of_python_3_8(self):
-        for path in [*SOURCES, PACKAGE / "build_wheel.py"]:
+        for path in [*SOURCES, PACKAGE / "build_wheel.py", ROOT / "superio"]:
             ast.parse(path.read_text(encoding="utf-8"), str(path), feature_version=(3, 8))
 
     @unittest.skipUnless(hasattr(sys, "stdlib_module_names"), "this Python does not list its library")
@@ -77,7 +78,27 @@ class Wheel(unittest.TestCase):
         self.assertEqual(names, {line.split(",")[0] for line in record.splitlines()})
         for path in SOURCES:
             self.assertIn(f"superio/{path.name}", names)
-        self.assertTrue(any(re.search(r"dist-info/LICENSE$", name) for name in names))
+        for license in ("LICENSE", "LICENSES/Apache-2.0.txt", "LICENSES/BSD-3-Clause.txt"):
+            self.assertTrue(any(name.endswith(f"dist-info/licenses/{license}") for name in names), license)
+
+    def test_a_wheel_of_the_sources_is_that_of_the_repository(self):
+        code = "import build_wheel, sys; print(getattr(build_wheel, sys.argv[1])(sys.argv[2]))"
+        folder = str(self.folder)
+
+        def build(kind, place, environment):
+            command = [sys.executable, "-c", code, kind, folder]
+            return subprocess.run(command, check=True, capture_output=True, text=True, cwd=place,
+                                  env=environment).stdout.strip()
+
+        with tarfile.open(self.folder / build("build_sdist", PACKAGE, CLEAN)) as sources:
+            sources.extractall(folder)
+            self.assertEqual({0}, {member.mtime for member in sources.getmembers()})
+        name = build("build_wheel", PACKAGE, {**CLEAN, library.VARIABLE: LIBRARY})
+        wheel = (self.folder / name).read_bytes()
+        extracted = next(path for path in self.folder.iterdir() if path.is_dir() and (path / "PKG-INFO").is_file())
+        environment = {**CLEAN, library.VARIABLE: LIBRARY}
+        self.assertEqual(name, build("build_wheel", extracted, environment))
+        self.assertEqual(wheel, (self.folder / name).read_bytes())
 
     def test_a_wheel_wants_a_library(self):
         code = f"import build_wheel; build_wheel.build_wheel({str(self.folder)!r})"

@@ -202,6 +202,17 @@ class Typing(ShellTest):
         self.end()
         self.assertEqual("", self.terminal.shown().strip())
 
+    def test_a_full_disk_leaves_the_history_as_it_was(self):
+        with tempfile.TemporaryDirectory() as folder:
+            path = Path(folder, "history")
+            path.write_text("write SCR 7\n")
+            command = f"ulimit -f 0; exec {sys.executable} -m superio"
+            self.terminal = Terminal(["/bin/sh", "-c", command], {**ENVIRONMENT, "SUPERIO_HISTORY": str(path)})
+            self.terminal.read_until(PROMPT)
+            self.answer("kr 04")
+            self.end()
+            self.assertEqual(("write SCR 7\n", [path]), (path.read_text(), list(Path(folder).iterdir())))
+
     def test_history_outlasts_the_session(self):
         with tempfile.TemporaryDirectory() as folder:
             path = str(Path(folder, "history"))

@@ -14,6 +14,7 @@ from superio.svg import picture
 from superio.view import Viewer, table
 
 RECORDING = ROOT / "examples" / "linux-boot" / "boot.recording"
+WITH_INPUT = RECORDING.with_name("console.recording")
 FIGURE = ROOT / "docs" / "linux-boot.svg"
 
 TRACE = b"""\
@@ -39,6 +40,9 @@ ROWS = [
     ('sent "Hi"', [("sw 00 48", "ok"), ("sw 00 69", "ok")]),
     ('polled "H"', [("sr 05", "60"), ("sw 00 48", "ok")]),
     (r'so "H\n"', [("so", "480a")]),
+    ('received "Hi"', [("sr 05", "61"), ("sr 00", "48"), ("sr 05", "61"), ("sr 00", "69")]),
+    (r'sq "H\n"  02', [("sq 480a", "02")]),
+    ('sq "Hi"', [("sq 4869", None)]),
 ]
 
 
@@ -194,6 +198,14 @@ class CommandLine(unittest.TestCase):
         self.assertNotIn("recorded:", output)
         self.assertEqual("  26491  sw 01 0f                  ok        IER 0x00 -> 0x0f  RDA THRE RLS MS, "
                          "IIR 0xc1 -> 0xc2  THRE, interrupt taken", next(row for row in rows if "  26491  " in row))
+
+    def test_the_recording_with_input(self):
+        status, output, errors = run("view", WITH_INPUT, "--table")
+        self.assertEqual((0, ""), (status, errors))
+        self.assertNotIn("recorded:", output)
+        _, output, _ = run("view", WITH_INPUT, script=b"next input\nnext timeout\nnext reset\n")
+        for row in ("none with another reply than recorded", ": sq 756e616d65202d73720a  0a\n", "  FIFO 0 -> 10 bytes\n", ": si  ok\n", ": kw 04 fe  reset\n"):
+            self.assertIn(row, output)
 
     def test_standard_input_and_commands(self):
         with tempfile.TemporaryDirectory() as folder:
