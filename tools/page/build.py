@@ -1,0 +1,53 @@
+"""The page docs/try.html, one file: bindings/js/page (the page, its styles and its modules), bindings/js (the package,
+with the module in base 64) and the recordings of examples/linux-boot.
+"""
+import re
+from pathlib import Path
+
+ROOT = Path(__file__).resolve().parent.parent.parent
+PACKAGE = ROOT / "bindings" / "js"
+PAGE = PACKAGE / "page"
+RECORDINGS = ROOT / "examples" / "linux-boot"
+MODULE = ROOT / "prebuilt" / "wasm32" / "superio.wasm"
+BUILT = ROOT / "docs" / "try.html"
+# In the order in which each finds what it takes from those before it.
+MODULES = ["module.mjs", "registers.mjs", "superio.mjs", "page/board.mjs", "page/why.mjs", "page/boot.mjs",
+           "page/page.mjs"]
+IMPORT = re.compile(r"^import [^;]+;\n|^export \{[^}]*\};\n", re.M)
+
+
+def one_script():
+    """The modules as one: their names stay, and an import is of a name before it. Each is a block of its own, so that
+    only what it exports is seen."""
+    parts = []
+    for name in MODULES:
+        text = (PACKAGE / name).read_text(encoding="utf-8")
+        text = IMPORT.sub("", text).replace("export default ", "export const text = ")
+        names = re.findall(r"^export (?:async )?(?:const|class|function) (\w+)", text, flags=re.M)
+        body = re.sub(r"^export ", "", text, flags=re.M)
+        head = f"const {{ {', '.join(names)} }} = " if names else ""
+        tail = f"return {{ {', '.join(names)} }};\n" if names else ""
+        parts.append(f"{head}await (async () => {{\n{body}{tail}}})();\n")
+    return "\n".join(parts)
+
+
+def packed(recording):
+    """The recording without the texts that `so` repeats: they are what was sent since the piece began."""
+    pieces = []
+    for piece in recording.rstrip("\n").split("\n\n"):
+        sent = "".join(re.findall(r'^(?:polled|sent) "(.*)"$', piece, flags=re.M))
+        pieces.append(piece.replace(f'\nso "{sent}"', "\nso ="))
+    return "\n\n".join(pieces)
+
+
+def build():
+    """The text of the page."""
+    parts = {
+        "CSS": (PAGE / "page.css").read_text(encoding="utf-8"),
+        **{name.upper(): packed((RECORDINGS / f"{name}.recording").read_text(encoding="ascii"))
+           for name in ("boot", "console")},
+        "SCRIPT": one_script(),
+        "SIZE": f"{MODULE.stat().st_size / 1000:.1f}",
+    }
+    page = (PAGE / "page.html").read_text(encoding="utf-8")
+    return re.sub("@([A-Z]+)@", lambda found: parts[found[1]], page)
