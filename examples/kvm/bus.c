@@ -4,13 +4,22 @@
 superio_serial serial;
 superio_rtc rtc;
 
+/* The devices of a machine that starts, or starts again after a reset: new ones. What the user has typed waits until the new
+ * guest is ready for it, and the host's time goes on. */
+void bus_reset(void) {
+    serial = superio_serial_new();
+    rtc = superio_rtc_new();
+    console_is_ready = false;
+    trace_apart();
+}
+
 static uint8_t serial_read(uint8_t offset) {
     superio_serial_read_effects done = superio_serial_read(&serial, offset);
     trace_row("sr %02x  %02x", offset, done.byte);
     if (done.in_buffer_empty)
         console_feed();
     if (offset == 2 && done.byte & 0x01) /* nothing is pending */
-        interrupts_character_timeout();
+        interrupts_character_timeout(false);
     return done.byte;
 }
 
@@ -24,7 +33,8 @@ static void serial_write(uint8_t offset, uint8_t value) {
     }
     bool is_refused = interrupts_ask(done.interrupts);
     trace_row("sw %02x %02x  %s", offset, value, is_refused ? "trigger" : "ok");
-    if (offset == 4) /* loopback may have ended */
+    console_is_ready |= (serial.interrupt_enable & 0x03) == 0x01; /* RDA, and THRE not */
+    if (offset == 1 || offset == 4) /* the guest may be ready now, or have left loopback */
         console_feed();
 }
 
@@ -36,9 +46,13 @@ static uint8_t controller_read(uint8_t offset) {
 
 static void controller_write(uint8_t offset, uint8_t value) {
     bool resets = superio_i8042_write(offset, value).resets;
-    trace_row("kw %02x %02x  %s", offset, value, resets ? "reset" : "ok");
-    if (resets)
+    if (resets && machine_starts_again) {
+        bus_reset();
+        machine_reset();
+    } else if (resets) {
         monitor_end(0, "the guest reset the machine");
+    }
+    trace_row("kw %02x %02x  %s", offset, value, resets ? "reset" : "ok");
 }
 
 /* A byte at a port. Of the ports from 0x60 to 0x64 the controller has the first and the last. */

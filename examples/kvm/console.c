@@ -13,6 +13,7 @@ static const char HELP[] = "\r\nCtrl-A x leaves, Ctrl-A s writes a snapshot, Ctr
                            "Ctrl-A Ctrl-A sends Ctrl-A to the guest. %llu bytes of output were dropped\r\n";
 
 struct queue console_input;
+bool console_is_early, console_is_ready;
 static struct queue output; /* of the guest, until the terminal takes it */
 static unsigned long long dropped;
 static int in, out;
@@ -101,10 +102,11 @@ static void read_input(void) {
 }
 
 /* Offers the input, and keeps what the port does not take: when input comes, when the guest has read the last byte of the
- * FIFO, and when it may have left loopback. If there is room then, one more read is due. */
+ * FIFO, and when it may have become ready or left loopback. If there is room then, one more read is due. */
 void console_feed(void) {
     superio_serial_enqueue_effects done = {0};
-    for (size_t count = 0; console_input.count > 0 && done.taken == count;) {
+    bool is_open = console_is_ready || console_is_early;
+    for (size_t count = 0; is_open && console_input.count > 0 && done.taken == count;) {
         count = console_input.count < OFFER_SIZE ? console_input.count : OFFER_SIZE;
         done = superio_serial_enqueue(&serial, console_input.bytes, count);
         char taken[4];

@@ -37,10 +37,12 @@ bool interrupts_ask(unsigned times) {
 }
 
 /* Raises the interrupt again for bytes that the guest has left: when it has read that nothing is pending, and in each
- * turn of the event loop. */
-void interrupts_character_timeout(void) {
-    bool is_refused = interrupts_ask(superio_serial_character_timeout(&serial));
-    trace_row("si  %s", is_refused ? "trigger" : "ok");
+ * turn of the event loop. A turn in which no byte was left changes nothing, and has no row. */
+void interrupts_character_timeout(bool is_turn) {
+    unsigned times = superio_serial_character_timeout(&serial);
+    bool is_refused = interrupts_ask(times);
+    if (times > 0 || !is_turn)
+        trace_row("si  %s", is_refused ? "trigger" : "ok");
 }
 
 /* Asks again for what is due: when the timer goes off, and after a restore. A script makes these requests by `ss`. One

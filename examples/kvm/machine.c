@@ -7,7 +7,8 @@ enum { CPUID_ENTRIES = 256, TSS_ADDRESS = 0xFFFBD000 };
 
 struct machine machine;
 static pthread_t thread;
-static bool is_snapshot_wanted;
+bool machine_starts_again;
+static bool is_snapshot_wanted, is_reset_wanted;
 
 static void *map(size_t size, int flags, int fd) {
     void *mapped = mmap(NULL, size, PROT_READ | PROT_WRITE, flags, fd, 0);
@@ -79,8 +80,22 @@ static void serve(void) {
     }
 }
 
+/* Has the vCPU's thread start the machine again, when the guest's access is complete. The devices are new already. */
+void machine_reset(void) {
+    is_reset_wanted = true;
+    machine.run->immediate_exit = true;
+}
+
+/* A fresh machine with empty memory, and its guest. */
+static void start_again(void) {
+    must(madvise(machine.memory, machine.memory_size, MADV_DONTNEED), "memory");
+    snapshot_start_again();
+    monitor_boot();
+    clock_follow();
+}
+
 /* The vCPU's thread. An access is complete only when KVM_RUN is called again, and so is the vCPU's state. So a snapshot is
- * taken after a call that a kick ended. */
+ * taken, and a machine starts again, after a call that ended at once. */
 static void *run_vcpu(void *nothing) {
     pthread_mutex_lock(&lock);
     while (!has_ended) {
@@ -89,10 +104,15 @@ static void *run_vcpu(void *nothing) {
         pthread_mutex_lock(&lock);
         if (result == 0) {
             serve();
+            exits_keep();
         } else if (error == EINTR && is_snapshot_wanted) {
             snapshot_save();
             machine.run->immediate_exit = is_snapshot_wanted = false;
             pthread_cond_broadcast(&changed);
+        } else if (error == EINTR && is_reset_wanted) {
+            start_again();
+            is_reset_wanted = false;
+            machine.run->immediate_exit = has_ended;
         } else if (error != EINTR && error != EAGAIN) {
             monitor_end(1, strerror(error));
         }

@@ -10,7 +10,10 @@ static const char HELP[] =
     "       monitor --restore SNAPSHOT [OPTION ..]                    goes on from a snapshot\n\n"
     "  -m MEGABYTES       the guest's memory, 256 if not given\n"
     "  -s FILE            what Ctrl-A s writes, monitor.snapshot if not given\n"
+    "  --exits FILE       writes the last thousand exits of the vCPU, if the status is not 0\n"
     "  --trace FILE       writes the calls of the devices as lines of a script, with replies\n"
+    "  --reboot           starts the guest of -k or -f again when it resets the machine, and does not end\n"
+    "  --early-input      offers input before the guest has enabled its interrupt, as one that polls needs it\n"
     "  --refuse-each N    refuses each Nth interrupt of the serial port, for tests\n\n"
     "Ctrl-A h lists the keys.\n";
 
@@ -78,7 +81,7 @@ static void run(void) {
     pthread_mutex_lock(&lock);
     machine_start();
     while (!has_ended) {
-        interrupts_character_timeout();
+        interrupts_character_timeout(true);
         pthread_mutex_unlock(&lock);
         struct epoll_event event;
         int count = epoll_wait(epoll, &event, 1, -1);
@@ -94,7 +97,10 @@ static const char *given[128] = {
     ['c'] = "console=ttyS0 reboot=k panic=1", ['m'] = "256", ['n'] = "0", ['s'] = "monitor.snapshot"};
 static const struct option LONG[] = {{"restore", required_argument, NULL, 'r'},
                                      {"trace", required_argument, NULL, 't'},
+                                     {"exits", required_argument, NULL, 'x'},
                                      {"refuse-each", required_argument, NULL, 'n'},
+                                     {"reboot", no_argument, NULL, 'b'},
+                                     {"early-input", no_argument, NULL, 'e'},
                                      {"help", no_argument, NULL, 'h'},
                                      {0}};
 
@@ -111,22 +117,30 @@ static void parse(int count, char **words) {
     }
 }
 
+/* Places the guest, unless it comes from a snapshot. */
+void monitor_boot(void) {
+    if (given['f'])
+        boot_flat(given['f']);
+    if (given['k'])
+        boot_linux(given['k'], given['i'], given['c']);
+}
+
 int main(int count, char **words) {
     if (!SUPERIO_ABI_MATCHES())
         errx(1, "the library has another interface than the header");
     parse(count, words);
     open_events();
-    serial = superio_serial_new();
-    rtc = superio_rtc_new();
+    bus_reset();
     clock_open();
     if (given['r'])
         snapshot_restore(given['r']);
     else
         machine_create(strtoull(given['m'], NULL, 10) << 20);
-    if (given['f'])
-        boot_flat(given['f']);
-    if (given['k'])
-        boot_linux(given['k'], given['i'], given['c']);
+    machine_starts_again = given['b'] && !given['r'];
+    console_is_early = given['e'];
+    if (machine_starts_again)
+        snapshot_keep_start();
+    monitor_boot();
     snapshot_path = given['s'];
     trace_open(given['t']);
     interrupts_open((unsigned)strtoul(given['n'], NULL, 10));
@@ -137,5 +151,7 @@ int main(int count, char **words) {
     trace_close();
     console_finish();
     warnx("%s", why);
+    if (given['x'] && status != 0)
+        exits_write(given['x']);
     return status;
 }

@@ -45,6 +45,7 @@ extern pthread_cond_t changed; /* output went out, a snapshot was written, or th
 extern bool has_ended;
 void monitor_watch(int fd, uint32_t events, void (*serve)(void));
 void monitor_end(int status, const char *reason);
+void monitor_boot(void);
 int must(int result, const char *what);
 /* machine.c */
 #define KVM(fd, request, argument) must(ioctl(fd, request, argument), #request)
@@ -54,9 +55,11 @@ extern struct machine {
     uint8_t *memory;
     uint64_t memory_size;
 } machine;
+extern bool machine_starts_again; /* when the guest resets it */
 void machine_create(uint64_t memory_size);
 void machine_start(void);
 void machine_snapshot(void);
+void machine_reset(void);
 void machine_join(void);
 /* boot.c */
 void boot_flat(const char *path);
@@ -64,10 +67,13 @@ void boot_linux(const char *kernel, const char *initramfs, const char *words);
 /* bus.c */
 extern superio_serial serial;
 extern superio_rtc rtc;
+void bus_reset(void);
 void bus_port(uint16_t port, bool is_write, uint8_t *byte);
 void bus_memory(uint64_t address, bool is_write, uint8_t *bytes, unsigned count);
 /* console.c */
 extern struct queue console_input; /* of the user, until the port takes it */
+extern bool console_is_early;      /* input is offered before the guest is ready for it */
+extern bool console_is_ready;      /* the guest has enabled RDA and not THRE, as no test of the port does */
 void console_open(void);
 void console_feed(void);
 void console_await_room(void);
@@ -78,7 +84,7 @@ void console_finish(void);
 /* interrupts.c */
 void interrupts_open(unsigned refuse_each);
 bool interrupts_ask(unsigned times);
-void interrupts_character_timeout(void);
+void interrupts_character_timeout(bool is_turn);
 void interrupts_retry(void);
 /* clock.c */
 void clock_open(void);
@@ -90,13 +96,19 @@ void clock_follow(void);
 /* snapshot.c */
 extern const char *snapshot_path; /* what Ctrl-A s writes */
 void snapshot_save(void);
+void snapshot_keep_start(void);
+void snapshot_start_again(void);
 void snapshot_restore(const char *path);
 /* trace.c */
 void trace_open(const char *path);
 void trace_row(const char *format, ...) PRINTF(1, 2);
 void trace_asked(unsigned accepted, unsigned times);
+void trace_apart(void);
 void trace_sent(uint8_t byte);
 const char *trace_bytes(const uint8_t *bytes, size_t count);
 void trace_close(void);
+/* exits.c */
+void exits_keep(void);
+void exits_write(const char *path);
 
 #endif

@@ -3,7 +3,7 @@
 #include "monitor.h"
 
 enum { MOST_MSRS = 1024, NO_MSR = 0 };
-static const char MAGIC[8] = "SIOMON\0\2"; /* the last byte is the version */
+static const char MAGIC[8] = "SIOMON\0\3"; /* the last byte is the version */
 
 const char *snapshot_path = "monitor.snapshot";
 static FILE *file;
@@ -84,6 +84,9 @@ static void pass_devices(void) {
     pass(&console_input.count, sizeof console_input.count);
     check(console_input.count <= QUEUE_SIZE);
     pass(console_input.bytes, console_input.count);
+    uint8_t is_ready = console_is_ready;
+    pass(&is_ready, sizeof is_ready);
+    console_is_ready = is_ready != 0;
 }
 
 static void pass_machine(void) {
@@ -115,6 +118,26 @@ void snapshot_save(void) {
     }
     check(!is_broken && rename(path, snapshot_path) == 0);
     console_say("\r\nmonitor: %s: %s\r\n", snapshot_path, is_broken ? strerror(errno) : "written");
+}
+
+static char *start; /* what KVM knows of a machine that has not run */
+static size_t start_size;
+
+void snapshot_keep_start(void) {
+    is_saved = true;
+    is_broken = false;
+    file = open_memstream(&start, &start_size);
+    must(file ? 0 : -1, "memory");
+    pass_kvm();
+    must(fclose(file) == 0 && !is_broken ? 0 : -1, "the machine's first state");
+}
+
+void snapshot_start_again(void) {
+    is_saved = false;
+    file = fmemopen(start, start_size, "rb");
+    must(file ? 0 : -1, "memory");
+    pass_kvm();
+    fclose(file);
 }
 
 /* Makes the machine of a snapshot. */

@@ -13,7 +13,7 @@ static char rows[MOST_BYTES + ROW_SIZE];
 static size_t length;
 static uint64_t refused; /* the mask of the interrupt line */
 static unsigned calls;   /* of the line */
-static bool is_apart;    /* the board's port has another state now */
+static bool is_apart;    /* the board's devices have another state now */
 static uint8_t output[OUTPUT_KEPT];
 static unsigned sent;
 
@@ -67,6 +67,11 @@ void trace_asked(unsigned accepted, unsigned times) {
     is_apart = times == 2 && accepted == 0;
     if (file && accepted < times)
         refused |= 1ull << calls++;
+}
+
+/* The devices are others now, so the piece ends with the next row. */
+void trace_apart(void) {
+    is_apart = true;
 }
 
 /* A byte that goes out. */

@@ -1,4 +1,5 @@
-# A guest in real mode, for the tests of the monitor. It prints 'ready', and then echoes what is typed, by interrupts
+# A guest in real mode, for the tests of the monitor. It tests its port as SeaBIOS and Linux do, prints 'no port' if it finds
+# none, and 'ready', and then echoes what is typed, by interrupts
 # and as Linux's 8250 driver does: it reads IIR, then bytes for as long as LSR shows data ready, but at most 256, and
 # then IIR again, until that says that nothing is pending. These bytes are commands:
 #
@@ -44,6 +45,25 @@ _start: cli
         outb 0x02, SLAVE + 1
         outb 0x01, SLAVE + 1
         outb 0xFE, SLAVE + 1
+        outb 0x02, IER                          # SeaBIOS finds a port by this
+        mov $IIR, %dx
+        in %dx, %al
+        and $0x3F, %al
+        cmp $0x02, %al
+        je 1f
+        mov $absent, %si
+        call print
+1:      outb 0x0F, IER                          # Linux tests a port by this, and then empties the FIFO
+        mov $3000, %cx
+        mov $LSR, %dx
+2:      in %dx, %al
+        test $0x01, %al
+        loopz 2b
+        mov $RBR, %dx
+        in %dx, %al
+        outb 0x00, IER
+        mov $IIR, %dx
+        in %dx, %al
         outb 0x03, LCR
         outb 0x0B, MCR                          # DTR, RTS, OUT2
         mov $ready, %si
@@ -188,6 +208,7 @@ print:  lodsb
         jmp print
 1:      ret
 
+absent: .asciz "no port\r\n"
 ready:  .asciz "ready\r\n"
 waits:  .asciz "waiting\r\n"
 alarmed: .asciz "alarm\r\n"
