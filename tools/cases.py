@@ -198,14 +198,14 @@ def hindered(source, call):
 
 
 def port_call(source):
-    kind = source.randrange(22)
+    kind = source.randrange(23)
     if kind < 15:
         return serial_access(source)
     if kind < 18:
         return f"sq {any_bytes(source) or '-'}"
     if kind < 20:
         return "si"
-    return ("sc", source.choice(("ss", "ss", "ss", port_state(source, 65, 80))))[kind - 20]
+    return ("sc", "sh", source.choice(("ss", "ss", "ss", port_state(source, 65, 80))))[kind - 20]
 
 
 def port_run(source):

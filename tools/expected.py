@@ -121,8 +121,14 @@ class Monitor:
     def si(self):
         return self.called(self.port.character_timeout)
 
+    def sp(self):
+        return self.called(self.port.retry)
+
     def sc(self):
         return f"{self.port.room():02x}", ()
+
+    def sh(self):
+        return f"{self.port.due() > 0:02x}", ()
 
     def ss(self):
         return self.restored(self.port.past)

@@ -170,6 +170,15 @@ class Port(Device):
         made, did = self.raises(["RDA"] if self.held() else [], self.last("IER"))
         return self.done("ok", made, did)
 
+    def due(self):
+        """How many conditions are pending and enabled."""
+        enable = self.last("IER")
+        return sum(self.last(condition) for condition, bit in ENABLED_BY.items() if enable & bit)
+
+    def retry(self):
+        """Calls the line for what is due. Nothing else changes."""
+        return self.done("ok", {}, self.line_calls(self.due()))
+
     def drain(self):
         """What a driver gets that reads RBR while LSR shows data ready. With DLAB set it cannot reach RBR."""
         got = ""
@@ -181,8 +190,7 @@ class Port(Device):
         """Puts a port with another past in the place of this one, if the line takes the calls for the conditions that
         are pending and enabled. Returns these calls."""
         own, self.past = self.past, past
-        enable = self.last("IER")
-        did = self.line_calls(sum(self.last(condition) for condition, bit in ENABLED_BY.items() if enable & bit))
+        did = self.line_calls(self.due())
         self.past = own if "R" in did else [*past, Fact({}, did=did)]
         return did
 

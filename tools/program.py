@@ -1,6 +1,5 @@
 """What the tools share: the built program and its runs, the built C library, and where Cargo finds the Rust crate."""
 import os
-import re
 import subprocess
 import sys
 import tempfile
@@ -8,18 +7,17 @@ from concurrent.futures import ThreadPoolExecutor
 from pathlib import Path
 
 from status import Status, progress
+from tried import Tried
 
 CRATES = Path(__file__).resolve().parent.parent / "crates"
 # The programs and the library, each with the crates whose sources it is built of, the lowest last.
 SOURCES = {
     "superio": ["superio", "superio_script", "vm_superio", "superio_core"],
+    "superio_boot": ["superio_boot", "superio_examples", "superio_script", "vm_superio", "superio_core"],
     "superio_calls": ["superio_calls", "vm_superio", "superio_core"],
     "superio_refusals": ["superio_refusals", "superio_script", "vm_superio", "superio_core"],
     "superio_c": ["superio_c", "superio_core"],
 }
-
-# How rt says which crate it works on.
-CRATE = re.compile(r"rt: chose --jobs \d+ for (\w+)|checked (\w+)::")
 
 # The longest that one run of the program may take, in seconds.
 TIMEOUT = 60
@@ -36,16 +34,15 @@ def is_current(built, sources):
 
 
 def run_rt(crate, command, log, task):
-    """Runs a command of rt in the folder of a crate, and its exit status. `log` takes what it prints, `task` how far it
-    is. A proof takes as many processors as RT_JOBS says, or else as rt chooses."""
+    """Runs a command of rt in the folder of a crate, and returns its exit status. `log` takes what it prints, `task` how
+    far it is. A proof takes as many processors as RT_JOBS says, or else as rt chooses."""
+    task.name = f"proving {crate}"
     jobs = os.environ.get("RT_JOBS")
     words = ["rt", command, *(["--jobs", jobs] if jobs else [])]
     with subprocess.Popen(words, cwd=CRATES / crate, stdin=subprocess.DEVNULL, stdout=subprocess.PIPE,
                           stderr=subprocess.STDOUT, text=True, errors="replace") as process:
         for line in process.stdout:
             log.write(line)
-            if found := CRATE.match(line):
-                task.name = f"proving {found[1] or found[2]}"
             progress(task, line)
     return process.returncode
 
@@ -139,11 +136,14 @@ def reason(error):
 
 
 def report(results):
-    """Prints each message, and then `N passed, M failed`. `None` stands for a pass. Returns the exit status: 1 if something
-    failed, if a file cannot be used, or if nothing was checked."""
+    """Prints each message, what was tried of each kind, and then `N passed, M failed`. A result is its kind and a message,
+    or `None` for a pass. Returns the exit status: 1 if something failed, if a file cannot be used, or if nothing was
+    checked."""
     passed = failed = 0
+    tried = Tried()
     try:
-        for message in results:
+        for kind, message in results:
+            tried.add(kind)
             if message is not None:
                 print(message)
             passed += message is None
@@ -154,7 +154,7 @@ def report(results):
     if passed + failed == 0:
         print("nothing was checked")
         failed = 1
-    print(f"{passed} passed, {failed} failed")
+    print(*tried.lines(), f"{passed} passed, {failed} failed", sep="\n")
     return 1 if failed else 0
 
 

@@ -31,6 +31,13 @@ def toolchains():
             yield Toolchain(rustc, said.stdout.split()[1])
 
 
+def is_too_old(manifest):
+    """Whether the Cargo of PATH does not know the edition of a manifest."""
+    ran = subprocess.run(["cargo", "metadata", "--offline", "--no-deps", "--format-version", "1", "--manifest-path", manifest],
+                         capture_output=True, text=True)
+    return ran.returncode != 0 and "edition" in ran.stderr
+
+
 def toolchain_for(target):
     """The first toolchain that has the libraries of a target, or `None`."""
     for found in toolchains():

@@ -1,6 +1,5 @@
 """What tools/bench measures: lists of accesses, and the programs in Rust that make them."""
 import os
-import shutil
 import subprocess
 from pathlib import Path
 
@@ -48,8 +47,3 @@ def build_in_rust(dependency, target):
     environment = dict(os.environ, RUSTFLAGS=f"-C target-cpu={PROCESSOR}", CARGO_TARGET_DIR=str(target))
     subprocess.run([*cargo, *dependency], env=environment, check=True)
     return target / "release"
-
-
-def missing_tools(*names):
-    """The tools of these that are not there, as text."""
-    return " and ".join(name for name in names if shutil.which(name) is None)

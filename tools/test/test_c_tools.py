@@ -1,4 +1,4 @@
-"""Tests that `tools/c/fuzz` and the pastes find faults, and of what `tools/c/install` and `tools/c/prebuild` write."""
+"""Tests that `tools/c/fuzz` and the pastes find faults, and of what `tools/c/prebuild` writes."""
 import hashlib
 import os
 import platform
@@ -10,7 +10,7 @@ import unittest
 from repository import ROOT, CopyTest
 
 TARGETS = ("aarch64-linux", "x86_64-linux")
-LIBRARIES = ("libsuperio.so.0", "libsuperio_c.a")
+LIBRARIES = ("libsuperio.so.3", "libsuperio_c.a")
 SOURCES = ("crates/superio_c/src", "crates/superio_core/src")
 # A change of the model, or of what is expected of the controller, and what is said to differ.
 CHANGES = [
@@ -38,9 +38,9 @@ echo "shared for $emulation of $(cat "$2")" > "$4"
 """
 BUILT = {
     "aarch64-linux/libsuperio_c.a": "static for --target aarch64-unknown-linux-gnu\n",
-    "aarch64-linux/libsuperio.so.0": "shared for aarch64linux of static for --target aarch64-unknown-linux-gnu\n",
+    "aarch64-linux/libsuperio.so.3": "shared for aarch64linux of static for --target aarch64-unknown-linux-gnu\n",
     "x86_64-linux/libsuperio_c.a": "static for --cpu=x86-64 \n",
-    "x86_64-linux/libsuperio.so.0": "shared for elf_x86_64 of static for --cpu=x86-64 \n",
+    "x86_64-linux/libsuperio.so.3": "shared for elf_x86_64 of static for --cpu=x86-64 \n",
 }
 
 
@@ -109,50 +109,6 @@ class Pasting(CopyTest):
         self.assertEqual(self.paste(), (1, [0, 0, 0]))
 
 
-class Installing(CopyTest):
-    def setUp(self):
-        super().setUp()
-        self.take("LICENSE", "include", "prebuilt")
-        self.prefix = self.root / "a prefix"
-
-    def install(self, *arguments):
-        self.assertEqual(self.run_tool("tools/c/install", *arguments, self.prefix), (0, "", ""))
-
-    def test_the_libraries_are_those_of_the_target(self):
-        for target in TARGETS:
-            self.install("--target", target)
-            for name in LIBRARIES:
-                self.assertEqual((self.prefix / "lib" / name).read_bytes(), (ROOT / "prebuilt" / target / name).read_bytes())
-
-    def test_all_files_and_no_others(self):
-        self.install("--target", TARGETS[0])
-        found = {path.relative_to(self.prefix).as_posix() for path in self.prefix.rglob("*") if path.is_file()}
-        self.assertEqual(found, {"include/superio.h", "lib/pkgconfig/superio.pc", "share/licenses/superio/LICENSE",
-                                 *(f"lib/{name}" for name in LIBRARIES)})
-
-    def test_what_pkg_config_reads(self):
-        """No path of this machine, so that the prefix may be moved, and the version of CHANGELOG.md."""
-        self.install("--target", TARGETS[0])
-        text = (self.prefix / "lib/pkgconfig/superio.pc").read_text(encoding="ascii")
-        version = re.search(r"^## (\d+\.\d+\.\d+)$", (ROOT / "CHANGELOG.md").read_text(encoding="utf-8"), re.M)[1]
-        self.assertIn(f"\nVersion: {version}\n", text)
-        self.assertTrue(text.startswith("prefix=${pcfiledir}/../..\n"), text)
-        self.assertNotIn(str(self.root), text)
-
-    def test_an_installed_file_is_replaced_as_a_whole(self):
-        """A program that has the old library open keeps it."""
-        self.install("--target", TARGETS[0])
-        with open(self.prefix / "lib" / LIBRARIES[0], "rb") as opened:
-            self.install("--target", TARGETS[1])
-            self.assertEqual(opened.read(), (ROOT / "prebuilt" / TARGETS[0] / LIBRARIES[0]).read_bytes())
-
-    def test_a_missing_library_is_named(self):
-        (self.root / "prebuilt" / TARGETS[0] / LIBRARIES[1]).unlink()
-        status, _, said = self.run_tool("tools/c/install", "--target", TARGETS[0], self.prefix)
-        self.assertEqual(status, 1)
-        self.assertIn(f"{TARGETS[0]}/{LIBRARIES[1]}", said)
-
-
 class Building(CopyTest):
     def setUp(self):
         super().setUp()
@@ -164,17 +120,18 @@ class Building(CopyTest):
             path.chmod(0o755)
         self.environment = {"PATH": f"{self.root}/kit:{os.environ['PATH']}", "KIT": f"{self.root}/kit"}
 
-    def check(self, folder):
-        """A folder has the libraries of both processors, their sums, and the digest of the sources."""
+    def check(self, folder, other_sums="", other_sources=""):
+        """A folder has the libraries of both processors, their sums, and the digest of the sources, before other lines."""
         for name, text in BUILT.items():
             self.assertEqual((folder / name).read_text(encoding="ascii"), text)
         sums = "".join(f"{hashlib.sha256(text.encode()).hexdigest()}  {name}\n"
                        for name, text in BUILT.items())
-        self.assertEqual((folder / "SHA256SUMS").read_text(encoding="ascii"), sums)
+        self.assertEqual((folder / "SHA256SUMS").read_text(encoding="ascii"), sums + other_sums)
         names = sorted(path.relative_to(ROOT).as_posix() for source in SOURCES for path in (ROOT / source).rglob("*.rt"))
         listing = "".join(f"{hashlib.sha256((ROOT / name).read_bytes()).hexdigest()}  {name}\n" for name in names)
         self.assertEqual((folder / "SOURCES").read_text(encoding="ascii"),
-                         f"{hashlib.sha256(listing.encode()).hexdigest()}  the sources in {' and '.join(SOURCES)}\n")
+                         f"{hashlib.sha256(listing.encode()).hexdigest()}  the sources in {' and '.join(SOURCES)}\n"
+                         + other_sources)
 
     def test_into_a_folder(self):
         folder = self.root / "folder"
@@ -184,8 +141,12 @@ class Building(CopyTest):
         self.assertEqual((self.root / library).read_bytes(), (ROOT / library).read_bytes())
 
     def test_into_the_repository(self):
+        """The lines of what another tool builds stay."""
         self.assertEqual(self.run_tool("tools/c/prebuild", env=self.environment), (0, "", ""))
-        self.check(self.root / "prebuilt")
+        sums, sources = ((ROOT / "prebuilt" / name).read_text(encoding="ascii") for name in ("SHA256SUMS", "SOURCES"))
+        others = [line for line in sums.splitlines(keepends=True) if line.split()[1] not in BUILT]
+        self.assertEqual(len(others), 1)
+        self.check(self.root / "prebuilt", others[0], sources.splitlines(keepends=True)[1])
 
     def test_a_build_that_fails_says_where_its_output_is(self):
         status, _, said = self.run_tool("tools/c/prebuild", self.root / "folder", env={**self.environment, "FAILS": "1"})

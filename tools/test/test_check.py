@@ -2,6 +2,8 @@
 import importlib.machinery
 import importlib.util
 import io
+import subprocess
+import sys
 import tempfile
 import time
 import unittest
@@ -49,14 +51,15 @@ class Sums(unittest.TestCase):
 
 
 class Runs(unittest.TestCase):
-    def run_command(self, script):
+    def run_command(self, script, floors=None, is_writing=False):
         """Runs a check that is a shell script, and returns its result and what was printed."""
         printed = io.StringIO()
         with tempfile.TemporaryDirectory() as folder, mock.patch.object(check, "KEPT", Path(folder)), \
                 mock.patch("sys.stdout", printed), status.Status("test", Log()) as line:
             file = Path(folder, "script")
             file.write_text(script, encoding="utf-8")
-            return check.run(check.Check("it", f"sh {file}", "it works"), line), printed.getvalue()
+            it = check.Check("it", f"sh {file}", "it works")
+            return check.run(it, line, {"it": {}} if floors is None else floors, is_writing), printed.getvalue()
 
     def test_a_check_that_passes_says_so_in_a_line(self):
         result, printed = self.run_command("echo many lines; echo '2 passed, 0 failed, 1 skipped'")
@@ -70,11 +73,31 @@ class Runs(unittest.TestCase):
         self.assertIn("this differs\n", printed)
         self.assertIn("and this\n", printed)
 
+    def test_a_check_that_tries_less_than_its_floors_fails(self):
+        script = "echo 'tried: 3 cases'; echo '3 passed, 0 failed'"
+        for floors, is_enough in (({"cases": 3}, True), ({"cases": 4}, False), ({"cases": 3, "scripts": 1}, False),
+                                  ({}, False), (None, False)):
+            result, printed = self.run_command(script, {} if floors is None else {"it": floors})
+            self.assertEqual((result.passed, result.failed), (3, not is_enough), printed)
+        self.assertIn("the table of floors has no row of this check", printed)
+
+    def test_floors_rise_and_never_fall(self):
+        floors = {"it": {"cases": 2, "scripts": 5}}
+        script = "echo 'tried: 3 cases'; echo 'tried: 4 scripts'; echo '7 passed, 0 failed'"
+        result, printed = self.run_command(script, floors, is_writing=True)
+        self.assertEqual((result.failed, floors), (1, {"it": {"cases": 3, "scripts": 5}}))
+        self.assertIn("scripts: 4 tried, of 5 at least", printed)
+
+    def test_a_check_that_fails_raises_no_floor(self):
+        floors = {"it": {"cases": 2}}
+        self.run_command("echo 'tried: 3 cases'; echo '2 passed, 1 failed'; exit 1", floors, is_writing=True)
+        self.assertEqual(floors, {"it": {"cases": 2}})
+
     def test_a_command_that_is_not_there_fails(self):
         printed = io.StringIO()
         with tempfile.TemporaryDirectory() as folder, mock.patch.object(check, "KEPT", Path(folder)), \
                 mock.patch("sys.stdout", printed), status.Status("test", Log()) as line:
-            result = check.run(check.Check("it", "/nowhere/at/all", "it works"), line)
+            result = check.run(check.Check("it", "/nowhere/at/all", "it works"), line, {})
         self.assertEqual((result.passed, result.failed), (0, 1))
         self.assertRegex(printed.getvalue(), "/nowhere/at/all.*: No such file or directory")
 
@@ -83,6 +106,51 @@ class Runs(unittest.TestCase):
         other = check.Result(check.CHECKS[1], 1, 2, 4, 5, 1.1)
         self.assertEqual(list(check.table([one, other]))[-1].split(), ["all", "8"])
         self.assertEqual(check.summed([one, other]), "4 passed, 2 failed, 4 skipped")
+
+
+    def test_the_checks_that_were_left_out_are_named(self):
+        results = [check.Result(it, 1, 0, 0, 1, 1) for it in check.CHECKS]
+        self.assertEqual(check.told_of(results), f"{len(results)} of {len(results)} checks")
+        self.assertEqual(check.told_of(results[:-2]), f"{len(results) - 2} of {len(results)} checks; left out: "
+                         f"{check.CHECKS[-2].name}, {check.CHECKS[-1].name}")
+
+
+class Whole(unittest.TestCase):
+    GOOD = "echo 'tried: 1 cases'; echo '1 passed, 0 failed, 1 skipped'"
+    BAD = "echo 'tried: 1 cases'; echo '0 passed, 1 failed, 1 skipped'; exit 1"
+
+    def run_main(self, scripts, floors=None):
+        """The status of all checks that are these shell scripts, and the last line that is printed."""
+        printed = io.StringIO()
+        with tempfile.TemporaryDirectory() as folder:
+            checks = [check.Check(str(number), f"sh {folder}/{number}", "it works") for number in range(len(scripts))]
+            for it, script in zip(checks, scripts):
+                Path(folder, it.name).write_text(script, encoding="utf-8")
+            table = {it.name: {"cases": 1} for it in checks} if floors is None else floors
+            with mock.patch.object(check, "CHECKS", checks), mock.patch.object(check, "KEPT", Path(folder, "kept")), \
+                    mock.patch.object(check, "read_floors", lambda: table), mock.patch("sys.argv", ["tools/check"]), \
+                    mock.patch("sys.stdout", printed), mock.patch("sys.stderr", Log()):
+                return check.main(), printed.getvalue().splitlines()[-1]
+
+    def test_each_check_is_run_and_one_that_fails_is_enough(self):
+        self.assertEqual(self.run_main([self.GOOD] * 3), (0, "6 passed, 0 failed, 3 skipped"))
+        for place in range(3):
+            scripts = [self.BAD if number == place else self.GOOD for number in range(3)]
+            self.assertEqual(self.run_main(scripts), (1, "5 passed, 1 failed, 3 skipped"))
+
+    def test_a_check_below_its_floor_or_without_one_fails(self):
+        for floors in ({"0": {"cases": 2}}, {"0": {"cases": 1, "more": 1}}, {}, {"0": {"cases": 1}, "1": {"cases": 1}}):
+            status, printed = self.run_main([self.GOOD], floors)
+            self.assertEqual(status, 1, printed)
+
+
+class Programs(unittest.TestCase):
+    def test_a_program_that_replies_nothing_passes_only_scripts_without_replies(self):
+        for name, most in (("scripts", 0.05), ("transcripts", 0), ("replay", 0)):
+            ran = subprocess.run([sys.executable, TOOLS / name, "/bin/true"], stdout=subprocess.PIPE, text=True)
+            passed, failed, *_ = check.counted(ran.stdout.splitlines(), ran.returncode)
+            self.assertGreater(failed, 0, name)
+            self.assertLessEqual(passed, most * failed, name)
 
 
 class StatusLines(unittest.TestCase):

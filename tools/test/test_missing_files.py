@@ -13,11 +13,11 @@ CAT = shutil.which("cat")
 # Beside each tool what it says if the repository has nothing but tools/.
 WITHOUT_ALL = {
     "calls": "calls/clocks.txt is not there",
-    "excerpts": "README.md: No such file or directory",
+    "excerpts": "0 excerpts were found, and at least 12 are wanted",
     "failing_io": "tests/whole_scripts.txt: No such file or directory",
     "replay": "boot.recording: No such file or directory",
     "scripts": "tests/clock.txt is not there",
-    "transcripts": "README.md: No such file or directory",
+    "transcripts": "nothing was checked",
 }
 
 
@@ -43,7 +43,8 @@ class MissingFiles(CopyTest):
         self.take("README.md", "docs", "examples/c")
         passed, failed = self.sum_of("excerpts", says="No such file or directory")
         self.assertGreater(passed, 0)
-        self.assertEqual(failed, 1)
+        # The file, and too few excerpts.
+        self.assertEqual(failed, 2)
 
     def test_a_program_that_is_not_there(self):
         for tool in ("scripts", "calls", "hostile"):
@@ -56,14 +57,14 @@ class MissingFiles(CopyTest):
         names = [path.name for path in (ROOT / "tests").glob("*.txt")]
         for name in names:
             (self.root / "tests" / name).write_text("kr 04  kr 04\n", encoding="ascii")
-        self.assertEqual(self.sum_of("scripts", CAT, says=f"{len(names)} lines"), (len(names), 0))
+        self.assertEqual(self.sum_of("scripts", CAT, says="tried: 1 scripts of clock.txt"), (len(names), 0))
         (self.root / "tests" / "clock.txt").rename(self.root / "tests" / "other.txt")
         for says in ("tests/clock.txt is not there", "tests/other.txt is not in the tool's list"):
             self.assertEqual(self.sum_of("scripts", CAT, says=says), (len(names), 2))
 
     def test_the_checks_of_c_and_rust(self):
-        self.take("CHANGELOG.md", "LICENSE", "README.md", "bindings/rust", "crates/superio_c/src", "crates/superio_core/src",
-                  "examples/c", "include", "prebuilt")
+        self.take("CHANGELOG.md", "VERSION", "LICENSE", "LICENSES", "README.md", "bindings/rust", "examples/c", "include",
+                  "prebuilt", "crates/superio_c/src", "crates/superio_core/src")
         # Cargo is there, and fails.
         (self.root / "cargo").write_text('#!/bin/sh\n[ "$*" = --version ]\n', encoding="ascii")
         (self.root / "cargo").chmod(0o755)

@@ -16,9 +16,10 @@ def try_edits(*edits):
     with tempfile.TemporaryDirectory() as folder:
         tiny.make(folder, edits)
         ran = subprocess.run([TOOL, "--seen", "--root", folder], capture_output=True, text=True, timeout=3600)
-    lines = ran.stdout.splitlines()
-    said = dict(re.match(r"tiny/(\w+): (.*)", line).groups() for line in lines[:-1])
-    return said, lines[-1], ran.returncode
+    *lines, tried, last = ran.stdout.splitlines()
+    assert tried == f"tried: {len(edits)} wrong bodies of tiny", tried
+    said = dict(re.match(r"tiny/(\w+): (.*)", line).groups() for line in lines)
+    return said, last, ran.returncode
 
 
 @unittest.skipUnless(shutil.which("rt"), "rt is not there")

@@ -1,6 +1,7 @@
 //! The devices that are measured.
 use std::cell::Cell;
 use std::convert::Infallible;
+use std::hint::black_box;
 use std::io::{Sink, sink};
 
 use vm_superio::rtc_pl031;
@@ -53,9 +54,10 @@ pub fn restore_port(port: &mut Port) -> Result<(), Error<Infallible>> {
     Ok(())
 }
 
-/// Saves the clock, and makes it again from what was saved.
+/// Saves the clock, and makes it again from what was saved. The state passes a point at which rustc knows nothing of it:
+/// otherwise it sees that all numbers stay as they are, and removes the save and the restore.
 pub fn restore_clock(clock: &mut Clock) {
-    *clock = Rtc::from_state(&clock.state(), rtc_pl031::NoEvents);
+    *clock = Rtc::from_state(&black_box(clock.state()), rtc_pl031::NoEvents);
 }
 
 impl Default for Board {

@@ -1,15 +1,15 @@
-//! Calls, and what can be seen of one.
+//! The calls that programs of this folder make, and how objects behave in them.
 
 /// A saved state of a serial port.
-#[derive(Clone, Debug, Eq, PartialEq)]
+#[derive(Clone, Debug, Default, Eq, PartialEq)]
 pub struct Port {
     /// DLL, DLM, IER, IIR, LCR, LSR, MCR, MSR and SCR.
     pub registers: [u8; 9],
     pub in_buffer: Vec<u8>,
 }
 
-/// A saved state of a clock.
-#[derive(Clone, Copy, Debug, Eq, PartialEq)]
+/// A saved state of a clock, without its alarm.
+#[derive(Clone, Copy, Debug, Default, Eq, PartialEq)]
 pub struct Clock {
     pub lr: u32,
     pub offset: i64,
@@ -19,8 +19,9 @@ pub struct Clock {
 }
 
 /// What a writer does with the bytes that it is given.
-#[derive(Clone, Copy, Debug, Eq, PartialEq)]
+#[derive(Clone, Copy, Debug, Default, Eq, PartialEq)]
 pub enum Writing {
+    #[default]
     Takes,
     TakesNone,
     IsInterruptedOnce,
@@ -33,29 +34,52 @@ pub enum Action {
     SerialRead(u8),
     SerialWrite(u8, u8),
     SerialEnqueue(Vec<u8>),
-    /// Of bindings/rust alone: the Rust crate has no character timeout.
-    #[allow(dead_code)] // only a recorded line makes it
-    SerialTimeout,
     SerialCapacity,
+    /// Not of the Rust crate, which has no character timeout.
+    SerialTimeout,
+    /// The interrupts that are due are raised again. Not of the Rust crate.
+    SerialRetry,
+    /// Whether the interrupt line is up. Not of the Rust crate.
+    SerialLine,
+    /// Not of the Rust crate.
+    SerialCoherence,
     /// A port is made of this state, or of the port's own, and takes its place.
     SerialRestore(Option<Port>),
+    /// The saved form of a port, which the Rust crate does not have.
+    SerialSave,
+    /// A port is made of this saved form, and takes the port's place.
+    SerialLoad(Vec<u8>),
     ClockRead(u16),
     ClockWrite(u16, u32),
+    /// An access whose caller passes the moment. Not of the Rust crate, whose clock always asks the host.
+    ClockReadAt(u16),
+    ClockWriteAt(u16, u32),
+    /// Not of the Rust crate, which has no alarm.
+    ClockLine,
+    ClockDue,
     /// A clock is made of this state, or of the clock's own, and takes its place.
     ClockRestore(Option<Clock>),
+    /// As of a port.
+    ClockSave,
+    ClockLoad(Vec<u8>),
     ControllerRead(u8),
     ControllerWrite(u8, u8),
 }
 
-/// A call, with what the objects answer in it.
-#[derive(Clone, Debug)]
-pub struct Call {
-    pub action: Action,
+/// How the objects behave in a call.
+#[derive(Clone, Copy, Debug, Default)]
+pub struct Behaviour {
     /// Whether the triggers refuse their first call, and the next one.
     pub refuses: [bool; 2],
     pub writing: Writing,
     /// How many calls of objects come before the one that panics, which is caught outside the device.
     pub panics_after: Option<u32>,
+}
+
+#[derive(Clone, Debug)]
+pub struct Call {
+    pub action: Action,
+    pub behaviour: Behaviour,
 }
 
 /// A call of an object.
@@ -73,55 +97,31 @@ pub enum Event {
     InvalidWrite,
 }
 
-/// What can be seen of a call.
-#[derive(Debug, Eq, PartialEq)]
-pub struct Observed {
-    /// The value, or the error or the panic with its text.
-    pub reply: Result<u64, String>,
-    pub events: Vec<Event>,
-    pub serial: Port,
-    pub capacity: usize,
-    pub clock: Clock,
-}
-
 impl Call {
     pub fn kind(&self) -> &'static str {
         match self.action {
             Action::SerialRead(_) => "serial read",
             Action::SerialWrite(..) => "serial write",
             Action::SerialEnqueue(_) => "serial enqueue",
-            Action::SerialTimeout => "serial timeout",
             Action::SerialCapacity => "serial capacity",
+            Action::SerialTimeout => "serial timeout",
+            Action::SerialRetry => "serial retry",
+            Action::SerialLine => "serial line",
+            Action::SerialCoherence => "serial coherence",
             Action::SerialRestore(_) => "serial restore",
+            Action::SerialSave => "serial save",
+            Action::SerialLoad(_) => "serial load",
             Action::ClockRead(_) => "clock read",
             Action::ClockWrite(..) => "clock write",
+            Action::ClockReadAt(_) => "clock read at a moment",
+            Action::ClockWriteAt(..) => "clock write at a moment",
+            Action::ClockLine => "clock line",
+            Action::ClockDue => "clock due",
             Action::ClockRestore(_) => "clock restore",
+            Action::ClockSave => "clock save",
+            Action::ClockLoad(_) => "clock load",
             Action::ControllerRead(_) => "controller read",
             Action::ControllerWrite(..) => "controller write",
         }
-    }
-}
-
-impl Observed {
-    /// The cases, beside its kind, that a call reached.
-    pub fn cases(&self) -> Vec<String> {
-        let calls: Vec<_> =
-            self.events.iter().filter(|event| matches!(event, Event::Trigger | Event::Refusal)).collect();
-        let mut cases = Vec::new();
-        if let Err(text) = &self.reply {
-            cases.push(format!("fails: {text}"));
-        }
-        if calls.len() == 2 {
-            cases.push("calls the trigger twice".to_string());
-        }
-        if calls.contains(&&Event::Refusal) {
-            cases.push("is refused by the trigger".to_string());
-        }
-        for event in [Event::InvalidRead, Event::InvalidWrite, Event::TxLostByte, Event::InBufferEmpty] {
-            if self.events.contains(&event) {
-                cases.push(format!("reports {event:?}"));
-            }
-        }
-        cases
     }
 }

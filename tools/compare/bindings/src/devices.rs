@@ -1,110 +1,12 @@
 //! The devices of one of the two crates, with objects that keep a log.
-use std::cell::{Cell, RefCell};
-use std::fmt;
-use std::io::{self, ErrorKind, Write};
 use std::panic::{AssertUnwindSafe, catch_unwind};
-use std::rc::Rc;
 
-use super::superio::rtc_pl031::{Rtc, RtcEvents, RtcState};
-use super::superio::serial::{Error, Serial, SerialEvents, SerialState};
-use super::superio::{I8042Device, Trigger};
-use crate::call::{Action, Call, Clock, Event, Observed, Port, Writing};
-
-/// What the objects of all devices share: what they are to answer, and what they were asked.
-#[derive(Default)]
-struct Script {
-    refuses: Cell<[bool; 2]>,
-    writing: Cell<Option<Writing>>,
-    panics_after: Cell<Option<u32>>,
-    events: RefCell<Vec<Event>>,
-}
-
-impl Script {
-    /// Notes a call of an object, and panics if it is the one that is to.
-    fn note(&self, event: Event) {
-        self.events.borrow_mut().push(event);
-        let left = self.panics_after.get();
-        self.panics_after.set(left.and_then(|calls| calls.checked_sub(1)));
-        assert!(left != Some(0), "an object panics");
-    }
-}
-
-/// A trigger, an events object and a writer in one.
-#[derive(Clone, Default)]
-pub struct Object(Rc<Script>);
-
-#[derive(Debug)]
-pub struct Refused;
-
-impl fmt::Display for Refused {
-    fn fmt(&self, f: &mut fmt::Formatter) -> fmt::Result {
-        f.write_str("refused")
-    }
-}
-
-impl std::error::Error for Refused {}
-
-impl Trigger for Object {
-    type E = Refused;
-
-    fn trigger(&self) -> Result<(), Refused> {
-        let [refuses, next] = self.0.refuses.get();
-        self.0.refuses.set([next, false]);
-        self.0.note(if refuses { Event::Refusal } else { Event::Trigger });
-        if refuses { Err(Refused) } else { Ok(()) }
-    }
-}
-
-impl SerialEvents for Object {
-    fn buffer_read(&self) {
-        self.0.note(Event::BufferRead);
-    }
-
-    fn out_byte(&self) {
-        self.0.note(Event::OutByte);
-    }
-
-    fn tx_lost_byte(&self) {
-        self.0.note(Event::TxLostByte);
-    }
-
-    fn in_buffer_empty(&self) {
-        self.0.note(Event::InBufferEmpty);
-    }
-}
-
-impl RtcEvents for Object {
-    fn invalid_read(&self) {
-        self.0.note(Event::InvalidRead);
-    }
-
-    fn invalid_write(&self) {
-        self.0.note(Event::InvalidWrite);
-    }
-}
-
-impl Write for Object {
-    fn write(&mut self, bytes: &[u8]) -> io::Result<usize> {
-        bytes.iter().for_each(|byte| self.0.note(Event::Write(*byte)));
-        match self.0.writing.get() {
-            Some(Writing::TakesNone) => Ok(0),
-            Some(Writing::Fails) => Err(ErrorKind::BrokenPipe.into()),
-            Some(Writing::IsInterruptedOnce) => {
-                self.0.writing.set(None);
-                Err(ErrorKind::Interrupted.into())
-            }
-            _ => Ok(bytes.len()),
-        }
-    }
-
-    fn flush(&mut self) -> io::Result<()> {
-        self.0.note(Event::Flush);
-        match self.0.writing.get() {
-            Some(Writing::FailsToFlush) => Err(ErrorKind::WouldBlock.into()),
-            _ => Ok(()),
-        }
-    }
-}
+use super::objects::{Object, Refused};
+use super::superio::I8042Device;
+use super::superio::rtc_pl031::{Rtc, RtcState};
+use super::superio::serial::{Error, Serial, SerialState};
+use crate::call::{Action, Behaviour, Call, Clock, Port};
+use crate::observed::Observed;
 
 pub struct Devices {
     object: Object,
@@ -139,17 +41,15 @@ impl Devices {
     where
         F: FnOnce(&mut Devices) -> Result<u64, Error<Refused>>,
     {
-        self.object.0.refuses.set(call.refuses);
-        self.object.0.writing.set(Some(call.writing));
-        self.object.0.panics_after.set(call.panics_after);
+        self.object.prepare(call.behaviour);
         let reply = match catch_unwind(AssertUnwindSafe(|| carry_out(self))) {
             Ok(reply) => reply.map_err(|error| format!("{error}")),
             Err(_) => Err("panics".to_string()),
         };
-        self.object.0.panics_after.set(None);
+        self.object.prepare(Behaviour::default());
         Observed {
             reply,
-            events: self.object.0.events.take(),
+            events: self.object.take_events(),
             serial: saved_port(&self.serial.state()),
             capacity: self.serial.fifo_capacity(),
             clock: saved_clock(&self.clock.state()),
@@ -161,7 +61,6 @@ impl Devices {
             Action::SerialRead(offset) => Ok(self.serial.read(*offset).into()),
             Action::SerialWrite(offset, value) => self.serial.write(*offset, *value).map(|()| 0),
             Action::SerialEnqueue(bytes) => self.serial.enqueue_raw_bytes(bytes).map(|count| count as u64),
-            Action::SerialTimeout => unreachable!("a replay carries it out itself, by `observe`"),
             Action::SerialCapacity => Ok(self.serial.fifo_capacity() as u64),
             Action::SerialRestore(port) => {
                 let state = port.as_ref().map_or_else(|| self.serial.state(), state_of_port);
@@ -187,6 +86,7 @@ impl Devices {
             Action::ControllerWrite(offset, value) => {
                 self.controller.write(*offset, *value).map(|()| 0).map_err(Error::Trigger)
             }
+            _ => unreachable!("the Rust crate has no such call; who makes it carries it out, by `observe`"),
         }
     }
 }

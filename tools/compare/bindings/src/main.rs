@@ -1,6 +1,6 @@
 //! Makes the same random calls on the devices of the Rust crate vm-superio and on those of bindings/rust, and compares
 //! what each call did: its reply, the state after it, and each call of a trigger, an events object or a writer, in order.
-//! In one call of eight an object panics.
+//! In one call of eight an object panics. Then it compares what no such call reaches: texts of devices, and other objects.
 //!
 //!     bindings [CALLS [SEED]]
 //!
@@ -9,24 +9,30 @@
 //!
 //! It writes only matches that are past to RTCMR: any other is an alarm in bindings/rust, and has no effect in the Rust
 //! crate.
-#![allow(clippy::duplicate_mod)] // devices.rs, below
+#![allow(clippy::duplicate_mod)] // of the two crates, below
+#[allow(dead_code)] // the calls that one of the two crates lacks
 mod call;
-mod random;
-
+mod calls;
 #[path = "../../original/src/moment.rs"]
 mod moment;
+mod observed;
+mod random;
 
-/// `devices.rs` is compiled for either crate: what compiles with one has to compile with the other.
+/// These files are compiled for either crate: what compiles with one has to compile with the other.
 #[path = "."]
 mod by_original {
     pub use original as superio;
     pub mod devices;
+    pub mod objects;
+    pub mod surface;
 }
 
 #[path = "."]
 mod by_ours {
     pub use ours as superio;
     pub mod devices;
+    pub mod objects;
+    pub mod surface;
 }
 
 use std::collections::BTreeMap;
@@ -34,7 +40,8 @@ use std::env;
 use std::panic;
 use std::process::ExitCode;
 
-use call::{Call, Observed};
+use call::Call;
+use observed::Observed;
 use random::Random;
 
 fn argument(number: usize, otherwise: u64) -> u64 {
@@ -70,6 +77,12 @@ fn main() -> ExitCode {
             if different <= 10 {
                 println!("different: call {number}, {call:?}\n  original: {expected:?}\n  bindings: {got:?}");
             }
+        }
+    }
+    for (expected, got) in by_original::surface::texts().iter().zip(by_ours::surface::texts()) {
+        if *expected != got {
+            different += 1;
+            println!("different:\n  original: {expected}\n  bindings: {got}");
         }
     }
     for (case, count) in cases {

@@ -1,14 +1,11 @@
 //! Calls, and what they did, as lines of text: `CALL [BEHAVIOUR] = REPLY [EVENTS]`. tests/calls/README.md describes them.
 use std::fmt::Write;
 
-use crate::call::{Action, Call, Clock, Event, Observed, Port, Writing};
+use crate::call::{Action, Behaviour, Call, Clock, Event, Port, Writing};
+use crate::observed::Observed;
 
-const WRITINGS: [(&str, Writing); 4] = [
-    ("n", Writing::TakesNone),
-    ("i", Writing::IsInterruptedOnce),
-    ("f", Writing::Fails),
-    ("u", Writing::FailsToFlush),
-];
+const WRITINGS: [(&str, Writing); 4] =
+    [("n", Writing::TakesNone), ("i", Writing::IsInterruptedOnce), ("f", Writing::Fails), ("u", Writing::FailsToFlush)];
 
 fn hex(bytes: &[u8]) -> String {
     bytes.iter().fold(String::new(), |mut text, byte| {
@@ -42,6 +39,8 @@ pub fn text_of_call(call: &Call, moment: u64) -> String {
         Action::SerialWrite(offset, value) => format!("sw {offset:02x} {value:02x}"),
         Action::SerialEnqueue(bytes) => format!("sq {}", hex_or_none(bytes)),
         Action::SerialTimeout => "si".to_string(),
+        Action::SerialRetry => "sp".to_string(),
+        Action::SerialLine => "sh".to_string(),
         Action::SerialCapacity => "sc".to_string(),
         Action::SerialRestore(None) => "ss".to_string(),
         Action::SerialRestore(Some(port)) => format!("sl {}", text_of_port(port)),
@@ -51,11 +50,13 @@ pub fn text_of_call(call: &Call, moment: u64) -> String {
         Action::ClockRestore(Some(clock)) => format!("cl {}", text_of_clock(clock)),
         Action::ControllerRead(offset) => format!("kr {offset:02x}"),
         Action::ControllerWrite(offset, value) => format!("kw {offset:02x} {value:02x}"),
+        _ => panic!("no line stands for a {}", call.kind()),
     };
-    for (refuses, word) in [(call.refuses[0], " 1"), (call.refuses[1], " 2")] {
+    let Behaviour { refuses, writing, .. } = call.behaviour;
+    for (refuses, word) in [(refuses[0], " 1"), (refuses[1], " 2")] {
         text.push_str(if refuses { word } else { "" });
     }
-    if let Some((word, _)) = WRITINGS.iter().find(|(_, writing)| *writing == call.writing) {
+    if let Some((word, _)) = WRITINGS.iter().find(|(_, found)| *found == writing) {
         write!(text, " {word}").expect("a String takes text");
     }
     text
@@ -72,6 +73,8 @@ pub fn call_of_text(text: &str) -> (Call, u64) {
         "sw" => Action::SerialWrite(number(word()) as u8, number(word()) as u8),
         "sq" => Action::SerialEnqueue(bytes_of(word())),
         "si" => Action::SerialTimeout,
+        "sp" => Action::SerialRetry,
+        "sh" => Action::SerialLine,
         "sc" => Action::SerialCapacity,
         "ss" => Action::SerialRestore(None),
         "sl" => {
@@ -97,15 +100,15 @@ pub fn call_of_text(text: &str) -> (Call, u64) {
         "kw" => Action::ControllerWrite(number(word()) as u8, number(word()) as u8),
         name => panic!("no call has the name {name}"),
     };
-    let (mut refuses, mut writing) = ([false; 2], Writing::Takes);
+    let mut behaviour = Behaviour::default();
     for word in words {
         match word {
-            "1" => refuses[0] = true,
-            "2" => refuses[1] = true,
-            _ => writing = WRITINGS.iter().find(|(name, _)| *name == word).expect("a writer's behaviour").1,
+            "1" => behaviour.refuses[0] = true,
+            "2" => behaviour.refuses[1] = true,
+            _ => behaviour.writing = WRITINGS.iter().find(|(name, _)| *name == word).expect("a writer's behaviour").1,
         }
     }
-    (Call { action, refuses, writing, panics_after: None }, moment)
+    (Call { action, behaviour }, moment)
 }
 
 fn text_of_event(event: &Event) -> String {
@@ -132,7 +135,7 @@ pub fn text_of_reply(call: &Call, observed: &Observed) -> String {
         (Err(_), _) => "io".to_string(),
         (Ok(_), Action::SerialRestore(_)) => format!("{} {:02x}", text_of_port(&observed.serial), observed.capacity),
         (Ok(_), Action::ClockRestore(_)) => text_of_clock(&observed.clock),
-        (Ok(_), Action::SerialWrite(..) | Action::SerialTimeout) => "ok".to_string(),
+        (Ok(_), Action::SerialWrite(..) | Action::SerialTimeout | Action::SerialRetry) => "ok".to_string(),
         (Ok(_), Action::ClockWrite(..) | Action::ControllerWrite(..)) => "ok".to_string(),
         (Ok(value), Action::ClockRead(_)) => format!("{value:08x}"),
         (Ok(value), _) => format!("{value:02x}"),

@@ -5,10 +5,15 @@
 //! First each setting of DLAB, loopback and IER at each number of held bytes, with an access of each register and each
 //! answer of the objects that it can meet; then random calls, in which states are restored that no guest leads to. The
 //! recording is the same each time. A comment line counts the cases that it reached.
+#[allow(dead_code)] // the calls that the crate lacks
 #[path = "../../bindings/src/call.rs"]
 mod call;
+#[path = "../../bindings/src/calls.rs"]
+mod calls;
 #[path = "../../original/src/moment.rs"]
 mod moment;
+#[path = "../../bindings/src/observed.rs"]
+mod observed;
 #[path = "../../bindings/src/random.rs"]
 mod random;
 #[allow(dead_code)] // a recorder reads no line
@@ -19,13 +24,15 @@ mod text;
 mod by_original {
     pub use original as superio;
     pub mod devices;
+    pub mod objects;
 }
 
 use std::collections::BTreeMap;
 use std::io::{self, BufWriter, StdoutLock, Write};
 
 use by_original::devices::Devices;
-use call::{Action, Call, Observed, Port, Writing};
+use call::{Action, Behaviour, Call, Port, Writing};
+use observed::Observed;
 use random::Random;
 
 const RANDOM_CALLS: u64 = 140_000;
@@ -54,8 +61,7 @@ impl Recorder {
 
     /// A call in which no object refuses or fails.
     fn plain(&mut self, action: Action) -> io::Result<Observed> {
-        let call = Call { action, refuses: [false; 2], writing: Writing::Takes, panics_after: None };
-        self.record(&call, 0)
+        self.record(&Call { action, behaviour: Behaviour::default() }, 0)
     }
 
     /// A call that meets refusals, and a writer of each kind in turn.
@@ -64,7 +70,7 @@ impl Recorder {
         let writings =
             [Writing::Takes, Writing::TakesNone, Writing::IsInterruptedOnce, Writing::Fails, Writing::FailsToFlush];
         let writing = writings[number as usize % writings.len()];
-        self.record(&Call { action, refuses, writing, panics_after: None }, 0)
+        self.record(&Call { action, behaviour: Behaviour { refuses, writing, panics_after: None } }, 0)
     }
 
     /// Each access of a port with this setting that holds so many bytes. The state returns before each write.
@@ -114,7 +120,8 @@ impl Recorder {
             let moment = random.moment();
             moment::set(moment);
             let guest_time = self.devices.guest_time();
-            let call = Call { panics_after: None, ..random.call(guest_time) };
+            let mut call = random.call(guest_time);
+            call.behaviour.panics_after = None;
             self.record(&call, moment)?;
             if number % 16 == 0 {
                 self.plain(Action::SerialRestore(None))?;

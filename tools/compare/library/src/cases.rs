@@ -1,33 +1,38 @@
 //! The cases that calls are to reach, and how often they did.
 use std::collections::BTreeMap;
 
-use crate::call::{Action, Call, Event, Observed, Reply, State};
+use crate::call::{Action, Call, Event};
+use crate::observed::{Observed, Reply, State};
 
 /// Every case. Each has to be reached once in `RAREST` calls.
-const CASES: [&str; 47] = [
-    "port: read",
-    "port: write",
-    "port: enqueue",
-    "port: capacity",
-    "port: timeout",
-    "port: retry",
-    "port: coherence",
-    "port: restore",
-    "port: save",
-    "port: load",
-    "clock: read",
-    "clock: write",
-    "clock: read at the host's time",
-    "clock: write at the host's time",
-    "clock: line",
-    "clock: due",
-    "clock: save",
-    "clock: load",
-    "controller: read",
-    "controller: write",
+const CASES: [&str; 51] = [
+    "serial read",
+    "serial write",
+    "serial enqueue",
+    "serial capacity",
+    "serial timeout",
+    "serial retry",
+    "serial line",
+    "serial coherence",
+    "serial restore",
+    "serial save",
+    "serial load",
+    "clock read at a moment",
+    "clock write at a moment",
+    "clock read",
+    "clock write",
+    "clock line",
+    "clock due",
+    "clock save",
+    "clock load",
+    "controller read",
+    "controller write",
     "a moment before the last one",
     "an alarm fires",
     "an alarm that is due",
+    "an alarm due in 2^31 seconds or more",
+    "an alarm due in 2^32 - 1 seconds",
+    "a match in the host's time, written at moment 0",
     "a byte goes out",
     "a byte is lost",
     "a byte is lost, and its interrupt is refused",
@@ -64,39 +69,14 @@ pub struct Cases {
     moment: u64,
 }
 
-fn kind(action: &Action) -> &'static str {
-    match action {
-        Action::Read(_) => CASES[0],
-        Action::Write(..) => CASES[1],
-        Action::Enqueue(_) => CASES[2],
-        Action::Capacity => CASES[3],
-        Action::Timeout => CASES[4],
-        Action::Retry => CASES[5],
-        Action::IsCoherent => CASES[6],
-        Action::Restore => CASES[7],
-        Action::Save => CASES[8],
-        Action::Load(_) => CASES[9],
-        Action::ClockRead(_) => CASES[10],
-        Action::ClockWrite(..) => CASES[11],
-        Action::HostRead(_) => CASES[12],
-        Action::HostWrite(..) => CASES[13],
-        Action::Line => CASES[14],
-        Action::Due => CASES[15],
-        Action::ClockSave => CASES[16],
-        Action::ClockLoad(_) => CASES[17],
-        Action::ControllerRead(_) => CASES[18],
-        Action::ControllerWrite(..) => CASES[19],
-    }
-}
-
 impl Cases {
     /// Counts the cases of a call.
-    pub fn count(&mut self, call: &Call, seen: &Observed) {
-        self.note(kind(&call.action));
-        if call.moment < self.moment {
+    pub fn count(&mut self, call: &Call, moment: u64, seen: &Observed) {
+        self.note(call.kind());
+        if moment < self.moment {
             self.note("a moment before the last one");
         }
-        if self.before.is_armed && !seen.state.is_armed && seen.state.clock[3] & !self.before.clock[3] == 1 {
+        if self.before.is_armed && !seen.state.is_armed && seen.state.clock.ris & !self.before.clock.ris == 1 {
             self.note("an alarm fires");
         }
         for event in &seen.events {
@@ -109,22 +89,40 @@ impl Cases {
                 _ => {}
             }
         }
-        self.count_replies(call, seen);
+        self.count_replies(call, moment, seen);
         self.count_triggers(call, seen);
         self.before.clone_from(&seen.state);
-        self.moment = call.moment;
+        self.moment = moment;
     }
 
-    fn count_replies(&mut self, call: &Call, seen: &Observed) {
+    fn count_replies(&mut self, call: &Call, moment: u64, seen: &Observed) {
+        let before = &self.before;
         match (&call.action, &seen.reply) {
-            (Action::Due, Reply::Maybe(Some(_))) => self.note("an alarm that is due"),
-            (Action::Enqueue(_), Reply::FullFifo) => self.note("no room for an enqueue"),
-            (Action::Load(_), Reply::Fault(status)) => self.note(&format!("a port's load refuses with status {status}")),
+            (Action::ClockDue, Reply::Maybe(Some(seconds))) => self.count_due(*seconds),
+            (Action::SerialEnqueue(_), Reply::FullFifo) => self.note("no room for an enqueue"),
+            (Action::SerialLoad(_), Reply::Fault(status)) => {
+                self.note(&format!("a port's load refuses with status {status}"))
+            }
             (Action::ClockLoad(_), Reply::Fault(status)) => {
                 self.note(&format!("a clock's load refuses with status {status}"));
             }
-            (Action::Write(0, _), _) if seen.state.held.len() > self.before.held.len() => self.note("a loopback byte"),
+            (Action::ClockWrite(4, _) | Action::ClockWriteAt(4, _), _) if moment == 0 && before.clock.offset == 0 => {
+                self.note("a match in the host's time, written at moment 0");
+            }
+            (Action::SerialWrite(0, _), _) if seen.state.serial.in_buffer.len() > before.serial.in_buffer.len() => {
+                self.note("a loopback byte");
+            }
             _ => {}
+        }
+    }
+
+    fn count_due(&mut self, seconds: u64) {
+        self.note("an alarm that is due");
+        if seconds >= 1 << 31 {
+            self.note("an alarm due in 2^31 seconds or more");
+        }
+        if seconds == (1 << 32) - 1 {
+            self.note("an alarm due in 2^32 - 1 seconds");
         }
     }
 
@@ -132,18 +130,22 @@ impl Cases {
         let asked: Vec<Event> =
             seen.events.iter().filter(|it| matches!(it, Event::Trigger | Event::Refusal)).copied().collect();
         match (&call.action, &asked[..]) {
-            (Action::Write(..), [Event::Trigger, Event::Trigger]) => self.note("a write asks for two interrupts"),
-            (Action::Write(..), [Event::Trigger, Event::Refusal]) => self.note("the second of two interrupts is refused"),
-            (Action::Write(1, _), [Event::Refusal]) if !self.before.held.is_empty() && call_enables_both(call) => {
+            (Action::SerialWrite(..), [Event::Trigger, Event::Trigger]) => self.note("a write asks for two interrupts"),
+            (Action::SerialWrite(..), [Event::Trigger, Event::Refusal]) => {
+                self.note("the second of two interrupts is refused")
+            }
+            (Action::SerialWrite(1, _), [Event::Refusal])
+                if !self.before.serial.in_buffer.is_empty() && call_enables_both(call) =>
+            {
                 self.note("the first of two interrupts is refused");
             }
-            (Action::Write(..), [Event::Refusal]) if seen.events.contains(&Event::TxLostByte) => {
+            (Action::SerialWrite(..), [Event::Refusal]) if seen.events.contains(&Event::TxLostByte) => {
                 self.note("a byte is lost, and its interrupt is refused");
             }
-            (Action::Enqueue(_), [Event::Refusal]) => self.note("a refused enqueue keeps its bytes"),
-            (Action::Timeout, [Event::Refusal]) => self.note("a refused timeout"),
+            (Action::SerialEnqueue(_), [Event::Refusal]) => self.note("a refused enqueue keeps its bytes"),
+            (Action::SerialTimeout, [Event::Refusal]) => self.note("a refused timeout"),
             (Action::ControllerWrite(..), [Event::Refusal]) => self.note("a refused reset"),
-            (Action::Restore | Action::Load(_), [.., Event::Refusal]) => self.note("a refused restore"),
+            (Action::SerialRestore(_) | Action::SerialLoad(_), [.., Event::Refusal]) => self.note("a refused restore"),
             _ => {}
         }
     }
@@ -169,5 +171,5 @@ impl Cases {
 
 /// Whether a write of IER enables both conditions.
 fn call_enables_both(call: &Call) -> bool {
-    matches!(call.action, Action::Write(1, value) if value & 3 == 3)
+    matches!(call.action, Action::SerialWrite(1, value) if value & 3 == 3)
 }

@@ -5,8 +5,9 @@ use vm_superio::Trigger;
 use vm_superio::rtc_pl031::RtcEvents;
 use vm_superio::serial::SerialEvents;
 
-use crate::call::{Action, Call, Observed, Reply, State};
-use crate::objects::Object;
+use crate::by_ours::objects::Object;
+use crate::call::{self, Action, Call};
+use crate::observed::{Observed, Reply, State};
 
 /// `superio_serial`: nine registers, `head`, `len` and the bytes.
 #[repr(C)]
@@ -64,6 +65,7 @@ unsafe extern "C" {
     safe fn superio_serial_character_timeout(port: &mut Port) -> u8;
     safe fn superio_serial_fifo_capacity(port: &Port) -> usize;
     safe fn superio_serial_interrupts_due(port: &Port) -> u8;
+    safe fn superio_serial_interrupt_line(port: &Port) -> bool;
     safe fn superio_serial_is_coherent(port: &Port) -> bool;
     safe fn superio_serial_save(port: &Port, bytes: &mut [u8; 81]) -> usize;
     fn superio_serial_load(port: &mut Port, bytes: *const u8, count: usize) -> u32;
@@ -94,35 +96,36 @@ fn done_or(is_done: bool, otherwise: Reply) -> Reply {
 
 impl Devices {
     pub fn new() -> Devices {
-        Devices { object: Object::new(), port: superio_serial_new(), clock: superio_rtc_new() }
+        Devices { object: Object::default(), port: superio_serial_new(), clock: superio_rtc_new() }
     }
 
-    pub fn make(&mut self, call: &Call) -> Observed {
-        self.object.prepare(call);
+    pub fn make(&mut self, call: &Call, moment: u64) -> Observed {
+        self.object.prepare(call.behaviour);
         let reply = match &call.action {
-            Action::Read(offset) => self.read(*offset),
-            Action::Write(offset, value) => self.write(*offset, *value),
-            Action::Enqueue(bytes) => self.enqueue(bytes),
-            Action::Capacity => Reply::Number(superio_serial_fifo_capacity(&self.port) as u64),
-            Action::Timeout => {
+            Action::SerialRead(offset) => self.read(*offset),
+            Action::SerialWrite(offset, value) => self.write(*offset, *value),
+            Action::SerialEnqueue(bytes) => self.enqueue(bytes),
+            Action::SerialCapacity => Reply::Number(superio_serial_fifo_capacity(&self.port) as u64),
+            Action::SerialTimeout => {
                 let times = superio_serial_character_timeout(&mut self.port);
                 done_or(self.interrupts(times), Reply::Refused)
             }
-            Action::Retry => done_or(self.interrupts(superio_serial_interrupts_due(&self.port)), Reply::Refused),
-            Action::IsCoherent => Reply::Number(superio_serial_is_coherent(&self.port).into()),
-            Action::Restore => self.restore(self.port),
-            Action::Save => {
+            Action::SerialRetry => done_or(self.interrupts(superio_serial_interrupts_due(&self.port)), Reply::Refused),
+            Action::SerialLine => Reply::Number(superio_serial_interrupt_line(&self.port).into()),
+            Action::SerialCoherence => Reply::Number(superio_serial_is_coherent(&self.port).into()),
+            Action::SerialRestore(None) => self.restore(self.port),
+            Action::SerialSave => {
                 let mut form = [0; 81];
                 let count = superio_serial_save(&self.port, &mut form);
                 Reply::Form(form[..count].to_vec())
             }
-            Action::Load(bytes) => self.load(bytes),
+            Action::SerialLoad(bytes) => self.load(bytes),
             Action::ControllerRead(offset) => Reply::Number(superio_i8042_read(*offset).into()),
             Action::ControllerWrite(offset, value) => {
                 let times = u8::from(superio_i8042_write(*offset, *value));
                 done_or(self.interrupts(times), Reply::Refused)
             }
-            _ => self.serve_clock(call),
+            action => self.serve_clock(action, moment),
         };
         Observed { reply, events: self.object.take_events(), state: self.state() }
     }
@@ -196,23 +199,23 @@ impl Devices {
         }
     }
 
-    fn serve_clock(&mut self, call: &Call) -> Reply {
-        match &call.action {
-            Action::ClockRead(offset) | Action::HostRead(offset) => {
-                let effects = superio_rtc_read(&mut self.clock, *offset, call.moment);
+    fn serve_clock(&mut self, action: &Action, moment: u64) -> Reply {
+        match action {
+            Action::ClockRead(offset) | Action::ClockReadAt(offset) => {
+                let effects = superio_rtc_read(&mut self.clock, *offset, moment);
                 if effects.invalid_read {
                     self.object.invalid_read();
                 }
                 Reply::Maybe((!effects.invalid_read).then_some(effects.value.into()))
             }
-            Action::ClockWrite(offset, value) | Action::HostWrite(offset, value) => {
-                if superio_rtc_write(&mut self.clock, *offset, *value, call.moment) {
+            Action::ClockWrite(offset, value) | Action::ClockWriteAt(offset, value) => {
+                if superio_rtc_write(&mut self.clock, *offset, *value, moment) {
                     self.object.invalid_write();
                 }
                 Reply::Done
             }
-            Action::Line => Reply::Number(superio_rtc_line(&self.clock).into()),
-            Action::Due => Reply::Maybe(Some(superio_rtc_due(&self.clock, call.moment)).filter(|it| *it != u64::MAX)),
+            Action::ClockLine => Reply::Number(superio_rtc_line(&self.clock).into()),
+            Action::ClockDue => Reply::Maybe(Some(superio_rtc_due(&self.clock, moment)).filter(|it| *it != u64::MAX)),
             Action::ClockSave => {
                 let mut form = [0; 33];
                 superio_rtc_save(&self.clock, &mut form);
@@ -232,11 +235,10 @@ impl Devices {
     fn state(&self) -> State {
         let Port { registers, head, len, bytes } = &self.port;
         let places = (0..usize::from(*len).min(64)).map(|place| (usize::from(*head) + place) % 64);
+        let [lr, mr, imsc, ris] = self.clock.registers;
         State {
-            registers: *registers,
-            held: places.map(|place| bytes[place]).collect(),
-            clock: self.clock.registers,
-            offset: self.clock.offset,
+            serial: call::Port { registers: *registers, in_buffer: places.map(|place| bytes[place]).collect() },
+            clock: call::Clock { lr, offset: self.clock.offset, mr, imsc, ris },
             is_armed: self.clock.armed != 0,
         }
     }

@@ -1,15 +1,18 @@
 //! The devices of bindings/rust.
+use vm_superio::I8042Device;
 use vm_superio::rtc_pl031::{Rtc, RtcSnapshot};
 use vm_superio::saved::SavedStateError;
+use vm_superio::serial::line::InterruptLine;
 use vm_superio::serial::timeout::CharacterTimeout;
 use vm_superio::serial::{Error, Serial, SerialState};
-use vm_superio::I8042Device;
 
-use crate::call::{Action, Call, Event, Observed, Reply, State};
-use crate::objects::{Object, Refused};
+use crate::by_ours::objects::{Object, Refused};
+use crate::call::{Action, Call, Clock, Event, Port};
+use crate::observed::{Observed, Reply, State};
 
-/// The bytes before a clock read.
+/// The bytes before a clock read, which an invalid one leaves as they were, and the reply that they make.
 const LEFT: [u8; 4] = *b"left";
+const LEFT_REPLY: Reply = Reply::Maybe(Some(u32::from_le_bytes(LEFT) as u64));
 
 pub struct Devices {
     object: Object,
@@ -41,7 +44,7 @@ fn fault(error: SavedStateError) -> Reply {
 
 impl Devices {
     pub fn new() -> Devices {
-        let object = Object::new();
+        let object = Object::default();
         Devices {
             serial: Serial::with_events(object.clone(), object.clone(), object.clone()),
             clock: Rtc::with_events(object.clone()),
@@ -50,30 +53,37 @@ impl Devices {
         }
     }
 
-    pub fn make(&mut self, call: &Call) -> Observed {
-        self.object.prepare(call);
+    pub fn make(&mut self, call: &Call, moment: u64) -> Observed {
+        self.object.prepare(call.behaviour);
         let reply = reply_of(match &call.action {
-            Action::ClockRead(_) | Action::ClockWrite(..) | Action::HostRead(_) | Action::HostWrite(..) => {
-                Ok(self.access_clock(call))
+            Action::ClockRead(_) | Action::ClockWrite(..) | Action::ClockReadAt(_) | Action::ClockWriteAt(..) => {
+                Ok(self.access_clock(&call.action, moment))
             }
-            Action::Line | Action::Due | Action::ClockSave | Action::ClockLoad(_) => Ok(self.ask_clock(call)),
+            Action::ClockLine | Action::ClockDue | Action::ClockSave | Action::ClockLoad(_) => {
+                Ok(self.ask_clock(&call.action, moment))
+            }
             action => self.serve_port(action),
         });
-        Observed { reply, events: self.object.take_events(), state: self.state() }
+        let events = self.object.take_events();
+        let is_left = reply == LEFT_REPLY && events == [Event::InvalidRead];
+        Observed { reply: if is_left { Reply::Maybe(None) } else { reply }, events, state: self.state() }
     }
 
     fn serve_port(&mut self, action: &Action) -> Result<Reply, Error<Refused>> {
         match action {
-            Action::Read(offset) => Ok(Reply::Number(self.serial.read(*offset).into())),
-            Action::Write(offset, value) => self.serial.write(*offset, *value).map(|()| Reply::Done),
-            Action::Enqueue(bytes) => self.serial.enqueue_raw_bytes(bytes).map(|count| Reply::Number(count as u64)),
-            Action::Capacity => Ok(Reply::Number(self.serial.fifo_capacity() as u64)),
-            Action::Timeout => self.serial.character_timeout().map(|()| Reply::Done),
-            Action::Retry => self.serial.retry_interrupts().map(|()| Reply::Done).map_err(Error::Trigger),
-            Action::IsCoherent => Ok(Reply::Number(self.serial.state().is_coherent().into())),
-            Action::Restore => self.restore(&self.serial.state()),
-            Action::Save => Ok(self.serial.state().to_bytes().map_or_else(fault, Reply::Form)),
-            Action::Load(bytes) => match SerialState::from_bytes(bytes) {
+            Action::SerialRead(offset) => Ok(Reply::Number(self.serial.read(*offset).into())),
+            Action::SerialWrite(offset, value) => self.serial.write(*offset, *value).map(|()| Reply::Done),
+            Action::SerialEnqueue(bytes) => {
+                self.serial.enqueue_raw_bytes(bytes).map(|count| Reply::Number(count as u64))
+            }
+            Action::SerialCapacity => Ok(Reply::Number(self.serial.fifo_capacity() as u64)),
+            Action::SerialTimeout => self.serial.character_timeout().map(|()| Reply::Done),
+            Action::SerialRetry => self.serial.retry_interrupts().map(|()| Reply::Done).map_err(Error::Trigger),
+            Action::SerialLine => Ok(Reply::Number(self.serial.interrupt_line().into())),
+            Action::SerialCoherence => Ok(Reply::Number(self.serial.state().is_coherent().into())),
+            Action::SerialRestore(None) => self.restore(&self.serial.state()),
+            Action::SerialSave => Ok(self.serial.state().to_bytes().map_or_else(fault, Reply::Form)),
+            Action::SerialLoad(bytes) => match SerialState::from_bytes(bytes) {
                 Ok(state) => self.restore(&state),
                 Err(error) => Ok(fault(error)),
             },
@@ -91,39 +101,28 @@ impl Devices {
         Ok(Reply::Done)
     }
 
-    fn access_clock(&mut self, call: &Call) -> Reply {
+    fn access_clock(&mut self, action: &Action, moment: u64) -> Reply {
         let mut bytes = LEFT;
-        match call.action {
-            Action::ClockRead(offset) => {
-                self.clock.read_at(offset, &mut bytes, call.moment);
-                self.value_read(bytes)
-            }
-            Action::HostRead(offset) => {
-                self.clock.read(offset, &mut bytes);
-                self.value_read(bytes)
+        match action {
+            Action::ClockReadAt(offset) => self.clock.read_at(*offset, &mut bytes, moment),
+            Action::ClockRead(offset) => self.clock.read(*offset, &mut bytes),
+            Action::ClockWriteAt(offset, value) => {
+                self.clock.write_at(*offset, &value.to_le_bytes(), moment);
+                return Reply::Done;
             }
             Action::ClockWrite(offset, value) => {
-                self.clock.write_at(offset, &value.to_le_bytes(), call.moment);
-                Reply::Done
-            }
-            Action::HostWrite(offset, value) => {
-                self.clock.write(offset, &value.to_le_bytes());
-                Reply::Done
+                self.clock.write(*offset, &value.to_le_bytes());
+                return Reply::Done;
             }
             _ => unreachable!("no access of the clock"),
         }
+        Reply::Maybe(Some(u32::from_le_bytes(bytes).into()))
     }
 
-    /// The value that a read left in these bytes. An invalid read leaves them as they were.
-    fn value_read(&self, bytes: [u8; 4]) -> Reply {
-        let is_invalid = bytes == LEFT && self.object.has_noted(Event::InvalidRead);
-        Reply::Maybe((!is_invalid).then(|| u32::from_le_bytes(bytes).into()))
-    }
-
-    fn ask_clock(&mut self, call: &Call) -> Reply {
-        match &call.action {
-            Action::Line => Reply::Number(self.clock.line().into()),
-            Action::Due => Reply::Maybe(self.clock.due(call.moment)),
+    fn ask_clock(&mut self, action: &Action, moment: u64) -> Reply {
+        match action {
+            Action::ClockLine => Reply::Number(self.clock.line().into()),
+            Action::ClockDue => Reply::Maybe(self.clock.due(moment)),
             Action::ClockSave => Reply::Form(self.clock.snapshot().to_bytes()),
             Action::ClockLoad(bytes) => match RtcSnapshot::from_bytes(bytes) {
                 Ok(snapshot) => {
@@ -139,21 +138,20 @@ impl Devices {
     fn state(&self) -> State {
         let port = self.serial.state();
         let RtcSnapshot { state: clock, armed } = self.clock.snapshot();
+        let registers = [
+            port.baud_divisor_low,
+            port.baud_divisor_high,
+            port.interrupt_enable,
+            port.interrupt_identification,
+            port.line_control,
+            port.line_status,
+            port.modem_control,
+            port.modem_status,
+            port.scratch,
+        ];
         State {
-            registers: [
-                port.baud_divisor_low,
-                port.baud_divisor_high,
-                port.interrupt_enable,
-                port.interrupt_identification,
-                port.line_control,
-                port.line_status,
-                port.modem_control,
-                port.modem_status,
-                port.scratch,
-            ],
-            held: port.in_buffer,
-            clock: [clock.lr, clock.mr, clock.imsc, clock.ris],
-            offset: clock.offset,
+            serial: Port { registers, in_buffer: port.in_buffer },
+            clock: Clock { lr: clock.lr, offset: clock.offset, mr: clock.mr, imsc: clock.imsc, ris: clock.ris },
             is_armed: armed,
         }
     }

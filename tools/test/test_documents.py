@@ -1,0 +1,162 @@
+"""Tests that the checks of documents find faults planted in small documents."""
+import os
+import re
+import unittest
+
+from repository import CopyTest
+
+README = """# Top
+
+[one](docs/one.md), [its heading](docs/one.md#a-heading-of-it), [a folder](docs), `docs/one.md`.
+
+```text
+[not a link](nowhere.md)
+```
+"""
+ONE = "# One\n\n## A `heading` of it\n\n## Same\n\n## Same\n\n[up](../README.md), [second](#same-1)\n"
+
+
+def faults_of(printed):
+    """The faults that a tool prints, and its complaints of having tried too little. Its last line has to count both."""
+    *lines, last = printed.splitlines()
+    said = [line for line in lines if not re.match(r"(not )?tried: ", line)]
+    if last.split(", ")[1] != f"{len(said)} failed":
+        raise AssertionError(printed)
+    few = [line for line in said if line.endswith(" are wanted")]
+    return [line for line in said if line not in few], few
+
+
+class Links(CopyTest):
+    def setUp(self):
+        super().setUp()
+        (self.root / "docs").mkdir()
+        (self.root / "README.md").write_text(README, encoding="utf-8")
+        (self.root / "docs" / "one.md").write_text(ONE, encoding="utf-8")
+
+    def faults(self):
+        """What the tool says, other than that so small a repository has few links."""
+        status, printed, _ = self.run_tool("tools/links")
+        faults, few = faults_of(printed)
+        self.assertEqual((status, len(few)), (1, 3))
+        return faults
+
+    def test_sound(self):
+        self.assertEqual(self.faults(), [])
+
+    def test_each_fault(self):
+        for name, old, new, says in (
+                ("README.md", "(docs/one.md)", "(docs/two.md)", "README.md: docs/two.md is not there"),
+                ("README.md", "#a-heading-of-it", "#another", "README.md: docs/one.md#another is no heading"),
+                ("README.md", "`docs/one.md`", "`docs/two.md`", "README.md: docs/two.md is not there"),
+                ("docs/one.md", "#same-1", "#same-2", "docs/one.md: #same-2 is no heading"),
+                ("docs/one.md", "../README.md", "../../README.md", "docs/one.md: ../../README.md is not there")):
+            with self.subTest(says):
+                self.change(name, old, new)
+                self.assertEqual(self.faults(), [says])
+                self.change(name, new, old)
+
+    def test_a_document_without_a_link_to_it(self):
+        (self.root / "docs" / "lost.md").write_text("# Lost\n", encoding="utf-8")
+        self.assertEqual(self.faults(), ["docs/lost.md: no document links to it"])
+
+
+class Names(CopyTest):
+    def setUp(self):
+        super().setUp()
+        self.take("README.md", "CHANGELOG.md", "CONTRIBUTING.md", "HANDLES", "crates.txt", "docs", "crates", "bindings", "examples",
+                  "include", "tests", "tools/test", ".reuse")
+
+    def faults(self, version="the version"):
+        """What the tool says if `rt version` prints this, and README.md says 'the version'."""
+        readme = self.root / "README.md"
+        text = re.sub("`rattle-kit-[^`]*`", "`the version`", readme.read_text(encoding="utf-8"))
+        readme.write_text(text, encoding="utf-8")
+        (self.root / "rt").write_text(f"#!/bin/sh\necho {version}\n", encoding="ascii")
+        (self.root / "rt").chmod(0o755)
+        status, printed, _ = self.run_tool("tools/names", env={"PATH": f"{self.root}:{os.environ['PATH']}"})
+        faults, few = faults_of(printed)
+        self.assertEqual((status, few), (1 if faults else 0, []))
+        return [re.sub(r":\d+: ", ": ", fault) for fault in faults]
+
+    def test_sound(self):
+        self.assertEqual(self.faults(), [])
+
+    def test_each_fault(self):
+        proofs, serial = "docs/PROOFS.md", "crates/vm_superio/src/serial.rt"
+        for name, old, new, says in (
+                (proofs, "`Serial::read: data`", "`Serial::read: date`",
+                 [f"{proofs}: vm_superio::serial::Serial::read has no clause date",
+                  f"{proofs}: vm_superio::serial::Serial::read: data is not named"]),
+                (proofs, "`laws::same_reads`", "`laws::same_read`",
+                 [f"{proofs}: laws::same_read is nowhere in the sources"]),
+                (serial, "ensures room_plus_held {", "ensures room_and_held {",
+                 [f"{proofs}: vm_superio::serial::Serial::fifo_capacity has no clause room_plus_held",
+                  f"{proofs}: vm_superio::serial::Serial::fifo_capacity: room_and_held is not named"]),
+                ("crates/superio_c/src/serial.rt", "ensures pending {", "ensures waiting {",
+                 [f"{proofs}: superio_c::serial::superio_serial_character_timeout: waiting is not named"]),
+                ("crates/vm_superio/CALLING.md", "| | `data` |", "| | `date` |",
+                 ["crates/vm_superio/CALLING.md: vm_superio::serial::Serial::read has no clause date"])):
+            with self.subTest(new):
+                self.change(name, old, new)
+                self.assertEqual(self.faults(), says)
+                self.change(name, new, old)
+
+    def test_names_that_only_look_right(self):
+        for document, code, says in (
+                ("docs/USING.md", "`Rtc::enqueue_raw_bytes`", "Rtc::enqueue_raw_bytes is nowhere in the sources"),
+                ("docs/PROOFS.md", "`Serial::read_all(offset)`", "Serial::read_all is nowhere in the sources"),
+                ("docs/GUESTS.md", "`Serial::read_all: step`", "there is no function Serial::read_all"),
+                ("docs/GUESTS.md", "`laws::same_read`", "laws::same_read is nowhere in the sources"),
+                ("CONTRIBUTING.md", "`tools/names --all`", "tools/names has no --all"),
+                ("CONTRIBUTING.md", "`tools/name PROOFS.md`", "tools/name is nowhere in the sources"),
+                ("docs/USING.md", "\n\n```text\nedit: reset_at_any_offset\nold: a\nnew: b\n```", "no crate has this edit")):
+            with self.subTest(code):
+                text = (self.root / document).read_text(encoding="utf-8")
+                (self.root / document).write_text(f"{text}\n{code}\n", encoding="utf-8")
+                self.assertEqual(self.faults(), [f"{document}: {says}"])
+                (self.root / document).write_text(text, encoding="utf-8")
+
+    def test_a_lost_file(self):
+        (self.root / "tests" / "forms.txt").unlink()
+        self.assertIn("docs/PROOFS.md: tests/forms.txt is nowhere in the sources", self.faults())
+
+    def test_another_version(self):
+        self.assertEqual(self.faults("another"), ["README.md does not show another, which rt version prints"])
+
+
+class Differences(CopyTest):
+    def setUp(self):
+        super().setUp()
+        self.take("docs", "crates/vm_superio/src", "crates/superio_core/src")
+
+    def faults(self):
+        """What the tool says."""
+        status, printed, _ = self.run_tool("tools/differences")
+        faults, few = faults_of(printed)
+        self.assertEqual((status, few), (1 if faults else 0, []))
+        return faults
+
+    def test_sound(self):
+        self.assertEqual(self.faults(), [])
+
+    def test_each_fault(self):
+        document, names = "docs/DIFFERENCES.md", "tools/compare/vm-superio-0.8.2.names"
+        for name, old, new, says in (
+                (document, "`Debug for Rtc`, ", "", [f"{document}: Debug for Rtc is not in the row 'not here'"]),
+                (document, "`Debug for Rtc`", "`Debug for Rtc`, `Rtc::read`",
+                 [f"{document}: Rtc::read is in the row 'not here', and is no difference"]),
+                (document, "`Rtc::alarm_due`, ", "", [f"{document}: Rtc::alarm_due is not in the row 'new'"]),
+                (names, "Rtc::with_events\n", "", [f"{document}: Rtc::with_events is not in the row 'new'"]),
+                ("crates/vm_superio/src/i8042.rt", "pub fn reset_evt(&self)", "pub fn lent(&self)",
+                 [f"{document}: I8042Device::reset_evt is not in the row 'not here'",
+                  f"{document}: I8042Device::lent is not in the row 'new'"])):
+            with self.subTest(new):
+                path = self.root / name
+                kept = path.read_text(encoding="utf-8")
+                self.change(name, old, new)
+                self.assertEqual(self.faults(), says)
+                path.write_text(kept, encoding="utf-8")
+
+
+if __name__ == "__main__":
+    unittest.main()

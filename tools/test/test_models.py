@@ -1,0 +1,153 @@
+"""Tests that `tools/models` finds hidden state and hidden calls, on however many lines they are written."""
+import tempfile
+import unittest
+from itertools import product
+from pathlib import Path
+
+from test_check import module_of
+
+models = module_of("models")
+
+COUNTER = "pub struct Counter { count: u64, calls: u64 }"
+GOOD_VIEW = "λ it. record { count = it.count; calls = it.calls }"
+# A struct and its view, and whether the view names each field.
+VIEWS = [
+    (COUNTER, GOOD_VIEW, True),
+    (COUNTER, "λ it. it.count", False),
+    (COUNTER, "λ it. record { count = it.count; calls = it.count }", False),
+    (COUNTER, "λ it. of_counter it", False),
+    (COUNTER, "of_counter", False),
+    (COUNTER, "λ it. record { count = it.count } -- it.calls", False),
+    (COUNTER, "λ it. ((λ it. it.count) it.calls)", False),
+    ("pub struct Counter { pub(crate) count: Option<(u8, u16)>, #[doc(hidden)] calls: u64 }", GOOD_VIEW, True),
+    ("pub struct Counter { pub(crate) count: Option<(u8, u16)>, #[doc(hidden)] calls: u64 }", "λ it. it.count", False),
+    ("pub struct Counter<T: Fn(u8) -> u8>(T, u64);", "λ it. f it.0 it.1", True),
+    ("pub struct Counter<T: Fn(u8) -> u8>(T, u64);", "λ it. it.1", False),
+    ("pub struct Inner { kept: u8, past: u8 } pub struct Counter { inner: Inner }", "λ it. it.inner", True),
+    ("pub struct Inner { kept: u8, past: u8 } pub struct Counter { inner: Inner }", "λ it. it.inner.kept", False),
+    ("pub struct Inner { kept: u8, past: u8 } pub struct Counter { inner: Inner }", "λ it. f it.inner.past it.inner.kept",
+     True),
+    ("pub enum Counter { None, Some(u64) }", "λ it. it.0", False),
+    ("pub struct Inner { kept: u8, past: u8 } type Same = Inner; pub struct Counter { inner: Same }",
+     "λ it. it.inner.kept", False),
+    ("mod first { struct Inner { kept: u8, past: u8 } } struct Inner { kept: u8 } pub struct Counter { inner: Inner }",
+     "λ it. it.inner.kept", False),
+    ("struct Inner<O, const N: usize> { kept: O } struct Own { past: u8 } pub struct Counter { inner: Inner<Own, 8> }",
+     "λ it. it.inner.kept.past", True),
+    ("struct Inner<O> { kept: O } struct Own { past: u8, more: u8 } pub struct Counter { inner: Inner<Own> }",
+     "λ it. it.inner.kept.past", False),
+    ("pub struct Counter { ring: HeapCircularBuffer<u8> }", "λ it. it.ring.items", False),
+    ("pub struct Counter { ring: HeapCircularBuffer<u8> }", "λ it. it.ring.items }; ghost invariant = { λ it. "
+     "it.ring.capacity ≡ 64", True),
+    ("pub struct Counter { ring: HeapCircularBuffer<u8> }", "λ it. it.ring.items }; ghost invariant = { λ it. "
+     "it.ring.capacity ≤ 64", False),
+]
+MODEL = "impl{parameters} {path}Model for Counter{arguments} {{ ghost Value = {{ Of }}; ghost view = {{ {view} }}; }}"
+DROP = "fn drop(&mut self) { self.0.trigger(); }"
+# What hides a call or state.
+HIDING = [
+    f"impl Drop for Counter {{ {DROP} }}",
+    f"impl<T: Trigger, W> Drop for Counter<T, W> where W: Write {{ {DROP} }}",
+    f"impl std::ops::Drop for Counter {{ {DROP} }}",
+    f"unsafe impl<const N: usize> ::core::ops::Drop for Counter<[u8; N]> {{ {DROP} }}",
+    "use std::ops::Drop as Ended;",
+    "use std::{marker::Model as Seen, io};",
+    "macro_rules! seen { ($name:ident) => { impl Model for $name {} } }",
+    "use std::cell::Cell; struct Counter { calls: Cell<u64> }",
+    "use std::cell::RefCell as Plain;",
+    "fn of(it: &std::sync::atomic::AtomicU64) -> u64 { it.load() }",
+    "struct Counter { calls: std::sync::Mutex<u64> }",
+    "static CALLS: OnceLock<u64> = OnceLock::new();",
+    "pub static mut CALLS: u64 = 0;",
+    "thread_local! { pub CALLS: u64 = 0; }",
+    "use std::sync::mpsc::{Receiver, Sender};",
+    "use std::{io, thread};",
+    "use std::sync::*;",
+    "use std::*;",
+    "use std as own;",
+    "use core::cell::UnsafeCell;",
+    "use alloc::rc::Rc;",
+    "use std::collections::HashMap;",
+    "use std::collections::{HashSet, VecDeque};",
+    "fn calls() -> usize { std::env::vars().count() }",
+    'fn count() { std::fs::write("calls", "1") }',
+    "fn is_late() -> bool { std::time::Instant::now() > START }",
+    "fn is_odd(it: &u8) -> bool { (it as *const u8 as usize) % 2 == 1 }",
+    "fn count(it: &u64) { unsafe { write(it) } }",
+    'extern "C" { fn counted() -> u64; }',
+    "fn calls() -> &'static mut u64 { Box::leak(Box::new(0)) }",
+    "macro ended($name) { struct $name; }",
+    'include!("../hidden.rt");',
+    '#[path = "../hidden.rt"] mod hidden;',
+    f"const MARKS: [u8; 2] = [b'\\'',b'\"']; impl Drop for Counter {{ {DROP} }} const END: &str = \"\";",
+]
+# What looks like it, and hides nothing.
+PLAIN = [
+    "#[derive(Drop)] pub struct Counter { calls: u64 }",
+    "// impl Drop for Counter {}",
+    "/* static CALLS: u64 = 0; */",
+    'const TEXT: &str = "impl Drop for Counter { Cell }";',
+    "fn text<'a>(it: &'static str) -> &'a str { it }",
+    "fn of(it: impl Drop) -> impl Model { if 1 < 2 { it } else { it } }",
+    "impl<T: Drop> From<T> for Counter { fn from(it: T) -> Counter { drop(it) } }",
+    "use std::{fmt, io}; use std::alloc::{AllocError, Global}; ghost use Rattle.std.specs.Prelude.{length};",
+    '#[unsafe(no_mangle)] pub extern "C" fn counted(path: u64, alloc: Global) -> u64 { path }',
+]
+
+
+def on_lines(text, lines):
+    """A text in so many lines, broken between its words: in each way into two, and in some into three."""
+    words = text.split(" ")
+    places = range(1, len(words))
+    if lines == 1:
+        yield text
+    elif lines == 2:
+        yield from (f"{' '.join(words[:place])}\n{' '.join(words[place:])}" for place in places)
+    else:
+        pairs = [(first, second) for first, second in product(places, repeat=2) if first < second]
+        for first, second in pairs[::1 + len(pairs) // 12]:
+            yield "\n    ".join(map(" ".join, (words[:first], words[first:second], words[second:])))
+
+
+class Models(unittest.TestCase):
+    def faults(self, text, name="src/lib.rt", crate="tiny", libraries="hex"):
+        with tempfile.TemporaryDirectory() as folder:
+            path = Path(folder, "crates", crate, name)
+            path.parent.mkdir(parents=True)
+            path.write_text(text + "\n", encoding="utf-8")
+            Path(folder, "crates.txt").write_text(f"low:\n{crate} staticlib: low {libraries}\n", encoding="utf-8")
+            return [fault for _, fault in models.results(Path(folder)) if fault]
+
+    def test_a_view_names_each_field(self):
+        forms = [("", "", ""), ("<T: Trigger, W>", "std::marker::", "<T, W>")]
+        for (struct, view, is_good), (parameters, path, arguments) in product(VIEWS, forms):
+            if struct.startswith("pub struct Counter<") != bool(arguments) and view != GOOD_VIEW:
+                continue
+            text = f"{struct} {MODEL.format(parameters=parameters, path=path, arguments=arguments, view=view)}"
+            for lines in (1, 2, 3):
+                for laid_out in on_lines(text, lines):
+                    self.assertEqual(len(self.faults(laid_out)), not is_good, laid_out)
+
+    def test_hidden_calls_and_state_are_found(self):
+        for text, lines in product(HIDING, (1, 2, 3)):
+            for laid_out in on_lines(text, lines):
+                self.assertTrue(self.faults(laid_out), laid_out)
+
+    def test_what_hides_nothing_passes(self):
+        for text in PLAIN:
+            self.assertEqual(self.faults(text), [], text)
+
+    def test_a_crate_uses_no_other_library(self):
+        self.assertEqual(self.faults("use hex::decode;"), [])
+        self.assertTrue(self.faults("use boxcar::Vec as Log;", libraries="hex boxcar # a log"))
+
+    def test_test_objects_may_have_cells_and_no_drop(self):
+        for place in (place for place, more in models.MORE_STD.items() if "cell" in more):
+            crate, name = place.split("/", 1)
+            self.assertEqual(self.faults("use std::cell::Cell; struct Counter { calls: Cell<u64> }", name, crate), [])
+            self.assertTrue(self.faults(f"impl Drop for Counter {{ {DROP} }}", name, crate))
+            self.assertTrue(self.faults("use std::cell::Cell;", "src/other.rt", crate))
+
+
+if __name__ == "__main__":
+    unittest.main()

@@ -1,0 +1,168 @@
+"""Tests of the limits and the floors of tools/bench/counts, tools/rust/random_calls and tools/rust/targets."""
+import contextlib
+import io
+import math
+import shutil
+import subprocess
+import sys
+import tempfile
+import unittest
+from pathlib import Path
+from unittest import mock
+
+from test_check import TOOLS, module_of
+
+sys.path[:0] = [str(TOOLS / folder) for folder in ("bench", "rust", "c")]
+from libraries import host_target  # noqa: E402
+from tally import Tally  # noqa: E402
+from toolchains import is_too_old  # noqa: E402
+
+counts, random_calls, targets = map(module_of, ("bench/counts", "rust/random_calls", "rust/targets"))
+
+
+def silently(function, *arguments):
+    """Calls a function, and returns what it returns and what it printed."""
+    printed = io.StringIO()
+    with contextlib.redirect_stdout(printed):
+        result = function(*arguments)
+    return result, printed.getvalue()
+
+
+class Counts(unittest.TestCase):
+    def compare(self, found, own=None):
+        """How many of these counts are over their limits, and the rows of the table."""
+        tally = Tally()
+        with mock.patch.object(counts, "counts", return_value=found), mock.patch.object(counts, "build_in_rust"), \
+                mock.patch.object(counts, "own_counts", return_value=own or [None] * len(found)):
+            rows = silently(counts.compare, tally, Path(), Path())[0]
+        return tally.failed, rows
+
+    def compare_document(self, rows, document, version="1.2.3"):
+        """What passes, fails and is skipped of a document that has this text."""
+        tally, said = Tally(), subprocess.CompletedProcess("rustc", 0, f"rustc {version} (0123abcd)")
+        with tempfile.TemporaryDirectory() as folder, mock.patch.object(counts, "DOCUMENT", Path(folder, "TEXT.md")), \
+                mock.patch.object(counts.subprocess, "run", return_value=said):
+            counts.DOCUMENT.write_text(document, encoding="utf-8")
+            silently(counts.compare_document, tally, rows)
+        return tally.passed, tally.failed, tally.skipped
+
+    def test_each_row_has_a_limit_of_its_own(self):
+        limits = [counts.LIMITS[kind](original) for _, kind, original in counts.table()]
+        limits = [limit if limit != math.inf else 100 for limit in limits]
+        self.assertEqual(self.compare(limits)[0], 0)
+        for number, (_, kind, _) in enumerate(counts.table()):
+            over = self.compare([*limits[:number], limits[number] + 0.1, *limits[number + 1:]])[0]
+            self.assertEqual(over, kind != "free", number)
+
+    def test_each_number_of_the_document_is_compared(self):
+        names = [name for name, _, _ in counts.table()]
+        rows = self.compare(list(range(10, 10 + len(names))), list(range(100, 100 + len(names))))[1]
+        lines = [f"| {name} | {count} | {' | '.join(fixed)} | {own} |" for name, count, fixed, own in rows]
+        text = "\n".join(["rustc 1.2.3", *lines])
+        self.assertEqual(self.compare_document(rows, text), (len(rows), 0, 0))
+        name, count, (original, limit), own = rows[0]
+        for planted in (f"| {name}s | {count} | {original} | {limit} | {own} |",
+                        f"| {name} | {count + 2} | {original} | {limit} | {own} |",
+                        f"| {name} | {count} | {original}0 | {limit} | {own} |",
+                        f"| {name} | {count} | {original} | {limit}0 | {own} |",
+                        f"| {name} | {count} | {original} | {limit} | {own - 2} |",
+                        f"| {name} | {count} | {original} | {limit} |"):
+            printed = self.compare_document(rows, text.replace(lines[0], planted))
+            self.assertEqual(printed, (len(rows) - 1, 1, 0), planted)
+        self.assertEqual(self.compare_document([(*row[:3], None) for row in rows], text), (len(rows), 0, 0))
+
+    def test_a_document_of_another_compiler_is_skipped(self):
+        self.assertEqual(self.compare_document([("x", 1, ["1", "2"], None)], "rustc 1.2.3", "1.2.4"), (0, 0, 1))
+
+    def test_one_row_alone_has_no_limit(self):
+        free = [name for name, kind, _ in counts.table() if kind == "free"]
+        self.assertEqual(free, ["RTCMR write"])
+
+    def test_a_table_that_lost_a_row_is_refused(self):
+        lines = counts.TABLE.read_text(encoding="ascii").splitlines(keepends=True)
+        with tempfile.TemporaryDirectory() as folder, mock.patch.object(counts, "TABLE", Path(folder, "table.txt")):
+            counts.TABLE.write_text("".join(lines[:-1]), encoding="ascii")
+            with self.assertRaisesRegex(SystemExit, "table.txt does not have the rows.*\n0 passed, 1 failed"):
+                counts.table()
+
+
+class Targets(unittest.TestCase):
+    def count(self, printed, fewest, status=0):
+        """Whether so many tests are enough for `count_tests`."""
+        tally = Tally()
+        silently(targets.count_tests, tally, "the tests", subprocess.CompletedProcess("cargo", status, printed), fewest)
+        return (tally.passed, tally.failed) == (1, 0)
+
+    def test_fewer_tests_than_the_floor_fail(self):
+        printed = "test result: ok. 12 passed; 0 failed\ntest result: ok. 8 passed; 0 failed\n"
+        self.assertTrue(self.count(printed, 20))
+        self.assertFalse(self.count(printed, 21))
+        self.assertFalse(self.count("", 1))
+
+    def test_a_run_that_fails_passed_no_test(self):
+        self.assertFalse(self.count("test result: ok. 20 passed; 0 failed\n", 1, status=101))
+
+    @unittest.skipUnless(shutil.which("cargo"), "needs cargo")
+    def test_each_target_is_built_or_named(self):
+        tally = Tally()
+        built = [next(targets.toolchains())] + [None] * (len(targets.BUILT) - 1)
+        ran = subprocess.CompletedProcess("cargo", 101, "use of undeclared crate `std`")
+        with tempfile.TemporaryDirectory() as folder, mock.patch.object(targets, "toolchain_for", side_effect=built), \
+                mock.patch.object(targets, "cargo", return_value=ran):
+            printed = silently(targets.check_builds, tally, Path(folder))[1]
+        self.assertEqual((tally.passed, tally.failed, tally.skipped), (0, 1, len(targets.BUILT) - 1))
+        for target in targets.BUILT:
+            self.assertIn(target, printed)
+
+
+@unittest.skipIf(host_target() is None, "needs a library for this processor")
+@unittest.skipUnless(shutil.which("cargo") and shutil.which("cc"), "needs cargo and a C compiler")
+@unittest.skipIf(shutil.which("cargo") and is_too_old(random_calls.PROGRAM / "Cargo.toml"), "needs a newer Cargo")
+class RandomCalls(unittest.TestCase):
+    """One folder keeps what Cargo built, so that only the first test compiles the whole program."""
+
+    @classmethod
+    def setUpClass(cls):
+        folder = tempfile.TemporaryDirectory()
+        cls.addClassCleanup(folder.cleanup)
+        cls.folder = Path(folder.name)
+
+    def try_edit(self, file, old, new):
+        """The sum of the checks of a wrong shell, and what they print."""
+        tally, path = Tally(), self.folder / "planted.edit"
+        path.write_text(f"# A test.\nfile: {file}\nold:\n{old}\nnew:\n{new}\n", encoding="utf-8")
+        printed = silently(random_calls.check_wrong_shell, tally, self.folder, path)[1]
+        return (tally.passed, tally.failed), printed
+
+    def test_a_shell_that_is_right_is_not_counted_as_refused(self):
+        result, printed = self.try_edit("src/serial.rs", "self.events.out_byte()", "{ self.events.out_byte() }")
+        self.assertEqual(result, (2, 1))
+        self.assertIn("planted.edit is not refused", printed)
+
+    def test_an_edit_whose_text_has_moved_fails(self):
+        self.assertEqual(self.try_edit("src/serial.rs", "no such text", "x")[0], (0, 1))
+
+    def test_a_case_that_no_call_reaches_fails(self):
+        """The calls make no timeout any more."""
+        place = self.folder / "planted" / "library"
+        shutil.copytree(random_calls.PROGRAM, place, ignore=shutil.ignore_patterns("target", "Cargo.lock"))
+        for name in random_calls.SHARED:
+            shutil.copytree(random_calls.PROGRAM.parent / name, place.parent / name,
+                            ignore=shutil.ignore_patterns("target", "Cargo.lock"))
+        source = place / "src" / "calls.rs"
+        text = source.read_text(encoding="utf-8")
+        self.assertEqual(text.count("Action::SerialTimeout"), 1)
+        source.write_text(text.replace("Action::SerialTimeout", "Action::SerialCoherence"), encoding="utf-8")
+        tally = Tally()
+        with mock.patch.object(random_calls, "PROGRAM", place):
+            printed = silently(random_calls.check_calls, tally, self.folder, 400_000, 1)[1]
+        self.assertEqual(tally.passed, 1)
+        self.assertGreater(tally.failed, 0)
+        self.assertIn("0 different, 2 cases too seldom", printed)
+
+    def test_each_edit_is_tried_as_one_of_its_kind(self):
+        tally = Tally()
+        with mock.patch.object(random_calls, "check_wrong_shell") as tries:
+            silently(random_calls.check_wrong_shells, tally, self.folder)
+        self.assertEqual(tries.call_count, len(list(random_calls.WRONG.glob("*.edit"))))
+        self.assertEqual(tally.kind, random_calls.WRONG_SHELLS)

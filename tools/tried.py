@@ -1,0 +1,111 @@
+"""What a check tried, by kind, and the table of how much of each kind it has to try.
+
+A check prints a line for each kind, in any place before its last line. Lines of one kind add up:
+
+    tried: 42 scripts of serial_output.txt
+    not tried: random calls for aarch64-linux
+
+The second form names a kind of which something cannot run here, which the check counts as skipped. `tools/floors` has a row
+for each kind: the check, the number, and the kind.
+"""
+import re
+from collections import Counter
+from pathlib import Path
+from unittest import TestSuite
+
+FLOORS = Path(__file__).resolve().parent / "floors"
+TRIED = re.compile(r"tried: (\d+) (\S.*)")
+NOT_TRIED = re.compile(r"not tried: (\S.*)")
+ROW = re.compile(r"(\w+) +(\d+)  (\S.*)")
+
+
+class Tried:
+    """How much of each kind was tried, and the kinds of which something was not."""
+
+    def __init__(self, counts=()):
+        self.counts = Counter(counts)
+        self.left_out = set()
+
+    def add(self, kind, number=1):
+        self.counts[kind] += number
+
+    def leave_out(self, kind):
+        """Names a kind of which something cannot run here."""
+        self.left_out.add(kind)
+
+    def lines(self):
+        """What the check prints."""
+        return [*(f"tried: {number} {kind}" for kind, number in self.counts.items()),
+                *(f"not tried: {kind}" for kind in sorted(self.left_out))]
+
+    @classmethod
+    def read(cls, printed):
+        """What a check tried, by the lines that it printed."""
+        tried = cls()
+        for line in printed:
+            if found := TRIED.fullmatch(line):
+                tried.add(found[2], int(found[1]))
+            elif found := NOT_TRIED.fullmatch(line):
+                tried.leave_out(found[1])
+        return tried
+
+    @classmethod
+    def of_tests(cls, suite):
+        """The tests of a suite of unittest by their files, before it runs: a suite drops those that it has run."""
+        return cls(Counter(map(file_of, tests_of(suite))))
+
+    def leave_out_skipped(self, result):
+        """Names the files of which a run of unittest skipped a test."""
+        for test, _ in result.skipped:
+            self.leave_out(file_of(test))
+
+
+def tests_of(suite):
+    """The tests of a suite that has suites in it."""
+    return [test for it in suite for test in (tests_of(it) if isinstance(it, TestSuite) else [it])]
+
+
+def file_of(test):
+    # The id of a class that is skipped as a whole is `setUpClass (PATH)`.
+    path = re.sub(r"^\w+ \(", "", test.id())
+    return f"tests of {path.partition('.')[0]}"
+
+
+def read_floors(path=FLOORS):
+    """The rows of the table: beside each check the number of each kind."""
+    floors = {}
+    for line in path.read_text(encoding="utf-8").splitlines():
+        if line and not line.startswith("#"):
+            check, number, kind = ROW.fullmatch(line).groups()
+            floors.setdefault(check, {})[kind] = int(number)
+    return floors
+
+
+def shortfalls(floors, tried, skipped):
+    """A message for each kind of which a check tried too little, by its rows of the table, `None` if it has none. Where a
+    part cannot run here, its kind has no floor, but then the check has to count something as skipped."""
+    if floors is None:
+        return ["the table of floors has no row of this check"]
+    found = [f"{kind}: {tried.counts[kind]} tried, of {least} at least" for kind, least in floors.items()
+             if kind not in tried.left_out and tried.counts[kind] < least]
+    found += [f"{kind}: the table of floors has no row of it" for kind in {**tried.counts, **dict.fromkeys(tried.left_out)}
+              if kind not in floors]
+    if tried.left_out and not skipped:
+        found.append(f"{', '.join(sorted(tried.left_out))}: not tried, and nothing counts as skipped")
+    return found
+
+
+def raised(floors, tried):
+    """The rows of a check with the numbers that it tried where these are higher, and with its new kinds."""
+    whole = {kind: number for kind, number in tried.counts.items() if kind not in tried.left_out}
+    return {kind: max(floors.get(kind, 0), whole.get(kind, 0)) for kind in {**floors, **whole}}
+
+
+def write_floors(table, path=FLOORS):
+    """Writes the table, below the comment at its head."""
+    head = [line for line in path.read_text(encoding="utf-8").splitlines() if line.startswith("#")]
+    width = max(map(len, table))
+    digits = max(len(str(number)) for rows in table.values() for number in rows.values())
+    blocks = ["\n".join(f"{check:{width}}  {number:{digits}}  {kind}" for kind, number in rows.items())
+              for check, rows in table.items()]
+    path.write_text("\n".join(head) + "\n\n" + "\n\n".join(blocks) + "\n", encoding="utf-8")
