@@ -5,8 +5,11 @@ import subprocess
 import tempfile
 import unittest
 from pathlib import Path
+from unittest import mock
 
 import tiny
+from edits import read_edits
+from passed import Passed
 
 TOOL = Path(__file__).resolve().parent.parent / "wrong_bodies"
 
@@ -46,6 +49,80 @@ class Verdicts(unittest.TestCase):
 
     def test_the_last_line_counts_them(self):
         self.assertEqual((self.sums, self.status), ("1 passed, 3 failed", 1))
+
+
+class Kept(unittest.TestCase):
+    """What passed is not tried again, as long as nothing changed that decides it."""
+
+    EDIT = ("refused", "larger", "right", "{ second } else", "{ first } else")
+
+    def setUp(self):
+        room = tempfile.TemporaryDirectory()
+        self.addCleanup(room.cleanup)
+        self.root = Path(room.name)
+        self.crate = tiny.make(self.root, [self.EDIT])
+        Passed(self.root).add(self.edit())
+
+    def edit(self):
+        return read_edits(self.crate)[0]
+
+    def has(self):
+        return Passed(self.root).has(self.edit())
+
+    def write(self, place, text):
+        path = self.crate / place
+        path.parent.mkdir(parents=True, exist_ok=True)
+        path.write_text(text, encoding="utf-8")
+
+    def test_it_is_known_while_nothing_changes(self):
+        self.assertTrue(self.has())
+
+    def test_a_changed_source_is_noticed(self):
+        self.write("src/lib.rt", tiny.SOURCE.replace("    number\n", "    { number }\n"))
+        self.assertFalse(self.has())
+
+    def test_a_new_definition_or_proof_is_noticed(self):
+        for part in ("specs", "proofs"):
+            with self.subTest(part):
+                self.write(f"{part}/Lib.antt", "mod More\n")
+                self.assertFalse(self.has())
+                (self.crate / part / "Lib.antt").unlink()
+                self.assertTrue(self.has())
+
+    def test_a_changed_library_is_noticed(self):
+        (self.root / "crates" / "low" / "src").mkdir(parents=True)
+        (self.root / "crates.txt").write_text("low:\ntiny: low\n", encoding="utf-8")
+        Passed(self.root).add(self.edit())
+        self.assertTrue(self.has())
+        (self.root / "crates" / "low" / "src" / "lib.rt").write_text("//! More.\n", encoding="utf-8")
+        self.assertFalse(self.has())
+
+    def test_a_changed_edit_is_noticed(self):
+        for old, new in (("right", "left"), ("{ first } else", "{ 1 } else"), ("larger", "smaller")):
+            with self.subTest(new):
+                path = self.crate / "wrong-bodies" / "lib.edits"
+                kept = path.read_text(encoding="utf-8")
+                path.write_text(kept.replace(old, new), encoding="utf-8")
+                self.assertFalse(self.has())
+                path.write_text(kept, encoding="utf-8")
+
+    def test_another_kit_is_noticed(self):
+        with mock.patch("passed.kit", lambda: b"another kit"):
+            self.assertFalse(self.has())
+
+    def test_a_changed_tool_is_noticed(self):
+        with mock.patch("passed.TOOLS", ("wrong_bodies",)):
+            self.assertFalse(self.has())
+
+    @unittest.skipUnless(shutil.which("rt"), "rt is not there")
+    def test_the_tool_counts_it_and_tries_the_others(self):
+        def ran(*options):
+            return subprocess.run([TOOL, *options, "--root", self.root], capture_output=True, text=True, timeout=3600)
+        once, anew = ran(), ran("--anew")
+        for it in (once, anew):
+            self.assertEqual(it.stdout.splitlines()[-1], "1 passed, 0 failed")
+        self.assertNotIn("round", once.stderr)
+        self.assertIn("tiny round 1: 1 edits", anew.stderr)
 
 
 @unittest.skipUnless(shutil.which("rt"), "rt is not there")
