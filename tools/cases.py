@@ -1,4 +1,4 @@
-"""What tools/hostile tries: random scripts for the program `superio`, and runs of calls for `superio_calls`."""
+"""What tools/hostile tries: random scripts for the program `superio`, and runs of calls for `superio_harness`."""
 import random
 from itertools import product
 
@@ -264,9 +264,16 @@ def every_access():
         yield [f"kw {offset:02x} {value:02x}{refusal}" for value in range(256) for refusal in ("", " 1")]
 
 
+def late_refusals():
+    """A byte at a time, whose interrupt is taken, but for one of the first or one after more than a script can refuse."""
+    for refused in (1, 2, 64, 65, 300):
+        calls = ((f"sq 61{' 1' * (number == refused)}", "sh", "sr 00", "sh") for number in range(1, 302))
+        yield ["sl 0c000101036008b000 -", *(call for four in calls for call in four)]
+
+
 def fixed_runs():
     """Each run with a name."""
-    for make in every_write, every_timeout, every_send, every_access:
+    for make in every_write, every_timeout, every_send, every_access, late_refusals:
         for place, run in enumerate(make()):
             yield f"{make.__name__}, run {place}", run
 

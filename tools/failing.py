@@ -37,8 +37,8 @@ class Ran:
 class FailingCalls:
     """Runs a program with calls that fail, as the settings say that failing_calls.c describes."""
 
-    def __init__(self, program):
-        self.program = program
+    def __init__(self, program, *arguments):
+        self.command = [program, *arguments]
         self.folder = tempfile.TemporaryDirectory()
         self.library = Path(self.folder.name, "failing_calls.so")
         self.scripts = {}
@@ -63,7 +63,7 @@ class FailingCalls:
         environment.update(LD_PRELOAD=str(self.library), CALLS=calls)
         with open(self.file_of(script), "rb") as source:
             try:
-                got = subprocess.run([self.program], stdin=source, capture_output=True, env=environment,
+                got = subprocess.run(self.command, stdin=source, capture_output=True, env=environment,
                                      timeout=TIMEOUT)
             except subprocess.TimeoutExpired:
                 return None

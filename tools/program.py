@@ -13,11 +13,12 @@ CRATES = Path(__file__).resolve().parent.parent / "crates"
 # The programs and the library, each with the crates whose sources it is built of, the lowest last.
 SOURCES = {
     "superio": ["superio", "superio_script", "vm_superio", "superio_core"],
-    "superio_boot": ["superio_boot", "superio_examples", "superio_script", "vm_superio", "superio_core"],
-    "superio_calls": ["superio_calls", "vm_superio", "superio_core"],
-    "superio_refusals": ["superio_refusals", "superio_script", "vm_superio", "superio_core"],
+    "superio_harness": ["superio_harness", "superio_examples", "superio_script", "vm_superio", "superio_core"],
     "superio_c": ["superio_c", "superio_core"],
 }
+
+# The arguments of a run without input that ends well.
+IDLE = {"superio": [], "superio_harness": ["calls"]}
 
 # The longest that one run of the program may take, in seconds.
 TIMEOUT = 60
@@ -33,12 +34,13 @@ def is_current(built, sources):
     return built.exists() and built.stat().st_mtime >= max(path.stat().st_mtime for path in paths)
 
 
-def run_rt(crate, command, log, task):
-    """Runs a command of rt in the folder of a crate, and returns its exit status. `log` takes what it prints, `task` how
-    far it is. A proof takes as many processors as RT_JOBS says, or else as rt chooses."""
+def run_rt(crate, command, arguments, log, task):
+    """Runs a command of rt in the folder of a crate, and returns its exit status. The arguments are those of the program.
+    `log` takes what it prints, `task` how far it is. A proof takes as many processors as RT_JOBS says, or else as rt
+    chooses."""
     task.name = f"proving {crate}"
     jobs = os.environ.get("RT_JOBS")
-    words = ["rt", command, *(["--jobs", jobs] if jobs else [])]
+    words = ["rt", command, *(["--jobs", jobs] if jobs else []), *(["--", *arguments] if arguments else [])]
     with subprocess.Popen(words, cwd=CRATES / crate, stdin=subprocess.DEVNULL, stdout=subprocess.PIPE,
                           stderr=subprocess.STDOUT, text=True, errors="replace") as process:
         for line in process.stdout:
@@ -48,15 +50,16 @@ def run_rt(crate, command, log, task):
 
 
 def build(*steps):
-    """Builds a crate by commands of rt, each in a crate's folder, the lowest first: rt passes over the sources of a crate
-    once more if it has to build the libraries too. If one fails, the error names a file with what they printed."""
+    """Builds a crate by commands of rt, each in a crate's folder and with arguments for the program, the lowest first: rt
+    passes over the sources of a crate once more if it has to build the libraries too. If one fails, the error names a file
+    with what they printed."""
     crate = steps[-1][0]
     handle, name = tempfile.mkstemp(prefix=f"{crate}-", suffix=".log")
     log = os.fdopen(handle, "w", encoding="utf-8")
     with log, Status(f"building {crate}", counts=False) as status, status.task("starting") as task:
-        for folder, command in steps:
+        for folder, command, *arguments in steps:
             try:
-                ended = run_rt(folder, command, log, task)
+                ended = run_rt(folder, command, arguments, log, task)
             except OSError as error:
                 raise NotBuilt(f"{crate} was not built: {error}") from error
             if ended != 0:
@@ -79,7 +82,7 @@ def built_program(arguments=(), crate="superio"):
         return program
     program = CRATES / crate / "out" / crate
     if not is_current(program, SOURCES[crate]):
-        build(*libraries_of(crate), (crate, "run"))
+        build(*libraries_of(crate), (crate, "run", *IDLE[crate]))
     return program
 
 
@@ -100,19 +103,19 @@ def original_crate():
     return ["--offline", "--config", f'patch.crates-io.vm-superio.path="{Path(folder).resolve()}"']
 
 
-def run(program, script):
+def run(program, script, *arguments):
     """Runs a script: its status, standard output and standard error. `None` if it did not end."""
     try:
-        got = subprocess.run([program], input=script, capture_output=True, timeout=TIMEOUT)
+        got = subprocess.run([program, *arguments], input=script, capture_output=True, timeout=TIMEOUT)
     except subprocess.TimeoutExpired:
         return None
     return got.returncode, got.stdout, got.stderr
 
 
-def run_all(program, scripts):
+def run_all(program, scripts, *arguments):
     """Runs scripts side by side. The results come in their order."""
     with ThreadPoolExecutor(len(os.sched_getaffinity(0))) as pool:
-        yield from pool.map(lambda script: run(program, script), scripts)
+        yield from pool.map(lambda script: run(program, script, *arguments), scripts)
 
 
 def side_by_side(block):

@@ -3,7 +3,7 @@
 
     tools/bench/bench.py [--turns N] [--processor P]
 
-Five programs make the same lists of accesses: `crates/superio_bench` and `original`, each over the devices themselves,
+Five programs make the same lists of accesses: `crates/superio_harness` and `original`, each over the devices themselves,
 `through_c.c` over either behind C functions, and `original` over bindings/rust. In each turn each program makes each
 list, one after the other, on processor P. An access costs the processor time of a run of many rounds, less that of a run
 without a round, divided by the number of accesses. The least of three runs counts for a turn, and the median of the N turns
@@ -25,7 +25,7 @@ from statistics import median, quantiles
 from lists import FOLDER, LIST_LENGTH, LISTS, PROCESSOR, ROOT, accesses, build_in_rust
 
 sys.path.insert(0, str(ROOT / "tools"))
-from program import CRATES, built_library, is_current, original_crate  # noqa: E402
+from program import built_library, built_program, original_crate  # noqa: E402
 
 # How many nanoseconds of processor time a run takes at least, and how many runs make a measurement.
 RUN = 10_000_000
@@ -33,10 +33,8 @@ RUNS = 3
 
 
 def build(folder):
-    """Builds the five programs, and returns them in the order of the table's columns."""
-    ours = CRATES / "superio_bench" / "out" / "superio_bench"
-    if not is_current(ours, ["superio_bench", "vm_superio", "superio_core"]):
-        subprocess.run(["rt", "run", "--", "0", "0"], cwd=ours.parent.parent, stdin=subprocess.DEVNULL, check=True)
+    """Builds the five programs, and returns their commands in the order of the table's columns."""
+    ours = built_program((), "superio_harness")
     library = built_library()
     bindings = ["--offline", "--config", f'patch.crates-io.vm-superio.path="{ROOT / "bindings/rust"}"']
     bindings = build_in_rust(bindings, folder / "bindings")
@@ -46,19 +44,19 @@ def build(folder):
         program = folder / devices
         subprocess.run(["gcc", "-O2", f"-march={PROCESSOR}", f'-DDEVICES="{devices}.h"', f"-I{ROOT / 'include'}",
                         FOLDER / "through_c.c", built, "-o", program], check=True)
-        through_c.append(program)
-    return [ours, original / "original", *through_c, bindings / "original"]
+        through_c.append((program,))
+    return [(ours, "bench"), (original / "original",), *through_c, (bindings / "original",)]
 
 
 def processor_time(program, rounds, prepared, path):
     """The nanoseconds that a run took, and what it printed."""
     with open(path, "rb") as file:
-        child = subprocess.Popen([program, str(rounds), str(prepared)], stdin=file, stdout=subprocess.PIPE)
+        child = subprocess.Popen([*program, str(rounds), str(prepared)], stdin=file, stdout=subprocess.PIPE)
         printed = child.stdout.read()
         _, status, usage = os.wait4(child.pid, 0)
         child.returncode = os.waitstatus_to_exitcode(status)
     if child.returncode != 0:
-        sys.exit(f"{program}: status {child.returncode}")
+        sys.exit(f"{program[0]}: status {child.returncode}")
     return (usage.ru_utime + usage.ru_stime) * 1e9, printed
 
 

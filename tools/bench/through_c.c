@@ -1,5 +1,5 @@
 /*
- * Makes a list of accesses of the devices behind C functions again and again, as crates/superio_bench does without them.
+ * Makes a list of accesses of the devices behind C functions again and again, as crates/superio_harness does without them.
  * DEVICES is the header of the devices: "ours.h" or "original.h".
  */
 #include <inttypes.h>

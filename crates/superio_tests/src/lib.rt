@@ -1,5 +1,5 @@
 //! Tests of what no contract, script of tests/ or recorded call shows: printed text, objects that are dropped, a
-//! writer's own faults, a trigger's late refusals, and runs of many calls.
+//! writer's own faults, runs of many calls, and the modules of superio_examples at work.
 #![tactic(auto)]
 
 #[cfg(test)]
@@ -8,14 +8,24 @@ mod clock;
 mod dropped;
 #[cfg(test)]
 mod errors;
-pub mod faults;
+#[cfg(test)]
+mod faults;
+#[cfg(test)]
+mod input;
+#[cfg(test)]
+mod interrupts;
 #[cfg(test)]
 mod lent;
 #[cfg(test)]
 mod memory;
-pub mod objects;
 #[cfg(test)]
-mod refusals;
+mod monitor;
+#[cfg(test)]
+mod objects;
+#[cfg(test)]
+mod output;
+#[cfg(test)]
+mod ports;
 #[cfg(test)]
 mod runs;
 #[cfg(test)]

@@ -7,9 +7,13 @@ use std::alloc::Global;
 use std::cell::Cell;
 use std::io;
 use std::io::{ErrorKind, Write};
+use std::test::Fail;
+use superio_examples::console::Console;
+use superio_examples::input::Input;
+use superio_examples::output::Output;
 use superio_script::LineRefused;
 use vm_superio::rtc_pl031::RtcEvents;
-use vm_superio::serial::{Error, Refused, SerialEvents};
+use vm_superio::serial::{Error, Refused, SerialEvents, Three, WriterOut};
 use vm_superio::{Serial, Trigger};
 
 /// What objects do, and how often they were called.
@@ -85,10 +89,33 @@ impl Object<'_> {
 /// A port over three objects of a log.
 pub type Port<'a> = Serial<Object<'a>, Object<'a>, Object<'a>>;
 
+/// The objects of a port in a run.
+pub type PortObjects<'a> = Three<Object<'a>, Object<'a>, WriterOut<Object<'a>>>;
+
 /// A new port.
 pub fn port(alloc: Global, log: &Log) -> Result<Port<'_>, Error<LineRefused>> {
     let object = Object::new(log);
     Serial::with_events(alloc, object, object, object).map_err(Refused::into_error)
+}
+
+/// A console over a log's objects.
+pub type TestConsole<'a> = Console<Object<'a>, Object<'a>, Object<'a>>;
+
+/// A new console, where at most so many bytes of input and of output wait.
+pub fn console(
+    alloc: Global,
+    log: &Log,
+    input_limit: usize,
+    output_limit: usize,
+) -> Result<TestConsole<'_>, Fail> {
+    Ok(Console {
+        serial: port(alloc, log)?,
+        input: Input::new(alloc, input_limit)?,
+        output: Output::new(alloc, output_limit)?,
+        is_refused: false,
+        is_early: false,
+        is_ready: false,
+    })
 }
 
 impl Trigger for Object<'_> {

@@ -1,13 +1,11 @@
 //! Runs: lists of serial port calls, each made by one call.
 use crate::memory::all_memory;
-use crate::objects::{Log, Object, Port, port};
+use crate::objects::{Log, Object, Port, PortObjects, port};
 use std::alloc::{AllocError, Global};
 use std::io;
 use std::test::Fail;
 use vm_superio::run::{Asked, Call, Done, Reply, Sent};
-use vm_superio::serial::{Three, WriterOut};
-
-type PortObjects<'a> = Three<Object<'a>, Object<'a>, WriterOut<Object<'a>>>;
+use vm_superio::serial::Three;
 
 type PortCall<'a> = Call<PortObjects<'a>>;
 
@@ -93,32 +91,6 @@ fn a_run_of_many_calls_asks_the_writer_once_for_each_byte(rt: HostRuntime) -> Re
             log.writes.get() == 1_000_000 && log.flushes.get() == flushes,
             "{flushes}"
         );
-    }
-    Ok(())
-}
-
-/// Enqueues this byte and restores the port in a run. Returns whether the restore succeeded.
-fn is_restored<'a>(
-    alloc: Global,
-    serial: &mut Port<'a>,
-    log: &'a Log,
-    byte: u8,
-) -> Result<bool, AllocError> {
-    let bytes = vec![in alloc; byte]?;
-    let calls = vec![in alloc; Call::Enqueue(bytes), restore(log)]?;
-    let done = serial.run(alloc, calls)?;
-    Ok(matches!(done[1].reply, Reply::Restored(_)))
-}
-
-#[test]
-fn a_restore_keeps_the_bytes_however_many_are_held(rt: HostRuntime) -> Result<(), Fail> {
-    let log = Log::new();
-    let mut serial = port(rt.alloc(), &log)?;
-    for held in 1..=64u8 {
-        assert!(rt; is_restored(rt.alloc(), &mut serial, &log, held)?, "{held}");
-    }
-    for held in 1..=64u8 {
-        assert!(rt; serial.read(0) == held);
     }
     Ok(())
 }

@@ -1,4 +1,4 @@
-//! The saved state of a port: its text, its comparison and its copies.
+//! The saved state of a port: its text and its comparison.
 use std::test::Fail;
 use vm_superio::SerialState;
 
@@ -32,18 +32,6 @@ fn ports_are_compared_by_all_ten_fields(rt: HostRuntime) -> Result<(), Fail> {
             SerialState::from_bytes(rt.alloc(), &form)? != state,
             "{place}"
         );
-    }
-    Ok(())
-}
-
-#[test]
-fn a_state_of_any_size_is_copied(rt: HostRuntime) -> Result<(), Fail> {
-    let mut state = SerialState::default(rt.alloc());
-    for count in 0..=65_536u32 {
-        if count <= 300 || count % 4096 == 0 {
-            assert!(rt; state.clone(rt.alloc())? == state, "{count} bytes");
-        }
-        state.in_buffer.push((count % 251) as u8)?;
     }
     Ok(())
 }

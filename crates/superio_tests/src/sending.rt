@@ -1,5 +1,6 @@
-//! What a data write asks of the writer: one `write`, and one `flush` if that succeeded. No contract says how often, and of
-//! which text its fault is. tests/calls/sending.txt has one fault, over each number of held bytes and what is pending.
+//! What a data write asks of the writer: one `write`, and one `flush` if that succeeded. No contract says how often,
+//! and of which text its fault is. tests/calls/sending.txt has one fault, over each number of held bytes and what is
+//! pending.
 use crate::faults::{faults, is_same};
 use crate::objects::{Log, port};
 use std::alloc::Global;

@@ -1,4 +1,4 @@
-//! Makes a list of accesses of the devices again and again, as `crates/superio_bench` does.
+//! Makes a list of accesses of the devices again and again, as `crates/superio_harness` does.
 use std::env;
 use std::error::Error;
 use std::io::{self, Read};

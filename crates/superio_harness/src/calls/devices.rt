@@ -1,5 +1,6 @@
 //! The devices, and the calls that are made on them.
-use crate::objects::{Log, Object, Refusal};
+use super::objects::{Log, Object, Refusal};
+use crate::fields::{byte, port_state};
 use anyhow::{Result, bail};
 use hex::FromHex;
 use std::alloc::Global;
@@ -45,10 +46,6 @@ fn digits_of(alloc: Global, bytes: &[u8]) -> Result<String> {
     })
 }
 
-fn byte(digits: &str) -> Result<u8> {
-    Ok(u8::from_str_radix(digits, 16)?)
-}
-
 fn offset(digits: &str) -> Result<u16> {
     Ok(u16::from_str_radix(digits, 16)?)
 }
@@ -59,32 +56,6 @@ fn word(digits: &str) -> Result<u32> {
 
 fn moment(digits: &str) -> Result<u64> {
     Ok(u64::from_str_radix(digits, 16)?)
-}
-
-fn port_state(alloc: Global, registers: &str, held: &str) -> Result<SerialState> {
-    let [
-        baud_divisor_low,
-        baud_divisor_high,
-        interrupt_enable,
-        interrupt_identification,
-        line_control,
-        line_status,
-        modem_control,
-        modem_status,
-        scratch,
-    ] = <[u8; 9] as FromHex>::from_hex(registers)?;
-    Ok(SerialState {
-        baud_divisor_low,
-        baud_divisor_high,
-        interrupt_enable,
-        interrupt_identification,
-        line_control,
-        line_status,
-        modem_control,
-        modem_status,
-        scratch,
-        in_buffer: bytes_of(alloc, held)?,
-    })
 }
 
 fn text_of_port(alloc: Global, state: &SerialState, room: usize) -> Result<String> {
@@ -198,8 +169,8 @@ impl<'a> Devices<'a> {
     }
 
     fn load(&mut self, alloc: Global, registers: &str, held: &str) -> Result<String> {
-        let state = port_state(alloc, registers, held)?;
-        self.restore(alloc, &state)
+        let registers = FromHex::from_hex(registers)?;
+        self.restore(alloc, &port_state(registers, bytes_of(alloc, held)?))
     }
 
     /// Replaces the port with one restored from a state.

@@ -1,14 +1,11 @@
 //! The serial port calls that allocate memory.
+use super::{Port, PortObjects};
 use std::alloc::{AllocError, Global};
 use std::io::Write;
 use superio_script::{Counts, Line, Output};
 use vm_superio::run::{Call, Done, Reply};
-use vm_superio::serial::{Error, Refused, RefusedObject, SerialEvents, Three, WriterOut};
+use vm_superio::serial::{Error, Refused, RefusedObject, SerialEvents, Three};
 use vm_superio::{Serial, SerialState, saved};
-
-type Port = Serial<Line, Counts, Output>;
-
-type PortObjects = Three<Line, Counts, WriterOut<Output>>;
 
 /// The mask of a line that refuses no call made here.
 const MASK: u64 = 1 << 63;

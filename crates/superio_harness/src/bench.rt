@@ -1,10 +1,8 @@
 //! Repeats a list of device accesses, so that `tools/bench` can measure what one costs.
 //!
-//! Standard input is the list. The second argument says how many accesses at its start run once. The first says how
-//! many rounds of the others follow. Prints the sum of what the rounds returned. `tools/bench` compares it with the sum
-//! of other devices.
-#![tactic(auto)]
-
+//! Standard input is the list. Of the two numbers after the mode the second says how many accesses at its start run
+//! once, and the first how many rounds of the others follow. Prints the sum of what the rounds returned. `tools/bench`
+//! compares it with the sum of other devices.
 mod access;
 mod board;
 
@@ -12,7 +10,6 @@ use access::Access;
 use anyhow::{Context, Result};
 use board::Board;
 use std::alloc::Global;
-use std::env;
 use std::io::Read;
 
 /// Makes the accesses in order, and returns the sum of the results.
@@ -35,14 +32,10 @@ fn sum_of_rounds(alloc: Global, list: &[Access], rounds: u64, prepared: usize) -
     Ok(sum)
 }
 
-fn main(rt: HostRuntime) -> Result<()> {
+pub fn run(rt: &HostRuntime, rounds: Option<String>, prepared: Option<String>) -> Result<()> {
     let alloc = rt.alloc();
-    let mut arguments = env::args(&rt)?.skip(1);
-    let rounds = arguments.next().context("no number of rounds")?.parse()?;
-    let prepared = arguments
-        .next()
-        .context("no number of prepared accesses")?
-        .parse()?;
+    let rounds = rounds.context("no number of rounds")?.parse()?;
+    let prepared = prepared.context("no number of prepared accesses")?.parse()?;
     let mut bytes = Vec::new(alloc);
     rt.reader().read_to_end(&mut bytes)?;
     let list = access::list_of(alloc, &bytes)?;

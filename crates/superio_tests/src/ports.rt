@@ -1,4 +1,6 @@
 //! What a guest reaches by port and by address, and a trigger that is a file descriptor.
+use crate::faults::{faults, is_same};
+use crate::objects::{Log, Object, port};
 use std::alloc::Global;
 use std::io::ErrorKind;
 use std::test::Fail;
@@ -7,8 +9,6 @@ use superio_examples::bus::{Bus, BusError, COM1, COM2, COM3, COM4, Keyboard};
 use superio_examples::counter::Counter;
 use superio_examples::event_fd::EventFd;
 use superio_examples::mmio::ClockWindow;
-use superio_tests::faults::{faults, is_same};
-use superio_tests::objects::{Log, Object, port};
 use vm_superio::serial::Error;
 use vm_superio::{I8042Device, Rtc, Trigger};
 

@@ -1,17 +1,14 @@
 //! Input for a guest, drivers that read it, and devices that move to another machine.
+use crate::objects::{Log, Object, PortObjects, console, port};
 use std::alloc::Global;
 use std::test::Fail;
-use superio_examples::console::Console;
 use superio_examples::driver::{receive_all, run_polled};
 use superio_examples::first_claims::read_back;
 use superio_examples::input::Input;
 use superio_examples::migration::{RestoreError, Saved, restore, restore_input, save};
-use superio_examples::output::Output;
-use superio_tests::objects::{Log, Object, port};
 use vm_superio::Rtc;
 use vm_superio::run::{Call, Done, Reply};
 use vm_superio::saved::{Error as FormError, Fault};
-use vm_superio::serial::{Three, WriterOut};
 
 /// A hundred bytes.
 const INPUT: [u8; 100] = *b"\
@@ -68,14 +65,7 @@ fn input_stops_and_starts_and_a_refused_interrupt_is_tried_again(
 ) -> Result<(), Fail> {
     let source = INPUT;
     let log = Log::new();
-    let mut console = Console {
-        serial: port(rt.alloc(), &log)?,
-        input: Input::new(rt.alloc(), 16)?,
-        output: Output::new(rt.alloc(), 0)?,
-        is_refused: false,
-        is_early: false,
-        is_ready: false,
-    };
+    let mut console = console(rt.alloc(), &log, 16, 0)?;
     log.refused.set(1);
     for ((register, value), input, taken, read, (room, is_refused, calls)) in [
         // The guest enables interrupts. The one for the first byte is refused, then retried.
@@ -151,14 +141,7 @@ fn input_stops_and_starts_and_a_refused_interrupt_is_tried_again(
 /// refuses its calls in the first eight turns. The source has no more bytes from the sixth turn on. A loop that `stops`
 /// there ends with its source, or waits for more bytes in a blocking read.
 fn bytes_served(alloc: Global, log: &Log, stops: bool) -> Result<usize, Fail> {
-    let mut console = Console {
-        serial: port(alloc, log)?,
-        input: Input::new(alloc, 16)?,
-        output: Output::new(alloc, 0)?,
-        is_refused: false,
-        is_early: false,
-        is_ready: false,
-    };
+    let mut console = console(alloc, log, 16, 0)?;
     console.write(1, 0x01)?;
     let bytes = INPUT;
     let mut rest = &bytes[..80];
@@ -197,14 +180,7 @@ fn a_loop_without_poll_serves_what_its_source_left(rt: HostRuntime) -> Result<()
 fn input_waits_until_the_guest_is_ready_and_over_a_reset(rt: HostRuntime) -> Result<(), Fail> {
     let source = INPUT;
     let log = Log::new();
-    let mut console = Console {
-        serial: port(rt.alloc(), &log)?,
-        input: Input::new(rt.alloc(), 100)?,
-        output: Output::new(rt.alloc(), 0)?,
-        is_refused: false,
-        is_early: false,
-        is_ready: false,
-    };
+    let mut console = console(rt.alloc(), &log, 100, 0)?;
     console.write(1, 0x0F)?;
     assert!(rt; console.receive(&source[..70]) == 70 && console.input.room() == 30);
     assert!(rt; console.read(0) == 0 && console.input.room() == 30);
@@ -337,8 +313,6 @@ fn a_guest_gets_the_input(rt: HostRuntime) -> Result<(), Fail> {
     assert!(rt; log.calls() == 0);
     Ok(())
 }
-
-type PortObjects<'a> = Three<Object<'a>, Object<'a>, WriterOut<Object<'a>>>;
 
 /// The records of a driver that polls a port with this many bytes, at most 64, and then as often in vain.
 fn polled<'a>(

@@ -1,5 +1,5 @@
 //! The devices that are measured.
-use crate::access::Access;
+use super::access::Access;
 use std::alloc::Global;
 use std::convert::Infallible;
 use std::io::{Sink, sink};

@@ -1,15 +1,13 @@
 //! Calls that allocate memory, made in states of any registers, coherent or not, with lists of a length that is given.
-use crate::source::Source;
+use super::source::Source;
+use super::{Port, PortObjects};
+use crate::fields::port_state;
 use std::alloc::{AllocError, Global};
 use std::io;
 use superio_script::{Board, Counts, Line, LineFault, Output, ScriptFault, run_script};
 use vm_superio::run::{Call, Done, Reply};
-use vm_superio::serial::{Error, Three, WriterOut};
+use vm_superio::serial::{Error, Three};
 use vm_superio::{Serial, SerialState, saved};
-
-type Port = Serial<Line, Counts, Output>;
-
-type PortObjects = Three<Line, Counts, WriterOut<Output>>;
 
 /// The calls.
 pub const CALLS: [&str; 11] = [
@@ -43,20 +41,15 @@ pub enum Prepared {
 
 /// Any registers, and so many received bytes.
 fn any_state(alloc: Global, source: &mut Source, length: usize) -> Result<SerialState, AllocError> {
-    let mut state = SerialState::default(alloc);
-    state.baud_divisor_low = source.byte();
-    state.baud_divisor_high = source.byte();
-    state.interrupt_enable = source.byte();
-    state.interrupt_identification = source.byte();
-    state.line_control = source.byte();
-    state.line_status = source.byte();
-    state.modem_control = source.byte();
-    state.modem_status = source.byte();
-    state.scratch = source.byte();
-    for _ in 0..length {
-        state.in_buffer.push(source.byte())?;
+    let mut registers = [0; 9];
+    for register in &mut registers {
+        *register = source.byte();
     }
-    Ok(state)
+    let mut held = Vec::new(alloc);
+    for _ in 0..length {
+        held.push(source.byte())?;
+    }
+    Ok(port_state(registers, held))
 }
 
 /// A port in any state, with at most 64 bytes. Its line takes the first two calls.
@@ -113,21 +106,11 @@ fn any_board(alloc: Global, source: &mut Source, length: usize) -> Result<Board,
     let state = any_state(alloc, source, length % 41)?;
     let mut line = b"sl ".to_vec(alloc)?;
     if let Ok(form) = state.to_bytes() {
-        for byte in form.as_bytes() {
-            line.push(hex_digit(byte >> 4))?;
-            line.push(hex_digit(byte & 0x0F))?;
-        }
+        line.extend_from_slice(hex::encode(alloc, form.as_bytes())?.as_bytes())?;
     }
     match board.line(alloc, line.as_slice()) {
         Ok(_) => Ok(board),
         Err(_) => Err(AllocError),
-    }
-}
-
-fn hex_digit(digit: u8) -> u8 {
-    match digit {
-        0..=9 => b'0'.wrapping_add(digit),
-        _ => b'a'.wrapping_add(digit.wrapping_sub(10)),
     }
 }
 

@@ -5,6 +5,7 @@ ghost use Rattle.superio_core.specs.Serial.Port.Coherent.{ShowsHeldBytes};
 ghost use Rattle.superio_core.specs.declared.serial.registers.Condition.TheVariants.{Rda};
 ghost use Rattle.superio_core.specs.Serial.Port.Registers.{ier_bit, is_dlab};
 
+use crate::objects::{Log, Object};
 use std::alloc::{AllocError, Global};
 use std::convert::Infallible;
 use std::process::Abort;
@@ -14,7 +15,6 @@ use superio_examples::interrupt_driver::{
     Feed, handle_repeatedly, receive_all_by_interrupts, receive_all_in_pieces,
 };
 use superio_examples::interrupts::{MonitoredPort, TimedPort};
-use superio_tests::objects::{Log, Object};
 use vm_superio::Serial;
 use vm_superio::serial::{Error, Refused, SerialPort};
 
@@ -57,8 +57,8 @@ fn a_guest_gets_the_input_by_interrupts(rt: HostRuntime) -> Result<(), Fail> {
     Ok(())
 }
 
-/// How often a handler runs, the sizes of the arrivals before its reads, and which bytes the guest got, by hand: `ab` is
-/// held at first, and `cdef` arrives.
+/// How often a handler runs, the sizes of the arrivals before its reads, and which bytes the guest got, by hand: `ab`
+/// is held at first, and `cdef` arrives.
 type Runs = (usize, &'static [usize], &'static [u8]);
 
 /// A run of a handler with a bound of one reads IIR, LSR, RBR and IIR, so each fourth arrival is between two runs.
@@ -174,21 +174,5 @@ fn a_handler_that_runs_again_gets_what_waited(rt: HostRuntime) -> Result<(), Fai
         let got = got_with_objects(&rt, rt.alloc(), Object::new(&log), 256, runs, sizes)?;
         assert!(rt; got.as_slice() == expected, "many: {runs}, with objects");
     }
-    Ok(())
-}
-
-/// Without the rule a handler with a bound of one takes one byte of two, and no interrupt is asked for again.
-#[test]
-fn a_byte_waits_without_the_rule(rt: HostRuntime) -> Result<(), Fail> {
-    let mut port = SerialPort::new();
-    port.write(1, 0x01);
-    assert!(rt; port.enqueue_raw_bytes(b"ab").interrupts == 1);
-    assert!(rt;
-        port.read(2).byte == 0xC4 && port.read(5).byte == 0x61 && port.read(0).byte == b'a'
-    );
-    // The guest's handler ends here, with a byte held.
-    assert!(rt; port.read(2).byte == 0xC1 && port.in_buffer.len == 1);
-    // No interrupt is due but after a character timeout.
-    assert!(rt; port.interrupts_due() == 0 && port.character_timeout() == 1);
     Ok(())
 }

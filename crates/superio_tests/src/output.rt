@@ -1,32 +1,15 @@
 //! Output of a guest that waits for the monitor's sink.
+use crate::faults::{faults, is_same};
+use crate::objects::{Log, Object, console};
 use std::alloc::{AllocError, Global};
 use std::io;
 use std::io::{ErrorKind, Write};
 use std::test::Fail;
-use superio_examples::console::Console;
 use superio_examples::first_claims::send_byte;
-use superio_examples::input::Input;
 use superio_examples::monitor_object::{MonitorObject, write_in_order};
 use superio_examples::output::{Output, in_order};
 use superio_script::Output as Sink;
-use superio_tests::faults::{faults, is_same};
-use superio_tests::objects::{Log, Object, port};
 use vm_superio::serial::Port;
-
-/// A console over a log's objects.
-type TestConsole<'a> = Console<Object<'a>, Object<'a>, Object<'a>>;
-
-/// A console over a log's objects, where at most `limit` bytes of output wait.
-fn console(alloc: Global, log: &Log, limit: usize) -> Result<TestConsole<'_>, Fail> {
-    Ok(Console {
-        serial: port(alloc, log)?,
-        input: Input::new(alloc, 0)?,
-        output: Output::new(alloc, limit)?,
-        is_refused: false,
-        is_early: false,
-        is_ready: false,
-    })
-}
 
 #[test]
 fn an_output_takes_what_has_room_and_counts_what_it_drops(rt: HostRuntime) -> Result<(), Fail> {
@@ -57,7 +40,7 @@ fn an_output_takes_what_has_room_and_counts_what_it_drops(rt: HostRuntime) -> Re
 fn output_waits_for_its_sink_and_then_goes_on_in_order(rt: HostRuntime) -> Result<(), Fail> {
     in_order();
     let log = Log::new();
-    let mut console = console(rt.alloc(), &log, 300)?;
+    let mut console = console(rt.alloc(), &log, 0, 300)?;
     // The guest sends 310 bytes, while the sink has no room, and the port's own writer fails. The last ten are dropped.
     log.write_fault
         .set(Some(io::Error::from(ErrorKind::WouldBlock)));
@@ -114,28 +97,6 @@ fn a_sink_that_fails_returns_its_error_and_takes_nothing(rt: HostRuntime) -> Res
     assert!(rt;
         output.waiting(rt.alloc())?.as_slice() == b"waiting".as_slice() && output.dropped() == 0
     );
-    Ok(())
-}
-
-#[test]
-fn what_loopback_drops_can_be_counted_before_each_write(rt: HostRuntime) -> Result<(), Fail> {
-    let log = Log::new();
-    let mut serial = port(rt.alloc(), &log)?;
-    let mut dropped = 0u32;
-    // 70 bytes to THR in loopback, and others to the divisor and the scratch register.
-    let writes = [(4, 0x10), (3, 0x80), (0, b'a'), (3, 0x00), (7, b'a')];
-    for (offset, value) in writes
-        .iter()
-        .copied()
-        .chain([(0, b'a'); 70].iter().copied())
-    {
-        let is_thr = offset == 0 && serial.read(3) & 0x80 == 0;
-        if is_thr && serial.read(4) & 0x10 != 0 && serial.fifo_capacity() == 0 {
-            dropped = dropped.wrapping_add(1);
-        }
-        assert!(rt; serial.write(offset, value).is_ok());
-    }
-    assert!(rt; dropped == 6 && log.calls() == 0);
     Ok(())
 }
 

@@ -3,8 +3,7 @@
 //! Standard input has an access on each line: `sr` and an offset of the serial port, `sw`, an offset and a value, `kr`
 //! and an offset of the controller, or `kw`, an offset and a value. Prints what each returned, as the program `superio`
 //! does, then the output, and how often the interrupt was to be raised.
-#![tactic(auto)]
-
+use crate::fields::byte;
 use anyhow::{Context, Result, bail};
 use std::alloc::Global;
 use std::io;
@@ -18,10 +17,6 @@ const CONTROLLER: u16 = 0x60;
 
 /// How many bytes of output may wait. The recording has fewer in each piece.
 const OUTPUT_LIMIT: usize = 1 << 16;
-
-fn byte(digits: &str) -> Result<u8> {
-    Ok(u8::from_str_radix(digits, 16)?)
-}
 
 /// The port at an offset, in hexadecimal digits, from the first port of a device.
 fn port(first: u16, offset: &str) -> Result<u16> {
@@ -76,11 +71,11 @@ fn print_run(
     Ok(())
 }
 
-fn main(rt: HostRuntime) -> Result<()> {
+pub fn run(rt: &HostRuntime) -> Result<()> {
     let events = events_of(rt.alloc(), rt.reader())?;
     let mut monitor = Monitor::new(rt.alloc(), 0, OUTPUT_LIMIT)?;
     let replies = monitor.run(rt.alloc(), &events)?;
-    let mut output = BufWriter::new(rt.alloc(), io::writer(&rt))?;
+    let mut output = BufWriter::new(rt.alloc(), io::writer(rt))?;
     print_run(rt.alloc(), &mut output, &monitor, &replies)?;
     output.flush()?;
     Ok(())

@@ -1,24 +1,30 @@
 //! Makes calls that allocate memory, and prints what they returned and left.
 //!
-//! Each line of standard input has the name of a call and a number. The program first allocates that many blocks of
-//! memory and frees each at once. `tools/refused_memory` refuses one allocation by its number. So the blocks choose
-//! which allocation of the call it is.
+//! Each line of standard input has the name of a call and a number. Before the call that many blocks of memory are
+//! allocated, and each is freed at once. `tools/refused_memory` refuses one allocation by its number. So the blocks
+//! choose which allocation of the call it is.
 //!
 //! A line `any SEED` makes each call of `any_state` in states of any registers, with lists of each length to 300 and of
-//! 65,536. A line begins with `+` before the call, after what it takes is prepared, and a line after it says whether the
-//! call returned that memory was refused. `tools/refused_memory` refuses an allocation between the two lines.
-#![tactic(auto)]
-
+//! 65,536. A line begins with `+` before the call, after what it takes is prepared, and a line after it says whether
+//! the call returned that memory was refused. `tools/refused_memory` refuses an allocation between the two lines.
 mod any_state;
 mod boards;
 mod ports;
 mod source;
 
 use any_state::{CALLS, is_refused, prepare};
+use anyhow::Result;
 use source::Source;
 use std::alloc::{AllocError, Global};
 use std::io::Read;
 use std::{io, str};
+use superio_script::{Counts, Line, Output};
+use vm_superio::Serial;
+use vm_superio::serial::{Three, WriterOut};
+
+type Port = Serial<Line, Counts, Output>;
+
+type PortObjects = Three<Line, Counts, WriterOut<Output>>;
 
 /// Allocates memory and frees it.
 fn take_and_return(alloc: Global, blocks: u32) -> Result<(), AllocError> {
@@ -97,12 +103,12 @@ fn answer(rt: &HostRuntime, line: &str) -> io::Result<()> {
     println!(rt; "{call}: {outcome}")
 }
 
-fn main(rt: HostRuntime) -> io::Result<()> {
+pub fn run(rt: &HostRuntime) -> Result<()> {
     let mut room = [0; 1024];
     let count = rt.reader().read(&mut room)?;
     let text = str::from_utf8(&room[..count]).unwrap_or("");
     for line in text.lines() {
-        answer(&rt, line)?;
+        answer(rt, line)?;
     }
     Ok(())
 }

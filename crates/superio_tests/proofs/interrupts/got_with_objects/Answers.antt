@@ -1,6 +1,6 @@
 use Rattle.std.proofs.Common.{rules}
 use Rattle.superio_core.specs.Bits.{has_bits}
-use Rattle.superio_examples_tests.proofs.interrupts.got_with_objects.Goals as goal
+use Rattle.superio_tests.proofs.interrupts.got_with_objects.Goals as goal
 
 pub got_by_runs-requires-clause-coherent : goal.got_by_runs-requires-clause-coherent
 got_by_runs-requires-clause-coherent g c =

@@ -1,8 +1,6 @@
 //! Makes the calls that lines of standard input ask for. Prints the reply and the calls of objects for each.
 //!
-//! `tests/calls/README.md` describes the lines. The program ends at a line of another form.
-#![tactic(auto)]
-
+//! `tests/calls/README.md` describes the lines. It ends at a line of another form.
 mod devices;
 mod objects;
 
@@ -46,8 +44,8 @@ fn answer_all(alloc: Global, input: impl Read + Drop, output: &mut impl Write) -
     Ok(())
 }
 
-fn main(rt: HostRuntime) -> Result<()> {
-    let mut output = BufWriter::new(rt.alloc(), io::writer(&rt))?;
+pub fn run(rt: &HostRuntime) -> Result<()> {
+    let mut output = BufWriter::new(rt.alloc(), io::writer(rt))?;
     let end = answer_all(rt.alloc(), rt.reader(), &mut output);
     output.flush()?;
     end
