@@ -1,6 +1,6 @@
 //! The saved state of a port: its text, its comparison and its copies.
 use std::test::Fail;
-use vm_superio::SerialState;
+use vm_superio::{SerialState, laws};
 
 /// The form of docs/SAVED-STATES.md. Each of its ten fields differs from the others.
 const PORT: [u8; 19] = [
@@ -46,4 +46,10 @@ fn a_state_of_any_size_is_copied(rt: HostRuntime) -> Result<(), Fail> {
         state.in_buffer.push((count % 251) as u8)?;
     }
     Ok(())
+}
+
+#[test]
+fn the_laws_of_versions_are_calls() {
+    laws::saved::version_of_a_form();
+    laws::saved::other_versions_are_refused();
 }

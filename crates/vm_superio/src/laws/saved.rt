@@ -2,6 +2,7 @@
 ghost use Rattle.std.specs.Prelude.{◌≡◌, ◌≤◌, length, IfOk, MatchResult};
 ghost use Rattle.vm_superio.specs.Serial.Port.SavedState.{state_of};
 ghost use Rattle.superio_core.specs.Saved.Laws.{SerialFormLaw, OneSerialStateLaw, ClockFormLaw, OneClockStateLaw};
+ghost use Rattle.vm_superio.specs.Versions.{SerialVersionLaw, ClockVersionLaw, OtherSerialVersionLaw, OtherClockVersionLaw};
 
 use crate::saved::{Error, Fault};
 use crate::serial::saved_form::SerialForm;
@@ -21,6 +22,18 @@ pub fn forms_are_read()
 pub fn one_state_of_a_form()
     ensures serial { OneSerialStateLaw }
     ensures clock { OneClockStateLaw }
+{}
+
+/// Each form has the version of its writer at the same place.
+pub fn version_of_a_form()
+    ensures serial { SerialVersionLaw }
+    ensures clock { ClockVersionLaw }
+{}
+
+/// A form of another version, older or newer, is refused for its version and for nothing else.
+pub fn other_versions_are_refused()
+    ensures serial { OtherSerialVersionLaw }
+    ensures clock { OtherClockVersionLaw }
 {}
 
 /// Reading a port that was written gives its state back, unless memory is refused. A state with more than 64 received
