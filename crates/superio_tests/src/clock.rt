@@ -1,6 +1,6 @@
 //! The saved state of a clock, and what each form of a clock says of its interrupt.
 use std::test::Fail;
-use vm_superio::rtc_pl031::{Clock, NoEvents};
+use vm_superio::rtc_pl031::{Clock, NoEvents, five_fields};
 use vm_superio::{Rtc, RtcState, laws};
 
 /// The form of docs/SAVED-STATES.md.
@@ -51,6 +51,10 @@ fn each_form_of_a_clock_says_the_same(rt: HostRuntime) {
     }
     assert!(rt; state.interrupt_line() && device.interrupt_line() && clock.interrupt_line());
     assert!(rt; RtcState::default() == RtcState::from_five(0, 0, 0, 0, 0));
+    assert!(rt; five_fields(&state).is_none());
+    assert!(rt; five_fields(&RtcState::from_five(1, -2, 3, 4, 5)) == Some((1, -2, 3, 4, 5)));
+    assert!(rt; RtcState::from(Rtc::from(state)) == state);
+    assert!(rt; laws::saved::clock_of_state_and_back(state) == state);
 }
 
 #[test]

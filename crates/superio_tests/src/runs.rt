@@ -1,11 +1,15 @@
 //! Runs: lists of serial port calls, each made by one call.
+ghost use Rattle.vm_superio.specs.Links.Unspecified.{Unspecified, Unspecified-nil, Unspecified-append};
+
 use crate::memory::all_memory;
 use crate::objects::{Log, Object, Port, PortObjects, port};
 use std::alloc::{AllocError, Global};
 use std::io;
 use std::test::Fail;
-use vm_superio::run::{Asked, Call, Done, Reply, Sent};
-use vm_superio::serial::Three;
+use superio_script::LineRefused;
+use vm_superio::Trigger;
+use vm_superio::run::{Act, Asked, Call, Done, Reply, Sent};
+use vm_superio::serial::{Error, NoEvents, Three, WriterOut};
 
 type PortCall<'a> = Call<PortObjects<'a>>;
 
@@ -59,6 +63,69 @@ fn a_run_records_each_call_and_goes_on_over_restores(rt: HostRuntime) -> Result<
     assert!(rt; done[1].sent == Sent::Lost && other.writes.get() == 1);
     assert!(rt;
         first.triggers.get() == 3 && refusing.triggers.get() == 2 && other.triggers.get() == 2
+    );
+    Ok(())
+}
+
+/// A trigger of which nothing is seen.
+#[derive(Clone, Copy, Debug)]
+struct Silent;
+
+impl Trigger for Silent {
+    type E = LineRefused;
+
+    ghost link = { Unspecified };
+
+    ghost no_call = { Unspecified-nil };
+
+    ghost joined = { Unspecified-append };
+
+    fn trigger(&mut self) -> Result<(), LineRefused> {
+        Ok(())
+    }
+}
+
+type PlainObjects = Three<Silent, NoEvents, WriterOut<Vec<u8>>>;
+
+#[test]
+fn records_are_copied_compared_and_printed(rt: HostRuntime) -> Result<(), Fail> {
+    let alloc = rt.alloc();
+    let done: Done<PlainObjects> = Done {
+        act: Act::Enqueue(b"ab".to_vec(alloc)?),
+        asked: Asked::Refused,
+        sent: Sent::Nothing,
+        reply: Reply::Enqueued(Err(Error::Trigger(LineRefused))),
+    };
+    let copy = done.clone()?;
+    assert!(rt; copy.act == done.act && copy.act != Act::CharacterTimeout);
+    let text = format!(in alloc; "{copy:?}")?;
+    assert!(rt;
+        text.as_str()
+            == "Done { act: Enqueue([97, 98]), asked: Refused, sent: Nothing, \
+                reply: Enqueued(Err(Trigger(LineRefused))) }"
+    );
+    Ok(())
+}
+
+/// A restore to these objects.
+fn restore_to(trigger: u8, events: u8, writer: u8) -> Call<Three<u8, u8, WriterOut<u8>>> {
+    Call::Restore(Three::with_writer(trigger, events, writer))
+}
+
+#[test]
+fn calls_are_copied_compared_and_printed(rt: HostRuntime) -> Result<(), Fail> {
+    let call = restore_to(1, 2, 3);
+    assert!(rt; call.clone()? == call && call != Call::CharacterTimeout);
+    for other in [
+        restore_to(0, 2, 3),
+        restore_to(1, 0, 3),
+        restore_to(1, 2, 0),
+    ] {
+        assert!(rt; other != call);
+    }
+    let text = format!(in rt.alloc(); "{call:?}")?;
+    assert!(rt;
+        text.as_str() == "Restore(Three { trigger: 1, events: 2, out: WriterOut { writer: 3 } })"
     );
     Ok(())
 }

@@ -1,6 +1,7 @@
 //! The saved state of a port: its text and its comparison.
 use std::test::Fail;
-use vm_superio::SerialState;
+use vm_superio::saved::Fault;
+use vm_superio::{SerialState, laws};
 
 /// The form of docs/SAVED-STATES.md. Each of its ten fields differs from the others.
 const PORT: [u8; 19] = [
@@ -34,4 +35,31 @@ fn ports_are_compared_by_all_ten_fields(rt: HostRuntime) -> Result<(), Fail> {
         );
     }
     Ok(())
+}
+
+#[test]
+fn a_state_becomes_a_port_and_back(rt: HostRuntime) -> Result<(), Fail> {
+    let mut state = SerialState::from_bytes(rt.alloc(), &PORT)?;
+    let mut port = state.to_port()?;
+    assert!(rt; SerialState::from_port(rt.alloc(), &port)? == state);
+    assert!(rt; laws::saved::state_to_port_and_back(rt.alloc(), &state)? == state);
+    assert!(rt;
+        laws::saved::port_to_state_and_back(rt.alloc(), &port)?.to_bytes(&mut [0; 81]) == 19
+    );
+    // The oldest byte is at the last place, the other at the first.
+    port.in_buffer.head = 63;
+    port.in_buffer.bytes[63] = b'y';
+    let in_buffer = SerialState::from_port(rt.alloc(), &port)?.in_buffer;
+    assert!(rt; in_buffer.as_slice() == b"ya".as_slice());
+    state.in_buffer = [0; 64].to_vec(rt.alloc())?;
+    assert!(rt; state.to_port().is_ok());
+    state.in_buffer.push(0x00)?;
+    assert!(rt; matches!(state.to_port(), Err(Fault::TooManyBytes)));
+    Ok(())
+}
+
+#[test]
+fn the_laws_of_versions_are_calls() {
+    laws::saved::version_of_a_form();
+    laws::saved::other_versions_are_refused();
 }

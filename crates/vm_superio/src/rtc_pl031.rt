@@ -6,7 +6,7 @@
 //!
 //! The match register is an alarm. It raises bit 0 of the raw interrupt status at the first access at which guest time
 //! has reached a match that was not past when written. The clock calls no trigger: ask [`Rtc::interrupt_line`].
-ghost use Rattle.std.specs.Prelude.{◌≡◌, ◌↔◌, ◌<◌, ◌^◌, List, [], ◌∷◌, ◌++◌, IfSome};
+ghost use Rattle.std.specs.Prelude.{◌≡◌, ◌↔◌, ◌<◌, ◌^◌, List, [], ◌∷◌, ◌++◌, IfSome, is_some, not, false};
 ghost use Rattle.std.specs.Bool.{OnTrue, OnFalse};
 ghost use Rattle.std.proofs.Common.{◌∙◌};
 ghost use Rattle.superio_core.specs.Rtc.Alarm.{is_line_up, IsAlarmDue};
@@ -85,6 +85,43 @@ impl Default for Rtc<NoEvents> {
     /// Makes a clock as `new` does.
     fn default() -> Self {
         Self::new()
+    }
+}
+
+/// A clock of this state that ignores events.
+impl From<RtcState> for Rtc<NoEvents> {
+    ghost from_gives = { λ state clock. clock.state ≡ state };
+
+    fn from(state: RtcState) -> Self {
+        Self::from_state(&state, NoEvents)
+    }
+}
+
+/// The state of a clock. Drops the events object.
+impl<EV: RtcEvents + Drop> From<Rtc<EV>> for RtcState {
+    ghost from_gives = { λ clock state. state ≡ clock.state };
+
+    fn from(clock: Rtc<EV>) -> Self {
+        clock.state()
+    }
+}
+
+/// The five fields that [`RtcState::from_five`] takes, for a program without alarms. `None` if an alarm is set.
+pub fn five_fields(state: &RtcState) -> Option<(u32, i64, u32, u32, u32)>
+    ensures fields { IfSome result (λ five. state.now ≡ record {
+      lr = five.0;
+      offset = five.1;
+      mr = five.2;
+      imsc = five.3;
+      ris = five.4;
+      armed = false;
+    }) }
+    ensures some { is_some result ≡ not state.now.armed }
+{
+    if state.armed {
+        None
+    } else {
+        Some((state.lr, state.offset, state.mr, state.imsc, state.ris))
     }
 }
 

@@ -5,7 +5,7 @@ pub use crate::trace::{Asked, Sent};
 
 /// A call to a serial port, with the object of a restore. A [`Serial`](crate::Serial) has its three objects in one, by
 /// [`Three::with_writer`](crate::serial::Three::with_writer).
-#[derive(Drop)]
+#[derive(Clone, Debug, Drop, Eq, PartialEq)]
 pub enum Call<O> {
     /// `read` at this offset.
     Read(u8),
@@ -20,7 +20,7 @@ pub enum Call<O> {
 }
 
 /// A call without its object.
-#[derive(Drop)]
+#[derive(Clone, Debug, Drop, Eq, PartialEq)]
 pub enum Act {
     /// `read` at this offset.
     Read(u8),
@@ -34,8 +34,10 @@ pub enum Act {
     Restore,
 }
 
-/// What a call returned.
+/// What a call returned. Match on it: an `io::Error` cannot be compared.
 #[derive(Drop)]
+#[derive_where(Clone; O, O::E)]
+#[derive_where(Debug; O)]
 pub enum Reply<O: Objects> {
     /// The byte that was read.
     Byte(u8),
@@ -53,6 +55,8 @@ pub enum Reply<O: Objects> {
 
 /// The record of a call.
 #[derive(Drop)]
+#[derive_where(Clone; O, O::E)]
+#[derive_where(Debug; O)]
 pub struct Done<O: Objects> {
     /// The call.
     pub act: Act,

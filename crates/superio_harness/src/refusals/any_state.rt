@@ -62,7 +62,7 @@ fn any_port(alloc: Global, source: &mut Source, length: usize) -> Result<Port, A
     }
 }
 
-/// Any call of a run. Few of them are restores, each of which takes memory.
+/// Any call of a run. Few of them are restores, since every restore allocates.
 fn any_call(alloc: Global, source: &mut Source) -> Result<Call<PortObjects>, AllocError> {
     let (offset, value) = (source.byte(), source.byte());
     Ok(match source.byte() {
@@ -114,7 +114,7 @@ fn any_board(alloc: Global, source: &mut Source, length: usize) -> Result<Board,
     }
 }
 
-/// A script of so many lines, each of which takes memory or none.
+/// A script of so many lines. Some lines allocate and some do not.
 fn any_script(alloc: Global, source: &mut Source, length: usize) -> Result<Vec<u8>, AllocError> {
     let mut script = Vec::new(alloc);
     for _ in 0..length.min(4_000) {

@@ -1,13 +1,16 @@
-//! The laws of the byte form of a saved state. The round trips are calls whose contracts are the laws.
+//! The laws of saved states. The round trips are calls whose contracts are the laws.
 ghost use Rattle.std.specs.Prelude.{◌≡◌, ◌≤◌, length, IfOk, MatchResult};
 ghost use Rattle.vm_superio.specs.Serial.Port.SavedState.{state_of};
+ghost use Rattle.superio_core.specs.Serial.Port.SerialPort.{state_of_port};
 ghost use Rattle.superio_core.specs.Saved.Laws.{SerialFormLaw, OneSerialStateLaw, ClockFormLaw, OneClockStateLaw};
+ghost use Rattle.vm_superio.specs.Versions.{SerialVersionLaw, ClockVersionLaw, OtherSerialVersionLaw, OtherClockVersionLaw};
 
 use crate::saved::{Error, Fault};
 use crate::serial::saved_form::SerialForm;
-use crate::{RtcState, SerialState};
+use crate::{Rtc, RtcState, SerialState};
 use std::alloc::Global;
 use superio_core::rtc_pl031::saved_form::SAVED_SIZE;
+use superio_core::serial::SerialPort;
 
 /// A written form passes every check when read.
 #[tactic(auto, using(superio_core::proofs::Lemmas::Saved::Forms::forms_are_read_laws))]
@@ -21,6 +24,18 @@ pub fn forms_are_read()
 pub fn one_state_of_a_form()
     ensures serial { OneSerialStateLaw }
     ensures clock { OneClockStateLaw }
+{}
+
+/// Each form has the version of its writer at the same place.
+pub fn version_of_a_form()
+    ensures serial { SerialVersionLaw }
+    ensures clock { ClockVersionLaw }
+{}
+
+/// A form of another version, older or newer, is refused for its version and for nothing else.
+pub fn other_versions_are_refused()
+    ensures serial { OtherSerialVersionLaw }
+    ensures clock { OtherClockVersionLaw }
 {}
 
 /// Reading a port that was written gives its state back, unless memory is refused. A state with more than 64 received
@@ -52,4 +67,35 @@ pub fn clock_read_then_written(bytes: &[u8]) -> Result<[u8; SAVED_SIZE], Fault>
     ensures { IfOk result (λ written. written ≡ bytes.now) }
 {
     Ok(RtcState::from_bytes(bytes)?.to_bytes())
+}
+
+/// A state made a port, and that port a state, is the state, unless memory is refused. A state with more than 64
+/// received bytes has no port.
+pub fn state_to_port_and_back(alloc: Global, state: &SerialState) -> Result<SerialState, Error>
+    ensures back { length state.now.in_buffer.items ≤ 64 →
+        MatchResult result (λ back. state_of back ≡ state_of state.now) (λ error. error ≡ Error.Memory) }
+    ensures same { IfOk result (λ back. state_of back ≡ state_of state.now) }
+{
+    match SerialState::from_port(alloc, &state.to_port()?) {
+        Ok(back) => Ok(back),
+        Err(_) => Err(Error::Memory),
+    }
+}
+
+/// A port made a state, and that state a port, is the port, unless memory is refused.
+pub fn port_to_state_and_back(alloc: Global, port: &SerialPort) -> Result<SerialPort, Error>
+    ensures { MatchResult result (λ back. state_of_port back ≡ state_of_port port.now)
+        (λ error. error ≡ Error.Memory) }
+{
+    match SerialState::from_port(alloc, port) {
+        Ok(state) => Ok(state.to_port()?),
+        Err(_) => Err(Error::Memory),
+    }
+}
+
+/// A clock made of a state has that state.
+pub fn clock_of_state_and_back(state: RtcState) -> RtcState
+    ensures { result ≡ state }
+{
+    RtcState::from(Rtc::from(state))
 }

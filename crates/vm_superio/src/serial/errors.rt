@@ -7,7 +7,7 @@ use std::error::Error as StdError;
 use std::{fmt, io};
 
 /// Why a call failed.
-#[derive(Debug, Drop)]
+#[derive(Clone, Debug, Drop)]
 pub enum Error<E> {
     /// The trigger refused a call.
     Trigger(E),

@@ -55,7 +55,7 @@ pub trait Objects {
 }
 
 /// A trigger, an events object and an output.
-#[derive(Drop)]
+#[derive(Clone, Debug, Drop, Eq, PartialEq)]
 pub struct Three<T, EV, W> {
     /// The trigger.
     pub trigger: T,

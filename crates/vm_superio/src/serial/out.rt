@@ -31,7 +31,7 @@ pub trait SerialOut {
 
 /// The output that a writer makes. Where contracts know the writer's bytes, its link is that each byte it took follows
 /// them. Nothing is known of a writer after it failed to take a byte.
-#[derive(Drop)]
+#[derive(Clone, Debug, Drop, Eq, PartialEq)]
 pub struct WriterOut<W> {
     /// The writer.
     pub writer: W,

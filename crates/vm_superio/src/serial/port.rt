@@ -57,6 +57,8 @@ impl<O: Objects> Model for Port<O> {
 
 /// Why a port was not made, and the object passed in for it.
 #[derive(Drop)]
+#[derive_where(Clone; O, O::E)]
+#[derive_where(Debug; O)]
 pub struct RefusedObject<O: Objects> {
     /// Why the port was not made.
     pub error: Error<O::E>,

@@ -1,10 +1,12 @@
 //! A saved serial port.
-ghost use Rattle.std.specs.Prelude.{◌≡◌, ◌↔◌, IfOk, IsTrue};
+ghost use Rattle.std.specs.Prelude.{◌≡◌, ◌↔◌, ◌≤◌, length, IfOk, IfErr, IsOk, IsTrue};
 ghost use Rattle.superio_core.specs.Serial.Port.State.{fresh_state};
 ghost use Rattle.superio_core.specs.Serial.Port.Coherent.{Coherent};
 
+use crate::saved::Fault;
 use std::alloc::{AllocError, Global};
-use superio_core::fifo::FIFO_SIZE;
+use superio_core::fifo::{FIFO_SIZE, ReceiveFifo};
+use superio_core::serial::SerialPort;
 use superio_core::serial::registers::Registers;
 
 /// A serial port's contents except its objects: enough to recreate the port, also on another machine.
@@ -37,6 +39,7 @@ pub struct SerialState {
 impl SerialState {
     ghost use Rattle.vm_superio.specs.Serial.Port.SavedState.{state_of};
     ghost use Rattle.superio_core.specs.Serial.Port.State.{state_with};
+    ghost use Rattle.superio_core.specs.Serial.Port.SerialPort.{state_of_port};
 
     /// The state of a new port. Allocates no memory.
     pub fn default(alloc: Global) -> SerialState
@@ -57,6 +60,43 @@ impl SerialState {
             in_buffer: self.in_buffer.to_vec(alloc)?,
             ..*self
         })
+    }
+
+    /// The state of a port as a value.
+    ///
+    /// # Errors
+    ///
+    /// Returns `AllocError` if allocating the received bytes fails.
+    pub fn from_port(alloc: Global, port: &SerialPort) -> Result<SerialState, AllocError>
+        ensures state { IfOk result (λ state. state_of state ≡ state_of_port port.now) }
+        ensures at_most_64 { IfOk result (λ state. length state.in_buffer.items ≤ 64) }
+    {
+        let mut held = port.in_buffer;
+        let mut in_buffer = Vec::with_capacity(alloc, held.len())?;
+        while let Some(byte) = held.take_first() {
+            in_buffer.push_reserved(byte);
+        }
+        Ok(SerialState::of(&port.registers, in_buffer))
+    }
+
+    /// The port of this state as a value. Allocates no memory, and calls no trigger: ask the port which interrupts are
+    /// due.
+    ///
+    /// # Errors
+    ///
+    /// Returns [`Fault::TooManyBytes`] if the state has more than 64 received bytes.
+    pub fn to_port(&self) -> Result<SerialPort, Fault>
+        ensures port { IfOk result (λ port. state_of_port port ≡ state_of self.now) }
+        ensures at_most_64 { IsOk result ↔ (length self.now.in_buffer.items ≤ 64) }
+        ensures too_many { IfErr result (λ error. error ≡ Fault.TooManyBytes) }
+    {
+        if self.in_buffer.len() > FIFO_SIZE {
+            return Err(Fault::TooManyBytes);
+        }
+        let mut port = SerialPort::new();
+        port.registers = self.registers();
+        port.in_buffer.fill(&self.in_buffer);
+        Ok(port)
     }
 
     /// Whether the state is coherent, as that of any port that `new` made: at most 64 bytes are held, data ready shows

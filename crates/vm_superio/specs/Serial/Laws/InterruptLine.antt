@@ -1,4 +1,5 @@
--- The level of the interrupt line and the trigger: the one rises where the other is called. In any state, coherent or not.
+-- The level of the interrupt line and the trigger: the one rises where the other is called. This holds in any state,
+-- coherent or not.
 use Rattle.std.specs.Prelude.{◌≡◌, ◌⊎◌, ℕ, Bool, true, false, not, ◌==◌, ◌&&◌, ◌||◌, IsTrue}
 use Rattle.std.specs.Bool.{IsFalse}
 use Rattle.superio_core.specs.declared.trace.Asked.{Asked}
