@@ -1,10 +1,12 @@
 -- Worked examples of the byte form: those of docs/SAVED-STATES.md, and one for each check.
-use Rattle.std.specs.Prelude.{◌≡◌, true, negsuc, [], ◌∷◌, Some, None, refl, drop, take, ◌++◌, replicate}
+use Rattle.std.proofs.Common.{arith}
+use Rattle.std.specs.Prelude.{◌≡◌, length, true, negsuc, [], ◌∷◌, Some, None, refl, drop, take, ◌++◌, replicate}
 use Rattle.superio_core.specs.declared.rtc_pl031.state.RtcState.{RtcState}
 use Rattle.superio_core.specs.declared.saved.Error.TheVariants.{TooShort, NotASavedState, OtherDevice, UnknownVersion, WrongLength, TooManyBytes, InvalidArmed}
 use Rattle.superio_core.specs.Serial.Port.State.{fresh_state, State}
 use Rattle.superio_core.specs.Saved.Form.{serial_form, clock_form}
 use Rattle.superio_core.specs.Saved.Faults.{serial_fault, clock_fault}
+use Rattle.superio_core.specs.Saved.Laws.{SerialFormLaw}
 
 -- two bytes are held, and received data is pending
 abbrev two_held : State
@@ -64,6 +66,10 @@ eight_registers = refl
 
 full_port : serial_fault (0x53 ∷ 0x49 ∷ 0x4F ∷ 0x53 ∷ 0x01 ∷ 0x01 ∷ 0x49 ∷ 0x00 ∷ replicate 73 0) ≡ None
 full_port = refl
+
+-- the law speaks of full ports too
+full_form : SerialFormLaw → (state : State) → length state.in_buffer ≡ 64 → serial_fault (serial_form state) ≡ None
+full_form law state full = law state (omega (arith, full))
 
 one_more_byte : serial_fault (0x53 ∷ 0x49 ∷ 0x4F ∷ 0x53 ∷ 0x01 ∷ 0x01 ∷ 0x4A ∷ 0x00 ∷ replicate 74 0) ≡ Some TooManyBytes
 one_more_byte = refl

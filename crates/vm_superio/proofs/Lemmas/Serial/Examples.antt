@@ -4,3 +4,4 @@ pub mod LongRuns
 pub mod Order
 pub mod OtherStates
 pub mod PollingDriver
+pub mod Words
