@@ -10,7 +10,7 @@ from repository import ROOT, CopyTest
 
 # Prints a script as its own replies.
 CAT = shutil.which("cat")
-# Beside each tool what it says if the repository has nothing but tools/.
+# Beside each tool what it says if the repository has nothing but tools/ and the Python package.
 WITHOUT_ALL = {
     "calls": "calls/clocks.txt is not there",
     "excerpts": "nothing was checked",
@@ -23,6 +23,10 @@ WITHOUT_ALL = {
 
 @unittest.skipUnless(CAT and shutil.which("cc"), "cat and cc are needed")
 class MissingFiles(CopyTest):
+    def setUp(self):
+        super().setUp()
+        self.take("bindings/python/superio")
+
     def sum_of(self, tool, *arguments, says, **options):
         """What a tool of the copy passed and failed. One of its lines has to end as `says`."""
         status, printed, _ = self.run_tool(f"tools/{tool}", *arguments, **options)
