@@ -37,13 +37,12 @@ def fenced_blocks(document):
             block.append((number, line))
 
 
-def finish(faults, tried, fewest, skipped=0):
+def finish(faults, tried, skipped=0):
     """Prints what is wrong, how much of each kind was tried, and the sum. Returns the exit status: 1 if something is
-    wrong, or if less of a kind was tried than `fewest` says."""
-    few = [f"{tried[kind]} {kind} were found, and at least {least} are wanted" for kind, least in fewest.items()
-           if tried[kind] < least]
-    print("\n".join([*faults, *few, *(f"tried: {number} {kind}" for kind, number in tried.items())]))
-    failed = len(faults) + len(few)
-    passed = max(sum(tried.values()) - len(faults), 0)
+    wrong, or if nothing was tried."""
+    faults = faults if any(tried.values()) else [*faults, "nothing was checked"]
+    print("\n".join([*faults, *(f"tried: {number} {kind}" for kind, number in tried.items())]))
+    failed = len(faults)
+    passed = max(sum(tried.values()) - failed, 0)
     print(f"{passed} passed, {failed} failed" + (f", {skipped} skipped" if skipped else ""))
     return 1 if failed else 0

@@ -1,24 +1,33 @@
 """What devices show, by a search of all that was done before: slow, and plainly right.
 
-There are no registers, and nothing is shared with the definitions that the proofs use. Of each call a fact is kept:
+There are no registers, and no rule is shared with the definitions that the proofs use. Of each call a fact is kept:
 what it wrote, raised and acknowledged, which bytes came in, were taken and went out, and the calls of objects. What a
 call shows is found by a search of the facts before it. A search ends at the latest at the newest start state, a fact of
-the past too. docs/DEVICES.md has the rules.
+the past too. docs/DEVICES.md has the rules. Names, offsets and bits are those of the Python package, which
+tools/facts compares with the definitions.
 """
+import sys
+from pathlib import Path
 from typing import NamedTuple
 
-REGISTERS = ("DLL", "DLM", "IER", "IIR", "LCR", "LSR", "MCR", "MSR", "SCR")      # in the order of a saved state
-BY_OFFSET = ("RBR", "IER", "IIR", "LCR", "MCR", "LSR", "MSR", "SCR")
-WITH_LATCH = ("DLL", "DLM", *BY_OFFSET[2:])
-FRESH = bytes([0x0C, 0, 0, 0x01, 0x03, 0x60, 0x08, 0xB0, 0])
-# The bits of registers that are facts of their own: the two conditions, that none is pending, and data ready.
-BITS = {"IIR": {"RDA": 4, "THRE": 2, "NONE": 1}, "LSR": {"READY": 1}}
-ENABLED_BY = {"RDA": 1, "THRE": 2}
-# An output of MCR, and the input of MSR that shows it in loopback.
-LOOPED = ((1, 0x20), (2, 0x10), (4, 0x40), (8, 0x80))
+sys.path.append(str(Path(__file__).resolve().parent.parent / "bindings" / "python"))
+from superio.registers import (CLOCK, DLAB, FIFO_BITS, IDENTIFICATION, LOOPBACK, SERIAL,  # noqa: E402
+                               bits_by_name, clock_register, serial_register)
+from superio.states import SerialState  # noqa: E402
+from superio.structs import FIFO_SIZE  # noqa: E402
 
-CLOCK_FIELDS = ("RTCLR", "RTCMR", "RTCIMSC", "raised", "ahead", "armed")         # in the order of a saved state
-IDENTIFICATION = (0x31, 0x10, 0x04, 0x00, 0x0D, 0xF0, 0x05, 0xB1)
+REGISTERS = ("DLL", "DLM", "IER", "IIR", "LCR", "LSR", "MCR", "MSR", "SCR")      # in the order of a saved state
+BY_OFFSET, WITH_LATCH = ([serial_register(offset, latch, False).name for offset in range(8)] for latch in (0, DLAB))
+FRESH = bytes(list(vars(SerialState()).values())[:len(REGISTERS)])
+# The bits of registers that are facts of their own: the two conditions, that none is pending, and data ready.
+BITS = {"IIR": bits_by_name(SERIAL["IIR"]) | {"NONE": 1}, "LSR": {"READY": bits_by_name(SERIAL["LSR"])["DR"]}}
+ENABLED_BY = {condition: bits_by_name(SERIAL["IER"])[condition] for condition in ("RDA", "THRE")}
+# An output of MCR, and the input of MSR that shows it in loopback.
+LOOPED = [(bits_by_name(SERIAL["MCR"])[output], bits_by_name(SERIAL["MSR"])[shown])
+          for output, shown in (("DTR", "DSR"), ("RTS", "CTS"), ("OUT1", "RI"), ("OUT2", "DCD"))]
+
+CLOCK_FIELDS = ("LR", "MR", "IMSC", "raised", "ahead", "armed")                  # in the order of a saved state
+CLOCK_AT = {offset: register.name for offset in range(0x1000) if (register := clock_register(offset))}
 
 
 class Fact(NamedTuple):
@@ -66,10 +75,10 @@ class Port(Device):
 
     def at(self, offset):
         """The name of the register that an offset reaches."""
-        return (WITH_LATCH if self.last("LCR") & 0x80 else BY_OFFSET)[offset] if offset < 8 else None
+        return (WITH_LATCH if self.last("LCR") & DLAB else BY_OFFSET)[offset] if offset < 8 else None
 
     def is_looped(self):
-        return self.last("MCR") & 0x10 != 0
+        return self.last("MCR") & LOOPBACK != 0
 
     def held(self):
         held, took = b"", 0
@@ -79,7 +88,7 @@ class Port(Device):
                 return held[took:]
 
     def room(self):
-        return 64 - len(self.held())
+        return FIFO_SIZE - len(self.held())
 
     def state(self):
         """The registers of a saved state."""
@@ -119,14 +128,14 @@ class Port(Device):
         name = self.at(offset)
         if name == "RBR":
             held = self.held()
-            made = {"RDA": False} | ({} if self.register("IIR") & ~4 else {"NONE": True})
+            made = {"RDA": False} | ({} if self.register("IIR") & ~BITS["IIR"]["RDA"] else {"NONE": True})
             if len(held) > 1:
                 return self.done(f"{held[0]:02x}", made, ["b"], took=True)
             return self.done(held.hex() or "00", made | {"READY": False}, ["e", "b"], took=bool(held))
         shown = self.register(name) if name else 0
         if name == "IIR":
             self.done("", {"IIR": 0, "RDA": False, "THRE": False, "NONE": True}, [])
-            shown |= 0xC0
+            shown |= FIFO_BITS
         if name == "MSR" and self.is_looped():
             outputs = self.last("MCR")
             shown = shown & 0x0F | sum(seen for bit, seen in LOOPED if outputs & bit)
@@ -217,22 +226,23 @@ class Clock(Device):
         time = moment % 2**32
         counter = time + self.last("ahead")
         guest_time = counter if 0 <= counter < 2**32 else time
-        is_reached = self.last("armed") and guest_time >= self.last("RTCMR")
+        is_reached = self.last("armed") and guest_time >= self.last("MR")
         made = {"raised": 1, "armed": False} if is_reached else {}
         writes = {} if value is None else {
-            0x004: {"RTCMR": value, "armed": value > guest_time} | ({"raised": 1} if value == guest_time else {}),
-            0x008: {"RTCLR": value, "ahead": value - time},
-            0x00C: {"RTCLR": 0, "ahead": 0} if value == 1 else {},
-            0x010: {"RTCIMSC": value & 1},
-            0x01C: {"cleared": value}}
-        self.past.append(Fact(made | writes.get(offset, {})))
+            "MR": {"MR": value, "armed": value > guest_time} | ({"raised": 1} if value == guest_time else {}),
+            "LR": {"LR": value, "ahead": value - time},
+            "CR": {"LR": 0, "ahead": 0} if value == 1 else {},
+            "IMSC": {"IMSC": value & 1},
+            "ICR": {"cleared": value}}
+        name = CLOCK_AT.get(offset, "")
+        self.past.append(Fact(made | writes.get(name, {})))
         if value is not None:
-            return 0 if offset in writes else None
-        if 0xFE0 <= offset <= 0xFFF:
-            return IDENTIFICATION[(offset - 0xFE0) // 4]
-        status, mask = self.raw_status(), self.last("RTCIMSC")
-        return {0x000: guest_time, 0x004: self.last("RTCMR"), 0x008: self.last("RTCLR"), 0x00C: 1, 0x010: mask,
-                0x014: status, 0x018: status & mask}.get(offset)
+            return 0 if name in writes else None
+        if name.startswith("ID"):
+            return IDENTIFICATION[int(name[2:])]
+        status, mask = self.raw_status(), self.last("IMSC")
+        return {"DR": guest_time, "MR": self.last("MR"), "LR": self.last("LR"), "CR": 1, "IMSC": mask, "RIS": status,
+                "MIS": status & mask}.get(name)
 
 
 def resets(offset, value):

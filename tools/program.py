@@ -3,6 +3,7 @@ import os
 import subprocess
 import sys
 import tempfile
+from collections import Counter
 from concurrent.futures import ThreadPoolExecutor
 from pathlib import Path
 
@@ -138,34 +139,34 @@ def reason(error):
     return f"{error.filename}: {error.strerror}" if error.filename else str(error)
 
 
-def report(results):
+def report(results, generated=()):
     """Prints each message, what was tried of each kind, and then `N passed, M failed`. A result is its kind and a message,
-    or `None` for a pass. Returns the exit status: 1 if something failed, if a file cannot be used, or if nothing was
-    checked."""
-    passed = failed = 0
-    tried = Tried()
+    or `None` for a pass. The cases of the kinds in `generated` are one check together. Returns the exit status: 1 if
+    something failed, if a file cannot be used, or if nothing was checked."""
+    tried, failures, faults = Tried(), Counter(), 0
     try:
         for kind, message in results:
             tried.add(kind)
             if message is not None:
                 print(message)
-            passed += message is None
-            failed += message is not None
+                failures[kind] += 1
     except OSError as error:
         print(reason(error))
-        failed += 1
-    if passed + failed == 0:
+        faults = 1
+    checks = {kind: 1 if kind in generated else number for kind, number in tried.counts.items()}
+    failed = faults + sum(min(failures[kind], number) for kind, number in checks.items())
+    if not checks and not failed:
         print("nothing was checked")
         failed = 1
-    print(*tried.lines(), f"{passed} passed, {failed} failed", sep="\n")
+    print(*tried.lines(), f"{max(0, sum(checks.values()) + faults - failed)} passed, {failed} failed", sep="\n")
     return 1 if failed else 0
 
 
-def check_program(check):
+def check_program(check, generated=()):
     """Reports what a check of the built program yields, as `report` does. A first argument names another program."""
     try:
         program = built_program(sys.argv[1:])
     except NotBuilt as error:
         print(f"{error}\n0 passed, 1 failed")
         return 1
-    return report(check(program))
+    return report(check(program), generated)

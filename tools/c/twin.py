@@ -3,11 +3,12 @@
 It takes the lines of tests/demo.c, and says what they print. It was written from docs/DEVICES.md and from the duties of
 docs/THREATS.md.
 """
-from oracle import Clock, Port, resets
+from oracle import CLOCK, SERIAL, Clock, Port, resets
 
-COM1, RBR, IER, IIR, MCR, LSR = 0x3F8, 0, 1, 2, 4, 5
+COM1 = 0x3F8
+RBR, IER, IIR, MCR, LSR = (SERIAL[name].offset for name in ("RBR", "IER", "IIR", "MCR", "LSR"))
 MOST_INPUT = 127
-IS_MASKED = 0x018
+IS_MASKED = CLOCK["MIS"].offset
 
 
 def shown(byte):
@@ -18,7 +19,7 @@ def shown(byte):
 
 def seconds_due(clock, now):
     """In how many seconds an access finds the alarm, or None: the first of the moments at which that may change."""
-    time, match, ahead = now % 2**32, clock.last("RTCMR"), clock.last("ahead")
+    time, match, ahead = now % 2**32, clock.last("MR"), clock.last("ahead")
 
     def is_reached(seconds):
         later = (time + seconds) % 2**32
@@ -64,7 +65,7 @@ class Monitor:
         self.ask(times)
 
     def follow_clock(self):
-        line = "up" if self.clock.raw_status() & self.clock.last("RTCIMSC") else "down"
+        line = "up" if self.clock.raw_status() & self.clock.last("IMSC") else "down"
         due = seconds_due(self.clock, self.now)
         self.printed.append(f"clock: line {line}, {'no alarm' if due is None else f'alarm in {due} s'}")
 

@@ -7,8 +7,6 @@ ROOT = Path(__file__).resolve().parent.parent.parent
 SOURCES = Path("/usr/share/cargo/registry/vm-superio-0.7.0/src")
 STAND_INS = Path(__file__).resolve().parent / "stand_ins" / "vmm_sys_util.rs"
 FILES = ("i8042.rs", "rtc_pl031.rs", "serial.rs")
-# How many tests they have.
-TESTS = 32
 CONSTANT = re.compile(r"^const \w+: [\w\[\]; ]+ =\s[^;]*;", re.M)
 # Private fields have other names, or are seen through a saved state.
 RENAMES = [

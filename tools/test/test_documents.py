@@ -16,14 +16,14 @@ README = """# Top
 ONE = "# One\n\n## A `heading` of it\n\n## Same\n\n## Same\n\n[up](../README.md), [second](#same-1)\n"
 
 
-def faults_of(printed):
-    """The faults that a tool prints, and its complaints of having tried too little. Its last line has to count both."""
+def faults_of(ran):
+    """The faults that a tool printed. Its status and its last line have to fit."""
+    status, printed, _ = ran
     *lines, last = printed.splitlines()
     said = [line for line in lines if not re.match(r"(not )?tried: ", line)]
-    if last.split(", ")[1] != f"{len(said)} failed":
+    if last.split(", ")[1] != f"{len(said)} failed" or status != bool(said):
         raise AssertionError(printed)
-    few = [line for line in said if line.endswith(" are wanted")]
-    return [line for line in said if line not in few], few
+    return said
 
 
 class Links(CopyTest):
@@ -34,11 +34,8 @@ class Links(CopyTest):
         (self.root / "docs" / "one.md").write_text(ONE, encoding="utf-8")
 
     def faults(self):
-        """What the tool says, other than that so small a repository has few links."""
-        status, printed, _ = self.run_tool("tools/links")
-        faults, few = faults_of(printed)
-        self.assertEqual((status, len(few)), (1, 3))
-        return faults
+        """What the tool says."""
+        return faults_of(self.run_tool("tools/links"))
 
     def test_sound(self):
         self.assertEqual(self.faults(), [])
@@ -73,10 +70,8 @@ class Names(CopyTest):
         readme.write_text(text, encoding="utf-8")
         (self.root / "rt").write_text(f"#!/bin/sh\necho {version}\n", encoding="ascii")
         (self.root / "rt").chmod(0o755)
-        status, printed, _ = self.run_tool("tools/names", env={"PATH": f"{self.root}:{os.environ['PATH']}"})
-        faults, few = faults_of(printed)
-        self.assertEqual((status, few), (1 if faults else 0, []))
-        return [re.sub(r":\d+: ", ": ", fault) for fault in faults]
+        ran = self.run_tool("tools/names", env={"PATH": f"{self.root}:{os.environ['PATH']}"})
+        return [re.sub(r":\d+: ", ": ", fault) for fault in faults_of(ran)]
 
     def test_sound(self):
         self.assertEqual(self.faults(), [])
@@ -124,6 +119,41 @@ class Names(CopyTest):
         self.assertEqual(self.faults("another"), ["README.md does not show another, which rt version prints"])
 
 
+class Facts(CopyTest):
+    def setUp(self):
+        super().setUp()
+        self.take("bindings", "crates/superio_core/specs", "docs/DEVICES.md", "include")
+
+    def test_sound(self):
+        self.assertEqual(faults_of(self.run_tool("tools/facts")), [])
+
+    def test_a_changed_number_is_noticed(self):
+        specs, python = "crates/superio_core/specs", "bindings/python/superio"
+        for name, old, new, says in (
+                (f"{specs}/Serial/Port/Bits.antt", "mcr_loop_bit = 0x10", "mcr_loop_bit = 0x20", "MCR LOOP is 16, and 32"),
+                (f"{specs}/Serial/Port/Registers.antt", "iir_bit Rda = 0x04", "iir_bit Rda = 0x08", "IIR RDA is 4, and 8"),
+                (f"{specs}/Serial/Port/State.antt", "modem_status = 0xB0;", "modem_status = 0xA0;", "MSR is 176, and 160"),
+                (f"{specs}/Rtc/Registers.antt", "is_readable Icr = false\n", "", "ICR is (28, 'w'), and (28, 'rw')"),
+                (f"{python}/registers.py", '"SCR", 7', '"SCR", 8', "SCR is (8, None), and (7, None)"),
+                (f"{python}/registers.py", '"raw interrupt status", _ALARM, None, "r"', '"raw interrupt status", _ALARM',
+                 "RIS is (20, 'rw'), and (20, 'r')"),
+                ("include/superio.h", "0x01 is data ready", "0x02 is data ready", "LSR DR is 2, and 1"),
+                ("docs/DEVICES.md", "| 1 | set | DLM", "| 1 | clear | DLM", "DLM is (1, False), and (1, True)"),
+                ("docs/DEVICES.md", "0x0D 0xF0 0x05", "0x0D 0xF1 0x05", "5 is F1, and F0"),
+                ("bindings/js/superio.mjs", "FIFO_SIZE = 64", "FIFO_SIZE = 63", "bytes held is [63], and [64]"),
+                ("bindings/js/page/why.mjs", "0xFE at offset 4", "0xFE at offset 5", "reset is [5, 254], and [4, 254]"),
+                ("tools/c/tests/model.c", "{0x31, 0x10,", "{0x31, 0x11,", "1 is 11, and 10")):
+            with self.subTest(says):
+                self.change(name, old, new)
+                faults = faults_of(self.run_tool("tools/facts"))
+                self.assertTrue(faults and all(says in fault for fault in faults), faults)
+                self.change(name, new, old) if new else self.change(name, "is_readable Reserved", f"{old}is_readable Reserved")
+
+    def test_a_fact_that_is_lost_is_tried_no_more(self):
+        self.change("docs/DEVICES.md", "| 7 | any | SCR | SCR | 0x00 |\n", "")
+        self.assertIn("tried: 10 offsets of the port in DEVICES.md", self.run_tool("tools/facts")[1])
+
+
 class Differences(CopyTest):
     def setUp(self):
         super().setUp()
@@ -131,10 +161,7 @@ class Differences(CopyTest):
 
     def faults(self):
         """What the tool says."""
-        status, printed, _ = self.run_tool("tools/differences")
-        faults, few = faults_of(printed)
-        self.assertEqual((status, few), (1 if faults else 0, []))
-        return faults
+        return faults_of(self.run_tool("tools/differences"))
 
     def test_sound(self):
         self.assertEqual(self.faults(), [])

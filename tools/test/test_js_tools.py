@@ -61,7 +61,8 @@ class Package(CopyTest):
 class Page(CopyTest):
     def setUp(self):
         super().setUp()
-        self.take("bindings/js", "docs", "examples/linux-boot", "prebuilt", "README.md", "bindings/rust/src/core")
+        self.take("bindings/js", "bindings/python/superio", "docs", "examples/linux-boot", "prebuilt", "README.md",
+                  "bindings/rust/src/core")
 
     def check(self):
         status, printed, _ = self.run_tool("tools/page/check", env=ALONE)

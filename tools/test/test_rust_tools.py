@@ -87,20 +87,19 @@ class Counts(unittest.TestCase):
 
 
 class Targets(unittest.TestCase):
-    def count(self, printed, fewest, status=0):
-        """Whether so many tests are enough for `count_tests`."""
+    def count(self, printed, status=0):
+        """What `count_tests` passes and fails of a run, and how many tests it tries."""
         tally = Tally()
-        silently(targets.count_tests, tally, "the tests", subprocess.CompletedProcess("cargo", status, printed), fewest)
-        return (tally.passed, tally.failed) == (1, 0)
+        silently(targets.count_tests, tally, "the tests", subprocess.CompletedProcess("cargo", status, printed))
+        return tally.passed, tally.failed, tally.tried.counts.total()
 
-    def test_fewer_tests_than_the_floor_fail(self):
+    def test_the_tests_of_all_programs_are_tried_and_none_is_a_failure(self):
         printed = "test result: ok. 12 passed; 0 failed\ntest result: ok. 8 passed; 0 failed\n"
-        self.assertTrue(self.count(printed, 20))
-        self.assertFalse(self.count(printed, 21))
-        self.assertFalse(self.count("", 1))
+        self.assertEqual(self.count(printed), (1, 0, 20))
+        self.assertEqual(self.count(""), (0, 1, 0))
 
     def test_a_run_that_fails_passed_no_test(self):
-        self.assertFalse(self.count("test result: ok. 20 passed; 0 failed\n", 1, status=101))
+        self.assertEqual(self.count("test result: ok. 20 passed; 0 failed\n", status=101), (0, 1, 0))
 
     @unittest.skipUnless(shutil.which("cargo"), "needs cargo")
     def test_each_target_is_built_or_named(self):

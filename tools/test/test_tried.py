@@ -1,8 +1,11 @@
 """Tests that a check which tries less than the table of floors says fails, in each row of the table."""
+import contextlib
+import io
 import tempfile
 import unittest
 from pathlib import Path
 
+import program
 import tried
 from test_check import check
 from tried import Tried, raised, read_floors, shortfalls, write_floors
@@ -78,6 +81,23 @@ class Lines(unittest.TestCase):
         suite.run(result)
         found.leave_out_skipped(result)
         self.assertEqual(found.left_out, {f"tests of {__name__}"})
+
+
+class Sums(unittest.TestCase):
+    def sum_of(self, results, generated=("random",)):
+        """The status of `report`, and its last line."""
+        with contextlib.redirect_stdout(io.StringIO()) as printed:
+            return program.report(iter(results), generated), printed.getvalue().splitlines()[-1]
+
+    def test_made_up_cases_are_one_check_of_their_kind(self):
+        many, some = [("random", None)] * 1000, [("lines", None)] * 3
+        self.assertEqual(self.sum_of(many + some), (0, "4 passed, 0 failed"))
+        self.assertEqual(self.sum_of(many + some, ()), (0, "1003 passed, 0 failed"))
+        self.assertEqual(self.sum_of(many + [("random", "it differs")] * 5 + some), (1, "3 passed, 1 failed"))
+        self.assertEqual(self.sum_of(many + [("lines", "it differs")]), (1, "1 passed, 1 failed"))
+
+    def test_nothing_is_no_pass(self):
+        self.assertEqual(self.sum_of([]), (1, "0 passed, 1 failed"))
 
 
 class Writing(unittest.TestCase):

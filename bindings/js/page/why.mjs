@@ -2,10 +2,12 @@
 import { SERIAL, clockRegister, serialRegister } from "../registers.mjs";
 import { hex } from "./board.mjs";
 
-const LOOP = 0x10;
+const bitOf = (register, name) => SERIAL[register].bits.find(([, one]) => one === name)[0];
+const LOOP = bitOf("MCR", "LOOP");
 // Each condition with its bit of IIR, its bit of IER, and what acknowledges it.
-export const CONDITIONS = [["RDA", 0x04, 0x01, "A read of IIR or of RBR acknowledges it."],
-  ["THRE", 0x02, 0x02, "A read of IIR acknowledges it."]];
+export const CONDITIONS = Object.entries({
+  RDA: "A read of IIR or of RBR acknowledges it.", THRE: "A read of IIR acknowledges it.",
+}).map(([name, ended]) => [name, bitOf("IIR", name), bitOf("IER", name), ended]);
 
 export const plural = (count, noun) => `${count.toLocaleString("en")} ${noun}${count === 1 ? "" : "s"}`;
 

@@ -3,10 +3,11 @@
 It replies to each line as the program `superio` does.
 """
 from dataclasses import replace
-from typing import Callable, Dict, List, NamedTuple, Optional, Tuple
+from typing import Callable, Dict, List, NamedTuple, Optional, Tuple, Union
 
 from .checks import check_kind
 from .devices import I8042, Rtc, Serial, clock_state, serial_state
+from .registers import DLAB, SERIAL, bits_by_name
 from .saved import SavedStateError, script_words
 from .script import Command
 from .states import RtcState, SerialState
@@ -16,8 +17,10 @@ __all__ = ["Board", "Call", "Counts", "InterruptLine", "OUTPUT_SIZE", "Snapshot"
 OUTPUT_SIZE = 256
 """How many bytes the board's output takes. Each byte after them is lost."""
 
-_THRE = 0x02
+_THRE = bits_by_name(SERIAL["IIR"])["THRE"]
 """The bit of IIR by which THRE is pending."""
+
+_DATA_READY = bits_by_name(SERIAL["LSR"])["DR"]
 
 
 class InterruptLine:
@@ -136,7 +139,7 @@ class Board:
     def _serial_read(self, offset: int) -> str:
         return f"{self._read(offset):02x}"
 
-    def _read(self, offset: int) -> int:
+    def _read(self, offset: Union[int, str]) -> int:
         done = self.serial.read(offset)
         if done.buffer_read:
             self._count(buffer_read=True, in_buffer_empty=done.in_buffer_empty)
@@ -185,9 +188,9 @@ class Board:
     def _drain(self) -> str:
         """What the guest's driver reads: while LSR shows data ready, it reads RBR. With DLAB set it does not."""
         drained = bytearray()
-        if not self._read(3) & 0x80:
-            while self._read(5) & 0x01:
-                drained.append(self._read(0))
+        if not self._read("LCR") & DLAB:
+            while self._read("LSR") & _DATA_READY:
+                drained.append(self._read("RBR"))
         return drained.hex()
 
     def _restore(self) -> str:

@@ -1,14 +1,20 @@
 """The registers of the serial port and of the clock: names, offsets and bits."""
 from typing import Dict, List, NamedTuple, Optional, Tuple
 
-__all__ = ["Register", "RegisterError", "SERIAL", "CLOCK", "DLAB", "LOOPBACK", "serial_offset", "clock_offset",
-           "serial_register", "clock_register", "bit_names"]
+__all__ = ["Register", "RegisterError", "SERIAL", "CLOCK", "DLAB", "LOOPBACK", "FIFO_BITS", "IDENTIFICATION",
+           "serial_offset", "clock_offset", "serial_register", "clock_register", "bits_by_name", "bit_names"]
 
 DLAB = 0x80
 """The bit of LCR that puts the divisor at the offsets 0 and 1."""
 
 LOOPBACK = 0x10
 """The bit of MCR that connects the port's output with its input."""
+
+FIFO_BITS = 0xC0
+"""The bits of IIR that a read shows beside the conditions: FIFOs are enabled."""
+
+IDENTIFICATION = bytes.fromhex("31 10 04 00 0d f0 05 b1")
+"""The bytes of the clock's registers ID0 to ID7."""
 
 
 class RegisterError(ValueError):
@@ -30,8 +36,8 @@ class Register(NamedTuple):
 
 _IER_BITS = ((0x01, "RDA"), (0x02, "THRE"), (0x04, "RLS"), (0x08, "MS"))
 _IIR_BITS = ((0x04, "RDA"), (0x02, "THRE"))
-_LCR_BITS = ((0x40, "BREAK"), (0x80, "DLAB"))
-_MCR_BITS = ((0x01, "DTR"), (0x02, "RTS"), (0x04, "OUT1"), (0x08, "OUT2"), (0x10, "LOOP"))
+_LCR_BITS = ((0x40, "BREAK"), (DLAB, "DLAB"))
+_MCR_BITS = ((0x01, "DTR"), (0x02, "RTS"), (0x04, "OUT1"), (0x08, "OUT2"), (LOOPBACK, "LOOP"))
 _LSR_BITS = ((0x01, "DR"), (0x02, "OE"), (0x04, "PE"), (0x08, "FE"), (0x10, "BI"), (0x20, "THRE"), (0x40, "TEMT"))
 _MSR_BITS = ((0x10, "CTS"), (0x20, "DSR"), (0x40, "RI"), (0x80, "DCD"))
 _ALARM = ((0x01, "ALARM"),)
@@ -60,7 +66,7 @@ _CLOCK_REGISTERS = (
     Register("RIS", 0x014, "raw interrupt status", _ALARM, None, "r"),
     Register("MIS", 0x018, "masked interrupt status", _ALARM, None, "r"),
     Register("ICR", 0x01C, "interrupt clear", _ALARM, None, "w"),
-) + tuple(Register(f"ID{index}", 0xFE0 + 4 * index, "identification", (), None, "r") for index in range(8))
+) + tuple(Register(f"ID{index}", 0xFE0 + 4 * index, "identification", (), None, "r") for index in range(len(IDENTIFICATION)))
 
 SERIAL: Dict[str, Register] = {register.name: register for register in _SERIAL_REGISTERS}
 """The registers of the serial port by name."""
@@ -131,6 +137,11 @@ def _line_format(value: int) -> str:
     """The character format of a line control, as `8N1`."""
     parity = "OEMS"[value >> 4 & 3] if value & 0x08 else "N"
     return f"{5 + (value & 3)}{parity}{2 if value & 0x04 else 1}"
+
+
+def bits_by_name(register: Register) -> Dict[str, int]:
+    """The bits of a register by their names."""
+    return {name: bit for bit, name in register.bits}
 
 
 def bit_names(register: Register, value: int) -> List[str]:

@@ -5,16 +5,17 @@ from typing import List, Optional
 
 from .board import OUTPUT_SIZE, Call, Snapshot
 from .devices import Rtc, Serial
-from .registers import CLOCK, LOOPBACK, SERIAL, Register, bit_names, clock_register, serial_register
+from .registers import (CLOCK, FIFO_BITS, LOOPBACK, SERIAL, Register, bit_names, bits_by_name, clock_register,
+                        serial_register)
 from .states import RtcState, SerialState
 from .structs import FIFO_SIZE
 
 __all__ = ["CONDITIONS", "changes", "pending", "plural", "quoted", "registers", "clock_registers", "told"]
 
-CONDITIONS = {"RDA": 0x04, "THRE": 0x02}
+CONDITIONS = bits_by_name(SERIAL["IIR"])
 """The interrupt conditions, each with its bit of IIR."""
 
-ENABLES = {"RDA": 0x01, "THRE": 0x02}
+ENABLES = bits_by_name(SERIAL["IER"])
 """The bit of IER that enables each condition."""
 
 _REGISTERS = {"interrupt_enable": "IER", "line_control": "LCR", "modem_control": "MCR", "line_status": "LSR",
@@ -202,7 +203,7 @@ def changes(call: Call) -> List[str]:
     before, after = call.before, call.after
     rows = [_change(name, getattr(before.serial, field), getattr(after.serial, field), SERIAL[name], 4)
             for field, name in _REGISTERS.items() if getattr(before.serial, field) != getattr(after.serial, field)]
-    identification = [state.interrupt_identification | 0xC0 for state in (before.serial, after.serial)]
+    identification = [state.interrupt_identification | FIFO_BITS for state in (before.serial, after.serial)]
     if identification[0] != identification[1]:
         rows.append(_change("IIR", *identification, SERIAL["IIR"], 4))
     rows.extend(_change(name, getattr(before.clock, name.lower()), getattr(after.clock, name.lower()), CLOCK[name], 10)
