@@ -137,7 +137,8 @@ FEATURES = [
      "#sw+07+01;sw+07+02;sw+07+03", "by('list').children[1].click()", "[row(7).value, text('place')]",
      ["0x02", "2 of 3"]),
     ("a copied script says which lines are the page's own",
-     "#sw+00+41+f", "click('copy'); while (!text('said').includes('opied')) await new Promise(requestAnimationFrame)",
+     "#sw+00+41+f", "click('copy'); while (!text('said').includes(' for this page alone')) await new "
+     "Promise(requestAnimationFrame)",
      "has('said', 'lines that end in f are for this page alone')", True),
     ("a call in the past drops what came after",
      "#sw+07+01;sw+07+02", "click('back'); put(7, '9')", "lines()", "sw 07 01=ok sw 07 09=ok"),
