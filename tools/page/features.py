@@ -96,6 +96,15 @@ FEATURES = [
      "#sw+03+83", "fill('input', 'hi'); submit('typing'); click('serve')", "[lines(), text('taken')]",
      ["sw 03 83=ok sq 68690a=03 sw 03 03=ok sw 01 01=ok sr 02=c4 sr 05=61 sr 00=68 sr 05=61 sr 00=69 sr 05=61 "
       "sr 00=0a sr 05=60 sr 02=c1 si=ok", "hi\n"]),
+    ("a driver is interrupted again for bytes that the guest left",
+     "#sw+01+01;sq+6162;sr+02;sr+00;sr+02", "click('serve')",
+     "[lines().split('sr 02=c1 ')[2].trim(), text('taken'), held()]",
+     ["si=ok sr 02=c4 sr 05=61 sr 00=62 sr 05=60", "ab", "0"]),
+    ("a driver is not interrupted again if no timeout is made",
+     "#sw+01+01;sq+6162;sr+02;sr+00;sr+02", "click('makes-timeouts'); click('serve')", "[text('taken'), held()]",
+     ["a", "1"]),
+    ("a driver is not interrupted again if the interrupt is refused",
+     "#sw+01+01;sq+6162;sr+02;sr+00;sr+02", "click('refuses'); click('serve')", "[text('taken'), held()]", ["a", "1"]),
     ("a read of IIR that shows none pending has a timeout after it",
      "#sw+01+01;sq+6162;sr+02", "row(2).read.click()", "[lines(), by('rda').classList.contains('lit')]",
      ["sw 01 01=ok sq 6162=02 sr 02=c4 sr 02=c1 si=ok", True]),
@@ -261,4 +270,7 @@ FEATURES = [
       "sl 53494f53010109000c00070213600bb000=ok", True, "0x6b063b79"]),
     ("a driver serves the bytes that the FIFO held in the second boot",
      "", "choose('console'); fill('boot-at', '2798'); click('as-host'); click('serve')", "text('taken')", PASTED[:64]),
+    ("a driver serves bytes that the FIFO held with nothing pending",
+     "", "choose('console'); fill('boot-at', '1313'); click('as-host'); window.seen = held(); click('serve')",
+     "[seen, text('taken'), held()]", ["10", "uname -sr\n", "0"]),
 ]

@@ -122,15 +122,17 @@ function go(at) {
 
 /**
  * What a guest's driver does: it enables RDA when it opens the port. In an interrupt it reads IIR until none is
- * pending, and RBR while LSR shows data ready.
+ * pending, and RBR while LSR shows data ready. The character timeout after the last read may interrupt it again.
  */
 function serve() {
   if (isBoot()) takeOver();
   const { lineControl, interruptEnable } = board().serial.state;
   if (lineControl & DLAB) act(`sw 03 ${hex(lineControl & ~DLAB, 2)}`);
   if (!(interruptEnable & 1)) act(`sw 01 ${hex(interruptEnable | 1, 2)}`);
-  for (let turns = 0; turns < 2_000 && !(parseInt(act("sr 02").reply, 16) & 0x01); turns += 1) {
-    while (parseInt(act("sr 05").reply, 16) & 0x01) act("sr 00");
+  for (let turns = 0; turns < 2_000; turns += 1) {
+    const isNone = (parseInt(act("sr 02").reply, 16) & 0x01) !== 0;
+    if (isNone && !board().answers.includes(true)) return;
+    while (!isNone && parseInt(act("sr 05").reply, 16) & 0x01) act("sr 00");
   }
 }
 
@@ -310,7 +312,8 @@ function showWhy() {
   const [sentence, heading] = call ? ruleOf(call) : begin;
   say("told", call ? `${call.line.replace(/^(.{60}).*/, "$1..")} → ${told(call)}` : "Fresh devices.");
   say("resets", call?.reply === "reset" ? "The monitor has to reset the machine." : "");
-  id("rule").replaceChildren(`${sentence} `, element("a", { href: `DEVICES.md#${heading}` }, "The rule in DEVICES.md"));
+  const link = element("a", { href: `DEVICES.md#${heading}` }, "The rule: DEVICES.md, a text file");
+  id("rule").replaceChildren(`${sentence} `, link);
   const stories = isBoot() ? [] : CONDITIONS.map((one) => storyOf(one, state.calls, state.at - 1, board()));
   id("stories").replaceChildren(...stories.map((text) => element("li", {}, text)));
 }
@@ -460,7 +463,7 @@ function caption() {
   const compared = `${differences} of ${length.toLocaleString("en")} replies differed`;
   const end = at === length ? ` The boot is over: ${compared} from the recorded ones.` : "";
   id("caption").replaceChildren(stop ? `${stop.text} ` : recording.beginning, ...(stop ?
-    [element("a", { href: `GUESTS.md#${stop.heading}` }, "More in GUESTS.md")] : []), end);
+    [element("a", { href: `GUESTS.md#${stop.heading}` }, "More: GUESTS.md, a text file")] : []), end);
 }
 
 id("play").onclick = () => {
