@@ -21,9 +21,9 @@ interrupts events = map (λ (reply : Reply). reply.interrupts) (replies_to event
 
 -- two bytes are typed. The guest takes one, and the other follows
 abbrev typed : List Event
-typed = Typed 0x61 ∷ Typed 0x62 ∷ Typed 0x63 ∷ PortRead 0x3F8 ∷ PortRead 0x3F8 ∷ PortRead 0x3F8 ∷ []
+typed = PortWrite 0x3F9 0x01 ∷ Typed 0x61 ∷ Typed 0x62 ∷ Typed 0x63 ∷ PortRead 0x3F8 ∷ PortRead 0x3F8 ∷ PortRead 0x3F8 ∷ []
 
-third_has_no_room : answers typed ≡ Done ∷ Done ∷ Full ∷ Shows 0x61 ∷ Shows 0x62 ∷ Shows 0 ∷ []
+third_has_no_room : answers typed ≡ Done ∷ Done ∷ Done ∷ Full ∷ Shows 0x61 ∷ Shows 0x62 ∷ Shows 0 ∷ []
 unfolding has_bits only_bits with_bits
 third_has_no_room = refl
 
@@ -34,6 +34,15 @@ two_typed = refl
 two_read : in_each left_at typed machine ≡ 0x61 ∷ 0x62 ∷ []
 unfolding has_bits only_bits with_bits
 two_read = refl
+
+-- a guest that enables both interrupts tests its port, and one that enables RDA alone is ready
+abbrev testing : List Event
+testing =
+    Typed 0x61 ∷ PortRead 0x3FD ∷ PortWrite 0x3F9 0x0F ∷ PortRead 0x3FD ∷ PortWrite 0x3F9 0x01 ∷ PortRead 0x3FD ∷ []
+
+waits_until_ready : answers testing ≡ Done ∷ Shows 0x60 ∷ Done ∷ Shows 0x60 ∷ Done ∷ Shows 0x61 ∷ []
+unfolding has_bits only_bits with_bits
+waits_until_ready = refl
 
 -- a byte that is written while DLAB is set is no byte that is sent
 one_sent : in_each sent_at (PortWrite 0x3F8 0x78 ∷ PortWrite 0x3FB 0x83 ∷ PortWrite 0x3F8 0x79 ∷ []) machine ≡ 0x78 ∷ []
@@ -54,9 +63,9 @@ one_looped = refl
 
 -- a reset, beside two other commands. It takes the byte that is held
 abbrev commands : List Event
-commands = Typed 0x61 ∷ PortWrite 0x60 0xFE ∷ PortWrite 0x64 0xFF ∷ PortWrite 0x64 0xFE ∷ PortRead 0x3F8 ∷ []
+commands = PortWrite 0x3F9 0x01 ∷ Typed 0x61 ∷ PortWrite 0x60 0xFE ∷ PortWrite 0x64 0xFF ∷ PortWrite 0x64 0xFE ∷ PortRead 0x3F8 ∷ []
 
-one_reset : answers commands ≡ Done ∷ Done ∷ Done ∷ Reset ∷ Shows 0 ∷ []
+one_reset : answers commands ≡ Done ∷ Done ∷ Done ∷ Done ∷ Reset ∷ Shows 0 ∷ []
 unfolding has_bits only_bits with_bits
 one_reset = refl
 

@@ -3,9 +3,10 @@ use Rattle.std.proofs.Common.{◌≡◌, ℕ, Bool, true, false, List, [], ◌�
 use Rattle.std.specs.Prelude.{if◌then◌else◌, Option, Some, None, map, ◌&&◌, ◌==◌, nat_lt}
 use Rattle.std.specs.Option.{option_map_or}
 use Rattle.std.proofs.lemmas.Bool.{false≢true, eqb-true}
+use Rattle.circular_buffer.specs.Buffer.{Buffer}
 use Rattle.superio_core.specs.declared.trace.Asked.{Asked}
 use Rattle.superio_core.specs.declared.trace.Sent.{Sent}
-use Rattle.superio_core.specs.Serial.Port.State.{State, fresh_state, not_empty}
+use Rattle.superio_core.specs.Serial.Port.State.{State, fresh_state}
 use Rattle.superio_core.specs.Serial.Port.Operations.{Op, Read, Write, Enqueue, CharacterTimeout, Restore}
 use Rattle.superio_core.specs.Serial.Step.Raising.{enqueued_bytes}
 use Rattle.superio_core.specs.Serial.Step.Transition.{step, step_response}
@@ -18,7 +19,7 @@ use Rattle.superio_examples.specs.Output.{Waiting, after_sent, after_byte, IsSpl
 use Rattle.superio_examples.specs.declared.monitor.Answer.TheVariants as answer
 use Rattle.superio_examples.specs.declared.monitor.Event.{Event}
 use Rattle.superio_examples.specs.declared.monitor.Event.TheVariants.{PortRead, PortWrite, MemoryRead, MemoryWrite, Typed, Moment, Timer, Refused}
-use Rattle.superio_examples.specs.Monitor.{Machine, call_of, asks_reset, shown_at, after_call, serial_after, typed_by, sent_at, act, fed, after_event, answer_to, reply_to, after, replies_to, in_each, is_reset_answer, is_reset_reply, left_at, looped_at, KeepsInput}
+use Rattle.superio_examples.specs.Monitor.{Machine, call_of, asks_reset, shown_at, after_call, typed_by, sent_at, act, noticed, is_open, takes_input, fed, after_event, answer_to, reply_to, after, replies_to, in_each, is_reset_answer, is_reset_reply, left_at, looped_at, KeepsInput, KeepsOut}
 use Rattle.superio_examples.proofs.InputLemmas.{accepted-rest}
 use Rattle.superio_examples.proofs.InterruptLemmas.{received_held}
 
@@ -40,16 +41,16 @@ sent-append : (first second : List ℕ) (output : Waiting) → after_sent (first
 sent-append [] second output = refl
 sent-append (byte ∷ first) second output = sent-append first second (after_byte byte output)
 
-fed-output : (held : Bool) (m more : Machine) → more.output ≡ m.output → (if held then m else more).output ≡ m.output
-fed-output true m more same = refl
-fed-output false m more same = same
+given-output : (takes : Bool) (m more : Machine) → more.output ≡ m.output → (if takes then more else m).output ≡ m.output
+given-output true m more same = same
+given-output false m more same = refl
 
 pub output-run : (events : List Event) (m : Machine) → (after events m).output ≡ after_sent (in_each sent_at events m) m.output
 output-run [] m = refl
 output-run (event ∷ events) m =
     output-run events (after_event event m)
     ∙ ap (after_sent (in_each sent_at events (after_event event m)))
-    (fed-output (not_empty (serial_after event m).in_buffer) (act event m) _ refl)
+    (given-output (takes_input (noticed (act event m))) (noticed (act event m)) _ refl)
     ∙ sym (sent-append (sent_at event m) (in_each sent_at events (after_event event m)) m.output)
 
 -- ---- resets
@@ -151,24 +152,25 @@ act-in-order event m = act-choice (asks_reset event) (call_of event) m.serial (r
 -- ---- input: what the serial port takes
 
 abbrev fed_bytes : (m : Machine) → List ℕ
-fed_bytes m = if not_empty m.serial.in_buffer then [] else enqueued_bytes m.serial m.input.items
+fed_bytes m = if takes_input (noticed m) then enqueued_bytes m.serial m.input.items else []
 
 record Feeds (bytes : List ℕ) (old new : Machine) : Type 0 where
   held : new.serial.in_buffer ≡ old.serial.in_buffer ++ bytes
   waiting : bytes ++ new.input.items ≡ old.input.items
 
-fed-choice : (held : Bool) (m more : Machine) (bytes : List ℕ) → Feeds bytes m more
-    → Feeds (if held then [] else bytes) m (if held then m else more)
-fed-choice true m more bytes feeds = record { held = sym (append-nil m.serial.in_buffer); waiting = refl }
-fed-choice false m more bytes feeds = feeds
+given-choice : (takes : Bool) (m more : Machine) (bytes : List ℕ) → Feeds bytes m more
+    → Feeds (if takes then bytes else []) m (if takes then more else m)
+given-choice true m more bytes feeds = feeds
+given-choice false m more bytes feeds = record { held = sym (append-nil m.serial.in_buffer); waiting = refl }
 
 feeds : (m : Machine) → Feeds (fed_bytes m) m (fed m)
 feeds m =
     let bytes = enqueued_bytes m.serial m.input.items in
-    fed-choice (not_empty m.serial.in_buffer) m _ bytes (record {
+    let given_now = given-choice (takes_input (noticed m)) (noticed m) _ bytes (record {
       held = received_held bytes m.serial;
       waiting = accepted-rest m.serial m.input.items;
-    })
+    }) in
+    record { held = given_now.held; waiting = given_now.waiting }
 
 -- ---- input: an event, and a list of events
 
@@ -225,3 +227,32 @@ keeps-run (event ∷ events) m =
     let next = after_event event m in
     keeps-then (left_at event m) (looped_at event m) (typed_by event m) _ _ _ m next (after events next)
     (keeps-event event m) (keeps-run events next)
+
+-- ---- input before the guest is ready
+
+given-open : (takes : Bool) (m more : Machine) → is_open more ≡ is_open m → is_open (if takes then more else m) ≡ is_open m
+given-open true m more same = same
+given-open false m more same = refl
+
+shut-first : (ready empty : Bool) → ready ≡ false → ready && empty ≡ false
+shut-first true empty shut = absurd (false≢true (sym shut))
+shut-first false empty shut = refl
+
+given-none : (takes : Bool) (m more : Machine) → takes ≡ false → (if takes then more else m).input ≡ m.input
+given-none true m more none = absurd (false≢true (sym none))
+given-none false m more none = refl
+
+shut-event : (event : Event) (m : Machine) → is_open (after_event event m) ≡ false
+    → (after_event event m).input.items ≡ m.input.items ++ typed_by event m
+shut-event event m shut =
+    let made = noticed (act event m) in
+    let none = shut-first (is_open made) _ (sym (given-open (takes_input made) made _ refl) ∙ shut) in
+    ap (λ (input : Buffer ℕ). input.items) (given-none (takes_input made) made _ none)
+
+pub shut-run : (events : List Event) (m : Machine) → KeepsOut events m (after events m)
+shut-run [] m shut = sym (append-nil m.input.items)
+shut-run (event ∷ events) m (shut, later) =
+    let next = after_event event m in
+    shut-run events next later
+    ∙ ap (λ bytes. bytes ++ in_each typed_by events next) (shut-event event m shut)
+    ∙ append_assoc m.input.items (typed_by event m) (in_each typed_by events next)

@@ -1,5 +1,5 @@
 -- A serial port whose waiting input goes in as the guest makes room, once the guest is ready for it.
-use Rattle.std.specs.Prelude.{◌≡◌, ℕ, ◌==◌, ◌&&◌, ◌||◌, bit_and, Bool, List, ◌++◌, length, drop, Result, is_err, is_some}
+use Rattle.std.specs.Prelude.{◌≡◌, ℕ, ◌==◌, ◌&&◌, ◌||◌, Bool, List, ◌++◌, length, drop, Result, is_err, is_some}
 use Rattle.std.specs.Bool.{OnTrue, OnFalse}
 use Rattle.circular_buffer.specs.Buffer.{buffer}
 use Rattle.vm_superio.specs.declared.serial.errors.Error.{Error}
@@ -14,12 +14,8 @@ use Rattle.superio_core.specs.Serial.Step.Admissible.{kind_in_state}
 use Rattle.vm_superio.specs.Serial.Step.PortStep.{IsReadStep, IsWriteStep, IsTimeoutStep}
 use Rattle.superio_examples.specs.declared.console.Console.{Console}
 use Rattle.superio_examples.specs.Interrupts.{answers_none}
-use Rattle.superio_examples.specs.Input.{room_in, ForwardsEnqueue}
+use Rattle.superio_examples.specs.Input.{room_in, shows_ready, ForwardsEnqueue}
 use Rattle.superio_examples.specs.Output.{after_sent}
-
--- IER enables RDA and not THRE, as a driver leaves it that has tested its port and wants input
-abbrev pub shows_ready : (enable : ℕ) → Bool
-shows_ready enable = bit_and enable 0x03 == 0x01
 
 -- input may go in: the guest is ready, or it is one that never says so
 abbrev pub is_open : {T E EV W : Type 0} → (console : Console T EV W E) → Bool

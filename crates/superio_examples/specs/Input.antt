@@ -1,5 +1,5 @@
 -- Input that waits for room in a serial port.
-use Rattle.std.specs.Prelude.{◌≡◌, ℕ, ◌-◌, if◌then◌else◌, List, length, Result}
+use Rattle.std.specs.Prelude.{◌≡◌, ℕ, ◌-◌, ◌==◌, bit_and, Bool, if◌then◌else◌, List, length, Result}
 use Rattle.std.specs.Result.{result_err}
 use Rattle.superio_core.specs.Serial.Port.State.{State}
 use Rattle.superio_core.specs.Serial.Port.Registers.{is_loopback}
@@ -13,6 +13,10 @@ use Rattle.vm_superio.specs.Serial.Step.PortStep.{IsEnqueueStep}
 -- how many bytes a serial port has room for: what is left of its 64, and none in loopback
 abbrev pub room_in : (s : State) → ℕ
 room_in s = if is_loopback s.modem_control then 0 else 64 - length s.in_buffer
+
+-- IER enables RDA and not THRE, as a driver leaves it that has tested its port and wants input
+abbrev pub shows_ready : (enable : ℕ) → Bool
+shows_ready enable = bit_and enable 0x03 == 0x01
 
 -- an enqueue of these bytes, and its result without the count: an error is the trigger's refusal
 abbrev pub ForwardsEnqueue :

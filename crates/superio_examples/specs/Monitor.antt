@@ -1,5 +1,5 @@
 -- A whole machine as one value: what an event does to it, what is replied, and what a list of events does.
-use Rattle.std.specs.Prelude.{◌≡◌, ℕ, ◌+◌, ◌-◌, Bool, true, false, ◌&&◌, ◌==◌, nat_lt, if◌then◌else◌, List, [], ◌∷◌, ◌++◌, length, drop, Option, Some, None, unwrap_or}
+use Rattle.std.specs.Prelude.{◌≡◌, ℕ, ◌+◌, ◌-◌, Bool, true, false, ◌&&◌, ◌||◌, not, ◌==◌, nat_lt, if◌then◌else◌, List, [], ◌∷◌, ◌++◌, length, drop, Option, Some, None, unwrap_or, ⊤}
 use Rattle.std.specs.Option.{option_map, option_map_or}
 use Rattle.circular_buffer.specs.Buffer.{Buffer, buffer}
 use Rattle.superio_core.specs.declared.trace.Asked.{Asked}
@@ -19,7 +19,7 @@ use Rattle.superio_core.specs.Rtc.Step.{clock_step, clock_response}
 use Rattle.vm_superio.specs.Serial.History.Reads.{byte_read}
 use Rattle.vm_superio.specs.Serial.History.Registers.{accepted_by}
 use Rattle.superio_examples.specs.Bus.{is_serial}
-use Rattle.superio_examples.specs.Input.{room_in}
+use Rattle.superio_examples.specs.Input.{room_in, shows_ready}
 use Rattle.superio_examples.specs.Interrupts.{answers_none, state_after_read}
 use Rattle.superio_examples.specs.Mmio.{is_inside}
 use Rattle.superio_examples.specs.Output.{Waiting, after_sent, IsSplit}
@@ -43,6 +43,10 @@ pub record Machine : Type 0 where
   pub moment : ℕ
   -- an interrupt was refused since the last timer
   pub is_refused : Bool
+  -- input need not wait until the guest is ready
+  pub is_early : Bool
+  -- the guest has shown that it is ready since the last reset
+  pub is_ready : Bool
 
 abbrev pub machine_of : (monitor : Monitor) → Machine
 machine_of monitor = record {
@@ -52,6 +56,8 @@ machine_of monitor = record {
   output = monitor.output;
   moment = monitor.moment;
   is_refused = monitor.is_refused;
+  is_early = monitor.is_early;
+  is_ready = monitor.is_ready;
 }
 
 abbrev pub new_machine : (input output : ℕ) → Machine
@@ -62,6 +68,8 @@ new_machine input output = record {
   output = record { items = []; capacity = output; dropped = 0 };
   moment = 0;
   is_refused = false;
+  is_early = false;
+  is_ready = false;
 }
 
 -- ---- what an event calls
@@ -137,15 +145,31 @@ act event m = record {
   output = after_sent (sent_at event m) m.output;
   moment = moment_after event m;
   is_refused = refused_after event m;
+  is_early = m.is_early;
+  is_ready = if asks_reset event then false else m.is_ready;
 }
 
--- the serial port takes input if it holds no byte
-abbrev pub fed : (m : Machine) → Machine
-fed m =
-    if not_empty m.serial.in_buffer then m else record m {
+-- the guest is ready from the event on that leaves IER so
+abbrev pub noticed : (m : Machine) → Machine
+noticed m = record m { is_ready = m.is_ready || shows_ready m.serial.interrupt_enable }
+
+-- input may go in: the guest is ready, or it is one that never says so
+abbrev pub is_open : (m : Machine) → Bool
+is_open m = m.is_ready || m.is_early
+
+-- then the serial port takes input if it holds no byte
+abbrev pub takes_input : (m : Machine) → Bool
+takes_input m = is_open m && not (not_empty m.serial.in_buffer)
+
+abbrev pub given : (m : Machine) → Machine
+given m =
+    if takes_input m then record m {
       serial = step m.serial (Enqueue m.input.items) Asked.Nothing;
       input = buffer (drop (room_in m.serial) m.input.items) m.input.capacity;
-    }
+    } else m
+
+abbrev pub fed : (m : Machine) → Machine
+fed m = given (noticed m)
 
 abbrev pub after_event : (event : Event) (m : Machine) → Machine
 after_event event m = fed (act event m)
@@ -188,7 +212,7 @@ interrupts_by event m =
     else calls_by (call_of event) m.serial
 
 abbrev pub feed_calls : (m : Machine) → ℕ
-feed_calls m = if not_empty m.serial.in_buffer then 0 else step_calls m.serial (Enqueue m.input.items)
+feed_calls m = if takes_input (noticed m) then step_calls m.serial (Enqueue m.input.items) else 0
 
 abbrev pub reply_to : (event : Event) (m : Machine) → Reply
 reply_to event m = record {
@@ -243,3 +267,12 @@ pub record KeepsInput (left looped typed : List ℕ) (old new : Machine) : Type 
   pub in_order : left ++ new.serial.in_buffer ≡ old.serial.in_buffer ++ arrived
   pub sources : IsSplit arrived input looped
   pub none_lost : input ++ new.input.items ≡ old.input.items ++ typed
+
+-- input may go in after none of these events
+abbrev pub StaysShut : (events : List Event) (m : Machine) → Type 0
+StaysShut [] m = ⊤
+StaysShut (event ∷ events) m = (is_open (after_event event m) ≡ false) × StaysShut events (after_event event m)
+
+-- then what waits is what waited, and behind it all that was typed
+abbrev pub KeepsOut : (events : List Event) (old new : Machine) → Type 0
+KeepsOut events old new = StaysShut events old → new.input.items ≡ old.input.items ++ in_each typed_by events old

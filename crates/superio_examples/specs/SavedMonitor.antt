@@ -25,3 +25,5 @@ pub record IsSavedAs (saved : SavedMonitor) (m : Machine) : Type 0 where
   pub output : m.output ≡ saved_output saved
   pub moment : m.moment ≡ saved.moment
   pub is_refused : m.is_refused ≡ saved.is_refused
+  pub is_early : m.is_early ≡ saved.is_early
+  pub is_ready : m.is_ready ≡ saved.is_ready

@@ -8,10 +8,10 @@ ghost use Rattle.vm_superio.specs.Links.Objects.{all_ok};
 ghost use Rattle.vm_superio.specs.Serial.Port.Model.{refusal_in_result};
 ghost use Rattle.superio_core.specs.Serial.Step.Restore.{restore_calls};
 ghost use Rattle.vm_superio.specs.Serial.Step.PortStep.{with_trigger};
-ghost use Rattle.superio_examples.specs.Console.{Feeds, FeedsIf, is_open, shows_ready, TimesOut, TimesOutIf, ReadsThenFeeds, RefusesAgain, WritesThenFeeds};
+ghost use Rattle.superio_examples.specs.Console.{Feeds, FeedsIf, is_open, TimesOut, TimesOutIf, ReadsThenFeeds, RefusesAgain, WritesThenFeeds};
 ghost use Rattle.superio_examples.specs.Interrupts.{answers_none};
 
-use crate::input::Input;
+use crate::input::{Input, shows_ready};
 use crate::interrupts::shows_none;
 use crate::output::Output;
 use std::io::Write;
@@ -186,13 +186,6 @@ impl<T: Trigger, EV: SerialEvents, W: Write> Console<T, EV, W> {
             self.is_refused = true;
         }
     }
-}
-
-/// Whether a guest that leaves IER so is ready for input: with RDA and without THRE.
-fn shows_ready(enable: u8) -> bool
-    ensures { result ≡ shows_ready enable }
-{
-    enable & 0x03 == 0x01
 }
 
 /// Whether a guest read IIR and found nothing pending.

@@ -1,5 +1,6 @@
 //! A guest's claims: a polling driver loses no byte and gets them in order.
 ghost use Rattle.std.specs.Prelude.{◌≡◌, [], ◌++◌, false, IfOk, OnErr, IsTrue};
+ghost use Rattle.vm_superio.specs.Claims.{is_fresh};
 ghost use Rattle.vm_superio.specs.Serial.History.Registers.{accepted_bytes};
 ghost use Rattle.vm_superio.specs.Serial.Laws.PollingDriver.{driver_bytes, polls_after_data_ready};
 ghost use Rattle.superio_core.specs.Serial.Port.Coherent.{Coherent};
@@ -50,15 +51,28 @@ pub fn receive_all<T: Trigger + Drop, W: Write + Drop>(
 ) -> Result<Vec<u8>, Error<T::E>>
     ensures in_order { IfOk result (λ got. got.items ≡ input.now) }
 {
-    laws::one_call();
     let mut serial = Serial::new(alloc, trigger, out).map_err(Refused::into_error)?;
+    receive_through(alloc, &mut serial, input)
+}
+
+/// Passes input through a port in the state of a new one.
+fn receive_through<T: Trigger, EV: SerialEvents, W: Write>(
+    alloc: Global,
+    serial: &mut Serial<T, EV, W>,
+    input: &[u8],
+) -> Result<Vec<u8>, Error<T::E>>
+    requires fresh { is_fresh serial.old }
+    requires coherent { Coherent serial.old.state }
+    ensures in_order { IfOk result (λ got. got.items ≡ input.now) }
+{
+    laws::one_call();
     let mut got = Vec::new(alloc);
     let mut rest = input;
     while !rest.is_empty() {
         // A drained port has room for 64 bytes.
         let (piece, later) = rest.split_at(rest.len().min(64));
         serial.enqueue_raw_bytes(piece)?;
-        got.extend_from_slice(&drain(&mut serial))?;
+        got.extend_from_slice(&drain(serial))?;
         rest = later;
     }
     Ok(got)

@@ -8,7 +8,7 @@ ghost use Rattle.superio_core.specs.Serial.Port.Operations.{Enqueue};
 ghost use Rattle.superio_core.specs.Serial.Port.SerialPort.{state_of_port, CoherentPort};
 ghost use Rattle.superio_core.specs.Serial.Step.Admissible.{step_calls};
 ghost use Rattle.superio_core.specs.Serial.Step.Transition.{step};
-ghost use Rattle.superio_examples.specs.Input.{room_in, ForwardsEnqueue};
+ghost use Rattle.superio_examples.specs.Input.{room_in, shows_ready, ForwardsEnqueue};
 
 use circular_buffer::HeapCircularBuffer;
 use std::alloc::{AllocError, Global};
@@ -125,4 +125,11 @@ impl Input {
             .truncate_front(self.waiting.len() - enqueued.taken);
         enqueued.interrupts
     }
+}
+
+/// Whether a guest that leaves IER so is ready for input: with RDA and without THRE.
+pub(crate) fn shows_ready(enable: u8) -> bool
+    ensures { result ≡ shows_ready enable }
+{
+    enable & 0x03 == 0x01
 }

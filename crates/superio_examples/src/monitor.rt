@@ -9,7 +9,7 @@ ghost use Rattle.superio_examples.specs.Monitor.{shown_at, calls_by, after_call}
 
 use crate::alarm::RTCMIS;
 use crate::bus::{COM1, I8042_COMMAND, I8042_DATA, serial_offset};
-use crate::input::Input;
+use crate::input::{Input, shows_ready};
 use crate::interrupts::{IIR_OFFSET, shows_none};
 use crate::mmio::offset_in;
 use crate::output::Output;
@@ -82,12 +82,16 @@ pub struct Monitor {
     pub moment: u64,
     /// An interrupt was refused since the last timer.
     pub is_refused: bool,
+    /// Input goes in although the guest is not ready, as one that polls needs it. False in a new monitor.
+    pub is_early: bool,
+    /// The guest has enabled RDA and not THRE since the last reset. No test of a port does so.
+    pub is_ready: bool,
 }
 
 impl Monitor {
     ghost use Rattle.superio_examples.specs.Monitor.{machine_of, new_machine, act, fed, after_event, after};
     ghost use Rattle.superio_examples.specs.declared.monitor.Event.{Event};
-    ghost use Rattle.superio_examples.specs.Monitor.{in_each, sent_at, left_at, looped_at, typed_by, KeepsInput};
+    ghost use Rattle.superio_examples.specs.Monitor.{in_each, sent_at, left_at, looped_at, typed_by, KeepsInput, KeepsOut};
     ghost use Rattle.superio_examples.specs.Monitor.{is_reset_reply, asks_reset};
     ghost use Rattle.superio_examples.specs.Output.{after_sent};
     ghost use Rattle.superio_examples.specs.Monitor.{answer_to, interrupts_by, feed_calls, reply_to, replies_to};
@@ -107,6 +111,8 @@ impl Monitor {
             output: Output::new(alloc, output)?,
             moment: 0,
             is_refused: false,
+            is_early: false,
+            is_ready: false,
         })
     }
 
@@ -124,6 +130,8 @@ impl Monitor {
             ≡ after_sent (in_each sent_at events.now (machine_of self.old)) self.old.output) }
         // A reset is asked for exactly where 0xFE is written at port 0x64.
         ensures resets { IfOk result (λ replies. map is_reset_reply replies.items ≡ map asks_reset events.now) }
+        // Until the guest is ready, all that is typed waits.
+        ensures gate { OnOk result (KeepsOut events.now (machine_of self.old) (machine_of self.new)) }
         // The guest got each byte that was typed, in order, but those that a reset lost, and those that wait.
         ensures input { let m = machine_of self.old in OnOk result (KeepsInput (in_each left_at events.now m)
             (in_each looped_at events.now m) (in_each typed_by events.now m) m (machine_of self.new)) }
@@ -210,6 +218,7 @@ impl Monitor {
             }
             (None, I8042_COMMAND) if is_reset_command(COMMAND_OFFSET, value) => {
                 self.port = SerialPort::new();
+                self.is_ready = false;
                 (Answer::Reset, 0)
             }
             (None, _) => (Answer::Done, 0),
@@ -277,13 +286,16 @@ impl Monitor {
         (Answer::Done, interrupts)
     }
 
-    /// Gives the serial port input if it holds no byte, and returns how often to raise the interrupt.
+    /// Gives the serial port input if it holds no byte and input may go in, and returns how often to raise the interrupt.
+    /// Input may go in from the event on by which the guest is ready.
     fn feed(&mut self) -> u8
         ensures interrupts { result ≡ feed_calls (machine_of self.old) }
         ensures at_most_1 { result ≤ 1 }
         ensures machine { machine_of self.new ≡ fed (machine_of self.old) }
     {
-        if self.port.fifo_capacity() < FIFO_SIZE {
+        self.is_ready |= shows_ready(self.port.registers.interrupt_enable);
+        let is_open = self.is_ready | self.is_early;
+        if !is_open || self.port.fifo_capacity() < FIFO_SIZE {
             return 0;
         }
         self.input.feed_port(&mut self.port)

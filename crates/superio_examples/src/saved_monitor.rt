@@ -30,6 +30,10 @@ pub struct SavedMonitor {
     pub moment: u64,
     /// An interrupt was refused since the last timer.
     pub is_refused: bool,
+    /// Input goes in although the guest is not ready.
+    pub is_early: bool,
+    /// The guest has shown that it is ready since the last reset.
+    pub is_ready: bool,
 }
 
 /// Saves a monitor, which does not change.
@@ -54,6 +58,8 @@ pub fn save_monitor(alloc: Global, monitor: &Monitor) -> Result<SavedMonitor, Al
         dropped: monitor.output.dropped(),
         moment: monitor.moment,
         is_refused: monitor.is_refused,
+        is_early: monitor.is_early,
+        is_ready: monitor.is_ready,
     })
 }
 
@@ -78,6 +84,8 @@ pub fn restore_monitor(alloc: Global, saved: &SavedMonitor) -> Result<Monitor, E
             output,
             moment: saved.moment,
             is_refused: saved.is_refused,
+            is_early: saved.is_early,
+            is_ready: saved.is_ready,
         }),
         Err(AllocError) => Err(Error::Memory),
     }

@@ -14,12 +14,17 @@ const CLOCK: u64 = 0x0901_0000;
 
 /// Events, and to each the answer, how often the interrupt is raised, and whether the clock's line is up. At most one
 /// byte waits.
-const SESSION: [(Event, Answer, u8, bool); 36] = [
+const SESSION: [(Event, Answer, u8, bool); 42] = [
+    // What is typed waits while the guest tests its port.
     (Typed(b'a'), Done, 0, false),
-    (Typed(b'b'), Done, 0, false),
-    (Typed(b'c'), Full, 0, false),
+    (PortWrite(0x3F9, 0x0F), Done, 1, false),
+    (PortRead(0x3FA), Shows(0xC2), 0, false),
+    (PortRead(0x3FD), Shows(0x60), 0, false),
+    (Typed(b'b'), Full, 0, false),
     // The guest enables the interrupts for received data, and takes a byte. The next one comes from the input.
     (PortWrite(0x3F9, 0x01), Done, 1, false),
+    (Typed(b'b'), Done, 0, false),
+    (Typed(b'c'), Full, 0, false),
     (PortRead(0x3FA), Shows(0xC4), 0, false),
     (PortRead(0x3FD), Shows(0x61), 0, false),
     (PortRead(0x3F8), Shows(0x61), 1, false),
@@ -46,16 +51,18 @@ const SESSION: [(Event, Answer, u8, bool); 36] = [
     (Moment(105), Done, 0, false),
     (Timer, Done, 0, true),
     (MemoryWrite(CLOCK + 0x01C, 1), Done, 0, false),
-    // Nothing is there.
+    // A register that can only be written, memory of no device, the controller, and two ports of no device.
     (MemoryRead(CLOCK + 0x01C), Shows(0), 0, false),
     (MemoryRead(CLOCK - 4), Shows(0), 0, false),
     (PortRead(0x64), Shows(0), 0, false),
     (PortRead(0x61), Shows(0xFF), 0, false),
     (PortRead(0x400), Shows(0xFF), 0, false),
-    // It resets the machine.
+    // It resets the machine. Input waits again.
     (PortWrite(0x60, 0xFE), Done, 0, false),
     (PortWrite(0x64, 0xFF), Done, 0, false),
     (PortWrite(0x64, 0xFE), Reset, 0, false),
+    (Typed(b'd'), Done, 0, false),
+    (PortRead(0x3FD), Shows(0x60), 0, false),
     (PortRead(0x3FC), Shows(0x08), 0, false),
 ];
 
@@ -81,6 +88,16 @@ fn a_monitor_replies_to_each_event(rt: HostRuntime) -> Result<(), Fail> {
     let replies = monitor.run(rt.alloc(), &events(rt.alloc())?)?;
     assert!(rt; replies.len() == SESSION.len() && first_wrong(&replies, &[]).is_none());
     assert!(rt; monitor.output.waiting(rt.alloc())?.as_slice() == b"xy".as_slice());
+    Ok(())
+}
+
+#[test]
+fn a_guest_that_polls_gets_its_input_at_once(rt: HostRuntime) -> Result<(), Fail> {
+    let mut monitor = Monitor::new(rt.alloc(), 1, 0)?;
+    monitor.is_early = true;
+    monitor.step(Typed(b'a'));
+    assert!(rt; matches!(monitor.step(PortRead(0x3FD)).answer, Shows(0x61)));
+    assert!(rt; matches!(monitor.step(PortRead(0x3F8)).answer, Shows(0x61)));
     Ok(())
 }
 

@@ -1,7 +1,7 @@
 -- The port writes, its output waits, a refusal and a guest that is ready are remembered, and then input goes in if MCR or IER
 -- was written.
 use Rattle.std.proofs.Common.{◌||◌, Bool, ap, ◌∙◌}
-use Rattle.superio_examples.specs.Console.{shows_ready}
+use Rattle.superio_examples.specs.Input.{shows_ready}
 use Rattle.superio_examples.specs.Output.{Waiting}
 use Rattle.superio_examples.proofs.console.Console.write.Goals as goal
 

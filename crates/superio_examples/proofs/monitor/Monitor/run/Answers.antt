@@ -2,8 +2,8 @@
 use Rattle.std.proofs.Common.{◌≡◌, sym, ap, subst, ◌∙◌, arith}
 use Rattle.std.proofs.lemmas.Grind.{common_steps}
 use Rattle.std.specs.Prelude.{map}
-use Rattle.superio_examples.specs.Monitor.{Machine, machine_of, after, replies_to, in_each, left_at, looped_at, typed_by, KeepsInput, is_reset_reply}
-use Rattle.superio_examples.proofs.MonitorLemmas.{output-run, resets-run, keeps-run}
+use Rattle.superio_examples.specs.Monitor.{Machine, machine_of, after, replies_to, in_each, left_at, looped_at, typed_by, KeepsInput, KeepsOut, is_reset_reply}
+use Rattle.superio_examples.proofs.MonitorLemmas.{output-run, resets-run, keeps-run, shut-run}
 use Rattle.superio_examples.proofs.monitor.Monitor.run.Goals as goal
 
 pub returns-clause-output : goal.returns-clause-output
@@ -17,6 +17,13 @@ returns-clause-resets c =
     let old = machine_of c.args.self.now in
     let made : c.loop-event.replies.items ≡ replies_to c.args.events.now old = grind (arith, common_steps) in
     ap (map is_reset_reply) made ∙ resets-run c.args.events.now old
+
+pub returns-clause-gate : goal.returns-clause-gate
+returns-clause-gate c =
+    let events = c.args.events.now in
+    let old = machine_of c.args.self.now in
+    let made : machine_of c.loop-event.self ≡ after events old = grind (arith, common_steps) in
+    subst (KeepsOut events old) (sym made) (shut-run events old)
 
 pub returns-clause-input : goal.returns-clause-input
 returns-clause-input c =

@@ -2,7 +2,7 @@
 use Rattle.std.proofs.Common.{◌≡◌, false, [], ◌++◌, length}
 use Rattle.superio_core.specs.Serial.Port.Coherent.{Coherent}
 use Rattle.superio_core.specs.Serial.Port.Registers.{is_dlab, is_loopback}
-use Rattle.superio_examples.proofs.driver.receive_all.Given as goal
+use Rattle.superio_examples.proofs.driver.receive_through.Given as goal
 
 abbrev pub invariant-loop-rest : goal.invariant-loop-rest
 invariant-loop-rest g l = record {

@@ -6,12 +6,12 @@ use Rattle.superio_core.specs.Bits.{has_bits}
 use Rattle.superio_core.specs.Serial.Port.State.{fresh_state, State}
 use Rattle.superio_core.specs.Serial.Port.Registers.{is_dlab, is_loopback}
 use Rattle.superio_core.specs.Serial.Step.Raising.{receive_bytes}
-use Rattle.superio_examples.proofs.driver.receive_all.Goals as goal
+use Rattle.superio_examples.proofs.driver.receive_through.Goals as goal
 
 pub loop-rest-init : goal.loop-rest-init
 unfolding has_bits
 loop-rest-init g c =
-    let fresh : c.in_ok-serial.serial.state ≡ fresh_state = search rules in
+    let fresh : c.args.serial.now.state ≡ fresh_state = search rules in
     let none : c.new-got.result.items ≡ [] = search rules in
     rw none record {
       coherent = search rules;
