@@ -62,6 +62,7 @@ pub fn drain<T: Trigger, EV: SerialEvents, W: Write>(
 }
 
 /// Whether LCR has DLAB set.
+#[tactic(auto, unfolding(superio_core::specs::Bits::has_bits))]
 fn shows_latch(line_control: u8) -> bool
     ensures { result ≡ has_bits line_control lcr_dlab_bit }
 {
@@ -69,6 +70,7 @@ fn shows_latch(line_control: u8) -> bool
 }
 
 /// Whether LSR has data ready set.
+#[tactic(auto, unfolding(superio_core::specs::Bits::has_bits))]
 fn shows_data(line_status: u8) -> bool
     ensures { result ≡ has_bits line_status lsr_dr_bit }
 {
