@@ -174,7 +174,23 @@ await:  movb $1, is_waiting
         mov $waits, %si
         jmp print
 
-widths: movl $0x04030201, %fs:RTCMR             # a time that is past, so no alarm is set
+# A reset command at each port beside the devices', and in hex the bits that all of them read.
+beside: mov $neighbors, %si
+        mov $0xFF, %bh
+1:      lodsw
+        mov %ax, %dx
+        test %dx, %dx
+        jz 2f
+        mov $0xFE, %al
+        out %al, %dx
+        in %dx, %al
+        and %al, %bh
+        jmp 1b
+2:      mov %bh, %al
+        jmp hex
+
+widths: call beside
+        movl $0x04030201, %fs:RTCMR             # a time that is past, so no alarm is set
         movw $0xFFFF, %fs:RTCMR                 # two bytes, which the clock does not take
         movb %fs:0xFE0, %al
         call hex
@@ -212,6 +228,7 @@ absent: .asciz "no port\r\n"
 ready:  .asciz "ready\r\n"
 waits:  .asciz "waiting\r\n"
 alarmed: .asciz "alarm\r\n"
+neighbors: .word 0x5F, 0x62, 0x63, 0x65, 0x3F7, 0x400, 0    # the kernel itself has port 0x61
 is_waiting: .byte 0
 most:   .word 256                               # how many bytes it reads before it reads IIR again
 left:   .word 0                                 # how many of these are still to come
