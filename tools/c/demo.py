@@ -4,12 +4,13 @@ What a case expects was worked out from docs/DEVICES.md and from the duties of d
 What a random script expects is what a second monitor does, that of `twin.py`.
 """
 import random
-import re
 import shutil
 
 from programs import DEMO, TESTS
 from tally import run
 from twin import COM1, Script, shown
+
+from planted import read_bugs  # noqa: E402, of the folder that tally adds
 
 WRAPPED = [f"-Wl,--wrap=superio_{name}" for name in ("abi", "serial_load", "rtc_load")]
 WRONG = TESTS / "wrong-demos.edits"
@@ -102,13 +103,6 @@ def build(machine, compiler, place, program):
     return machine.program(compiler, [TESTS / "demo.c"], program, ["-O1", "-I", place, *WRAPPED])
 
 
-def wrong_demos():
-    """Each wrong monitor: its name, the text of the demo, and the one in its place."""
-    entries = re.split(r"\n{2,}", WRONG.read_text(encoding="utf-8").strip())
-    for entry in entries:
-        yield re.fullmatch(r"edit: (\w+)\n# [^\n]+\nold:\n(.*)\nnew:\n(.*)", entry, re.S).groups()
-
-
 def check_driven_demo(tally, machine, folder):
     """Counts whether the demo does what a guest and its host may expect, and whether each wrong one does something else."""
     tally.of("cases of the demo")
@@ -127,8 +121,9 @@ def check_driven_demo(tally, machine, folder):
     tally.of("wrong demos")
     shutil.rmtree(place, ignore_errors=True)
     place.mkdir()
-    for name, old, new in wrong_demos():
-        (place / "monitor.c").write_text(source.replace(old, new), encoding="utf-8")
-        if tally.check(source.count(old) == 1, f"{name}: its text stands {source.count(old)} times in monitor.c", 0) \
-                and tally.run(f"the wrong demo {name} is built", build(machine, compiler, place, program), number=0):
-            tally.check(any(differences(program)), f"the wrong demo {name} is not refused")
+    for bug in read_bugs(WRONG, "monitor.c"):
+        (place / bug.file).write_text(source.replace(bug.old, bug.new), encoding="utf-8")
+        stands = source.count(bug.old)
+        if tally.check(stands == 1, f"{bug.name}: its text stands {stands} times in {bug.file}", 0) \
+                and tally.run(f"the wrong demo {bug.name} is built", build(machine, compiler, place, program), number=0):
+            tally.check(any(differences(program)), f"the wrong demo {bug.name} is not refused")

@@ -14,6 +14,7 @@ from test_check import TOOLS, module_of
 
 sys.path[:0] = [str(TOOLS / folder) for folder in ("bench", "rust", "c")]
 from libraries import host_target  # noqa: E402
+from planted import Bug, read_bugs  # noqa: E402
 from tally import Tally  # noqa: E402
 from toolchains import is_too_old  # noqa: E402
 
@@ -128,15 +129,14 @@ class RandomCalls(unittest.TestCase):
 
     def try_edit(self, file, old, new):
         """The sum of the checks of a wrong shell, and what they print."""
-        tally, path = Tally(), self.folder / "planted.edit"
-        path.write_text(f"# A test.\nfile: {file}\nold:\n{old}\nnew:\n{new}\n", encoding="utf-8")
-        printed = silently(random_calls.check_wrong_shell, tally, self.folder, path)[1]
+        tally = Tally()
+        printed = silently(random_calls.check_wrong_shell, tally, self.folder, Bug("planted", file, old, new))[1]
         return (tally.passed, tally.failed), printed
 
     def test_a_shell_that_is_right_is_not_counted_as_refused(self):
         result, printed = self.try_edit("src/serial.rs", "self.events.out_byte()", "{ self.events.out_byte() }")
         self.assertEqual(result, (2, 1))
-        self.assertIn("planted.edit is not refused", printed)
+        self.assertIn("planted is not refused", printed)
 
     def test_an_edit_whose_text_has_moved_fails(self):
         self.assertEqual(self.try_edit("src/serial.rs", "no such text", "x")[0], (0, 1))
@@ -163,5 +163,5 @@ class RandomCalls(unittest.TestCase):
         tally = Tally()
         with mock.patch.object(random_calls, "check_wrong_shell") as tries:
             silently(random_calls.check_wrong_shells, tally, self.folder)
-        self.assertEqual(tries.call_count, len(list(random_calls.WRONG.glob("*.edit"))))
+        self.assertEqual(tries.call_count, len(list(read_bugs(random_calls.WRONG))))
         self.assertEqual(tally.kind, random_calls.WRONG_SHELLS)
