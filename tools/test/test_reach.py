@@ -26,16 +26,16 @@ BODIES = [
     ("the trigger is called before the byte is sent", "written + did", "did + written", IN_RUNS),
     ("an RBR read of an empty FIFO clears bit 0x01 of IIR", 'made | {"READY": False}',
      'made | {"READY": False} | ({} if held else {"NONE": False})', BOTH),
-    ("such a read leaves IIR at 0 in place of 0x01", 'if self.register("IIR") & ~4 else',
-     'if self.register("IIR") & ~4 or not held else', IN_SCRIPTS),
+    ("such a read leaves IIR at 0 in place of 0x01", 'if self.register("IIR") & ~BITS["IIR"]["RDA"] else',
+     'if self.register("IIR") & ~BITS["IIR"]["RDA"] or not held else', IN_SCRIPTS),
     ("such a read leaves IIR as it was", 'made = {"RDA": False} |', 'made = {} if not held else {"RDA": False} |', BOTH),
     ("a timeout raises RDA with no byte held", '["RDA"] if self.held() else []', '["RDA"]', BOTH),
     ("a timeout does nothing", '["RDA"] if self.held() else []', "[]", BOTH),
     ("a restore clears DLAB", "Fact({}, did=did)]", 'Fact({"LCR": self.last("LCR") & 0x7F}, did=did)]', BOTH),
     ("a restore cuts IER to four bits", "Fact({}, did=did)]", 'Fact({"IER": self.last("IER") & 0x0F}, did=did)]', BOTH),
     ("an invalid read leaves zeros", 'UNREAD = "a5a5a5a5"', 'UNREAD = "00000000"', IN_RUNS),
-    ("an invalid write does not look at the alarm", "Fact(made | writes.get(offset, {}))",
-     "Fact((made if value is None or offset in writes else {}) | writes.get(offset, {}))", BOTH),
+    ("an invalid write does not look at the alarm", "Fact(made | writes.get(name, {}))",
+     "Fact((made if value is None or name in writes else {}) | writes.get(name, {}))", BOTH),
     ("the alarm raises at each access from its second on", '{"raised": 1, "armed": False}', '{"raised": 1}', BOTH),
     ("a match in the past arms the alarm", "value > guest_time", "value != guest_time", BOTH),
     ("a moment past 32 bits is the last one that 32 bits hold", "moment % 2**32", "min(moment, 2**32 - 1)", BOTH),
@@ -54,6 +54,7 @@ def search(old="", new=""):
     try:
         for name, text in texts.items():
             sys.modules[name] = ModuleType(name)
+            sys.modules[name].__file__ = str(TOOLS / f"{name}.py")
             exec(compile(text.replace(old, new) if old else text, name, "exec"), sys.modules[name].__dict__)
         return sys.modules["expected"]
     finally:
