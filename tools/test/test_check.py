@@ -2,6 +2,8 @@
 import importlib.machinery
 import importlib.util
 import io
+import os
+import shutil
 import subprocess
 import sys
 import tempfile
@@ -25,6 +27,10 @@ def module_of(name):
 
 
 check = module_of("check")
+# The commands of tools/ that no check is: they make something, or take hours.
+BY_HAND = {f"tools/{name}" for name in """
+    c/fuzz c/prebuild check erase install js/prebuild kvm/boots packages/abi page/build release run
+    wrong_definitions""".split()}
 
 
 class Log(io.StringIO):
@@ -47,7 +53,8 @@ class Sums(unittest.TestCase):
             self.assertEqual(check.counted(lines, 0)[:3], (0, 1, 0))
 
     def test_a_status_without_a_failure_is_one(self):
-        self.assertEqual(check.counted(["3 passed, 0 failed"], 2), (3, 1, 0, "exit status 2"))
+        for status in (1, 2, 127, -9):
+            self.assertEqual(check.counted(["3 passed, 0 failed"], status), (3, 1, 0, f"exit status {status}"))
 
 
 class Runs(unittest.TestCase):
@@ -80,6 +87,11 @@ class Runs(unittest.TestCase):
             result, printed = self.run_command(script, {} if floors is None else {"it": floors})
             self.assertEqual((result.passed, result.failed), (3, not is_enough), printed)
         self.assertIn("the table of floors has no row of this check", printed)
+
+    def test_a_kind_that_cannot_run_has_to_be_skipped(self):
+        for skipped, failed in (("", 1), (", 0 skipped", 1), (", 2 skipped", 0)):
+            script = f"echo 'not tried: cases'; echo '3 passed, 0 failed{skipped}'"
+            self.assertEqual(self.run_command(script, {"it": {"cases": 3}})[0].failed, failed)
 
     def test_floors_rise_and_never_fall(self):
         floors = {"it": {"cases": 2, "scripts": 5}}
@@ -123,7 +135,8 @@ class Whole(unittest.TestCase):
         """The status of all checks that are these shell scripts, and the last line that is printed."""
         printed = io.StringIO()
         with tempfile.TemporaryDirectory() as folder:
-            checks = [check.Check(str(number), f"sh {folder}/{number}", "it works") for number in range(len(scripts))]
+            checks = [check.Check(str(number), f"sh {folder}/{number}", "it works", is_first=number == 1)
+                      for number in range(len(scripts))]
             for it, script in zip(checks, scripts):
                 Path(folder, it.name).write_text(script, encoding="utf-8")
             table = {it.name: {"cases": 1} for it in checks} if floors is None else floors
@@ -142,6 +155,40 @@ class Whole(unittest.TestCase):
         for floors in ({"0": {"cases": 2}}, {"0": {"cases": 1, "more": 1}}, {}, {"0": {"cases": 1}, "1": {"cases": 1}}):
             status, printed = self.run_main([self.GOOD], floors)
             self.assertEqual(status, 1, printed)
+
+
+class Table(unittest.TestCase):
+    def test_each_tool_is_a_check_or_is_run_by_hand(self):
+        files = [path for path in TOOLS.rglob("*") if path.is_file() and not path.suffix and os.access(path, os.X_OK)]
+        commands = {str(path.relative_to(TOOLS.parent)) for path in files}
+        checks = {it.command.removeprefix("nice ") for it in check.CHECKS}
+        self.assertEqual(commands - checks, BY_HAND)
+        self.assertEqual(checks - commands, set())
+
+
+class Tests(unittest.TestCase):
+    def run_tests(self, text):
+        """The last line of the tests of a file of this text."""
+        with tempfile.TemporaryDirectory() as folder:
+            place = Path(folder, "test")
+            place.mkdir()
+            shutil.copy(TOOLS / "tried.py", folder)
+            shutil.copy(TOOLS / "test" / "run", place)
+            (place / "test_it.py").write_text(f"from unittest import *\n{text}\n", encoding="utf-8")
+            ran = subprocess.run([sys.executable, place / "run"], stdout=subprocess.PIPE, text=True)
+        last = ran.stdout.splitlines()[-1]
+        self.assertEqual(ran.returncode, "0 failed" not in last)
+        return last
+
+    def test_whatever_is_no_pass_is_a_failure(self):
+        one = "class It(TestCase):\n    def test_it(self): {}"
+        self.assertEqual(self.run_tests(one.format("pass")), "1 passed, 0 failed")
+        self.assertEqual(self.run_tests(one.format("self.skipTest('why')")), "0 passed, 0 failed, 1 skipped")
+        for text in (one.format("self.fail()"), one.format("raise OSError()"), "import nowhere",
+                     one.replace("    def", "    @expectedFailure\n    def").format("self.fail()"),
+                     one.replace("    def", "    @expectedFailure\n    def").format("pass")):
+            self.assertEqual(self.run_tests(text), "0 passed, 1 failed", text)
+        self.assertIn("1 failed", self.run_tests(""))
 
 
 class Programs(unittest.TestCase):

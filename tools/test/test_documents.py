@@ -45,6 +45,9 @@ class Links(CopyTest):
                 ("README.md", "(docs/one.md)", "(docs/two.md)", "README.md: docs/two.md is not there"),
                 ("README.md", "#a-heading-of-it", "#another", "README.md: docs/one.md#another is no heading"),
                 ("README.md", "`docs/one.md`", "`docs/two.md`", "README.md: docs/two.md is not there"),
+                ("README.md", "[a folder](docs)", "[a folder](two 'Two')", "README.md: two is not there"),
+                ("docs/one.md", "# One\n", "# One\n\n[one]: two.md\n", "docs/one.md: two.md is not there"),
+                ("docs/one.md", "# One\n", "# One\n\n<img src='two.png'>\n", "docs/one.md: two.png is not there"),
                 ("docs/one.md", "#same-1", "#same-2", "docs/one.md: #same-2 is no heading"),
                 ("docs/one.md", "../README.md", "../../README.md", "docs/one.md: ../../README.md is not there")):
             with self.subTest(says):
@@ -101,6 +104,8 @@ class Names(CopyTest):
                 ("docs/USING.md", "`Rtc::enqueue_raw_bytes`", "Rtc::enqueue_raw_bytes is nowhere in the sources"),
                 ("docs/PROOFS.md", "`Serial::read_all(offset)`", "Serial::read_all is nowhere in the sources"),
                 ("docs/GUESTS.md", "`Serial::read_all: step`", "there is no function Serial::read_all"),
+                ("docs/PROOFS.md", "`Serial<T, W>::read_all`", "Serial::read_all is nowhere in the sources"),
+                ("docs/PROOFS.md", "`port = Serial::read_all(2)?`", "Serial::read_all is nowhere in the sources"),
                 ("docs/GUESTS.md", "`laws::same_read`", "laws::same_read is nowhere in the sources"),
                 ("CONTRIBUTING.md", "`tools/names --all`", "tools/names has no --all"),
                 ("CONTRIBUTING.md", "`tools/name PROOFS.md`", "tools/name is nowhere in the sources"),
