@@ -9,6 +9,8 @@ COM1 = 0x3F8
 RBR, IER, IIR, MCR, LSR = (SERIAL[name].offset for name in ("RBR", "IER", "IIR", "MCR", "LSR"))
 MOST_INPUT = 127
 IS_MASKED = CLOCK["MIS"].offset
+# Moments and matches at which a number of fewer bits, or with a sign, would be another.
+EDGES = (0, 1, 2**16, 2**31 - 1, 2**31, 2**32 - 1)
 
 
 def shown(byte):
@@ -170,9 +172,13 @@ class Script:
         self.add("r", self.port((0, 0, 1, 2, 2, 2, 3, 4, 5, 6, 7)))
 
     def clock(self):
-        """A write, then or instead some time passes, and then perhaps the alarm's timer goes off."""
-        near = self.monitor.now + self.random.randrange(-3, 20)
-        beside = {offset: near for offset in (0x006, 0x014, 0xFFC, 0x1000, 0x1004, -4, -1, 0x10004, 1 << 32 | 4)}
+        """A write, then or instead some time passes, and then perhaps the alarm's timer goes off. At times the host's time
+        and the match are at an edge."""
+        if not self.random.randrange(8):
+            self.add("n", self.random.choice(EDGES))
+            self.add("m", 0x004, self.random.choice(EDGES))
+        near = (self.monitor.now + self.random.randrange(-3, 20)) % 2**32
+        beside = {offset: near for offset in (0x006, 0x014, 0x104, 0xFFC, 0x1000, 0x1004, -4, -1, 0x10004, 1 << 32 | 4)}
         writes = {0x004: near, 0x008: near, 0x00C: near & 1, 0x010: 1, 0x01C: near & 3}
         chosen = self.random.choice((writes, {0x004: near, 0x010: 1}, {0x004: 0xFFFFFFFF, 0x010: 0}, beside, {}))
         for offset in self.random.sample(sorted(chosen), min(1, len(chosen))):
