@@ -84,7 +84,7 @@ def differences(program, seed=0):
         ran = run([program], input="".join(f"{line}\n" for line in lines))
         if (ran.returncode, ran.stdout) != (status, "".join(f"{line}\n" for line in printed)):
             yield f"{name}: status {ran.returncode}\n{ran.stdout[-2000:]}"
-    for difference in ("1", "-1"):
+    for difference in ("1", "-1", "256"):
         ran = run([program, difference])
         if (ran.returncode, ran.stdout) != OTHER_LIBRARY:
             yield f"a library of an interface that differs by {difference}: status {ran.returncode}\n{ran.stdout}"

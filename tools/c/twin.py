@@ -28,8 +28,9 @@ def seconds_due(clock, now):
         counter = later + ahead
         return (counter if 0 <= counter < 2**32 else later) >= match
 
-    changes = (0, match - time, match - time - ahead, -time - ahead, 2**32 - time - ahead)
-    reached = [it for it in changes if it >= 0 and is_reached(it)]
+    starts = -time, 2**32 - time  # when 32 bits of the host's time are 0
+    changes = [0, *(start + later for start in starts for later in (0, match, match - ahead, -ahead, 2**32 - ahead))]
+    reached = [it for it in changes if 0 <= it < 2**32 and is_reached(it)]
     return min(reached) if reached and clock.last("armed") else None
 
 

@@ -107,6 +107,8 @@ def _interactive(has_colours: bool) -> int:
     from .shell import Shell
     style = Style(has_colours and is_wanted(sys.stdout))
     errors = Style(has_colours and is_wanted(sys.stderr))
+    if signal.getsignal(signal.SIGINT) is _interrupt_once:
+        signal.signal(signal.SIGINT, signal.default_int_handler)  # at a prompt, each one drops a line
     run_prompt(Shell(Session(sys.stdout, style, keeps_lines=True), sys.stderr, errors))
     return OK
 
@@ -123,15 +125,21 @@ def _give_up_output() -> None:
 
 def main(arguments: List[str]) -> int:
     """Runs the command line. Returns the exit status. Afterwards Ctrl-C ends Python at once, without a traceback."""
-    if signal.getsignal(signal.SIGINT) is signal.SIG_DFL:  # as the starting program set it
-        signal.signal(signal.SIGINT, signal.default_int_handler)
+    if signal.getsignal(signal.SIGINT) in (signal.SIG_DFL, signal.default_int_handler):
+        signal.signal(signal.SIGINT, _interrupt_once)
     try:
         return _run(arguments)
     except KeyboardInterrupt:
         return 128 + signal.SIGINT
     finally:
-        if signal.getsignal(signal.SIGINT) is signal.default_int_handler:
+        if signal.getsignal(signal.SIGINT) in (_interrupt_once, signal.default_int_handler):
             signal.signal(signal.SIGINT, signal.SIG_DFL)
+
+
+def _interrupt_once(_number: int, _frame: object) -> None:
+    """The handler of Ctrl-C. A second one, which may come while the first is handled, ends Python at once."""
+    signal.signal(signal.SIGINT, signal.SIG_DFL)
+    raise KeyboardInterrupt
 
 
 def _run(arguments: List[str]) -> int:
