@@ -6,7 +6,6 @@ from typing import Callable
 
 # What a check of a large crate takes: at most 1.8 GB was seen.
 MEMORY_OF_A_TASK = 2_500_000_000
-MOST_JOBS = 4
 
 
 def processors():
@@ -26,8 +25,8 @@ def free_memory():
 
 @dataclass
 class Task:
-    """A call that is given how many processors it may use, and returns further tasks. Of the tasks that are ready, the one
-    with the largest cost begins first."""
+    """A call that uses one processor, and returns further tasks. Of the tasks that are ready, the one with the largest cost
+    begins first."""
     key: tuple
     waits: set
     cost: int
@@ -51,8 +50,7 @@ class Lanes:
                 idle = self.most - len(running)
                 for task in ready[:idle]:
                     left.remove(task)
-                    jobs = max(1, min(MOST_JOBS, idle // len(ready)))
-                    running[pool.submit(task.call, jobs)] = task
+                    running[pool.submit(task.call)] = task
                 for future in wait(running, return_when=FIRST_COMPLETED).done:
                     done.add(running.pop(future).key)
                     left += future.result()

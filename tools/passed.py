@@ -1,5 +1,6 @@
-"""The edits that passed in this checkout, so that a later run tries only those of which something changed."""
+"""The edits that passed on this machine, so that a later run tries only those of which something changed."""
 import hashlib
+import os
 import subprocess
 from functools import cache
 from pathlib import Path
@@ -10,11 +11,16 @@ from rooms import PARTS, crates_of
 TOOLS = ("wrong_bodies", "edits.py", "passed.py", "rooms.py", "verdicts.py")
 
 
+def file_of_passed():
+    """Where all checkouts of this user keep what passed."""
+    return Path(os.environ.get("XDG_CACHE_HOME") or Path.home() / ".cache", "superio", "refused-wrong-bodies")
+
+
 class Passed:
     """Passed edits, by a digest of all that decides it: the kit, the tools, the crate, those below it, and the edit."""
 
     def __init__(self, root):
-        self.crates, self.file = crates_of(root), root / "out" / "wrong-bodies" / "passed"
+        self.crates, self.file = crates_of(root), file_of_passed()
         self.known = set(self.file.read_text(encoding="utf-8").split()) if self.file.is_file() else set()
         self.digest_of_crate = cache(self.digest_of_crate)
 

@@ -1,4 +1,5 @@
 """Tests of what `tools/wrong_bodies` says of edits, by the prover, over a small crate."""
+import os
 import re
 import shutil
 import subprocess
@@ -59,6 +60,9 @@ class Kept(unittest.TestCase):
     def setUp(self):
         room = tempfile.TemporaryDirectory()
         self.addCleanup(room.cleanup)
+        patched = mock.patch.dict(os.environ, XDG_CACHE_HOME=f"{room.name}/cache")
+        patched.start()
+        self.addCleanup(patched.stop)
         self.root = Path(room.name)
         self.crate = tiny.make(self.root, [self.EDIT])
         Passed(self.root).add(self.edit())
@@ -109,6 +113,12 @@ class Kept(unittest.TestCase):
     def test_another_kit_is_noticed(self):
         with mock.patch("passed.kit", lambda: b"another kit"):
             self.assertFalse(self.has())
+
+    def test_another_checkout_has_it_too(self):
+        other = self.root / "other"
+        shutil.copytree(self.crate.parent, other / "crates")
+        shutil.copy2(self.root / "crates.txt", other)
+        self.assertTrue(Passed(other).has(read_edits(other / "crates" / self.crate.name)[0]))
 
     def test_a_changed_tool_is_noticed(self):
         with mock.patch("passed.TOOLS", ("wrong_bodies",)):
