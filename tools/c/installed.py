@@ -3,9 +3,9 @@ import re
 import tempfile
 from pathlib import Path
 
-from declarations import declared, differences, versions
-from libraries import (HEADER, PREBUILT, SHARED, STATIC, TARGETS, BuildError, build, library_sums, source_line,
-                       sums_of)
+from declarations import CALLER, PROVED, differences, versions
+from header import read_header
+from libraries import PREBUILT, SHARED, STATIC, TARGETS, BuildError, build, library_sums, source_line, sums_of
 from programs import DEMO
 from tally import run
 
@@ -71,27 +71,28 @@ def check_symbols(tally):
     """Counts whether each library has the functions that the header declares, and needs no other library."""
     if not tally.has("nm", "the symbols of the libraries"):
         return
+    declared = read_header().functions.keys()
     for library in (PREBUILT / target / name for target in sorted(TARGETS) for name in (STATIC, SHARED)):
         defined, needed = symbols(library)
-        tally.check(defined == declared().keys(), f"{library}: not as declared: {sorted(defined ^ declared().keys())}")
+        tally.check(defined == declared, f"{library}: not as declared: {sorted(defined ^ declared)}")
         tally.check(needed <= NEEDED, f"{library} needs {sorted(needed - NEEDED)}")
 
 
 def check_declarations(tally):
-    """Counts whether the header declares what the Rattle side has."""
-    found = list(differences())
-    tally.check(not found, "\n".join(found))
+    """Counts whether the header declares what the proved library has, and the program that calls it at random."""
+    for side in (PROVED, CALLER):
+        found = list(differences(side))
+        tally.check(not found, "\n".join(found))
 
 
 def check_versions(tally):
     """Counts whether the header has the right versions: numbers, and a text."""
-    text = HEADER.read_text(encoding="utf-8")
+    found = read_header().constants
     abi, version = versions()
-    tally.check(f"\n#define SUPERIO_ABI {abi}\n" in text, f"SUPERIO_ABI is not {abi}, the library's")
-    parts = re.findall(r"^#define SUPERIO_VERSION_(MAJOR|MINOR|PATCH) (\d+)$", text, re.M)
-    wanted = list(zip(["MAJOR", "MINOR", "PATCH"], version.split(".")))
-    tally.check(parts == wanted, f"the header's numbers are not {version}")
-    tally.check(f'\n#define SUPERIO_VERSION "{version}"\n' in text, f"SUPERIO_VERSION is not {version}, of VERSION")
+    tally.check(found["SUPERIO_ABI"] == int(abi), f"SUPERIO_ABI is not {abi}, the library's")
+    parts = [str(found[f"SUPERIO_VERSION_{part}"]) for part in ("MAJOR", "MINOR", "PATCH")]
+    tally.check(parts == version.split("."), f"the header's numbers are not {version}")
+    tally.check(found["SUPERIO_VERSION"] == version, f"SUPERIO_VERSION is not {version}, of VERSION")
 
 
 def check_missing_library(tally, folder):

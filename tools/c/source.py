@@ -3,7 +3,8 @@ import subprocess
 import sys
 from dataclasses import replace
 
-from declarations import declared
+from declarations import FROM_SOURCE, differences
+from header import read_header
 from libraries import ROOT, STATIC, host_target
 from machines import emulated, machine
 from programs import check_calls, check_demos, check_fuzz, check_pastes
@@ -11,7 +12,7 @@ from programs import check_calls, check_demos, check_fuzz, check_pastes
 sys.path.insert(0, str(ROOT / "tools"))
 from toolchains import toolchain_for  # noqa: E402
 
-CRATE = ROOT / "bindings" / "rust" / "capi"
+CRATE = ROOT / FROM_SOURCE
 # What a machine runs, each with the name of its kind.
 CHECKS = {check_calls: "checks of calls", check_fuzz: "random calls", check_pastes: "pastes",
           check_demos: "checks of demos"}
@@ -40,18 +41,18 @@ def build(tally, target, folder):
 
 
 def check_own(tally, folder):
-    """Counts the tests of the crate, and what its shared library has and needs."""
+    """Counts what the shared library of the crate has and needs."""
     toolchain = toolchain_for(HOSTS.get(host_target(), ""))
     if toolchain is None:
-        return tally.skip("a toolchain of Rust for this processor", "the tests of bindings/rust/capi")
+        return tally.skip("a toolchain of Rust for this processor", "the shared library of bindings/rust/capi")
     words = ["--quiet", "--offline", "--manifest-path", CRATE / "Cargo.toml"]
     environment = toolchain.environment(CARGO_TARGET_DIR=str(folder))
-    tally.run("the tests of bindings/rust/capi", [toolchain.cargo, "test", *words], env=environment)
     if tally.run("bindings/rust/capi", [toolchain.cargo, "build", "--release", *words], env=environment):
         shared = folder / "release" / "libsuperio_c.so"
         if tally.has("nm", "the symbols of the library from source"):
             defined, needed = dynamic_symbols(shared)
-            tally.check(defined == declared().keys(), f"{shared.name}: {sorted(defined ^ declared().keys())}")
+            declared = read_header().functions.keys()
+            tally.check(defined == declared, f"{shared.name}: {sorted(defined ^ declared)}")
             tally.check(needed <= NEEDED, f"{shared.name} needs {sorted(needed - NEEDED)}")
     return None
 
@@ -82,8 +83,10 @@ def leave_out(tally, target):
 
 
 def check_source(tally, folder):
-    """Counts whether the library from source does what the header says: on this processor, and on the others that can be
-    emulated."""
+    """Counts whether the library from source declares and does what the header says: on this processor, and on the
+    others that can be emulated."""
+    found = list(differences(FROM_SOURCE))
+    tally.check(not found, "\n".join(found))
     host = host_target()
     if not tally.has("cc", "the library from source"):  # by which Cargo links programs
         for target in [*([host] if host else []), *OTHERS]:

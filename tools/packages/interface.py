@@ -9,7 +9,7 @@ import subprocess
 import tempfile
 from pathlib import Path
 
-from declarations import header_code
+from header import read_header
 from installed import symbols
 from libraries import HEADER, PREBUILT, ROOT, SHARED, TARGETS
 from machines import machines
@@ -19,41 +19,30 @@ CHANGES = ROOT / "CHANGELOG.md"
 # What a number changed, and in it the names before the first sentence ends.
 CHANGED = re.compile(r"^### Binary interface (\d+)$(.*?)(?=^##|\Z)", re.M | re.S)
 MEANING = re.compile(r"^- \*\*Another meaning\*\*: (.*?)[.:]", re.M)
-STRUCT = re.compile(r"typedef struct (\w+) \{(.*?)\} \1;", re.S)
-FUNCTION = re.compile(r"^(\w+ \*?)(superio_\w+)\(([^;]*?)\)\s*(?:SUPERIO_[^;]*)?;", re.M)
-# Not the versions, nor what lets a compiler warn.
-CONSTANT = re.compile(r"^#define (SUPERIO_(?!VERSION|ABI|HAS|MUST|NON|ACC|COU|AT_)\w+) |^    (SUPERIO_LOAD_\w+) =",
-                      re.M)
-
-
-def code():
-    """The declarations of the header, without what they let a compiler warn of."""
-    return re.sub(r"\s+SUPERIO_(?:MUST_USE|NONNULL|COUNTED|ACCESS\([^)]*\))", "", header_code())
 
 
 def functions():
     """A line for each function: what it returns, its name, and the types of its parameters."""
-    for returned, name, parameters in FUNCTION.findall(code()):
-        words = re.sub(r"SUPERIO_AT_LEAST\((\w+)\)", r"\1", " ".join(parameters.split()))
-        types = re.sub(r"(?<=[ *])\w+(?=\[|,|$)", "", words)
-        yield f"function {returned.strip()} {name}({types.replace(' ,', ',').strip()})"
+    for name, function in read_header().functions.items():
+        types = [f"{it.kind} [{it.length}]" if it.length else it.kind for it in function.parameters]
+        yield f"function {function.returned} {name}({', '.join(types) or 'void'})"
 
 
 def number():
-    return int(re.search(r"^#define SUPERIO_ABI (\d+)$", HEADER.read_text(encoding="utf-8"), re.M)[1])
+    return read_header().constants["SUPERIO_ABI"]
 
 
 def measured(compiler, options, runner):
     """A line for each struct, each field and each constant, by a program that a compiler makes."""
-    lines = []
-    for struct, body in STRUCT.findall(code()):
+    lines, header = [], read_header()
+    for struct, fields in header.structs.items():
         lines.append(f'printf("struct {struct} size %zu\\n", sizeof({struct}));')
-        for kind, field in re.findall(r"(\w+) (\w+)(?:\[\w+\])?;", body):
+        for kind, field, _ in fields:
             place = f"offsetof({struct}, {field}), sizeof((({struct} *)0)->{field})"
             lines.append(f'printf("field {struct}.{field} {kind} at %zu size %zu\\n", {place});')
-    for pair in CONSTANT.findall(HEADER.read_text(encoding="utf-8")):
-        name = pair[0] or pair[1]
-        lines.append(f'printf("constant {name} %llu\\n", (unsigned long long){name});')
+    for name in header.constants:
+        if not name.startswith(("SUPERIO_VERSION", "SUPERIO_ABI")):
+            lines.append(f'printf("constant {name} %llu\\n", (unsigned long long){name});')
     with tempfile.TemporaryDirectory() as folder:
         source, program = Path(folder) / "abi.c", Path(folder) / "abi"
         source.write_text("#include <stdio.h>\n#include <superio.h>\nint main(void)\n{\n" + "\n".join(lines) + "\n}\n",

@@ -2,6 +2,7 @@
 import re
 import textwrap
 
+from header import AT_LEAST, ATTRIBUTE, COMMENT
 from libraries import HEADER
 
 HEAD = """.\\" Made from superio.h by tools/install.
@@ -16,11 +17,7 @@ cc \\&... $(pkg\\-config \\-\\-cflags \\-\\-libs superio)
 .nf
 #include <superio.h>
 """
-COMMENT = re.compile(r"/\*(.*?)\*/", re.S)
 RULE = re.compile(r"/\* -+ \*/\n/\* (.+?) +\*/\n/\* -+ \*/")
-# What a declaration lets a compiler warn of is no part of how it is called.
-ATTRIBUTE = re.compile(r"\s+SUPERIO_(?:MUST_USE|NONNULL|COUNTED|ACCESS\([^)]*\))")
-AT_LEAST = re.compile(r"SUPERIO_AT_LEAST\((\w+)\)")
 
 
 def escaped(text):

@@ -1,7 +1,7 @@
 """What the libraries have that a distribution wants, as docs/RELEASE.md says."""
 import re
 
-from declarations import declared
+from header import read_header
 from libraries import PREBUILT, SHARED, STATIC, TARGETS
 from tally import run
 
@@ -33,7 +33,7 @@ def check_object(tally, library, is_prebuilt):
     needed = re.findall(r"\(NEEDED\).*\[(.+)\]", said)
     tally.check(needed == ([] if is_prebuilt else ["libc.so.6"]), f"{library} needs {needed}")
     shown = {name for _, name in symbols_of(library, "--dynamic", "--defined-only")}
-    tally.check(shown == declared().keys(), f"{library} shows {shown}")
+    tally.check(shown == read_header().functions.keys(), f"{library} shows {shown}")
     missing = {name for kind, name in symbols_of(library, "--dynamic", "--undefined-only") if kind == "U"}
     tally.check(missing == {"memcpy"}, f"{library} takes {missing} from elsewhere")
     if tally.has("hardening-check", "the hardening of the shared libraries"):
@@ -50,8 +50,8 @@ def check_archive(tally, library, is_prebuilt):
     tally.check(len(marks) == members and not any("X" in flags for mark in marks for flags in mark[3:]),
                 f"{library}: of {members} members {len(marks)} say that no stack runs: {marks}")
     shown = {name for kind, name in symbols_of(library, "--defined-only", "--extern-only") if kind == "T"}
-    is_good = shown == declared().keys() if is_prebuilt else shown >= declared().keys()
-    tally.check(is_good, f"{library} shows {shown}")
+    declared = read_header().functions.keys()
+    tally.check(shown == declared if is_prebuilt else shown >= declared, f"{library} shows {shown}")
 
 
 def check_jumps(tally, library):

@@ -1,4 +1,4 @@
-"""Tests that `tools/c/fuzz` and the pastes find faults, and of what `tools/c/prebuild` writes."""
+"""Tests that the checks of C find faults, and of what `tools/c/prebuild` writes."""
 import hashlib
 import os
 import platform
@@ -22,6 +22,24 @@ CHANGES = [
     ("fuzz.c", "value == 0xFE), \"superio_i8042_write\"", "value == 0xFF), \"superio_i8042_write\"",
      "superio_i8042_write"),
 ]
+HEADER, CALLER = "include/superio.h", "tools/compare/library/src/library.rs"
+# A change of a declaration, and what is said of it.
+DECLARATIONS = [
+    (HEADER, "superio_rtc_line(const superio_rtc *clock)", "superio_rtc_line(const superio_rtc *it)",
+     "superio_rtc_line: the header has the function"),
+    (HEADER, "superio_serial_new(void) SUPERIO_MUST_USE;", "superio_serial_new(void);",
+     "superio_serial_new: the header has the attributes []"),
+    (HEADER, "    uint32_t lr; ", "    uint16_t lr; ", "superio_rtc: the header has the struct"),
+    (HEADER, "#define SUPERIO_RTC_SAVED_SIZE 33", "#define SUPERIO_RTC_SAVED_SIZE 34",
+     "SUPERIO_RTC_SAVED_SIZE: the header has the constant 34, and crates/superio_c 33"),
+    (HEADER, "superio_abi(void);", "superio_abi(void), superio_zero(void);", "tools/c/header.py does not know"),
+    ("bindings/rust/capi/src/clock.rs", "clock: &mut Clock, offset: u16, now", "clock: &mut Clock, offset: u8, now",
+     "superio_rtc_read: the header has the function"),
+    ("bindings/rust/src/core/serial/effects.rs", "    pub sends: bool,\n", "",
+     "superio_serial_write_effects: the header has"),
+    (CALLER, "    resets: bool,", "    resets: u16,", "superio_i8042_write_effects: the header has the size 1"),
+    (CALLER, "    safe fn superio_rtc_line(clock: &Clock) -> bool;\n", "", "tools/compare/library None"),
+]
 # In place of the kit: `rt doc` names a page of the kit, `rt lib` writes a library that says what it is for, and the
 # linker one that says what it was linked of.
 RT = """#!/bin/sh
@@ -42,6 +60,21 @@ BUILT = {
     "x86_64-linux/libsuperio_c.a": "static for --cpu=x86-64 \n",
     "x86_64-linux/libsuperio.so.3": "shared for elf_x86_64 of static for --cpu=x86-64 \n",
 }
+
+
+class Declaring(CopyTest):
+    def setUp(self):
+        super().setUp()
+        self.take(*SOURCES, "bindings/rust/capi/src", "bindings/rust/src/core", "bindings/python/superio", "include",
+                  "prebuilt", "VERSION")
+
+    def test_each_kind_of_declaration_is_compared(self):
+        for name, old, new, says in DECLARATIONS:
+            with self.subTest(says):
+                self.change(name, old, new)
+                self.assertIn(says, self.run_tool("tools/c/check", env={"PATH": ""})[1])
+                shutil.copy(ROOT / name, self.root / name)
+        self.assertNotIn("the header has", self.run_tool("tools/c/check", env={"PATH": ""})[1])
 
 
 @unittest.skipUnless(shutil.which("gcc"), "gcc is not there")

@@ -1,6 +1,5 @@
 """Tests that the checks of a packager's files find what is wrong with them."""
 import os
-import re
 import resource
 import shutil
 import subprocess
@@ -69,8 +68,7 @@ class Interface(CopyTest):
     def setUp(self):
         super().setUp()
         self.take("include", "crates/superio_c/src", "crates/superio_core/src", "CHANGELOG.md", "VERSION")
-        header = (self.root / "include" / "superio.h").read_text(encoding="ascii")
-        self.number = int(re.search(r"^#define SUPERIO_ABI (\d+)$", header, re.M)[1])
+        self.number = int(self.kept().split()[1])
 
     def give_number(self, number):
         self.change("include/superio.h", f"#define SUPERIO_ABI {self.number}\n", f"#define SUPERIO_ABI {number}\n")

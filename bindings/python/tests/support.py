@@ -6,10 +6,9 @@ from pathlib import Path
 
 PACKAGE = Path(__file__).resolve().parent.parent
 ROOT = PACKAGE.parent.parent
-HEADER = ROOT / "include" / "superio.h"
 TIMEOUT = 60
 
-sys.path[:0] = [str(PACKAGE), str(ROOT / "tools")]
+sys.path[:0] = [str(PACKAGE), str(ROOT / "tools"), str(ROOT / "tools" / "c")]
 ENVIRONMENT = {**os.environ, "PYTHONPATH": str(PACKAGE), "SUPERIO_HISTORY": "", "TERM": "xterm"}
 for name in ("NO_COLOR", "PYTHONDONTWRITEBYTECODE", "PYTHONUNBUFFERED"):
     ENVIRONMENT.pop(name, None)

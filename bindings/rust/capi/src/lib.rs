@@ -3,7 +3,7 @@
 //! `cargo build --release` makes `libsuperio_c.a` and a shared library. They need a C library's `memcpy`, `memmove` and
 //! `memset`, and nothing else: no allocator, no operating system. The header describes the functions. The devices are the
 //! erased sources of `superio_core`, and this crate alone has `unsafe` code: the memory that C passes.
-#![cfg_attr(not(test), no_std)]
+#![no_std]
 #![deny(missing_docs)]
 #![deny(unsafe_op_in_unsafe_fn)]
 
@@ -18,9 +18,6 @@ mod memory;
 mod saved;
 mod serial;
 
-#[cfg(test)]
-mod tests;
-
 /// Changes with every change to a struct or to the meaning of a call.
 const ABI: u32 = 3;
 
@@ -31,7 +28,6 @@ pub extern "C" fn superio_abi() -> u32 {
 }
 
 /// No call reaches this: it is proved that none panics. A library without an operating system has to have it.
-#[cfg(not(test))]
 #[panic_handler]
 fn stop(_: &core::panic::PanicInfo) -> ! {
     loop {

@@ -12,7 +12,7 @@ use crate::observed::{Observed, Reply, State};
 /// `superio_serial`: nine registers, `head`, `len` and the bytes.
 #[repr(C)]
 #[derive(Clone, Copy)]
-struct Port {
+struct SerialPort {
     registers: [u8; 9],
     head: u8,
     len: u8,
@@ -49,35 +49,45 @@ struct EnqueueEffects {
 }
 
 #[repr(C)]
-struct ClockReadEffects {
+struct RtcReadEffects {
     value: u32,
     invalid_read: bool,
 }
 
-// SAFETY: these are the functions of include/superio.h. A `&mut` or a `&` is a pointer to a whole struct, of which any bytes
-// are a device. A struct of one `bool` is returned as a `bool` is.
+#[repr(C)]
+struct RtcWriteEffects {
+    invalid_write: bool,
+}
+
+#[repr(C)]
+struct I8042WriteEffects {
+    resets: bool,
+}
+
+// SAFETY: these are the functions of include/superio.h, with which tools/c/check compares them. A `&mut` or a `&` is a
+// pointer to a whole struct, of which any bytes are a device.
 #[link(name = "superio_c", kind = "static")]
 unsafe extern "C" {
-    safe fn superio_serial_new() -> Port;
-    safe fn superio_serial_read(port: &mut Port, offset: u8) -> ReadEffects;
-    safe fn superio_serial_write(port: &mut Port, offset: u8, value: u8) -> WriteEffects;
-    fn superio_serial_enqueue(port: &mut Port, bytes: *const u8, count: usize) -> EnqueueEffects;
-    safe fn superio_serial_character_timeout(port: &mut Port) -> u8;
-    safe fn superio_serial_fifo_capacity(port: &Port) -> usize;
-    safe fn superio_serial_interrupts_due(port: &Port) -> u8;
-    safe fn superio_serial_interrupt_line(port: &Port) -> bool;
-    safe fn superio_serial_is_coherent(port: &Port) -> bool;
-    safe fn superio_serial_save(port: &Port, bytes: &mut [u8; 81]) -> usize;
-    fn superio_serial_load(port: &mut Port, bytes: *const u8, count: usize) -> u32;
+    safe fn superio_serial_new() -> SerialPort;
+    safe fn superio_serial_read(port: &mut SerialPort, offset: u8) -> ReadEffects;
+    safe fn superio_serial_write(port: &mut SerialPort, offset: u8, value: u8) -> WriteEffects;
+    fn superio_serial_enqueue(port: &mut SerialPort, bytes: *const u8, count: usize) -> EnqueueEffects;
+    safe fn superio_serial_character_timeout(port: &mut SerialPort) -> u8;
+    safe fn superio_serial_fifo_capacity(port: &SerialPort) -> usize;
+    safe fn superio_serial_interrupts_due(port: &SerialPort) -> u8;
+    safe fn superio_serial_interrupt_line(port: &SerialPort) -> bool;
+    safe fn superio_serial_is_coherent(port: &SerialPort) -> bool;
+    safe fn superio_serial_save(port: &SerialPort, bytes: &mut [u8; 81]) -> usize;
+    fn superio_serial_load(port: &mut SerialPort, bytes: *const u8, count: usize) -> u32;
     safe fn superio_rtc_new() -> Clock;
-    safe fn superio_rtc_read(clock: &mut Clock, offset: u16, now: u64) -> ClockReadEffects;
-    safe fn superio_rtc_write(clock: &mut Clock, offset: u16, value: u32, now: u64) -> bool;
+    safe fn superio_rtc_read(clock: &mut Clock, offset: u16, now: u64) -> RtcReadEffects;
+    safe fn superio_rtc_write(clock: &mut Clock, offset: u16, value: u32, now: u64) -> RtcWriteEffects;
     safe fn superio_rtc_line(clock: &Clock) -> bool;
     safe fn superio_rtc_due(clock: &Clock, now: u64) -> u64;
     safe fn superio_rtc_save(clock: &Clock, bytes: &mut [u8; 33]);
     fn superio_rtc_load(clock: &mut Clock, bytes: *const u8, count: usize) -> u32;
     safe fn superio_i8042_read(offset: u8) -> u8;
-    safe fn superio_i8042_write(offset: u8, value: u8) -> bool;
+    safe fn superio_i8042_write(offset: u8, value: u8) -> I8042WriteEffects;
 }
 
 /// IIR's place among the registers, and the bit of THRE in it.
@@ -86,7 +96,7 @@ const THRE: u8 = 0x02;
 
 pub struct Devices {
     object: Object,
-    port: Port,
+    port: SerialPort,
     clock: Clock,
 }
 
@@ -122,7 +132,7 @@ impl Devices {
             Action::SerialLoad(bytes) => self.load(bytes),
             Action::ControllerRead(offset) => Reply::Number(superio_i8042_read(*offset).into()),
             Action::ControllerWrite(offset, value) => {
-                let times = u8::from(superio_i8042_write(*offset, *value));
+                let times = u8::from(superio_i8042_write(*offset, *value).resets);
                 done_or(self.interrupts(times), Reply::Refused)
             }
             action => self.serve_clock(action, moment),
@@ -182,7 +192,7 @@ impl Devices {
     }
 
     /// A port takes the place of this one if no interrupt that it asks for is refused.
-    fn restore(&mut self, port: Port) -> Reply {
+    fn restore(&mut self, port: SerialPort) -> Reply {
         if !self.interrupts(superio_serial_interrupts_due(&port)) {
             return Reply::Refused;
         }
@@ -209,7 +219,7 @@ impl Devices {
                 Reply::Maybe((!effects.invalid_read).then_some(effects.value.into()))
             }
             Action::ClockWrite(offset, value) | Action::ClockWriteAt(offset, value) => {
-                if superio_rtc_write(&mut self.clock, *offset, *value, moment) {
+                if superio_rtc_write(&mut self.clock, *offset, *value, moment).invalid_write {
                     self.object.invalid_write();
                 }
                 Reply::Done
@@ -233,7 +243,7 @@ impl Devices {
     }
 
     fn state(&self) -> State {
-        let Port { registers, head, len, bytes } = &self.port;
+        let SerialPort { registers, head, len, bytes } = &self.port;
         let places = (0..usize::from(*len).min(64)).map(|place| (usize::from(*head) + place) % 64);
         let [lr, mr, imsc, ris] = self.clock.registers;
         State {

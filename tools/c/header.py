@@ -1,0 +1,73 @@
+"""The C interface as a table: the structs, the functions and the constants that include/superio.h declares."""
+import re
+from typing import Dict, List, NamedTuple, Union
+
+from libraries import HEADER
+
+COMMENT = re.compile(r"/\*(.*?)\*/", re.S)
+DIRECTIVE = re.compile(r"^#(?:.*\\\n)*.*$", re.M)
+# What lets a compiler warn of a wrong call.
+ATTRIBUTE = re.compile(r"\s+(SUPERIO_(?:MUST_USE|NONNULL|COUNTED|ACCESS\([^)]*\)))")
+AT_LEAST = re.compile(r"SUPERIO_AT_LEAST\((\w+)\)")
+# Code in one line has only these, within the brackets of C++.
+STRUCT = re.compile(r"typedef struct (\w+) \{(.*?)\} \1;")
+ENUM = re.compile(r"enum \w+ \{(.*?)\};")
+SIZE = re.compile(r"typedef char \w+ ?\[sizeof\((\w+)\) == (\d+)( \* sizeof\(size_t\))? \? 1 : -1\];")
+FUNCTION = re.compile(rf"((?:\w+ )+\*?)(superio_\w+)\(([^()]*)\)((?:{ATTRIBUTE.pattern})*);")
+DECLARED = re.compile(r"((?:const )?\w+ \*?)(\w+)(?:\[(\w+)\])?")
+CONSTANT = re.compile(r"(SUPERIO_\w+) = (\w+)")
+
+
+class Declared(NamedTuple):
+    """A field or a parameter. The length is a number or the name of a constant, and empty if it is no array."""
+    kind: str
+    name: str
+    length: str
+
+
+class Function(NamedTuple):
+    returned: str
+    parameters: List[Declared]
+    attributes: List[str]
+
+
+class Header(NamedTuple):
+    """Each struct with its fields, its size in bytes, each function, and each constant with its value."""
+    structs: Dict[str, List[Declared]]
+    sizes: Dict[str, int]
+    functions: Dict[str, Function]
+    constants: Dict[str, Union[int, str]]
+
+
+def parsed(pattern, text):
+    if found := pattern.fullmatch(text.strip()):
+        return [group.strip() for group in found.groups("")]
+    raise ValueError(f"{HEADER.name} has what tools/c/header.py does not know: {text}")
+
+
+def declared(text, end):
+    return [Declared(*parsed(DECLARED, part)) for part in text.split(end) if part.strip() not in ("", "void")]
+
+
+def value(text):
+    return text.strip('"') if '"' in text else 2**64 - 1 if text == "UINT64_MAX" else int(text, 0)
+
+
+def read_header(word=8):
+    """The table, if a `size_t` has so many bytes. Raises `ValueError` if the header has anything else."""
+    text = COMMENT.sub("", HEADER.read_text(encoding="ascii"))
+    code = AT_LEAST.sub(r"\1", " ".join(DIRECTIVE.sub("", text).split()))
+    found = [pattern.findall(code) for pattern in (STRUCT, ENUM, SIZE, FUNCTION)]
+    for pattern in (STRUCT, ENUM, SIZE, FUNCTION):
+        code = pattern.sub("", code)
+    parsed(re.compile(r'extern "C" \{\s*\}'), code)
+    structs, enums, sizes, functions = found
+    own = re.findall(r"^#undef (\w+)$", text, re.M)
+    constants = dict(re.findall(r"^#define (SUPERIO_\w+) (.+)$", text, re.M))
+    constants.update(parsed(CONSTANT, part) for body in enums for part in body.split(","))
+    return Header(
+        {name: declared(fields, ";") for name, fields in structs},
+        {name: int(count) * (word if words else 1) for name, count, words in sizes},
+        {name: Function(returned.strip(), declared(parameters, ","), ATTRIBUTE.findall(attributes))
+         for returned, name, parameters, attributes, *_ in functions},
+        {name: value(text.strip()) for name, text in constants.items() if name not in own})
