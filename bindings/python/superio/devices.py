@@ -4,14 +4,13 @@ A call returns its effects: what is left for the caller to do. There are no call
 name of a register. A number out of range raises `ValueError`, and an argument of another type `TypeError`. Then nothing
 changes.
 """
-from ctypes import byref
 from functools import lru_cache
 from typing import NamedTuple, Optional, Tuple, Type, Union
 
 from .checks import byte_string, check_kind, number
 from .library import load
 from .registers import CLOCK, SERIAL, Register, bit_names, clock_offset, serial_offset
-from .saved import RTC_SAVED_SIZE, SERIAL_SAVED_MAX, Saved, load_bytes, saved_bytes
+from .saved import RTC_SAVED_SIZE, SERIAL_SAVED_MAX, Saved
 from .states import RtcState, SerialState
 from .structs import FIFO_SIZE, RtcStruct, SerialStruct
 
@@ -82,6 +81,8 @@ class I8042WriteEffects(NamedTuple):
 class Serial(Saved):
     """A 16550 serial port with a receive FIFO of 64 bytes. `copy` and `pickle` take its saved state.
 
+    A new port has divisor 12, 8 bits a character, OUT2 set, and nothing enabled, pending or held.
+
     >>> port = Serial()
     >>> port.write("IER", 0x01)
     WriteEffects(sends=False, interrupts=0)
@@ -91,13 +92,8 @@ class Serial(Saved):
     'h'
     """
 
-    __slots__ = ("_library", "_struct", "_pointer")
-
-    def __init__(self) -> None:
-        """A new port: divisor 12, 8 bits a character, OUT2 set, and nothing enabled, pending or held."""
-        self._library = load()
-        self._struct = self._library.superio_serial_new()
-        self._pointer = byref(self._struct)
+    __slots__ = ()
+    _name, _saved_max = "serial", SERIAL_SAVED_MAX
 
     def read(self, offset: Union[int, str]) -> ReadEffects:
         """The guest reads at an offset, 0 to 255, or a register by its name. A read asks for no interrupt.
@@ -164,25 +160,6 @@ class Serial(Saved):
         """Whether the port is coherent, as a new one is and stays. A restored one need not be, and is safe anyway."""
         return self._library.superio_serial_is_coherent(self._pointer)
 
-    def to_bytes(self) -> bytes:
-        """The port as a saved state, which `from_bytes`, C, Rust and Rattle read on any machine."""
-        return saved_bytes(self._library.superio_serial_save, self._struct, SERIAL_SAVED_MAX)
-
-    @classmethod
-    def from_bytes(cls, data: bytes) -> "Serial":
-        """The port of a saved state. Afterwards ask for the interrupt as often as `interrupts_due` says.
-
-        Raises `SavedStateError` if the bytes are no saved state of a serial port.
-        """
-        port = cls()
-        load_bytes(port._library.superio_serial_load, port._struct, data)
-        return port
-
-    @property
-    def raw(self) -> bytes:
-        """The struct of superio.h, as it is in this machine's memory. `serial_state` tells its state."""
-        return bytes(self._struct)
-
     @property
     def state(self) -> SerialState:
         """The registers and the held bytes, as a value."""
@@ -216,8 +193,8 @@ class Serial(Saved):
 class Rtc(Saved):
     """A PL031 real-time clock, which counts seconds. `copy` and `pickle` take its saved state.
 
-    It reads no clock of the host: each access is given its moment `now`, in whole seconds since 1970, as
-    `int(time.time())`. Only the low 32 bits of a moment count.
+    Guest time of a new clock is the host's, and no alarm is set. It reads no clock of the host: each access is given
+    its moment `now`, in whole seconds since 1970, as `int(time.time())`. Only the low 32 bits of a moment count.
 
     >>> clock = Rtc()
     >>> clock.write("LR", 100, now=1000)
@@ -226,13 +203,8 @@ class Rtc(Saved):
     107
     """
 
-    __slots__ = ("_library", "_struct", "_pointer")
-
-    def __init__(self) -> None:
-        """A new clock: guest time is the host's, and no alarm is set."""
-        self._library = load()
-        self._struct = self._library.superio_rtc_new()
-        self._pointer = byref(self._struct)
+    __slots__ = ()
+    _name, _saved_max = "rtc", RTC_SAVED_SIZE
 
     def read(self, offset: Union[int, str], now: int) -> RtcReadEffects:
         """The guest reads four bytes at an offset, 0 to 0xFFFF, or a register by its name, at a moment.
@@ -259,25 +231,6 @@ class Rtc(Saved):
         """In how many seconds from a moment the alarm is due if the guest does nothing, `None` if it never is."""
         seconds = self._library.superio_rtc_due(self._pointer, number("now", now, 64))
         return None if seconds == _NEVER else seconds
-
-    def to_bytes(self) -> bytes:
-        """The clock as a saved state, which `from_bytes`, C, Rust and Rattle read on any machine."""
-        return saved_bytes(self._library.superio_rtc_save, self._struct, RTC_SAVED_SIZE)
-
-    @classmethod
-    def from_bytes(cls, data: bytes) -> "Rtc":
-        """The clock of a saved state.
-
-        Raises `SavedStateError` if the bytes are no saved state of a clock.
-        """
-        clock = cls()
-        load_bytes(clock._library.superio_rtc_load, clock._struct, data)
-        return clock
-
-    @property
-    def raw(self) -> bytes:
-        """The struct of superio.h, as it is in this machine's memory. `clock_state` tells its state."""
-        return bytes(self._struct)
 
     @property
     def state(self) -> RtcState:

@@ -1,12 +1,14 @@
 """Saved states: the bytes that a device is saved as, and why other bytes are refused."""
 from ctypes import byref, c_uint8
 from enum import IntEnum
-from typing import Any, Callable, Optional, Tuple, Type
+from typing import Any, Callable, Tuple, Type, TypeVar
 
 from .checks import byte_string
+from .library import load
 
-__all__ = ["LoadStatus", "RTC_SAVED_SIZE", "SERIAL_SAVED_MAX", "Saved", "SavedStateError", "load_bytes", "saved_bytes",
-           "script_words"]
+__all__ = ["LoadStatus", "RTC_SAVED_SIZE", "SERIAL_SAVED_MAX", "Saved", "SavedStateError", "script_words"]
+
+_Device = TypeVar("_Device", bound="Saved")
 
 SERIAL_SAVED_MAX = 81
 """The length of the longest saved state of a serial port."""
@@ -56,16 +58,40 @@ class Saved:
     Where the ring of a port begins, and the bytes in it that the guest has read, are no part of its state.
     """
 
-    __slots__ = ()
+    __slots__ = ("_library", "_struct", "_pointer")
+    _name: str
+    _saved_max: int
+
+    def __init__(self) -> None:
+        self._library = load()
+        self._struct = self._function("new")()
+        self._pointer = byref(self._struct)
+
+    def _function(self, name: str) -> Callable[..., Any]:
+        return getattr(self._library, f"superio_{self._name}_{name}")
 
     def to_bytes(self) -> bytes:
-        """The device as a saved state."""
-        raise NotImplementedError
+        """The device as a saved state, which `from_bytes`, C, Rust and Rattle read on any machine."""
+        room = (c_uint8 * self._saved_max)()
+        count = self._function("save")(self._pointer, room)
+        return bytes(room[:count])
 
     @classmethod
-    def from_bytes(cls, data: bytes) -> "Saved":
-        """The device of a saved state."""
-        raise NotImplementedError
+    def from_bytes(cls: Type[_Device], data: bytes) -> _Device:
+        """The device of a saved state. Afterwards ask for a port's interrupt as often as `interrupts_due` says.
+
+        Raises `SavedStateError` if the bytes are no saved state of this device.
+        """
+        device, data = cls(), byte_string("data", data)
+        status = LoadStatus(device._function("load")(device._pointer, data, len(data)))
+        if status is not LoadStatus.OK:
+            raise SavedStateError(status)
+        return device
+
+    @property
+    def raw(self) -> bytes:
+        """The struct of superio.h, as it is in this machine's memory. `serial_state` and `clock_state` tell its state."""
+        return bytes(self._struct)
 
     def __reduce__(self) -> Tuple[Any, ...]:
         """Attributes of a subclass go along."""
@@ -80,21 +106,3 @@ def script_words(status: LoadStatus, data: bytes) -> str:
     """The name of the status in words, as a script replies it for these bytes."""
     words = status.name.lower().replace("_", " ")
     return f"{words} {data[5]:02x}" if status is LoadStatus.UNKNOWN_VERSION else words
-
-
-def saved_bytes(save: Callable[..., Optional[int]], device: Any, most: int) -> bytes:
-    """What the function `save` writes for the struct of a device: `most` bytes, or as many as it returns."""
-    room = (c_uint8 * most)()
-    count = save(byref(device), room)
-    return bytes(room[:count])
-
-
-def load_bytes(load: Callable[..., int], device: Any, data: bytes) -> None:
-    """Lets the function `load` read the struct of a device from bytes. It changes nothing if it refuses them.
-
-    Raises `SavedStateError` if the bytes are no saved state of the device.
-    """
-    data = byte_string("data", data)
-    status = LoadStatus(load(byref(device), data, len(data)))
-    if status is not LoadStatus.OK:
-        raise SavedStateError(status)
