@@ -16,33 +16,30 @@ enum { SERIAL = 1, MOST = 100000 };
 
 static unsigned char bytes[MOST];
 
-static size_t load_serial(size_t count, unsigned char *reply)
+union device { superio_serial port; superio_rtc clock; };
+
+static size_t save(bool is_port, const union device *device, unsigned char *form)
 {
-    superio_serial port, before;
-    memset(&port, 0xA5, sizeof port);
-    before = port;
-    reply[0] = (unsigned char)superio_serial_load(&port, bytes, count);
-    if (reply[0] == SUPERIO_LOAD_OK) {
-        reply[1] = (unsigned char)superio_serial_save(&port, reply + 2);
-        return 2 + (size_t)reply[1];
-    }
-    reply[1] = memcmp(&port, &before, sizeof port) == 0 ? 0 : 255;
-    return 2;
+    if (is_port)
+        return superio_serial_save(&device->port, form);
+    superio_rtc_save(&device->clock, form);
+    return SUPERIO_RTC_SAVED_SIZE;
 }
 
-static size_t load_clock(size_t count, unsigned char *reply)
+/* Writes the reply to the bytes, and returns its size. */
+static size_t load(bool is_port, size_t count, unsigned char *reply)
 {
-    superio_rtc clock, before;
-    memset(&clock, 0xA5, sizeof clock);
-    before = clock;
-    reply[0] = (unsigned char)superio_rtc_load(&clock, bytes, count);
-    if (reply[0] == SUPERIO_LOAD_OK) {
-        superio_rtc_save(&clock, reply + 2);
-        reply[1] = SUPERIO_RTC_SAVED_SIZE;
-        return 2 + (size_t)reply[1];
+    union device device, before;
+    memset(&device, 0xA5, sizeof device);
+    memset(&before, 0xA5, sizeof before);
+    reply[0] = (unsigned char)(is_port ? superio_serial_load(&device.port, bytes, count)
+                                       : superio_rtc_load(&device.clock, bytes, count));
+    if (reply[0] != SUPERIO_LOAD_OK) {
+        reply[1] = memcmp(&device, &before, sizeof device) == 0 ? 0 : 255;
+        return 2;
     }
-    reply[1] = memcmp(&clock, &before, sizeof clock) == 0 ? 0 : 255;
-    return 2;
+    reply[1] = (unsigned char)save(is_port, &device, reply + 2);
+    return 2 + (size_t)reply[1];
 }
 
 int main(void)
@@ -55,7 +52,7 @@ int main(void)
         size_t size;
         if (count > MOST || fread(bytes, 1, count, stdin) != count)
             return 1;
-        size = head[0] == SERIAL ? load_serial(count, reply) : load_clock(count, reply);
+        size = load(head[0] == SERIAL, count, reply);
         if (fwrite(reply, 1, size, stdout) != size)
             return 1;
     }

@@ -6,6 +6,7 @@
  * rarely, and exits with 1.
  */
 #define _DEFAULT_SOURCE
+#include "chance.h"
 #include "model.h"
 
 #include <stdio.h>
@@ -14,20 +15,6 @@
 #include <sys/mman.h>
 
 enum { PAGE = 65536, LONGEST = 200 };
-
-static uint64_t state;
-
-/* A random number of 64 bits: xorshift64*. */
-static uint64_t draw(void) {
-    state ^= state >> 12;
-    state ^= state << 25;
-    state ^= state >> 27;
-    return state * 0x2545F4914F6CDD1D;
-}
-
-static uint64_t below(uint64_t bound) { return (draw() >> 11) % bound; }
-
-static bool one_in(uint64_t count) { return below(count) == 0; }
 
 static void must(bool is_so, const char *what) {
     if (is_so)
