@@ -6,7 +6,7 @@ from pathlib import Path
 from declarations import CALLER, PROVED, differences, versions
 from header import read_header
 from libraries import PREBUILT, SHARED, STATIC, TARGETS, BuildError, build, library_sums, source_line, sums_of
-from programs import DEMO
+from programs import DEMO, TESTS
 from tally import run
 
 # What the libraries may need: a compiler copies structs by it, so each C program has it.
@@ -79,10 +79,14 @@ def check_symbols(tally):
 
 
 def check_declarations(tally):
-    """Counts whether the header declares what the proved library has, and the program that calls it at random."""
+    """Counts whether the header declares what the proved library has, and what calls it has each function."""
     for side in (PROVED, CALLER):
         found = list(differences(side))
         tally.check(not found, "\n".join(found))
+    for name in ("calls.c", "fuzz.c"):
+        called = re.findall(r"\b(superio_\w+)\(", (TESTS / name).read_text(encoding="utf-8"))
+        left = read_header().functions.keys() - {"superio_abi", *called}
+        tally.check(not left, f"{name} does not call {sorted(left)}")
 
 
 def check_versions(tally):

@@ -38,6 +38,8 @@ DECLARATIONS = [
     ("bindings/rust/src/core/serial/effects.rs", "    pub sends: bool,\n", "",
      "superio_serial_write_effects: the header has"),
     (CALLER, "    resets: bool,", "    resets: u16,", "superio_i8042_write_effects: the header has the size 1"),
+    ("tools/c/tests/calls.c", "CHECK(superio_i8042_read(0) == 0 && superio_i8042_read(4) == 0);", "",
+     "calls.c does not call ['superio_i8042_read']"),
     (CALLER, "    safe fn superio_rtc_line(clock: &Clock) -> bool;\n", "", "tools/compare/library None"),
 ]
 # In place of the kit: `rt doc` names a page of the kit, `rt lib` writes a library that says what it is for, and the

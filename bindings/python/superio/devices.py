@@ -20,8 +20,7 @@ __all__ = ["EnqueueEffects", "I8042", "I8042WriteEffects", "ReadEffects", "Rtc",
 _NEVER = 2 ** 64 - 1
 _STATES = 1024
 _HEAD, _LENGTH, _RING = SerialStruct.head.offset, SerialStruct.len.offset, SerialStruct.bytes.offset
-_REGISTERS = ("baud_divisor_low", "baud_divisor_high", "interrupt_enable", "interrupt_identification", "line_control",
-              "line_status", "modem_control", "modem_status", "scratch")
+_REGISTERS = tuple(name for name, *_ in SerialStruct._fields_)[:_HEAD]  # each is a byte
 
 
 class ReadEffects(NamedTuple):
