@@ -151,6 +151,20 @@ class Whole(unittest.TestCase):
             scripts = [self.BAD if number == place else self.GOOD for number in range(3)]
             self.assertEqual(self.run_main(scripts), (1, "5 passed, 1 failed, 3 skipped"))
 
+    def test_without_the_kit_it_is_not_found_and_all_else_is(self):
+        with tempfile.TemporaryDirectory() as folder:
+            kit, links = Path(folder, "kit"), Path(folder, "links")
+            links.mkdir()
+            kit.mkdir()
+            for name in ("rt", "cc"):
+                (kit / name).write_text("#!/bin/sh\n", encoding="ascii")
+                (kit / name).chmod(0o755)
+            with mock.patch.dict(os.environ, PATH=f"{folder}:{kit}:/nowhere/at/all"):
+                path = check.path_without_kit(links)
+            self.assertIsNone(shutil.which("rt", path=path))
+            self.assertEqual(Path(shutil.which("cc", path=path)).resolve(), kit.resolve() / "cc")
+            self.assertEqual(path.split(":")[::2], [folder, "/nowhere/at/all"])
+
     def test_a_check_below_its_floor_or_without_one_fails(self):
         for floors in ({"0": {"cases": 2}}, {"0": {"cases": 1, "more": 1}}, {}, {"0": {"cases": 1}, "1": {"cases": 1}}):
             status, printed = self.run_main([self.GOOD], floors)
