@@ -1,4 +1,6 @@
 //! The devices of bindings/rust.
+use std::mem;
+
 use vm_superio::I8042Device;
 use vm_superio::rtc_pl031::{Rtc, RtcSnapshot};
 use vm_superio::saved::SavedStateError;
@@ -87,7 +89,12 @@ impl Devices {
                 Ok(state) => self.restore(&state),
                 Err(error) => Ok(fault(error)),
             },
-            Action::ControllerRead(offset) => Ok(Reply::Number(self.controller.read(*offset).into())),
+            Action::ControllerRead(offset) => {
+                let read = self.controller.read(*offset);
+                let _ = self.controller.reset_evt();
+                self.controller = I8042Device::new(self.object.clone());
+                Ok(Reply::Number(read.into()))
+            }
             Action::ControllerWrite(offset, value) => {
                 self.controller.write(*offset, *value).map(|()| Reply::Done).map_err(Error::Trigger)
             }
@@ -95,9 +102,14 @@ impl Devices {
         }
     }
 
+    /// The port that was there is taken apart, which calls no object.
     fn restore(&mut self, state: &SerialState) -> Result<Reply, Error<Refused>> {
         let object = &self.object;
-        self.serial = Serial::from_state(state, object.clone(), object.clone(), object.clone())?;
+        let restored = Serial::from_state(state, object.clone(), object.clone(), object.clone())?;
+        let mut left = mem::replace(&mut self.serial, restored);
+        let _ = (left.writer(), left.interrupt_evt(), left.events());
+        let _ = left.writer_mut();
+        let _ = left.into_writer();
         Ok(Reply::Done)
     }
 
@@ -126,6 +138,7 @@ impl Devices {
             Action::ClockSave => Reply::Form(self.clock.snapshot().to_bytes()),
             Action::ClockLoad(bytes) => match RtcSnapshot::from_bytes(bytes) {
                 Ok(snapshot) => {
+                    let _ = (self.clock.events(), self.clock.is_armed());
                     self.clock = Rtc::from_snapshot(&snapshot, self.object.clone());
                     Reply::Done
                 }
