@@ -5,6 +5,7 @@ docs/THREATS.md.
 """
 import random
 import subprocess
+from functools import lru_cache
 
 from oracle import CLOCK, SERIAL, Clock, Port, resets
 
@@ -243,7 +244,7 @@ class Script:
         self.random, self.monitor, self.lines = random, monitor(), []
         self.has_port_alone = monitor is not Monitor
         makers = [self.write, self.read, self.type, self.serve, self.clock, self.host]
-        weights = (4, 6, 3, 1, 0, 0) if self.has_port_alone else (3, 3, 1, 2, 2, 1)
+        weights = (4, 6, 3, 1, 0, 0) if self.has_port_alone else (3, 3, 1, 2, 2, 2)
         for _ in range(length):
             random.choices(makers, weights)[0]()
 
@@ -286,7 +287,7 @@ class Script:
         self.add("i", min(self.random.choice((1, 1, 2, 40, 64, 65, 127)), room), self.random.choice(b"xy"))
 
     def serve(self):
-        if self.random.randrange(3) and not self.has_port_alone:
+        if self.random.randrange(2) and not self.has_port_alone:
             return self.add("t")
         self.add("w", COM1 + 3, 3)  # with DLAB set the handler would not reach the bytes, and not end
         if self.has_port_alone:
@@ -294,16 +295,23 @@ class Script:
         return self.add("h")
 
     def host(self):
-        """The interrupt line takes nothing, or takes requests again; the machine moves, or is reset; or input comes early."""
-        self.add(*self.random.choice((*[("d", 1)] * 4, *[("d", 0)] * 4, ("g",), ("g",), *[("w", 0x64, 0xFE)] * 4, ("e",))))
+        """The interrupt line takes nothing, or takes requests again; the machine moves; input comes early; or the guest resets
+        the machine, and the next one finds its port."""
+        choices = {("d", 1): 4, ("d", 0): 4, ("g",): 2, ("w", 0x64, 0xFE): 2, ("e",): 1}
+        word, *numbers = self.random.choices(list(choices), choices.values())[0]
+        self.add(word, *numbers)
+        if word == "w":
+            self.add("w", COM1 + IER, self.random.choice((1, 2, 3)))
+            self.add("t")
 
 
+@lru_cache(maxsize=None)
 def random_cases(monitor, count, seed):
     """Random scripts: of each a name, its lines, what the monitor prints for them, and the exit status."""
     chance = random.Random(seed)
-    for number in range(count):
-        script = Script(chance, chance.randrange(MOST_LINES), monitor)
-        yield f"script {number} of seed {seed}:\n{script.lines}", script.lines, script.monitor.printed, 0
+    scripts = [Script(chance, chance.randrange(MOST_LINES), monitor) for _ in range(count)]
+    return [(f"script {number} of seed {seed}:\n{script.lines}", script.lines, script.monitor.printed, 0)
+            for number, script in enumerate(scripts)]
 
 
 def different_scripts(command, cases):

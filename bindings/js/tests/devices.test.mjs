@@ -160,12 +160,12 @@ test("devices share nothing", () => {
   port.write("SCR", 1);
   const copy = port.clone();
   copy.write("SCR", 2);
-  assert.deepEqual([port, other, copy].map((one) => one.read("SCR").byte), [1, 0, 2]);
+  assert.deepEqual([port, other, copy].map((one) => [one.read("SCR").byte, one.state.scratch]), [[1, 1], [0, 0], [2, 2]]);
   const [clock, later] = [new Rtc(), new Rtc()];
   clock.write("LR", 5, 0);
   const twin = clock.clone();
   twin.write("LR", 6, 0);
-  assert.deepEqual([clock, later, twin].map((one) => one.read("DR", 0).value), [5, 0, 6]);
+  assert.deepEqual([clock, later, twin].map((one) => [one.read("DR", 0).value, one.state.lr]), [[5, 5], [0, 0], [6, 6]]);
 });
 
 test("saved bytes that are refused change nothing, and say why", () => {

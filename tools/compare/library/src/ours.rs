@@ -1,5 +1,6 @@
 //! The devices of bindings/rust.
 use std::mem;
+use std::sync::Arc;
 
 use vm_superio::I8042Device;
 use vm_superio::rtc_pl031::{Rtc, RtcSnapshot};
@@ -18,8 +19,8 @@ const LEFT_REPLY: Reply = Reply::Maybe(Some(u32::from_le_bytes(LEFT) as u64));
 
 pub struct Devices {
     object: Object,
-    serial: Serial<Object, Object, Object>,
-    clock: Rtc<Object>,
+    serial: Serial<Object, Arc<Object>, Object>,
+    clock: Rtc<Arc<Object>>,
     controller: I8042Device<Object>,
 }
 
@@ -48,8 +49,8 @@ impl Devices {
     pub fn new() -> Devices {
         let object = Object::default();
         Devices {
-            serial: Serial::with_events(object.clone(), object.clone(), object.clone()),
-            clock: Rtc::with_events(object.clone()),
+            serial: Serial::with_events(object.clone(), Arc::new(object.clone()), object.clone()),
+            clock: Rtc::with_events(Arc::new(object.clone())),
             controller: I8042Device::new(object.clone()),
             object,
         }
@@ -105,7 +106,7 @@ impl Devices {
     /// The port that was there is taken apart, which calls no object.
     fn restore(&mut self, state: &SerialState) -> Result<Reply, Error<Refused>> {
         let object = &self.object;
-        let restored = Serial::from_state(state, object.clone(), object.clone(), object.clone())?;
+        let restored = Serial::from_state(state, object.clone(), Arc::new(object.clone()), object.clone())?;
         let mut left = mem::replace(&mut self.serial, restored);
         let _ = (left.writer(), left.interrupt_evt(), left.events());
         let _ = left.writer_mut();
@@ -139,7 +140,7 @@ impl Devices {
             Action::ClockLoad(bytes) => match RtcSnapshot::from_bytes(bytes) {
                 Ok(snapshot) => {
                     let _ = (self.clock.events(), self.clock.is_armed());
-                    self.clock = Rtc::from_snapshot(&snapshot, self.object.clone());
+                    self.clock = Rtc::from_snapshot(&snapshot, Arc::new(self.object.clone()));
                     Reply::Done
                 }
                 Err(error) => fault(error),
