@@ -239,6 +239,18 @@ fn a_state_of_too_many_bytes_is_refused_before_the_trigger_is_called() {
 }
 
 #[test]
+fn a_state_has_the_held_bytes_wherever_the_ring_begins() {
+    let bytes: Vec<u8> = (100..164).collect();
+    for (start, count) in (0..64).flat_map(|start| (0..=64).map(move |count| (start, count))) {
+        let mut serial = Serial::new(Line::default(), io::sink());
+        serial.enqueue_raw_bytes(&[0; 64][..start]).unwrap();
+        (0..start).for_each(|_| assert_eq!(serial.read(0), 0));
+        serial.enqueue_raw_bytes(&bytes[..count]).unwrap();
+        assert_eq!(serial.state().in_buffer, bytes[..count]);
+    }
+}
+
+#[test]
 fn a_new_port_has_the_default_state() {
     let serial = Serial::new(Line::default(), io::sink());
     let state = serial.state();
