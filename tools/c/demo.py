@@ -1,4 +1,4 @@
-"""The monitor of examples/c, driven by accesses of a guest and by what else may happen to it, and wrong ones.
+"""The monitors of examples/c, driven by accesses of a guest and by what else may happen to them, and wrong ones.
 
 What a case expects was worked out from docs/DEVICES.md and from the duties of docs/THREATS.md, and not by running it.
 What a random script expects is what a second monitor does, that of `twin.py`.
@@ -8,7 +8,7 @@ import shutil
 
 from programs import DEMO, TESTS
 from tally import run
-from twin import COM1, Script, shown
+from twin import COM1, Edges, Level, Monitor, different_scripts, random_cases, shown
 
 from planted import read_bugs  # noqa: E402, of the folder that tally adds
 
@@ -17,8 +17,8 @@ WRONG = TESTS / "wrong-demos.edits"
 CLOCK_IS_OFF = "clock: line down, no alarm"
 
 
-# How many random scripts there are, and the most lines of one.
-SCRIPTS, MOST_LINES = 300, 80
+# How many random scripts there are of each monitor.
+SCRIPTS, SCRIPTS_OF_LINES = 300, 40
 BESIDE = [port for port in range(1 << 16) if not 0 <= port - COM1 < 8 and port not in (0x60, 0x64)]
 
 
@@ -79,28 +79,28 @@ OTHER_LIBRARY = (1, "the comparison of header and library failed\n")
 
 
 def differences(program, seed=0):
-    """The names of the cases in which a program does something else. `seed` is that of the random scripts."""
-    for name, lines, printed, status in (*CASES, *random_cases(seed)):
-        ran = run([program], input="".join(f"{line}\n" for line in lines))
-        if (ran.returncode, ran.stdout) != (status, "".join(f"{line}\n" for line in printed)):
-            yield f"{name}: status {ran.returncode}\n{ran.stdout[-2000:]}"
+    """The names of the cases in which the monitor does something else. `seed` is that of the random scripts."""
+    yield from different_scripts([program], (*CASES, *random_cases(Monitor, SCRIPTS, seed)))
     for difference in ("1", "-1", "256"):
         ran = run([program, difference])
         if (ran.returncode, ran.stdout) != OTHER_LIBRARY:
             yield f"a library of an interface that differs by {difference}: status {ran.returncode}\n{ran.stdout}"
 
 
-def random_cases(seed):
-    """Random scripts as cases."""
-    chance = random.Random(seed)
-    for number in range(SCRIPTS):
-        script = Script(chance, chance.randrange(MOST_LINES))
-        yield f"script {number} of seed {seed}:\n{script.lines}", script.lines, script.monitor.printed, 0
+def differences_of_lines(program, seed=0):
+    """The same of lines.c, as edges and as a level."""
+    for words, monitor in (([], Edges), (["level"], Level)):
+        yield from different_scripts([program, *words], random_cases(monitor, SCRIPTS_OF_LINES, seed))
 
 
-def build(machine, compiler, place, program):
+# The driver of each, and what finds its differences.
+DRIVEN = {"monitor.c": ("demo.c", WRAPPED, differences), "lines.c": ("driven_lines.c", [], differences_of_lines)}
+
+
+def build(machine, compiler, place, program, file="monitor.c"):
     """The words that build the driver over the monitor of a folder."""
-    return machine.program(compiler, [TESTS / "demo.c"], program, ["-O1", "-I", place, *WRAPPED])
+    driver, options, _ = DRIVEN[file]
+    return machine.program(compiler, [TESTS / driver], program, ["-O1", "-I", place, *options])
 
 
 def check_driven_demo(tally, machine, folder):
@@ -113,17 +113,20 @@ def check_driven_demo(tally, machine, folder):
         tally.tried.leave_out("random scripts of the demo")
         tally.tried.leave_out("wrong demos")
         return
-    program, place, source = folder / "driven", folder / "wrong-demo", (DEMO / "monitor.c").read_text(encoding="utf-8")
-    if tally.run("the driven demo is built", build(machine, compiler, DEMO, program), number=0):
-        found = list(differences(program, random.randrange(10**9)))
-        tally.check(not found, "\n".join(found[:3]), len(CASES) + 2)
-        tally.tried.add("random scripts of the demo", SCRIPTS)
+    program, place = folder / "driven", folder / "wrong-demo"
+    for file, cases, scripts in (("monitor.c", len(CASES) + 2, SCRIPTS), ("lines.c", 1, 2 * SCRIPTS_OF_LINES)):
+        if tally.run(f"the driven {file} is built", build(machine, compiler, DEMO, program, file), number=0):
+            found = list(DRIVEN[file][2](program, random.randrange(10**9)))
+            tally.check(not found, "\n".join(found[:3]), cases)
+            tally.tried.add("random scripts of the demo", scripts)
     tally.of("wrong demos")
     shutil.rmtree(place, ignore_errors=True)
     place.mkdir()
     for bug in read_bugs(WRONG, "monitor.c"):
+        source = (DEMO / bug.file).read_text(encoding="utf-8")
         (place / bug.file).write_text(source.replace(bug.old, bug.new), encoding="utf-8")
         stands = source.count(bug.old)
         if tally.check(stands == 1, f"{bug.name}: its text stands {stands} times in {bug.file}", 0) \
-                and tally.run(f"the wrong demo {bug.name} is built", build(machine, compiler, place, program), number=0):
-            tally.check(any(differences(program)), f"the wrong demo {bug.name} is not refused")
+                and tally.run(f"the wrong demo {bug.name} is built", build(machine, compiler, place, program, bug.file),
+                              number=0):
+            tally.check(any(DRIVEN[bug.file][2](program)), f"the wrong demo {bug.name} is not refused")

@@ -1,13 +1,17 @@
-"""A second monitor like that of examples/c, over the devices of `oracle.py`, and random scripts for both.
+"""Second monitors like those of examples/c and examples/rust, over the devices of `oracle.py`, and random scripts for both.
 
-It takes the lines of tests/demo.c, and says what they print. It was written from docs/DEVICES.md and from the duties of
+They take the lines of tests/demo.c, and say what these print. They were written from docs/DEVICES.md and from the duties of
 docs/THREATS.md.
 """
+import random
+import subprocess
+from functools import lru_cache
+
 from oracle import CLOCK, SERIAL, Clock, Port, resets
 
 COM1 = 0x3F8
 RBR, IER, IIR, MCR, LSR = (SERIAL[name].offset for name in ("RBR", "IER", "IIR", "MCR", "LSR"))
-MOST_INPUT = 127
+MOST_INPUT, MOST_LINES = 127, 80
 IS_MASKED = CLOCK["MIS"].offset
 # Moments and matches at which a number of fewer bits, or with a sign, would be another.
 EDGES = (0, 1, 2**16, 2**31 - 1, 2**31, 2**32 - 1)
@@ -37,18 +41,30 @@ def seconds_due(clock, now):
 class Monitor:
     """The devices, what the monitor keeps beside them, and the lines that it has printed."""
 
+    most = 40                 # how many bytes the guest's handler takes for each look at IIR
+    feeds_after = (IER, MCR)  # the registers whose write may make the guest ready
+
     def __init__(self):
         # The requests of a call are made by the monitor, after it.
         self.port, self.clock = Port(lambda _: False, lambda: ""), Clock()
         self.input, self.now, self.printed = b"", 1000, []
-        self.is_down = self.was_refused = self.is_interrupted = self.is_ready = False
+        self.is_down = self.was_refused = self.is_interrupted = self.is_ready = self.feeds_early = False
+
+    def serve(self, word, *numbers):
+        """Carries out a line."""
+        getattr(self, word)(*numbers)
+
+    def show(self, byte):
+        """Shows a byte that goes out."""
+        self.printed.append(shown(byte))
 
     def call(self, name, *arguments):
         """The reply of a call of the port, its events, and how many requests it asks for. Prints what it sends."""
         start = len(self.port.past)
         reply = getattr(self.port, name)(*arguments)
         did = self.port.did(start)
-        self.printed += [shown(int(call[1:], 16)) for call in did if call[0] == "W"]
+        for byte in (int(call[1:], 16) for call in did if call[0] == "W"):
+            self.show(byte)
         return reply, did, did.count("T")
 
     def ask(self, times):
@@ -61,7 +77,7 @@ class Monitor:
             self.is_interrupted = True
 
     def feed(self):
-        if not self.is_ready:
+        if not self.is_ready and not self.feeds_early:
             return
         reply, _, times = self.call("enqueue", self.input)
         self.input = self.input[0 if reply == "full" else int(reply, 16):]
@@ -96,7 +112,7 @@ class Monitor:
         if 0 <= port - COM1 < 8:
             self.ask(self.call("write", port - COM1, value)[2])
             self.is_ready = self.is_ready or self.port.last("IER") & 0x03 == 0x01
-            if port in (COM1 + IER, COM1 + MCR):
+            if port - COM1 in self.feeds_after:
                 self.feed()
 
     def r(self, port):
@@ -111,6 +127,9 @@ class Monitor:
     def i(self, count, byte):
         self.input += bytes([byte]) * count
         self.feed()
+
+    def e(self):
+        self.feeds_early = True
 
     def d(self, is_down):
         self.is_down = is_down != 0
@@ -129,15 +148,23 @@ class Monitor:
         self.ask(times)
 
     def h(self):
-        received = 0
+        self.received = 0
         while self.is_interrupted:
-            self.is_interrupted = False
-            while not self.read(COM1 + IIR) & 0x01:
-                for _ in range(40):
-                    if not self.read(COM1 + LSR) & 0x01:
-                        break
-                    received += self.read(COM1 + RBR) == ord("x")
-        self.printed.append(f"received {received}")
+            self.handle()
+        self.printed.append(f"received {self.received}")
+
+    def handle(self):
+        """The guest's handler."""
+        self.is_interrupted = False
+        while not self.read(COM1 + IIR) & 0x01:
+            for _ in range(self.most):
+                if not self.read(COM1 + LSR) & 0x01:
+                    break
+                self.take(self.read(COM1 + RBR))
+
+    def take(self, byte):
+        """What the guest does with a byte."""
+        self.received += byte == ord("x")
 
     def g(self):
         self.is_down = self.was_refused = self.is_interrupted = False
@@ -146,23 +173,90 @@ class Monitor:
         self.follow_clock()
 
 
+class Edges(Monitor):
+    """The monitor of lines.c whose line has edges: a port alone, whose input is what fits. After each line it prints what
+    went out, whether the guest is interrupted, and how much room there is."""
+
+    most = 16
+
+    def __init__(self):
+        super().__init__()
+        self.out = ""
+
+    def serve(self, word, *numbers):
+        super().serve(word, *numbers)
+        self.printed.append(f"{self.out} {self.is_interrupted:d} {self.port.room()}")
+        self.out = ""
+
+    def show(self, byte):
+        self.out += chr(byte)
+
+    def ask(self, times):
+        self.is_interrupted = self.is_interrupted or times > 0
+
+    def feed(self):
+        reply, _, times = self.call("enqueue", self.input)
+        self.input = b""
+        self.ask(times)
+
+
+class Level(Edges):
+    """The monitor of lines.c whose line is a level."""
+
+    is_interrupted = property(lambda self: self.port.due() > 0, lambda self, _: None)
+
+
+class Echo(Edges):
+    """The monitor of examples/rust. What does not fit waits, and the guest sends back what it takes, in capitals. Each
+    interrupt is printed once."""
+
+    feeds_after = (MCR,)
+
+    def __init__(self):
+        super().__init__()
+        self.feeds_early, self.was_interrupted = True, False
+
+    def serve(self, word, *numbers):
+        super().serve(word, *numbers)
+        self.was_interrupted |= self.is_interrupted
+        self.is_interrupted = False
+
+    def feed(self):
+        Monitor.feed(self)
+
+    def i(self, count, byte):
+        super().i(count, byte)
+        self.ask(self.call("character_timeout")[2])
+
+    def take(self, byte):
+        self.w(COM1 + RBR, ord(bytes([byte]).upper()))
+
+    def h(self):
+        self.is_interrupted, self.was_interrupted = self.was_interrupted, False
+        while self.is_interrupted:
+            self.handle()
+
+
 class Script:
     """Random lines, and what the monitor prints for them."""
 
-    def __init__(self, random, length):
-        self.random, self.monitor, self.lines = random, Monitor(), []
-        makers = [self.write, self.read, self.clock, self.type, self.serve, self.host]
+    def __init__(self, random, length, monitor=Monitor):
+        self.random, self.monitor, self.lines = random, monitor(), []
+        self.has_port_alone = monitor is not Monitor
+        makers = [self.write, self.read, self.type, self.serve, self.clock, self.host]
+        weights = (4, 6, 3, 1, 0, 0) if self.has_port_alone else (3, 3, 1, 2, 2, 2)
         for _ in range(length):
-            random.choices(makers, (3, 3, 2, 1, 2, 1))[0]()
+            random.choices(makers, weights)[0]()
 
     def add(self, word, *numbers):
         self.lines.append(" ".join([word, *(f"{number:x}" for number in numbers)]))
-        getattr(self.monitor, word)(*numbers)
+        self.monitor.serve(word, *numbers)
 
     def port(self, offsets):
         """Mostly one of the serial port's, or else one of the controller's, beside one of them, or any."""
         others = [0x60, 0x62, 0x64, 0x65, 0x264, COM1 - 1, COM1 + 8, COM1 - 0x100, self.random.randrange(1 << 16)]
-        return COM1 + self.random.choice(offsets) if self.random.randrange(8) else self.random.choice(others)
+        is_own = self.has_port_alone or self.random.randrange(8)
+        return COM1 + self.random.choice(offsets) if is_own else self.random.choice(others)
 
     def write(self):
         port, any_byte = self.port((0, 0, 1, 1, 1, 3, 4, 4, 7)), self.random.randrange(256)
@@ -193,10 +287,37 @@ class Script:
         self.add("i", min(self.random.choice((1, 1, 2, 40, 64, 65, 127)), room), self.random.choice(b"xy"))
 
     def serve(self):
-        if self.random.randrange(3):
+        if self.random.randrange(2) and not self.has_port_alone:
             return self.add("t")
         self.add("w", COM1 + 3, 3)  # with DLAB set the handler would not reach the bytes, and not end
+        if self.has_port_alone:
+            self.add("w", COM1 + 4, 8)  # nor would one that sends its bytes back in loopback
         return self.add("h")
 
     def host(self):
-        self.add(*self.random.choice((("d", 1), ("d", 1), ("d", 0), ("d", 0), ("g",))))
+        """The interrupt line takes nothing, or takes requests again; the machine moves; input comes early; or the guest resets
+        the machine, and the next one finds its port."""
+        choices = {("d", 1): 4, ("d", 0): 4, ("g",): 2, ("w", 0x64, 0xFE): 2, ("e",): 1}
+        word, *numbers = self.random.choices(list(choices), choices.values())[0]
+        self.add(word, *numbers)
+        if word == "w":
+            self.add("w", COM1 + IER, self.random.choice((1, 2, 3)))
+            self.add("t")
+
+
+@lru_cache(maxsize=None)
+def random_cases(monitor, count, seed):
+    """Random scripts: of each a name, its lines, what the monitor prints for them, and the exit status."""
+    chance = random.Random(seed)
+    scripts = [Script(chance, chance.randrange(MOST_LINES), monitor) for _ in range(count)]
+    return [(f"script {number} of seed {seed}:\n{script.lines}", script.lines, script.monitor.printed, 0)
+            for number, script in enumerate(scripts)]
+
+
+def different_scripts(command, cases):
+    """The names of the cases in which a program does something else."""
+    for name, lines, printed, status in cases:
+        given, wanted = ("".join(f"{line}\n" for line in text).encode("latin-1") for text in (lines, printed))
+        ran = subprocess.run(command, input=given, stdout=subprocess.PIPE, stderr=subprocess.STDOUT)
+        if (ran.returncode, ran.stdout) != (status, wanted):
+            yield f"{name}: status {ran.returncode}\n{ran.stdout[-2000:].decode('latin-1')}"

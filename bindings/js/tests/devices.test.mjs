@@ -1,10 +1,18 @@
 /** What the package does by itself: results, layouts, saved bytes, copies, and refused arguments. */
 import assert from "node:assert/strict";
 import test from "node:test";
+import * as registers from "../registers.mjs";
 import { I8042, RegisterError, Rtc, SavedStateError, Serial } from "../superio.mjs";
 
-const bytes = (text) => new TextEncoder().encode(text);
-const fromHex = (digits) => Uint8Array.from(digits.match(/../g) ?? [], (two) => parseInt(two, 16));
+/** The same bytes in the middle of a buffer, so that what is passed is seldom a whole one. */
+function within(array) {
+  const larger = new Uint8Array(array.length + 5).fill(0xee);
+  larger.set(array, 2);
+  return larger.subarray(2, 2 + array.length);
+}
+
+const bytes = (text) => within(new TextEncoder().encode(text));
+const fromHex = (digits) => within(Uint8Array.from(digits.match(/../g) ?? [], (two) => parseInt(two, 16)));
 // Each field has a value of its own, so that two that are swapped are found.
 const PORT = {
   baudDivisorLow: 0x11, baudDivisorHigh: 0x22, interruptEnable: 0x03, interruptIdentification: 0x06, lineControl: 0x44,
@@ -121,7 +129,7 @@ function chances(seed) {
   };
 }
 
-test("after each of many calls the state is that of the saved form, and no form changes later", () => {
+test("after each of many calls the state is that of the saved form, and no form is a part of something else", () => {
   const below = chances(3);
   const [port, clock, seen] = [new Serial(), new Rtc(), new Map()];
   let forms = [];
@@ -134,6 +142,7 @@ test("after each of many calls the state is that of the saved form, and no form 
     forms = [port, clock].map((device) => device.toBytes());
     const [ofPort, ofClock] = forms;
     const { inBuffer, ...registers } = port.state;
+    for (const own of [ofPort, ofClock, inBuffer]) assert.equal(own.buffer.byteLength, own.length);
     assert.deepEqual([...Object.values(registers), ...inBuffer], [...ofPort.subarray(8)]);
     const { lr, mr, imsc, ris, offset: ahead, armed } = clock.state;
     const view = new DataView(ofClock.buffer, 8);
@@ -151,29 +160,48 @@ test("devices share nothing", () => {
   port.write("SCR", 1);
   const copy = port.clone();
   copy.write("SCR", 2);
-  assert.deepEqual([port, other, copy].map((one) => one.read("SCR").byte), [1, 0, 2]);
+  assert.deepEqual([port, other, copy].map((one) => [one.read("SCR").byte, one.state.scratch]), [[1, 1], [0, 0], [2, 2]]);
   const [clock, later] = [new Rtc(), new Rtc()];
   clock.write("LR", 5, 0);
   const twin = clock.clone();
   twin.write("LR", 6, 0);
-  assert.deepEqual([clock, later, twin].map((one) => one.read("DR", 0).value), [5, 0, 6]);
+  assert.deepEqual([clock, later, twin].map((one) => [one.read("DR", 0).value, one.state.lr]), [[5, 5], [0, 0], [6, 6]]);
 });
 
 test("saved bytes that are refused change nothing, and say why", () => {
-  const cases = [["5349", "too short"], ["58494f5301010900" + "00".repeat(9), "not a saved state"],
-    [CLOCK_SAVED, "other device"],
-    ["53494f5301020900" + "00".repeat(9), "unknown version"], ["53494f5301010900" + "00".repeat(8), "wrong length"],
-    ["53494f5301014a00" + "00".repeat(74), "too many bytes"],
-    ["53494f530101ffff" + "00".repeat(0xffff), "too many bytes"],
-    ["53494f530101ffff" + "00".repeat(0x1ffff), "wrong length"]];
-  for (const [digits, status] of cases) {
-    const isRight = (error) => error instanceof SavedStateError && error.status === status;
-    assert.throws(() => Serial.fromBytes(fromHex(digits)), isRight);
+  const long = ["53494f5301014a00" + "00".repeat(74), "53494f530101ffff" + "00".repeat(0xffff),
+    "53494f530101ffff" + "00".repeat(0x1ffff)];
+  for (const [kind, device, good, least, most] of [[1, Serial, PORT_SAVED, 9, 73], [2, Rtc, CLOCK_SAVED, 25, 25]]) {
+    const form = fromHex(good);
+    const forms = [...form.keys()].flatMap((place) => [form.slice(0, place), ...Array.from({ length: 256 },
+      (_, value) => within(form.map((one, other) => (other === place ? value : one))))]);
+    for (const saved of [...forms, ...long.map(fromHex)]) {
+      const status = statusOf(kind, saved, least, most);
+      if (status === null) assert.deepEqual(device.fromBytes(saved).toBytes(), saved);
+      else assert.throws(() => device.fromBytes(saved), { name: "SavedStateError", status, message: REASONS[status] });
+    }
   }
-  const armed = fromHex(CLOCK_SAVED);
-  armed[32] = 2;
-  assert.throws(() => Rtc.fromBytes(armed), { name: "SavedStateError", status: "invalid armed" });
+  assert.throws(() => Rtc.fromBytes(fromHex(PORT_SAVED)), SavedStateError);
 });
+
+const REASONS = {
+  "too short": "too short for a saved state", "not a saved state": "not a saved state",
+  "other device": "the saved state of another device", "unknown version": "a saved state of an unknown version",
+  "wrong length": "a saved state of the wrong length", "too many bytes": "more than 64 received bytes",
+  "invalid armed": "an alarm that is neither set nor clear",
+};
+
+/** What docs/SAVED-STATES.md says of bytes that are loaded: why they are refused, or null. */
+function statusOf(kind, saved, least, most) {
+  if (saved.length < 8) return "too short";
+  if (!"SIOS".split("").every((letter, place) => letter.charCodeAt(0) === saved[place])) return "not a saved state";
+  if (saved[4] !== kind) return "other device";
+  if (saved[5] !== 1) return "unknown version";
+  const count = saved[6] + 256 * saved[7];
+  if (count !== saved.length - 8 || count < least || (kind === 2 && count > most)) return "wrong length";
+  if (count > most) return "too many bytes";
+  return kind === 2 && saved[32] > 1 ? "invalid armed" : null;
+}
 
 /** A call that has to be refused, with the error and a text that its message has. */
 function refused(call, name, text) {
@@ -210,6 +238,58 @@ test("a wrong argument is named, with its value and the range", () => {
   refused(() => Rtc.fromState({ ...CLOCK, offset: 2n ** 63n }), "RangeError", "offset is 9223372036854775808n");
   refused(() => Rtc.fromState({ ...CLOCK, armed: 1 }), "TypeError", "armed is 1, and true or false is wanted");
   assert.deepEqual([port.state, clock.state], before);
+});
+
+test("each argument is taken at its edges, and refused beyond them", () => {
+  const [port, clock, controller] = [new Serial(), new Rtc(), new I8042()];
+  const ofPort = Object.keys(PORT).filter((name) => name !== "inBuffer");
+  const arguments_ = [[(it) => port.read(it), 0, 0xff], [(it) => port.write(it, 0), 0, 0xff],
+    [(it) => port.write(7, it), 0, 0xff], [(it) => clock.read(it, 0), 0, 0xffff], [(it) => clock.write(it, 0, 0), 0, 0xffff],
+    [(it) => clock.write(8, it, 0), 0, 2 ** 32 - 1], [(it) => clock.read(0, it), 0, Number.MAX_SAFE_INTEGER],
+    ...[(it) => clock.read(0, it), (it) => clock.write(8, 0, it), (it) => clock.due(it)].map((it) => [it, 0n, 2n ** 64n - 1n]),
+    [(it) => controller.read(it), 0, 0xff], [(it) => controller.write(it, 0), 0, 0xff],
+    [(it) => controller.write(4, it), 0, 0xff], [(it) => Rtc.fromState({ ...CLOCK, offset: it }), -(2n ** 63n), 2n ** 63n - 1n],
+    ...ofPort.map((name) => [(it) => Serial.fromState({ ...PORT, [name]: it }), 0, 0xff]),
+    ...["lr", "mr", "imsc", "ris"].map((name) => [(it) => Rtc.fromState({ ...CLOCK, [name]: it }), 0, 2 ** 32 - 1])];
+  for (const [call, least, most] of arguments_) {
+    const one = typeof most === "bigint" ? 1n : 1;
+    for (const taken of [least, most]) call(taken);
+    for (const beyond of [least - one, most + one]) assert.throws(() => call(beyond), RangeError, `${call}: ${beyond}`);
+  }
+  for (const [device, state] of [[Serial, PORT], [Rtc, CLOCK]]) {
+    for (const name of Object.keys(state)) {
+      refused(() => device.fromState({ ...state, [name]: undefined }), "TypeError", `${name} is undefined`);
+    }
+  }
+});
+
+test("a name in any case is the register that the device has there", () => {
+  const cases = (name) => [name, name.toLowerCase(), name[0] + name.slice(1).toLowerCase()];
+  for (const lineControl of [0x03, 0x83]) {
+    for (const [name, one] of Object.entries(registers.SERIAL)) {
+      for (const [isWrite, letter] of [[false, "r"], [true, "w"]]) {
+        const isReached = one.access.includes(letter) && [null, lineControl === 0x83].includes(one.latched);
+        assert.equal(registers.serialRegister(one.offset, lineControl, isWrite)?.name === name, isReached);
+        for (const written of cases(name)) {
+          const [named, numbered] = [1, 2].map(() => Serial.fromState({ ...PORT, lineControl }));
+          const access = (port, offset) => (isWrite ? port.write(offset, 0x9a) : port.read(offset));
+          if (!isReached) refused(() => access(named, written), "RegisterError", name);
+          else assert.deepEqual([access(named, written), named.state], [access(numbered, one.offset), numbered.state]);
+        }
+      }
+    }
+  }
+  for (const [name, { offset }] of Object.entries(registers.CLOCK)) {
+    for (const written of [...cases(name), ...cases(`RTC${name}`)]) {
+      assert.deepEqual(Rtc.fromState(CLOCK).read(written, 9), Rtc.fromState(CLOCK).read(offset, 9));
+      assert.deepEqual(Rtc.fromState(CLOCK).write(written, 9, 9), Rtc.fromState(CLOCK).write(offset, 9, 9));
+    }
+  }
+  for (let offset = 0; offset <= 0xffff; offset += 1) {
+    const access = registers.clockRegister(offset)?.access ?? "";
+    assert.equal(new Rtc().read(offset, 0).invalidRead, !access.includes("r"), offset);
+    assert.equal(new Rtc().write(offset, 0, 0).invalidWrite, !access.includes("w"), offset);
+  }
 });
 
 test("a register's name reaches that register, or nothing", () => {

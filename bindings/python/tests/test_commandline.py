@@ -18,7 +18,7 @@ from support import ENVIRONMENT, ROOT, TIMEOUT, run
 
 import superio
 from superio import main
-from superio.faults import FileFault
+from superio.faults import FileFault, write_text
 from superio.library import FILE_NAME
 from superio.session import Session
 
@@ -249,6 +249,13 @@ class FullDisk(unittest.TestCase):
         new = self.path.parent / "new"
         self.assertEqual(0, run(script=f"save {new}\n".encode(), preexec_fn=lambda: os.umask(0o027))[0])
         self.assertEqual(0o640, new.stat().st_mode & 0o777)
+
+    def test_a_file_is_on_the_disk_before_it_takes_its_place(self):
+        calls = []
+        with mock.patch("os.fsync", lambda _: calls.append("fsync")), \
+                mock.patch("os.replace", lambda *_: calls.append("replace")):
+            write_text(str(self.path), "text")
+        self.assertEqual(["fsync", "replace"], calls)
 
     def test_what_is_no_file_is_written_itself(self):
         status, output, _ = run(script=b"save /dev/stdout\n")

@@ -200,6 +200,7 @@ class SerialPort(unittest.TestCase):
         for wrong in ({"scratch": 256}, {"scratch": -1}, {"in_buffer": bytes(65)}):
             with self.subTest(wrong), self.assertRaises(ValueError):
                 SerialState(**wrong)
+        self.assertIs(True, RtcState(armed=256).armed)
 
     def test_copy_goes_its_own_way(self):
         other = copy.copy(self.port)
@@ -570,6 +571,9 @@ class Finding(unittest.TestCase):
         with mock.patch.dict(os.environ, {library.VARIABLE: "/nowhere/lib.so"}), \
                 self.assertRaisesRegex(LibraryError, "/nowhere/lib.so cannot be loaded"):
             library.open_library()
+
+    def test_the_packages_own_library_comes_first(self):
+        self.assertEqual(["in the package", "in the repository"], [place for place, _ in library.candidates()])
 
     def test_no_library(self):
         environment = {name: value for name, value in os.environ.items() if name != library.VARIABLE}

@@ -1,6 +1,7 @@
 //! What a monitor sees of the devices, through this crate alone.
 use std::cell::Cell;
 use std::io::{self, Write};
+use std::panic::{RefUnwindSafe, UnwindSafe};
 use std::rc::Rc;
 use std::sync::atomic::{AtomicU32, Ordering};
 use std::sync::{Arc, Mutex};
@@ -8,6 +9,7 @@ use std::thread;
 use std::time::{Duration, Instant, SystemTime, UNIX_EPOCH};
 
 use vm_superio::rtc_pl031::RtcEvents;
+use vm_superio::saved::SavedStateError;
 use vm_superio::serial::{Error, NoEvents, SerialEvents};
 use vm_superio::{rtc_pl031, I8042Device, Rtc, RtcState, Serial, SerialState, Trigger};
 
@@ -237,6 +239,18 @@ fn a_state_of_too_many_bytes_is_refused_before_the_trigger_is_called() {
 }
 
 #[test]
+fn a_state_has_the_held_bytes_wherever_the_ring_begins() {
+    let bytes: Vec<u8> = (100..164).collect();
+    for (start, count) in (0..64).flat_map(|start| (0..=64).map(move |count| (start, count))) {
+        let mut serial = Serial::new(Line::default(), io::sink());
+        serial.enqueue_raw_bytes(&[0; 64][..start]).unwrap();
+        (0..start).for_each(|_| assert_eq!(serial.read(0), 0));
+        serial.enqueue_raw_bytes(&bytes[..count]).unwrap();
+        assert_eq!(serial.state().in_buffer, bytes[..count]);
+    }
+}
+
+#[test]
 fn a_new_port_has_the_default_state() {
     let serial = Serial::new(Line::default(), io::sink());
     let state = serial.state();
@@ -358,6 +372,16 @@ impl Trigger for SharedLine {
         self.0.fetch_add(1, Ordering::SeqCst);
         Ok(())
     }
+}
+
+fn goes_to_another_thread<T: Send + Sync + Unpin + UnwindSafe + RefUnwindSafe>() {}
+
+#[test]
+fn what_threads_may_do_with_its_objects_they_may_do_with_a_device() {
+    goes_to_another_thread::<Serial<SharedLine, NoEvents, Vec<u8>>>();
+    goes_to_another_thread::<Rtc<rtc_pl031::NoEvents>>();
+    goes_to_another_thread::<I8042Device<SharedLine>>();
+    goes_to_another_thread::<(SerialState, RtcState, rtc_pl031::RtcSnapshot, rtc_pl031::AlarmIsSet, SavedStateError)>();
 }
 
 #[test]

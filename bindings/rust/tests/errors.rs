@@ -142,7 +142,7 @@ fn an_error_of_the_writer_is_returned_as_it_is() {
     for error in errors() {
         // A write that is interrupted is made again.
         let is_interrupted = error().kind() == ErrorKind::Interrupted;
-        for (writes, flushes) in [(1, 0), (0, 1), (1, 1)] {
+        for (writes, flushes) in [(1, 0), (100, 0), (0, 1), (1, 1)] {
             let objects = || Failing::new(&*error, 0, writes, flushes);
             let mut port = Serial::with_events(objects(), NoEvents, objects());
             match port.write(0, b'x') {
@@ -190,5 +190,6 @@ fn the_text_of_a_lost_byte_ends_with_the_writers() {
     for error in errors() {
         let lost: Error<io::Error> = Error::IOError(error());
         assert_eq!(lost.to_string(), format!("Couldn't write/flush to the given destination: {}", error()));
+        assert!(lost.source().is_none());
     }
 }

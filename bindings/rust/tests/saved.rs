@@ -69,7 +69,7 @@ fn each_error_says_what_is_wrong() {
         (SavedStateError::TooShort, "the bytes are fewer than the header of a saved state"),
         (SavedStateError::NotASavedState, "the bytes are no saved state"),
         (SavedStateError::OtherDevice, "the saved state is that of another device"),
-        (SavedStateError::UnknownVersion(3), "version 3 of saved states is not known"),
+        (SavedStateError::UnknownVersion(171), "version 171 of saved states is not known"),
         (SavedStateError::WrongLength, "the saved state has another length than its header says"),
         (SavedStateError::TooManyBytes, "a serial port holds at most 64 received bytes"),
         (SavedStateError::InvalidArmed, "the byte of the alarm is neither 0 nor 1"),
@@ -138,9 +138,15 @@ fn devices_print_their_registers_and_no_byte_that_the_guest_has_read() {
     let objects = "interrupt_evt: Silent, events: NoEvents, out: []";
     assert_eq!(format!("{serial:?}"), format!("Serial {{ {registers}, {objects} }}"));
     assert_eq!(format!("{:?}", serial.state()), format!("SerialState {{ {registers} }}"));
-    let clock = "lr: 0, offset: 0, mr: 0, imsc: 0, ris: 0";
-    assert_eq!(format!("{:?}", Rtc::new()), format!("Rtc {{ {clock}, events: NoEvents }}"));
-    assert_eq!(format!("{:?}", RtcState::default()), format!("RtcState {{ {clock} }}"));
+    let state = SerialState::from_bytes(b"SIOS\x01\x01\x0A\0\x01\x02\x03\x04\x05\x06\x07\x08\x09!").unwrap();
+    let restored = Serial::from_state(&state, Silent, serial::NoEvents, Vec::<u8>::new()).unwrap();
+    let shown = format!("{state:?}").replace("State {", " {").replace(" }", &format!(", {objects} }}"));
+    assert_eq!(format!("{restored:?}"), shown);
+    let clock = "lr: 1, offset: 2, mr: 3, imsc: 4, ris: 5";
+    let state = RtcState { lr: 1, offset: 2, mr: 3, imsc: 4, ris: 5 };
+    let restored = Rtc::from_state(&state, rtc_pl031::NoEvents);
+    assert_eq!(format!("{restored:?}"), format!("Rtc {{ {clock}, events: NoEvents }}"));
+    assert_eq!(format!("{state:?}"), format!("RtcState {{ {clock} }}"));
     assert_eq!(format!("{:?}", I8042Device::new(Silent)), "I8042Device { reset_evt: Silent }");
     assert_eq!(format!("{:?}", serial::Error::<u8>::Trigger(1)), "Trigger(1)");
 }

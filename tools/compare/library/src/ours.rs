@@ -1,4 +1,7 @@
 //! The devices of bindings/rust.
+use std::mem;
+use std::sync::Arc;
+
 use vm_superio::I8042Device;
 use vm_superio::rtc_pl031::{Rtc, RtcSnapshot};
 use vm_superio::saved::SavedStateError;
@@ -16,8 +19,8 @@ const LEFT_REPLY: Reply = Reply::Maybe(Some(u32::from_le_bytes(LEFT) as u64));
 
 pub struct Devices {
     object: Object,
-    serial: Serial<Object, Object, Object>,
-    clock: Rtc<Object>,
+    serial: Serial<Object, Arc<Object>, Object>,
+    clock: Rtc<Arc<Object>>,
     controller: I8042Device<Object>,
 }
 
@@ -46,8 +49,8 @@ impl Devices {
     pub fn new() -> Devices {
         let object = Object::default();
         Devices {
-            serial: Serial::with_events(object.clone(), object.clone(), object.clone()),
-            clock: Rtc::with_events(object.clone()),
+            serial: Serial::with_events(object.clone(), Arc::new(object.clone()), object.clone()),
+            clock: Rtc::with_events(Arc::new(object.clone())),
             controller: I8042Device::new(object.clone()),
             object,
         }
@@ -87,7 +90,12 @@ impl Devices {
                 Ok(state) => self.restore(&state),
                 Err(error) => Ok(fault(error)),
             },
-            Action::ControllerRead(offset) => Ok(Reply::Number(self.controller.read(*offset).into())),
+            Action::ControllerRead(offset) => {
+                let read = self.controller.read(*offset);
+                let _ = self.controller.reset_evt();
+                self.controller = I8042Device::new(self.object.clone());
+                Ok(Reply::Number(read.into()))
+            }
             Action::ControllerWrite(offset, value) => {
                 self.controller.write(*offset, *value).map(|()| Reply::Done).map_err(Error::Trigger)
             }
@@ -95,9 +103,14 @@ impl Devices {
         }
     }
 
+    /// The port that was there is taken apart, which calls no object.
     fn restore(&mut self, state: &SerialState) -> Result<Reply, Error<Refused>> {
         let object = &self.object;
-        self.serial = Serial::from_state(state, object.clone(), object.clone(), object.clone())?;
+        let restored = Serial::from_state(state, object.clone(), Arc::new(object.clone()), object.clone())?;
+        let mut left = mem::replace(&mut self.serial, restored);
+        let _ = (left.writer(), left.interrupt_evt(), left.events());
+        let _ = left.writer_mut();
+        let _ = left.into_writer();
         Ok(Reply::Done)
     }
 
@@ -126,7 +139,8 @@ impl Devices {
             Action::ClockSave => Reply::Form(self.clock.snapshot().to_bytes()),
             Action::ClockLoad(bytes) => match RtcSnapshot::from_bytes(bytes) {
                 Ok(snapshot) => {
-                    self.clock = Rtc::from_snapshot(&snapshot, self.object.clone());
+                    let _ = (self.clock.events(), self.clock.is_armed());
+                    self.clock = Rtc::from_snapshot(&snapshot, Arc::new(self.object.clone()));
                     Reply::Done
                 }
                 Err(error) => fault(error),

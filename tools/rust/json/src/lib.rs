@@ -1,6 +1,8 @@
 //! Tests that saved states go through JSON. The field names are those of vm-superio's states.
 #![cfg(test)]
 
+use serde::de::DeserializeOwned;
+use serde::Serialize;
 use serde_json::{from_value, json, to_value};
 use vm_superio::rtc_pl031::RtcSnapshot;
 use vm_superio::{RtcState, SerialState};
@@ -27,6 +29,23 @@ fn a_state_of_the_clock_and_its_snapshot() {
     let text = json!({ "state": text, "armed": true });
     assert_eq!(to_value(snapshot).unwrap(), text);
     assert_eq!(from_value::<RtcSnapshot>(text).unwrap(), snapshot);
+}
+
+/// A state without one of its fields is refused, as vm-superio refuses it.
+fn needs_each_field<T: Serialize + DeserializeOwned>(state: T) {
+    let text = to_value(state).unwrap();
+    for name in text.as_object().unwrap().keys() {
+        let mut less = text.clone();
+        less.as_object_mut().unwrap().remove(name);
+        assert!(from_value::<T>(less).is_err(), "without {name}");
+    }
+}
+
+#[test]
+fn a_state_without_a_field_is_refused() {
+    needs_each_field(SerialState::default());
+    needs_each_field(RtcState::default());
+    needs_each_field(RtcSnapshot::default());
 }
 
 #[test]
