@@ -30,6 +30,7 @@ VIEWS = [
     ("pub struct Inner { kept: u8, past: u8 } pub struct Counter { inner: Inner }", "λ it. f it.inner.past it.inner.kept",
      True),
     ("use crate::hidden::Log as ArrayVec; pub struct Counter { log: ArrayVec<u8, 8> }", "λ it. it.log.items", False),
+    ("pub struct Counter where u8: Fn() { count: u64, calls: u64 }", "λ it. it.count", False),
     ("pub enum Counter { None, Some(u64) }", "λ it. it.0", False),
     ("pub struct Inner { kept: u8, past: u8 } type Same = Inner; pub struct Counter { inner: Same }",
      "λ it. it.inner.kept", False),
@@ -106,7 +107,13 @@ HIDING = [
     "use std::io::{BufWriter, Write}; pub struct Log<W: Write> { kept: BufWriter<W> }",
     f"impl<T> Drop for Counter<{{ 1 < 2 }}, T> {{ {DROP} }}",
     "impl<T> Model for Counter<{ 1 < 2 }, T> {}",
+    f"impl Drop<> for Counter {{ {DROP} }}",
+    "fn twice<T: Trigger + Copy>(it: &mut T) { let mut other = *it; other.trigger() }",
+    "fn twice<T: Trigger>(it: &T) where T: Clone, {}",
+    "fn twice<'a, T: Trigger>(it: &'a T) where &'a T: Trigger { it.trigger() }",
     f"ghost seen = {{ a }}; // it's\nghost kept = {{ b -- it's \"\n }}; impl Drop for Counter {{ {DROP} }} // \"",
+    f'ghost seen = {{ r"\\"" }}; //\nimpl Drop for Counter {{ {DROP} }} // "',
+    f'ghost seen = {{ r"\\"" }}; // \\\nimpl Drop for Counter {{ {DROP} }} // \\\n "',
     "ghost seen = { a {- b -} };",
     "/* a */ fn of() {}",
     f"const MARKS: [u8; 2] = [b'\\'',b'\"']; impl Drop for Counter {{ {DROP} }} const END: &str = \"\";",
@@ -141,13 +148,19 @@ def on_lines(text, lines):
 
 
 class Models(unittest.TestCase):
+    def setUp(self):
+        folder = tempfile.TemporaryDirectory()
+        self.addCleanup(folder.cleanup)
+        self.root = Path(folder.name)
+
     def faults(self, text, name="src/lib.rt", crate="tiny", libraries="hex"):
-        with tempfile.TemporaryDirectory() as folder:
-            path = Path(folder, "crates", crate, name)
-            path.parent.mkdir(parents=True)
-            path.write_text(text + "\n", encoding="utf-8")
-            Path(folder, "crates.txt").write_text(f"low:\n{crate} staticlib: low {libraries}\n", encoding="utf-8")
-            return [fault for _, fault in models.results(Path(folder)) if fault]
+        path = self.root / "crates" / crate / name
+        path.parent.mkdir(parents=True, exist_ok=True)
+        path.write_text(text + "\n", encoding="utf-8")
+        (self.root / "crates.txt").write_text(f"low:\n{crate} staticlib: low {libraries}\n", encoding="utf-8")
+        faults = [fault for _, fault in models.results(self.root) if fault]
+        path.unlink()
+        return faults
 
     def test_a_view_names_each_field(self):
         forms = [("", "", ""), ("<T: Trigger, W>", "std::marker::", "<T, W>")]
@@ -171,6 +184,11 @@ class Models(unittest.TestCase):
     def test_a_crate_uses_no_other_library(self):
         self.assertEqual(self.faults("use hex::decode;"), [])
         self.assertTrue(self.faults("use boxcar::Vec as Log;", libraries="hex boxcar # a log"))
+
+    def test_a_source_is_no_link(self):
+        (self.root / "crates" / "tiny" / "src").mkdir(parents=True)
+        (self.root / "crates" / "tiny" / "src" / "held").symlink_to(self.root)
+        self.assertEqual(self.faults("mod held;"), ["crates/tiny/src/held is a link"])
 
     def test_test_objects_may_have_cells_and_no_drop(self):
         for place in (place for place, more in models.MORE.items() if "cell" in more):
