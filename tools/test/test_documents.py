@@ -50,7 +50,7 @@ class Links(CopyTest):
                 ("docs/one.md", "# One\n", "# One\n\n<img src='two.png'>\n", "docs/one.md: two.png is not there"),
                 ("docs/one.md", "# One\n", "# One\n\n<img src=two.png>\n", "docs/one.md: two.png is not there"),
                 ("docs/one.md", "# One\n", "# One\n\n[one][two]\n", "docs/one.md: ][two] is no link"),
-                ("docs/one.md", "# One\n", "# One\n\n[one](one.md two.md)\n", "docs/one.md: ](one.md two.md) is no link"),
+                ("docs/one.md", "# One\n", "# One\n\n[1](one.md 'a' b)\n", "docs/one.md: ](one.md 'a' b) is no link"),
                 ("docs/one.md", "#same-1", "#same-2", "docs/one.md: #same-2 is no heading"),
                 ("docs/one.md", "../README.md", "../../README.md", "docs/one.md: ../../README.md is not there")):
             with self.subTest(says):
@@ -121,6 +121,7 @@ class Names(CopyTest):
                 ("docs/USING.md", "<code>read~_most(2)</code>", "read~_most is nowhere in the sources"),
                 ("docs/USING.md", "`port.read~_whole`", "port.read~_whole is nowhere in the sources"),
                 ("docs/USING.md", "`port = port.read~_whole + 1`", "read~_whole is nowhere in the sources"),
+                ("docs/USING.md", "`Serial { baud~s: 1 }`", "baud~s is nowhere in the sources"),
                 ("docs/USING.md", "`a ReadWhole~Fifo b`", "ReadWhole~Fifo is nowhere in the sources"),
                 ("docs/USING.md", "`library.d.t~s`", "library.d.t~s is nowhere in the sources"),
                 ("docs/USING.md", "`monitor.c~c`", "monitor.c~c is nowhere in the sources"),
@@ -180,6 +181,15 @@ class Facts(CopyTest):
     def test_a_fact_that_is_lost_is_tried_no_more(self):
         self.change("docs/DEVICES.md", "| 7 | any | SCR | SCR | 0x00 |\n", "")
         self.assertIn("tried: 10 offsets of the port in DEVICES.md", self.run_tool("tools/facts")[1])
+
+
+class Excerpts(CopyTest):
+    def test_each_line_that_is_missing_is_named(self):
+        self.take("README.md", "docs", "examples/c", "crates/vm_superio/src", "crates/superio_examples/src", "bindings/rust")
+        self.assertEqual(faults_of(self.run_tool("tools/excerpts")), [])
+        self.change("README.md", "    feed(machine);", "    feed_all(machine);")
+        fault, = faults_of(self.run_tool("tools/excerpts"))
+        self.assertRegex(fault, r"^README.md:\d+: monitor.c has no line 'feed_all\(machine\);' there$")
 
 
 class Differences(CopyTest):
