@@ -5,7 +5,7 @@ from dataclasses import dataclass, field
 from documents import ROOT
 
 FUNCTION = re.compile(r"\s*(pub(?:\([^)]*\))? )?(?:const |unsafe |extern \"C\" )*fn (\w+)")
-CLAUSE = re.compile(r"\s*(?:unfoldable )?ensures (?:(\w+) )?\{")
+CLAUSE = re.compile(r"\s*(?:unfoldable )?ensures\*? (?:(\w+) )?\{")
 OWNER = re.compile(r"(?:pub )?(?:unsafe )?(?:impl\b|(trait) )(.*)")
 
 

@@ -21,8 +21,9 @@ def text_of(document):
 
 
 def prose(document):
-    """The text of a document without its fenced blocks, whose lines are left empty."""
-    return FENCED.sub(lambda block: "\n" * block[0].count("\n"), text_of(document))
+    """The text of a document without its fenced blocks, whose lines are left empty. Code in tags is in backticks."""
+    text = FENCED.sub(lambda block: "\n" * block[0].count("\n"), text_of(document))
+    return re.sub(r"</?code>", "`", text)
 
 
 def fenced_blocks(document):

@@ -11,7 +11,7 @@ for each kind: the check, the number, and the kind.
 import re
 from collections import Counter
 from pathlib import Path
-from unittest import TestSuite
+from unittest import TestSuite, TextTestResult
 
 FLOORS = Path(__file__).resolve().parent / "floors"
 TRIED = re.compile(r"tried: (\d+) (\S.*)")
@@ -58,6 +58,29 @@ class Tried:
         """Names the files of which a run of unittest skipped a test."""
         for test, _ in result.skipped:
             self.leave_out(file_of(test))
+
+
+class Asserting(TextTestResult):
+    """What a run of unittest found. A test that passes and asserted nothing is a failure."""
+
+    def startTest(self, test):
+        super().startTest(test)
+        self.asserted = False
+        for name in dir(test):
+            if name.startswith("assert"):
+                setattr(test, name, self.noted(getattr(test, name)))
+
+    def noted(self, method):
+        def call(*arguments, **options):
+            self.asserted = True
+            return method(*arguments, **options)
+        return call
+
+    def addSuccess(self, test):
+        if self.asserted:
+            super().addSuccess(test)
+        else:
+            self.addFailure(test, (AssertionError, AssertionError("it asserted nothing"), None))
 
 
 def tests_of(suite):

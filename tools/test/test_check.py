@@ -196,9 +196,10 @@ class Tests(unittest.TestCase):
 
     def test_whatever_is_no_pass_is_a_failure(self):
         one = "class It(TestCase):\n    def test_it(self): {}"
-        self.assertEqual(self.run_tests(one.format("pass")), "1 passed, 0 failed")
+        self.assertEqual(self.run_tests(one.format("self.assertTrue(1)")), "1 passed, 0 failed")
         self.assertEqual(self.run_tests(one.format("self.skipTest('why')")), "0 passed, 0 failed, 1 skipped")
-        for text in (one.format("self.fail()"), one.format("raise OSError()"), "import nowhere",
+        for text in (one.format("pass"), one.format("[self.fail() for _ in ()]"), one.format("self.fail()"),
+                     one.format("raise OSError()"), "import nowhere",
                      one.replace("    def", "    @expectedFailure\n    def").format("self.fail()"),
                      one.replace("    def", "    @expectedFailure\n    def").format("pass")):
             self.assertEqual(self.run_tests(text), "0 passed, 1 failed", text)

@@ -48,6 +48,9 @@ class Links(CopyTest):
                 ("README.md", "[a folder](docs)", "[a folder](two 'Two')", "README.md: two is not there"),
                 ("docs/one.md", "# One\n", "# One\n\n[one]: two.md\n", "docs/one.md: two.md is not there"),
                 ("docs/one.md", "# One\n", "# One\n\n<img src='two.png'>\n", "docs/one.md: two.png is not there"),
+                ("docs/one.md", "# One\n", "# One\n\n<img src=two.png>\n", "docs/one.md: two.png is not there"),
+                ("docs/one.md", "# One\n", "# One\n\n[one][two]\n", "docs/one.md: ][two] is no link"),
+                ("docs/one.md", "# One\n", "# One\n\n[1](one.md 'a' b)\n", "docs/one.md: ](one.md 'a' b) is no link"),
                 ("docs/one.md", "#same-1", "#same-2", "docs/one.md: #same-2 is no heading"),
                 ("docs/one.md", "../README.md", "../../README.md", "docs/one.md: ../../README.md is not there")):
             with self.subTest(says):
@@ -63,8 +66,8 @@ class Links(CopyTest):
 class Names(CopyTest):
     def setUp(self):
         super().setUp()
-        self.take("README.md", "CHANGELOG.md", "CONTRIBUTING.md", "HANDLES", "crates.txt", "docs", "crates", "bindings", "examples",
-                  "include", "tests", "tools/test", ".reuse")
+        self.take("README.md", "CHANGELOG.md", "CONTRIBUTING.md", "HANDLES", "SECURITY.md", "crates.txt", "docs", "crates", "bindings",
+                  "examples", "include", "prebuilt", "tests", "tools/test", ".reuse")
 
     def faults(self, version="the version"):
         """What the tool says if `rt version` prints this, and README.md says 'the version'."""
@@ -87,6 +90,9 @@ class Names(CopyTest):
                   f"{proofs}: vm_superio::serial::Serial::read: data is not named"]),
                 (proofs, "`laws::same_reads`", "`laws::same_read`",
                  [f"{proofs}: laws::same_read is nowhere in the sources"]),
+                ("crates/vm_superio/src/i8042.rt", "ensures* lends {", "ensures* lent {",
+                 ["docs/PROOFS.md: vm_superio::i8042::I8042Device::reset_evt_mut has no clause lends",
+                  "docs/PROOFS.md: vm_superio::i8042::I8042Device::reset_evt_mut: lent is not named"]),
                 (serial, "ensures room_plus_held {", "ensures room_and_held {",
                  [f"{proofs}: vm_superio::serial::Serial::fifo_capacity has no clause room_plus_held",
                   f"{proofs}: vm_superio::serial::Serial::fifo_capacity: room_and_held is not named"]),
@@ -100,6 +106,8 @@ class Names(CopyTest):
                 self.change(name, new, old)
 
     def test_names_that_only_look_right(self):
+        # The tool reads this file too, but for the place of a `~`.
+        expected = []
         for document, code, says in (
                 ("docs/USING.md", "`Rtc::enqueue_raw_bytes`", "Rtc::enqueue_raw_bytes is nowhere in the sources"),
                 ("docs/PROOFS.md", "`Serial::read_all(offset)`", "Serial::read_all is nowhere in the sources"),
@@ -107,14 +115,28 @@ class Names(CopyTest):
                 ("docs/PROOFS.md", "`Serial<T, W>::read_all`", "Serial::read_all is nowhere in the sources"),
                 ("docs/PROOFS.md", "`port = Serial::read_all(2)?`", "Serial::read_all is nowhere in the sources"),
                 ("docs/GUESTS.md", "`laws::same_read`", "laws::same_read is nowhere in the sources"),
+                ("docs/USING.md", "`Serial::Read`", "Serial::Read is nowhere in the sources"),
+                ("docs/USING.md", "`Serial::<T>::read_all()`", "Serial::read_all is nowhere in the sources"),
+                ("docs/USING.md", "``Serial::read_all``", "Serial::read_all is nowhere in the sources"),
+                ("docs/USING.md", "<code>read~_most(2)</code>", "read~_most is nowhere in the sources"),
+                ("docs/USING.md", "`port.read~_whole`", "port.read~_whole is nowhere in the sources"),
+                ("docs/USING.md", "`port = port.read~_whole + 1`", "read~_whole is nowhere in the sources"),
+                ("docs/USING.md", "`Serial { baud~s: 1 }`", "baud~s is nowhere in the sources"),
+                ("docs/USING.md", "`a ReadWhole~Fifo b`", "ReadWhole~Fifo is nowhere in the sources"),
+                ("docs/USING.md", "`library.d.t~s`", "library.d.t~s is nowhere in the sources"),
+                ("docs/USING.md", "`monitor.c~c`", "monitor.c~c is nowhere in the sources"),
+                ("docs/USING.md", "as PROOF.md says", "PROOF.md is nowhere in the sources"),
+                ("docs/USING.md", "as tools/proofs says", "tools/proofs is nowhere in the sources"),
+                ("docs/DIFFERENCES.md", "`Serial::read_all`", "Serial::read_all is nowhere in the sources"),
+                ("CONTRIBUTING.md", "`--write~-floor`", "--write~-floor is nowhere in the sources"),
+                ("CONTRIBUTING.md", "`./superio --wi~dest 2`", "--wi~dest is nowhere in the sources"),
                 ("CONTRIBUTING.md", "`tools/names --all`", "tools/names has no --all"),
                 ("CONTRIBUTING.md", "`tools/name PROOFS.md`", "tools/name is nowhere in the sources"),
                 ("docs/USING.md", "\n\n```text\nedit: reset_at_any_offset\nold: a\nnew: b\n```", "no crate has this edit")):
-            with self.subTest(code):
-                text = (self.root / document).read_text(encoding="utf-8")
-                (self.root / document).write_text(f"{text}\n{code}\n", encoding="utf-8")
-                self.assertEqual(self.faults(), [f"{document}: {says}"])
-                (self.root / document).write_text(text, encoding="utf-8")
+            with open(self.root / document, "a", encoding="utf-8") as text:
+                text.write(f"\n{code.replace('~', '')}\n")
+            expected.append(f"{document}: {says.replace('~', '')}")
+        self.assertEqual(sorted(self.faults()), sorted(expected))
 
     def test_a_lost_file(self):
         (self.root / "tests" / "forms.txt").unlink()
@@ -127,7 +149,7 @@ class Names(CopyTest):
 class Facts(CopyTest):
     def setUp(self):
         super().setUp()
-        self.take("bindings", "crates/superio_core/specs", "docs/DEVICES.md", "include")
+        self.take("README.md", "bindings", "crates/superio_core/specs", "docs", "include")
 
     def test_sound(self):
         self.assertEqual(faults_of(self.run_tool("tools/facts")), [])
@@ -144,6 +166,8 @@ class Facts(CopyTest):
                  "RIS is (20, 'rw'), and (20, 'r')"),
                 ("include/superio.h", "0x01 is data ready", "0x02 is data ready", "LSR DR is 2, and 1"),
                 ("docs/DEVICES.md", "| 1 | set | DLM", "| 1 | clear | DLM", "DLM is (1, False), and (1, True)"),
+                ("README.md", "At most 64 bytes", "At most 63 bytes", "bytes held is [63], and [64]"),
+                ("README.md", "rejected 27", "rejected 28", "rejected is [30, 28], and [30, 27]"),
                 ("docs/DEVICES.md", "0x0D 0xF0 0x05", "0x0D 0xF1 0x05", "5 is F1, and F0"),
                 ("bindings/js/superio.mjs", "FIFO_SIZE = 64", "FIFO_SIZE = 63", "bytes held is [63], and [64]"),
                 ("bindings/js/page/why.mjs", "0xFE at offset 4", "0xFE at offset 5", "reset is [5, 254], and [4, 254]"),
@@ -157,6 +181,15 @@ class Facts(CopyTest):
     def test_a_fact_that_is_lost_is_tried_no_more(self):
         self.change("docs/DEVICES.md", "| 7 | any | SCR | SCR | 0x00 |\n", "")
         self.assertIn("tried: 10 offsets of the port in DEVICES.md", self.run_tool("tools/facts")[1])
+
+
+class Excerpts(CopyTest):
+    def test_each_line_that_is_missing_is_named(self):
+        self.take("README.md", "docs", "examples/c", "crates/vm_superio/src", "crates/superio_examples/src", "bindings/rust")
+        self.assertEqual(faults_of(self.run_tool("tools/excerpts")), [])
+        self.change("README.md", "    feed(machine);", "    feed_all(machine);")
+        fault, = faults_of(self.run_tool("tools/excerpts"))
+        self.assertRegex(fault, r"^README.md:\d+: monitor.c has no line 'feed_all\(machine\);' there$")
 
 
 class Differences(CopyTest):

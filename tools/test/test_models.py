@@ -17,16 +17,20 @@ VIEWS = [
     (COUNTER, "λ it. record { count = it.count; calls = it.count }", False),
     (COUNTER, "λ it. of_counter it", False),
     (COUNTER, "of_counter", False),
-    (COUNTER, "λ it. record { count = it.count } -- it.calls", False),
+    (COUNTER, "λ it. let it = fresh in record { count = it.count; calls = it.calls }", False),
+    (COUNTER, "λ it. record { count = it.count; calls = x-it.calls }", False),
+    (COUNTER, "λ it. record { count = it.count; calls = x'it.calls }", False),
     (COUNTER, "λ it. ((λ it. it.count) it.calls)", False),
-    ("pub struct Counter { pub(crate) count: Option<(u8, u16)>, #[doc(hidden)] calls: u64 }", GOOD_VIEW, True),
-    ("pub struct Counter { pub(crate) count: Option<(u8, u16)>, #[doc(hidden)] calls: u64 }", "λ it. it.count", False),
+    ("pub struct Counter { pub(crate) count: Option<(u8, u16)>, #[repr(C)] calls: u64 }", GOOD_VIEW, True),
+    ("pub struct Counter { pub(crate) count: Option<(u8, u16)>, #[repr(C)] calls: u64 }", "λ it. it.count", False),
     ("pub struct Counter<T: Fn(u8) -> u8>(T, u64);", "λ it. f it.0 it.1", True),
     ("pub struct Counter<T: Fn(u8) -> u8>(T, u64);", "λ it. it.1", False),
     ("pub struct Inner { kept: u8, past: u8 } pub struct Counter { inner: Inner }", "λ it. it.inner", True),
     ("pub struct Inner { kept: u8, past: u8 } pub struct Counter { inner: Inner }", "λ it. it.inner.kept", False),
     ("pub struct Inner { kept: u8, past: u8 } pub struct Counter { inner: Inner }", "λ it. f it.inner.past it.inner.kept",
      True),
+    ("use crate::hidden::Log as ArrayVec; pub struct Counter { log: ArrayVec<u8, 8> }", "λ it. it.log.items", False),
+    ("pub struct Counter where u8: Fn() { count: u64, calls: u64 }", "λ it. it.count", False),
     ("pub enum Counter { None, Some(u64) }", "λ it. it.0", False),
     ("pub struct Inner { kept: u8, past: u8 } type Same = Inner; pub struct Counter { inner: Same }",
      "λ it. it.inner.kept", False),
@@ -41,6 +45,14 @@ VIEWS = [
      "it.ring.capacity ≡ 64", True),
     ("pub struct Counter { ring: HeapCircularBuffer<u8> }", "λ it. it.ring.items }; ghost invariant = { λ it. "
      "it.ring.capacity ≤ 64", False),
+    ("pub struct Counter { ring: HeapCircularBuffer<u8> }", "λ it. it.ring.items }; ghost invariant = { λ it. "
+     "(it.ring.capacity ≡ 64) × (0 ≤ 1)", True),
+    ("pub struct Counter { ring: HeapCircularBuffer<u8> }", "λ it. it.ring.items }; ghost invariant = { λ it. "
+     "(0 ≡ 1 → it.ring.capacity ≡ 64) × (0 ≤ 1)", False),
+    ("pub struct Counter { ring: HeapCircularBuffer<u8> }", "λ it. it.ring.items }; ghost invariant = { λ it. "
+     "(it.ring.capacity ≡ 64 + any) × (0 ≤ 1)", False),
+    ("pub struct Counter { ring: HeapCircularBuffer<u8> }", "λ it. it.ring.items }; ghost invariant = { λ it. "
+     "0 ≡ 0 ∨₁ (0 ≤ 1) × (it.ring.capacity ≡ 64)", False),
 ]
 MODEL = "impl{parameters} {path}Model for Counter{arguments} {{ ghost Value = {{ Of }}; ghost view = {{ {view} }}; }}"
 DROP = "fn drop(&mut self) { self.0.trigger(); }"
@@ -87,20 +99,37 @@ HIDING = [
     "use std::mem as own;",
     'include!("../hidden.rt");',
     '#[path = "../hidden.rt"] mod hidden;',
+    "#[cfg(test)] mod hidden;",
+    '#[unsafe(link_section = ".init_array")] pub extern "C" fn start() {}',
+    "fn is_odd(it: &u8) -> bool { let place = &raw const *it; is_even(place) }",
+    "fn late(of: usize) -> usize { of-std::env::vars().count() }",
+    "pub fn count(rt: &impl Print) -> io::Result<()> { rt.println(&1) }",
+    "use std::io::{BufWriter, Write}; pub struct Log<W: Write> { kept: BufWriter<W> }",
+    f"impl<T> Drop for Counter<{{ 1 < 2 }}, T> {{ {DROP} }}",
+    "impl<T> Model for Counter<{ 1 < 2 }, T> {}",
+    f"impl Drop<> for Counter {{ {DROP} }}",
+    "fn twice<T: Trigger + Copy>(it: &mut T) { let mut other = *it; other.trigger() }",
+    "fn twice<T: Trigger>(it: &T) where T: Clone, {}",
+    "fn twice<'a, T: Trigger>(it: &'a T) where &'a T: Trigger { it.trigger() }",
+    f"ghost seen = {{ a }}; // it's\nghost kept = {{ b -- it's \"\n }}; impl Drop for Counter {{ {DROP} }} // \"",
+    f'ghost seen = {{ r"\\"" }}; //\nimpl Drop for Counter {{ {DROP} }} // "',
+    f'ghost seen = {{ r"\\"" }}; // \\\nimpl Drop for Counter {{ {DROP} }} // \\\n "',
+    "ghost seen = { a {- b -} };",
+    "/* a */ fn of() {}",
     f"const MARKS: [u8; 2] = [b'\\'',b'\"']; impl Drop for Counter {{ {DROP} }} const END: &str = \"\";",
 ]
 # What looks like it, and hides nothing.
 PLAIN = [
     "#[derive(Drop)] pub struct Counter { calls: u64 }",
     "// impl Drop for Counter {}",
-    "/* static CALLS: u64 = 0; */",
+    "// static CALLS: u64 = 0;",
     "use std::mem; fn of(it: &mut u8) -> u8 { if !(*it > 1) { mem::replace(it, 1) } else { vec![1][0] } }",
     'const TEXT: &str = "impl Drop for Counter { Cell }";',
     "fn text<'a>(it: &'static str) -> &'a str { it }",
     "fn of(it: impl Drop) -> impl Model { if 1 < 2 { it } else { it } }",
     "impl<T: Drop> From<T> for Counter { fn from(it: T) -> Counter { drop(it) } }",
     "use std::{fmt, io}; use std::alloc::{AllocError, Global}; ghost use Rattle.std.specs.Prelude.{length};",
-    '#[unsafe(no_mangle)] pub extern "C" fn counted(path: u64, alloc: Global) -> u64 { path }',
+    'pub extern "C" fn counted(path: u64, alloc: Global) -> u64 { path }',
 ]
 
 
@@ -119,13 +148,19 @@ def on_lines(text, lines):
 
 
 class Models(unittest.TestCase):
+    def setUp(self):
+        folder = tempfile.TemporaryDirectory()
+        self.addCleanup(folder.cleanup)
+        self.root = Path(folder.name)
+
     def faults(self, text, name="src/lib.rt", crate="tiny", libraries="hex"):
-        with tempfile.TemporaryDirectory() as folder:
-            path = Path(folder, "crates", crate, name)
-            path.parent.mkdir(parents=True)
-            path.write_text(text + "\n", encoding="utf-8")
-            Path(folder, "crates.txt").write_text(f"low:\n{crate} staticlib: low {libraries}\n", encoding="utf-8")
-            return [fault for _, fault in models.results(Path(folder)) if fault]
+        path = self.root / "crates" / crate / name
+        path.parent.mkdir(parents=True, exist_ok=True)
+        path.write_text(text + "\n", encoding="utf-8")
+        (self.root / "crates.txt").write_text(f"low:\n{crate} staticlib: low {libraries}\n", encoding="utf-8")
+        faults = [fault for _, fault in models.results(self.root) if fault]
+        path.unlink()
+        return faults
 
     def test_a_view_names_each_field(self):
         forms = [("", "", ""), ("<T: Trigger, W>", "std::marker::", "<T, W>")]
@@ -150,8 +185,13 @@ class Models(unittest.TestCase):
         self.assertEqual(self.faults("use hex::decode;"), [])
         self.assertTrue(self.faults("use boxcar::Vec as Log;", libraries="hex boxcar # a log"))
 
+    def test_a_source_is_no_link(self):
+        (self.root / "crates" / "tiny" / "src").mkdir(parents=True)
+        (self.root / "crates" / "tiny" / "src" / "held").symlink_to(self.root)
+        self.assertEqual(self.faults("mod held;"), ["crates/tiny/src/held is a link"])
+
     def test_test_objects_may_have_cells_and_no_drop(self):
-        for place in (place for place, more in models.MORE_STD.items() if "cell" in more):
+        for place in (place for place, more in models.MORE.items() if "cell" in more):
             crate, name = place.split("/", 1)
             self.assertEqual(self.faults("use std::cell::Cell; struct Counter { calls: Cell<u64> }", name, crate), [])
             self.assertTrue(self.faults(f"impl Drop for Counter {{ {DROP} }}", name, crate))

@@ -26,7 +26,7 @@ except library.LibraryError:
 class Sources(unittest.TestCase):
     def test_syntax_of_python_3_8(self):
         for path in [*SOURCES, PACKAGE / "build_wheel.py", ROOT / "superio"]:
-            ast.parse(path.read_text(encoding="utf-8"), str(path), feature_version=(3, 8))
+            self.assertTrue(ast.parse(path.read_text(encoding="utf-8"), str(path), feature_version=(3, 8)))
 
     @unittest.skipUnless(hasattr(sys, "stdlib_module_names"), "this Python does not list its library")
     def test_standard_library_alone(self):
