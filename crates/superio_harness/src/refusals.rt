@@ -4,9 +4,10 @@
 //! allocated, and each is freed at once. `tools/refused_memory` refuses one allocation by its number. So the blocks
 //! choose which allocation of the call it is.
 //!
-//! A line `any SEED` makes each call of `any_state` in states of any registers, with lists of each length to 300 and of
-//! 65,536. A line begins with `+` before the call, after what it takes is prepared, and a line after it says whether
+//! A line `any SEED` makes each call of `any_state` in any states, with lists of each length to 300, of some greater ones
+//! and of 65,536. A line begins with `+` before the call, after what it takes is prepared, and a line after it says whether
 //! the call returned that memory was refused. `tools/refused_memory` refuses an allocation between the two lines.
+mod any_lines;
 mod any_state;
 mod boards;
 mod ports;
@@ -83,11 +84,15 @@ fn make_calls(rt: &HostRuntime, source: &mut Source, length: usize) -> io::Resul
     Ok(())
 }
 
-/// Makes each call with a list of each length.
+/// Makes each call with lists of many lengths.
 fn make_all(rt: &HostRuntime, seed: u64) -> io::Result<()> {
     let mut source = Source::new(seed);
     for length in 0..=300 {
         make_calls(rt, &mut source, length)?;
+    }
+    for power in 9..17u32 {
+        let length = (source.number() >> (64 - power)) as usize;
+        make_calls(rt, &mut source, length.min(LONGEST))?;
     }
     make_calls(rt, &mut source, LONGEST)
 }

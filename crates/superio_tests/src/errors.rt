@@ -1,8 +1,10 @@
 //! What errors print, what converts to one, and idle events objects.
+use crate::faults::faults;
 use std::alloc::{AllocError, AllocFailed, Global};
 use std::error::Error as StdError;
 use std::io;
 use std::io::ErrorKind;
+use std::test::Fail;
 use superio_script::LineRefused;
 use vm_superio::rtc_pl031::RtcEvents;
 use vm_superio::serial::{Error, SerialEvents};
@@ -17,10 +19,21 @@ fn prints<E: StdError>(alloc: Global, error: &E, text: &str) -> bool {
 }
 
 #[test]
+fn a_lost_byte_prints_the_fault_of_its_writer(rt: HostRuntime) -> Result<(), Fail> {
+    let broken = io::Error::from(ErrorKind::BrokenPipe);
+    assert!(rt; prints(rt.alloc(), &broken, "broken pipe"));
+    for fault in faults(rt.alloc())?.iter() {
+        let lost = Error::<LineRefused>::IOError(*fault);
+        let text = format!(in rt.alloc();
+            "Couldn't write/flush to the given destination: {fault}"
+        )?;
+        assert!(rt; prints(rt.alloc(), &lost, &text), "{fault:?}");
+    }
+    Ok(())
+}
+
+#[test]
 fn errors_print_what_failed_and_why(rt: HostRuntime) {
-    let lost = Error::<LineRefused>::IOError(io::Error::from(ErrorKind::BrokenPipe));
-    let text = "Couldn't write/flush to the given destination: broken pipe";
-    assert!(rt; prints(rt.alloc(), &lost, text));
     let refused = Error::Trigger(LineRefused);
     let text = "Failed to trigger interrupt: line refused";
     assert!(rt; prints(rt.alloc(), &refused, text));

@@ -8,13 +8,14 @@ use std::cell::Cell;
 use std::io;
 use std::io::{ErrorKind, Write};
 use std::test::Fail;
+use superio_examples::bus::{Bus, Keyboard};
 use superio_examples::console::Console;
 use superio_examples::input::Input;
 use superio_examples::output::Output;
 use superio_script::LineRefused;
 use vm_superio::rtc_pl031::RtcEvents;
 use vm_superio::serial::{Error, Refused, SerialEvents, Three, WriterOut};
-use vm_superio::{Serial, Trigger};
+use vm_superio::{I8042Device, Serial, Trigger};
 
 /// What objects do, and how often they were called.
 #[derive(Drop)]
@@ -30,6 +31,10 @@ pub struct Log {
     pub interruption: Cell<io::Error>,
     /// Each later `write`, or `flush`, fails with this error. `None`: it succeeds.
     pub write_fault: Cell<Option<io::Error>>,
+    /// How many bytes are taken before `write` fails so.
+    pub room: Cell<usize>,
+    /// Each later `write` takes nothing.
+    pub is_full: Cell<bool>,
     pub flush_fault: Cell<Option<io::Error>>,
 }
 
@@ -45,6 +50,8 @@ impl Log {
             interruptions: Cell::new(0),
             interruption: Cell::new(io::Error::from(ErrorKind::Interrupted)),
             write_fault: Cell::new(None),
+            room: Cell::new(0),
+            is_full: Cell::new(false),
             flush_fault: Cell::new(None),
         }
     }
@@ -64,14 +71,6 @@ fn counted(calls: &Cell<u64>) -> u64 {
     let number = calls.get().wrapping_add(1);
     calls.set(number);
     number
-}
-
-/// What a call of a writer with this fault returns.
-fn outcome(fault: Option<io::Error>) -> io::Result<()> {
-    match fault {
-        None => Ok(()),
-        Some(error) => Err(error),
-    }
 }
 
 /// A trigger, an events object or a writer.
@@ -96,6 +95,19 @@ pub type PortObjects<'a> = Three<Object<'a>, Object<'a>, WriterOut<Object<'a>>>;
 pub fn port(alloc: Global, log: &Log) -> Result<Port<'_>, Error<LineRefused>> {
     let object = Object::new(log);
     Serial::with_events(alloc, object, object, object).map_err(Refused::into_error)
+}
+
+/// A bus over a log's objects.
+pub type TestBus<'a> = Bus<Object<'a>, Object<'a>, Object<'a>, Object<'a>>;
+
+/// A bus whose serial port is new and begins at `base`.
+pub fn bus_at(alloc: Global, log: &Log, base: u16) -> Result<TestBus<'_>, Fail> {
+    Ok(Bus {
+        base,
+        keyboard: Keyboard::Silent,
+        serial: port(alloc, log)?,
+        controller: I8042Device::new(Object::new(log)),
+    })
 }
 
 /// A console over a log's objects.
@@ -181,12 +193,26 @@ impl Write for Object<'_> {
         if counted(&self.log.writes) <= self.log.interruptions.get() {
             return Err(self.log.interruption.get());
         }
-        outcome(self.log.write_fault.get())?;
-        Ok(buf.len())
+        if self.log.is_full.get() {
+            return Ok(0);
+        }
+        let room = self.log.room.get();
+        let count = buf.len().min(room);
+        match self.log.write_fault.get() {
+            None => Ok(buf.len()),
+            Some(fault) if count == 0 => Err(fault),
+            Some(_) => {
+                self.log.room.set(room.saturating_sub(count));
+                Ok(count)
+            }
+        }
     }
 
     fn flush(&mut self) -> io::Result<()> {
         counted(&self.log.flushes);
-        outcome(self.log.flush_fault.get())
+        match self.log.flush_fault.get() {
+            None => Ok(()),
+            Some(fault) => Err(fault),
+        }
     }
 }

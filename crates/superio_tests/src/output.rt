@@ -83,9 +83,12 @@ fn output_waits_for_its_sink_and_then_goes_on_in_order(rt: HostRuntime) -> Resul
 #[test]
 fn a_sink_that_fails_returns_its_error_and_takes_nothing(rt: HostRuntime) -> Result<(), Fail> {
     let log = Log::new();
-    let mut output = Output::new(rt.alloc(), 8)?;
-    assert!(rt; output.write(b"waiting").ok() == Some(7));
-    for fault in faults(rt.alloc())?.iter() {
+    let bytes = b"waiting ".repeat(rt.alloc(), 40)?;
+    let mut output = Output::new(rt.alloc(), 320)?;
+    for (number, fault) in faults(rt.alloc())?.iter().enumerate() {
+        // Any number of bytes waits, at any place of the ring.
+        let (waiting, _) = bytes.split_at(bytes.len().min(number % 321));
+        assert!(rt; output.write(waiting).ok() == Some(waiting.len()));
         log.write_fault.set(Some(*fault));
         log.writes.set(0);
         let is_its_fault = match output.drain_into(&mut Object::new(&log)) {
@@ -93,10 +96,10 @@ fn a_sink_that_fails_returns_its_error_and_takes_nothing(rt: HostRuntime) -> Res
             Ok(_) => false,
         };
         assert!(rt; is_its_fault && log.writes.get() == 1 && log.flushes.get() == 0);
+        assert!(rt; output.waiting(rt.alloc())?.as_slice() == waiting && output.dropped() == 0);
+        log.write_fault.set(None);
+        assert!(rt; output.drain_into(&mut Object::new(&log)).ok() == Some(waiting.len()));
     }
-    assert!(rt;
-        output.waiting(rt.alloc())?.as_slice() == b"waiting".as_slice() && output.dropped() == 0
-    );
     Ok(())
 }
 

@@ -1,7 +1,6 @@
 //! What a guest reaches by port and by address, and a trigger that is a file descriptor.
 use crate::faults::{faults, is_same};
-use crate::objects::{Log, Object, port};
-use std::alloc::Global;
+use crate::objects::{Log, Object, bus_at, port};
 use std::io::ErrorKind;
 use std::test::Fail;
 use superio_examples::alarm::{Alarm, alarm_at, find_alarm};
@@ -9,21 +8,7 @@ use superio_examples::bus::{Bus, BusError, COM1, COM2, COM3, COM4, Keyboard};
 use superio_examples::counter::Counter;
 use superio_examples::event_fd::EventFd;
 use superio_examples::mmio::ClockWindow;
-use vm_superio::serial::Error;
 use vm_superio::{I8042Device, Rtc, Trigger};
-
-/// A bus over the tests' objects.
-type TestBus<'a> = Bus<Object<'a>, Object<'a>, Object<'a>, Object<'a>>;
-
-/// A bus over a log's objects, whose serial port begins at `base`.
-fn bus_at(alloc: Global, log: &Log, base: u16) -> Result<TestBus<'_>, Fail> {
-    Ok(Bus {
-        base,
-        keyboard: Keyboard::Silent,
-        serial: port(alloc, log)?,
-        controller: I8042Device::new(Object::new(log)),
-    })
-}
 
 #[test]
 fn a_bus_reaches_its_devices_by_port(rt: HostRuntime) -> Result<(), Fail> {
@@ -137,26 +122,6 @@ fn serial_ports_side_by_side_do_not_mix(rt: HostRuntime) -> Result<(), Fail> {
 }
 
 #[test]
-fn a_bus_returns_the_fault_of_the_writer(rt: HostRuntime) -> Result<(), Fail> {
-    let log = Log::new();
-    let mut bus = bus_at(rt.alloc(), &log, COM1)?;
-    for fault in faults(rt.alloc())?.iter() {
-        // After an interruption the byte is written again.
-        if fault.kind() != ErrorKind::Interrupted {
-            log.write_fault.set(Some(*fault));
-            let is_its_fault = match bus.write(0x3F8, b'A') {
-                Err(BusError::Serial(Error::IOError(found))) => {
-                    is_same(rt.alloc(), &found, fault)?
-                }
-                _ => false,
-            };
-            assert!(rt; is_its_fault);
-        }
-    }
-    Ok(())
-}
-
-#[test]
 fn a_wide_access_is_one_of_each_byte(rt: HostRuntime) -> Result<(), Fail> {
     let log = Log::new();
     let mut bus = bus_at(rt.alloc(), &log, COM1)?;
@@ -223,22 +188,36 @@ fn a_clock_is_reached_in_its_window(rt: HostRuntime) {
 }
 
 #[test]
-fn an_event_is_one_write_of_eight_bytes(rt: HostRuntime) -> Result<(), Fail> {
+fn an_event_is_one_write_of_eight_bytes(rt: HostRuntime) {
     let log = Log::new();
     let mut event = EventFd {
         file: Object::new(&log),
     };
-    assert!(rt; event.trigger().is_ok() && log.writes.get() == 1);
+    for writes in 1..4 {
+        assert!(rt; event.trigger().is_ok() && log.writes.get() == writes);
+    }
+    assert!(rt; log.flushes.get() == 0);
+}
+
+#[test]
+fn an_event_that_fails_returns_the_fault_of_its_write(rt: HostRuntime) -> Result<(), Fail> {
+    let log = Log::new();
+    let mut event = EventFd {
+        file: Object::new(&log),
+    };
     for fault in faults(rt.alloc())?.iter() {
-        // After an interruption the bytes are written again.
-        if fault.kind() != ErrorKind::Interrupted {
-            log.write_fault.set(Some(*fault));
-            log.writes.set(0);
-            let is_its_fault = match event.trigger() {
-                Err(found) => is_same(rt.alloc(), &found, fault)?,
-                Ok(()) => false,
-            };
-            assert!(rt; is_its_fault && log.writes.get() == 1);
+        // Some of the bytes were taken before. After an interruption they are written again.
+        for taken in 0..8usize {
+            if fault.kind() != ErrorKind::Interrupted {
+                log.write_fault.set(Some(*fault));
+                log.room.set(taken);
+                log.writes.set(0);
+                let is_its_fault = match event.trigger() {
+                    Err(found) => is_same(rt.alloc(), &found, fault)?,
+                    Ok(()) => false,
+                };
+                assert!(rt; is_its_fault && log.writes.get() == 1 + u64::from(taken > 0));
+            }
         }
     }
     assert!(rt; log.flushes.get() == 0);

@@ -114,7 +114,7 @@ fn a_script_calls_its_streams_no_more_than_it_has_to(rt: HostRuntime) -> Result<
     Ok(())
 }
 
-/// Lets the last read of a script fail, then its write, then its flush.
+/// Lets the first read of a script fail, then its last one, then its write, then its flush.
 fn expect_faults(rt: &impl Abort, alloc: Global, kind: ErrorKind) {
     let fault = Err(ScriptFault::Io);
     // `write_all` retries the write.
@@ -122,6 +122,11 @@ fn expect_faults(rt: &impl Abort, alloc: Global, kind: ErrorKind) {
         ErrorKind::Interrupted => (Ok(()), b"00\n."),
         _ => (fault, b""),
     };
+    let first = Input {
+        fault: Some(kind),
+        ..Input::new(b"")
+    };
+    expect_run(rt, alloc, first, Log::new(alloc), fault, 1, b"");
     let rows: [([Option<ErrorKind>; 3], Result<(), ScriptFault>, &[u8]); 3] = [
         ([Some(kind), None, None], fault, b""),
         ([None, Some(kind), None], end, calls),

@@ -1,4 +1,6 @@
-//! Calls that allocate memory, made in states of any registers, coherent or not, with lists of a length that is given.
+//! Calls that allocate memory, made after any calls in states of any registers, coherent or not, with lists of a length
+//! that is given.
+use super::any_lines::{any_line, any_script};
 use super::source::Source;
 use super::{Port, PortObjects};
 use crate::fields::port_state;
@@ -6,21 +8,34 @@ use std::alloc::{AllocError, Global};
 use std::io;
 use superio_script::{Board, Counts, Line, LineFault, Output, ScriptFault, run_script};
 use vm_superio::run::{Call, Done, Reply};
-use vm_superio::serial::{Error, Three};
-use vm_superio::{Serial, SerialState, saved};
+use vm_superio::serial::{Error, Port as PortOverOne, SerialPort, Three};
+use vm_superio::{Serial, SerialState, laws, saved};
+
+/// A port over one object.
+type OnePort = PortOverOne<PortObjects>;
 
 /// The calls.
-pub const CALLS: [&str; 11] = [
+pub const CALLS: [&str; 21] = [
     "Serial::new",
     "Serial::with_events",
     "Serial::from_state",
     "Serial::state",
+    "Serial::run",
+    "Port::new",
+    "Port::from_state",
+    "Port::state",
+    "Port::run",
     "SerialState::clone",
     "SerialState::from_bytes",
-    "run",
+    "SerialState::from_port",
+    "serial_written_then_read",
+    "serial_read_then_written",
+    "state_to_port_and_back",
+    "port_to_state_and_back",
     "Board::new",
     "Board::line, a save",
     "Board::line, a restore",
+    "Board::line, a load",
     "run_script",
 ];
 
@@ -29,21 +44,35 @@ pub const CALLS: [&str; 11] = [
 pub enum Prepared {
     New(Line),
     WithEvents(Line),
-    State(SerialState, Line),
-    Port(Port),
-    Copy(SerialState),
-    Bytes(Vec<u8>),
+    FromState(SerialState, Line),
+    State(Port),
     Run(Port, Vec<Call<PortObjects>>),
-    Mask(u64),
-    Board(Board, &'static str),
+    NewOne(PortObjects),
+    OneFromState(SerialState, PortObjects),
+    StateOfOne(OnePort),
+    RunOne(OnePort, Vec<Call<PortObjects>>),
+    Copy(SerialState),
+    FromBytes(Vec<u8>),
+    FromPort(SerialPort),
+    WrittenThenRead(SerialState),
+    ReadThenWritten(Vec<u8>),
+    ToPortAndBack(SerialState),
+    ToStateAndBack(SerialPort),
+    NewBoard(u64),
+    Board(Board, String),
     Script(Vec<u8>),
 }
 
-/// Any registers, and so many received bytes.
+/// The registers of a new port.
+const FRESH: [u8; 9] = [0x0C, 0, 0, 1, 3, 0x60, 8, 0xB0, 0];
+
+/// Any registers, half of them as those of a new port, and so many received bytes.
 fn any_state(alloc: Global, source: &mut Source, length: usize) -> Result<SerialState, AllocError> {
-    let mut registers = [0; 9];
+    let mut registers = FRESH;
     for register in &mut registers {
-        *register = source.byte();
+        if source.byte() < 128 {
+            *register = source.typical();
+        }
     }
     let mut held = Vec::new(alloc);
     for _ in 0..length {
@@ -52,28 +81,79 @@ fn any_state(alloc: Global, source: &mut Source, length: usize) -> Result<Serial
     Ok(port_state(registers, held))
 }
 
-/// A port in any state, with at most 64 bytes. Its line takes the first two calls.
-fn any_port(alloc: Global, source: &mut Source, length: usize) -> Result<Port, AllocError> {
-    let state = any_state(alloc, source, length % 65)?;
-    let line = Line::new(source.number() & !3);
-    match Serial::from_state(alloc, &state, line, Counts::new(), Output::new()) {
-        Ok(port) => Ok(port),
-        Err(_) => Err(AllocError),
-    }
+/// The same, mostly with as many bytes as a port takes.
+fn any_saved(alloc: Global, source: &mut Source, length: usize) -> Result<SerialState, AllocError> {
+    let held = if source.byte() < 64 {
+        length
+    } else {
+        length % 65
+    };
+    any_state(alloc, source, held)
 }
 
-/// Any call of a run. Few of them are restores, since every restore allocates.
-fn any_call(alloc: Global, source: &mut Source) -> Result<Call<PortObjects>, AllocError> {
-    let (offset, value) = (source.byte(), source.byte());
-    Ok(match source.byte() {
-        0..=80 => Call::Read(offset % 9),
-        81..=180 => Call::Write(offset % 9, value),
+/// Any objects, whose line takes the first two calls.
+fn any_objects(source: &mut Source) -> PortObjects {
+    Three::with_writer(any_line_of_interrupts(source), Counts::new(), Output::new())
+}
+
+fn any_line_of_interrupts(source: &mut Source) -> Line {
+    Line::new(source.number() & !3)
+}
+
+/// A port after any calls, made with at most 64 bytes.
+fn any_port(alloc: Global, source: &mut Source, length: usize) -> Result<Port, AllocError> {
+    let state = any_state(alloc, source, length % 65)?;
+    let line = any_line_of_interrupts(source);
+    let made = Serial::from_state(alloc, &state, line, Counts::new(), Output::new());
+    let Ok(mut port) = made else {
+        return Err(AllocError);
+    };
+    let count = source.count();
+    port.run(alloc, any_calls(alloc, source, count)?)?;
+    Ok(port)
+}
+
+/// The same over one object.
+fn any_one_port(alloc: Global, source: &mut Source, length: usize) -> Result<OnePort, AllocError> {
+    let state = any_state(alloc, source, length % 65)?;
+    let Ok(mut port) = PortOverOne::from_state(alloc, &state, any_objects(source)) else {
+        return Err(AllocError);
+    };
+    let count = source.count();
+    port.run(alloc, any_calls(alloc, source, count)?)?;
+    Ok(port)
+}
+
+/// A port as a value, after any calls.
+fn any_value(alloc: Global, source: &mut Source, length: usize) -> Result<SerialPort, AllocError> {
+    let state = any_state(alloc, source, length % 65)?;
+    let mut port = state.to_port().unwrap_or(SerialPort::new());
+    for _ in 0..source.count() {
+        let (offset, value) = (source.byte() % 8, source.byte());
+        match value % 4 {
+            0 => port.write(offset, value).interrupts,
+            1 => port.enqueue_raw_bytes(&[value, value, value]).interrupts,
+            _ => port.read(0).byte,
+        };
+    }
+    Ok(port)
+}
+
+/// Any call of a run, or in half of the cases the favourite one. Few of them are restores, since every restore
+/// allocates.
+fn any_call(
+    alloc: Global,
+    source: &mut Source,
+    favourite: u8,
+) -> Result<Call<PortObjects>, AllocError> {
+    let (offset, value) = (source.offset(), source.typical());
+    Ok(match source.choice(favourite) {
+        0..=80 => Call::Read(offset),
+        81..=180 => Call::Write(offset, value),
         181..=220 => Call::CharacterTimeout,
-        221..=254 => Call::Enqueue(any_state(alloc, source, 3)?.in_buffer),
-        255 => {
-            let line = Line::new(source.number());
-            Call::Restore(Three::with_writer(line, Counts::new(), Output::new()))
-        }
+        221..=253 => Call::Enqueue(any_state(alloc, source, usize::from(offset))?.in_buffer),
+        254 => Call::Enqueue(any_state(alloc, source, usize::from(value))?.in_buffer),
+        255 => Call::Restore(any_objects(source)),
     })
 }
 
@@ -83,8 +163,9 @@ fn any_calls(
     length: usize,
 ) -> Result<Vec<Call<PortObjects>>, AllocError> {
     let mut calls = Vec::new(alloc);
+    let favourite = source.byte();
     for _ in 0..length {
-        calls.push(any_call(alloc, source)?)?;
+        calls.push(any_call(alloc, source, favourite)?)?;
     }
     Ok(calls)
 }
@@ -98,35 +179,63 @@ fn any_bytes(alloc: Global, source: &mut Source, length: usize) -> Result<Vec<u8
     }
 }
 
-/// A board of any mask whose port has any registers and at most 40 bytes, as many as a line of a script can load.
-fn any_board(alloc: Global, source: &mut Source, length: usize) -> Result<Board, AllocError> {
-    let Ok(mut board) = Board::new(alloc, source.number() & !3) else {
-        return Err(AllocError);
-    };
+/// A line that loads any registers and at most 40 bytes, as many as there is room for.
+fn any_load(alloc: Global, source: &mut Source, length: usize) -> Result<String, AllocError> {
     let state = any_state(alloc, source, length % 41)?;
-    let mut line = b"sl ".to_vec(alloc)?;
-    if let Ok(form) = state.to_bytes() {
-        line.extend_from_slice(hex::encode(alloc, form.as_bytes())?.as_bytes())?;
-    }
-    match board.line(alloc, line.as_slice()) {
-        Ok(_) => Ok(board),
+    match state.to_bytes() {
+        Ok(form) => format!(in alloc; "sl {}", hex::encode(alloc, form.as_bytes())?),
         Err(_) => Err(AllocError),
     }
 }
 
-/// A script of so many lines. Some lines allocate and some do not.
-fn any_script(alloc: Global, source: &mut Source, length: usize) -> Result<Vec<u8>, AllocError> {
-    let mut script = Vec::new(alloc);
-    for _ in 0..length.min(4_000) {
-        let line: &[u8] = match source.byte() {
-            0 => b"ss\n",
-            1 => b"sb\n",
-            2..=128 => b"sq 61\n",
-            _ => b"sr 00\n",
-        };
-        script.extend_from_slice(line)?;
+/// A board after any lines, of any mask.
+fn any_board(alloc: Global, source: &mut Source, length: usize) -> Result<Board, AllocError> {
+    let Ok(mut board) = Board::new(alloc, source.number() & !3) else {
+        return Err(AllocError);
+    };
+    let load = any_load(alloc, source, length)?;
+    if board.line(alloc, load.as_bytes()).is_err() {
+        return Err(AllocError);
     }
-    Ok(script)
+    let favourite = source.byte();
+    for _ in 0..source.count() {
+        let line = any_line(alloc, source, favourite)?;
+        if board.line(alloc, line.as_bytes()).is_err() {
+            return Err(AllocError);
+        }
+    }
+    Ok(board)
+}
+
+fn text(alloc: Global, text: &str) -> Result<String, AllocError> {
+    String::from_str(alloc, text)
+}
+
+/// Prepares a call of a port by its place in `CALLS`.
+fn prepare_port(
+    alloc: Global,
+    call: usize,
+    source: &mut Source,
+    length: usize,
+) -> Result<Prepared, AllocError> {
+    let line = Line::new(source.number());
+    Ok(match call {
+        0 => Prepared::New(line),
+        1 => Prepared::WithEvents(line),
+        2 => Prepared::FromState(any_saved(alloc, source, length)?, line),
+        3 => Prepared::State(any_port(alloc, source, length)?),
+        4 => Prepared::Run(
+            any_port(alloc, source, length)?,
+            any_calls(alloc, source, length)?,
+        ),
+        5 => Prepared::NewOne(any_objects(source)),
+        6 => Prepared::OneFromState(any_saved(alloc, source, length)?, any_objects(source)),
+        7 => Prepared::StateOfOne(any_one_port(alloc, source, length)?),
+        _ => Prepared::RunOne(
+            any_one_port(alloc, source, length)?,
+            any_calls(alloc, source, length)?,
+        ),
+    })
 }
 
 /// Prepares a call by its place in `CALLS`.
@@ -136,21 +245,22 @@ pub fn prepare(
     source: &mut Source,
     length: usize,
 ) -> Result<Prepared, AllocError> {
-    let mask = source.number();
     Ok(match call {
-        0 => Prepared::New(Line::new(mask)),
-        1 => Prepared::WithEvents(Line::new(mask)),
-        2 => Prepared::State(any_state(alloc, source, length)?, Line::new(mask)),
-        3 => Prepared::Port(any_port(alloc, source, length)?),
-        4 => Prepared::Copy(any_state(alloc, source, length)?),
-        5 => Prepared::Bytes(any_bytes(alloc, source, length)?),
-        6 => Prepared::Run(
-            any_port(alloc, source, length)?,
-            any_calls(alloc, source, length)?,
-        ),
-        7 => Prepared::Mask(mask),
-        8 => Prepared::Board(any_board(alloc, source, length)?, "sb"),
-        9 => Prepared::Board(any_board(alloc, source, length)?, "ss"),
+        0..=8 => prepare_port(alloc, call, source, length)?,
+        9 => Prepared::Copy(any_state(alloc, source, length)?),
+        10 => Prepared::FromBytes(any_bytes(alloc, source, length)?),
+        11 => Prepared::FromPort(any_value(alloc, source, length)?),
+        12 => Prepared::WrittenThenRead(any_state(alloc, source, length % 65)?),
+        13 => Prepared::ReadThenWritten(any_bytes(alloc, source, length)?),
+        14 => Prepared::ToPortAndBack(any_state(alloc, source, length % 65)?),
+        15 => Prepared::ToStateAndBack(any_value(alloc, source, length)?),
+        16 => Prepared::NewBoard(source.number()),
+        17 => Prepared::Board(any_board(alloc, source, length)?, text(alloc, "sb")?),
+        18 => Prepared::Board(any_board(alloc, source, length)?, text(alloc, "ss")?),
+        19 => {
+            let line = any_load(alloc, source, length)?;
+            Prepared::Board(any_board(alloc, source, length)?, line)
+        }
         _ => Prepared::Script(any_script(alloc, source, length)?),
     })
 }
@@ -166,21 +276,42 @@ pub fn is_refused(alloc: Global, call: Prepared) -> bool {
             let made = Serial::with_events(alloc, line, Counts::new(), Output::new());
             matches!(made, Err(refused) if matches!(refused.error, Error::Memory))
         }
-        Prepared::State(state, line) => {
+        Prepared::FromState(state, line) => {
             let made = Serial::from_state(alloc, &state, line, Counts::new(), Output::new());
             matches!(made, Err(refused) if matches!(refused.error, Error::Memory))
         }
-        Prepared::Port(port) => port.state(alloc).is_err(),
-        Prepared::Copy(state) => state.clone(alloc).is_err(),
-        Prepared::Bytes(bytes) => {
-            let read = SerialState::from_bytes(alloc, bytes.as_slice());
-            matches!(read, Err(saved::Error::Memory))
+        Prepared::State(port) => port.state(alloc).is_err(),
+        Prepared::Run(mut port, calls) => is_refused_run(&port.run(alloc, calls)),
+        Prepared::NewOne(objects) => PortOverOne::new(alloc, objects).is_err(),
+        Prepared::OneFromState(state, objects) => {
+            let made = PortOverOne::from_state(alloc, &state, objects);
+            matches!(made, Err(refused) if matches!(refused.error, Error::Memory))
         }
-        Prepared::Run(mut port, calls) => match port.run(alloc, calls) {
-            Ok(done) => done.iter().any(is_refused_restore),
-            Err(AllocError) => true,
-        },
-        Prepared::Mask(mask) => matches!(Board::new(alloc, mask), Err(ScriptFault::Memory)),
+        Prepared::StateOfOne(port) => port.state(alloc).is_err(),
+        Prepared::RunOne(mut port, calls) => is_refused_run(&port.run(alloc, calls)),
+        other => is_refused_elsewhere(alloc, other),
+    }
+}
+
+/// Whether a call that is not of a port returned that memory was refused.
+fn is_refused_elsewhere(alloc: Global, call: Prepared) -> bool {
+    match call {
+        Prepared::Copy(state) => state.clone(alloc).is_err(),
+        Prepared::FromBytes(bytes) => is_memory(&SerialState::from_bytes(alloc, &bytes)),
+        Prepared::FromPort(port) => SerialState::from_port(alloc, &port).is_err(),
+        Prepared::WrittenThenRead(state) => {
+            is_memory(&laws::saved::serial_written_then_read(alloc, &state))
+        }
+        Prepared::ReadThenWritten(bytes) => {
+            is_memory(&laws::saved::serial_read_then_written(alloc, &bytes))
+        }
+        Prepared::ToPortAndBack(state) => {
+            is_memory(&laws::saved::state_to_port_and_back(alloc, &state))
+        }
+        Prepared::ToStateAndBack(port) => {
+            is_memory(&laws::saved::port_to_state_and_back(alloc, &port))
+        }
+        Prepared::NewBoard(mask) => matches!(Board::new(alloc, mask), Err(ScriptFault::Memory)),
         Prepared::Board(mut board, line) => {
             matches!(board.line(alloc, line.as_bytes()), Err(LineFault::Memory))
         }
@@ -188,6 +319,19 @@ pub fn is_refused(alloc: Global, call: Prepared) -> bool {
             let end = run_script(alloc, &mut script.as_slice(), &mut io::sink());
             matches!(end, Err(ScriptFault::Memory))
         }
+        _ => false,
+    }
+}
+
+fn is_memory<T>(made: &Result<T, saved::Error>) -> bool {
+    matches!(made, Err(saved::Error::Memory))
+}
+
+/// Whether a run, or a restore of it, was refused memory.
+fn is_refused_run(run: &Result<Vec<Done<PortObjects>>, AllocError>) -> bool {
+    match run {
+        Ok(done) => done.iter().any(is_refused_restore),
+        Err(AllocError) => true,
     }
 }
 
