@@ -2,8 +2,9 @@
 import random
 from itertools import product
 
-from expected import CLOCK_FIELDS, ROOM, clock_text
-from saved_bytes import CLOCK, SERIAL, form
+from expected import ROOM, clock_text
+from oracle import CLOCK_FIELDS
+from saved_bytes import CLOCK, CLOCK_CONTENTS, SERIAL, form
 
 LINES = 24           # of a random script, at most, before those that end it
 CALLS = 40           # of a random run
@@ -68,7 +69,9 @@ def clock_start(source):
     """Any clock, by the fields of its form. Offsets at the ends of their range are common."""
     ahead = source.choice((source.getrandbits(64) - 2**63, 2**63 - 1 - number(source), number(source) - 2**63,
                            number(source) - number(source)))
-    return *(number(source) for _ in range(4)), ahead, source.random() < 0.5
+    registers = {name: number(source) for name in CLOCK_FIELDS if name not in ("ahead", "armed")}
+    drawn = registers | {"ahead": ahead, "armed": source.random() < 0.5}
+    return [drawn[name] for name in CLOCK_FIELDS]
 
 
 def controller_access(source):
@@ -83,7 +86,7 @@ def load_port(source, *counts):
 
 
 def load_clock(source):
-    return f"cl {form(CLOCK, CLOCK_FIELDS.pack(*clock_start(source))).hex()}"
+    return f"cl {form(CLOCK, CLOCK_CONTENTS.pack(*clock_start(source))).hex()}"
 
 
 def serial_line(source):
