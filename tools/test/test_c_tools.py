@@ -5,12 +5,16 @@ import platform
 import re
 import shutil
 import subprocess
+import sys
 import unittest
 
 from repository import ROOT, CopyTest
 
+sys.path.append(str(ROOT / "tools" / "c"))
+from libraries import SHARED, STATIC  # noqa: E402
+
 TARGETS = ("aarch64-linux", "x86_64-linux")
-LIBRARIES = ("libsuperio.so.3", "libsuperio_c.a")
+LIBRARIES = (SHARED, STATIC)
 SOURCES = ("crates/superio_c/src", "crates/superio_core/src")
 # A change of the model, or of what is expected of the controller, and what is said to differ.
 CHANGES = [
@@ -58,9 +62,9 @@ echo "shared for $emulation of $(cat "$2")" > "$4"
 """
 BUILT = {
     "aarch64-linux/libsuperio_c.a": "static for --target aarch64-unknown-linux-gnu\n",
-    "aarch64-linux/libsuperio.so.3": "shared for aarch64linux of static for --target aarch64-unknown-linux-gnu\n",
+    f"aarch64-linux/{SHARED}": "shared for aarch64linux of static for --target aarch64-unknown-linux-gnu\n",
     "x86_64-linux/libsuperio_c.a": "static for --cpu=x86-64 \n",
-    "x86_64-linux/libsuperio.so.3": "shared for elf_x86_64 of static for --cpu=x86-64 \n",
+    f"x86_64-linux/{SHARED}": "shared for elf_x86_64 of static for --cpu=x86-64 \n",
 }
 
 
