@@ -6,10 +6,13 @@ from expected import ROOM, clock_text
 from oracle import CLOCK_FIELDS
 from saved_bytes import CLOCK, CLOCK_CONTENTS, SERIAL, form
 
+from superio.script import FORMS  # noqa: E402, of the package that oracle finds
+
 LINES = 24           # of a random script, at most, before those that end it
 CALLS = 40           # of a random run
 SCRIPT_READS = [f"sr {offset:02x}" for offset in (0, 1, 2, 3, 4, 5, 6, 7, 8, 255)]
-SCRIPT_ENDS = ["st", "sc", "se", "so", "sb", "cb"]
+# The lines without a field that change nothing.
+SCRIPT_ENDS = [name for name, fields in FORMS.items() if not fields and name not in ("si", "sd", "ss")]
 
 
 # Lines that scripts and calls share.
