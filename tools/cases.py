@@ -2,13 +2,17 @@
 import random
 from itertools import product
 
-from expected import CLOCK_FIELDS, ROOM, clock_text
-from saved_bytes import CLOCK, SERIAL, form
+from expected import ROOM, clock_text
+from oracle import CLOCK_FIELDS
+from saved_bytes import CLOCK, CLOCK_CONTENTS, SERIAL, form
+
+from superio.script import FORMS  # noqa: E402, of the package that oracle finds
 
 LINES = 24           # of a random script, at most, before those that end it
 CALLS = 40           # of a random run
 SCRIPT_READS = [f"sr {offset:02x}" for offset in (0, 1, 2, 3, 4, 5, 6, 7, 8, 255)]
-SCRIPT_ENDS = ["st", "sc", "se", "so", "sb", "cb"]
+# The lines without a field that change nothing.
+SCRIPT_ENDS = [name for name, fields in FORMS.items() if not fields and name not in ("si", "sd", "ss")]
 
 
 # Lines that scripts and calls share.
@@ -68,7 +72,9 @@ def clock_start(source):
     """Any clock, by the fields of its form. Offsets at the ends of their range are common."""
     ahead = source.choice((source.getrandbits(64) - 2**63, 2**63 - 1 - number(source), number(source) - 2**63,
                            number(source) - number(source)))
-    return *(number(source) for _ in range(4)), ahead, source.random() < 0.5
+    registers = {name: number(source) for name in CLOCK_FIELDS if name not in ("ahead", "armed")}
+    drawn = registers | {"ahead": ahead, "armed": source.random() < 0.5}
+    return [drawn[name] for name in CLOCK_FIELDS]
 
 
 def controller_access(source):
@@ -83,7 +89,7 @@ def load_port(source, *counts):
 
 
 def load_clock(source):
-    return f"cl {form(CLOCK, CLOCK_FIELDS.pack(*clock_start(source))).hex()}"
+    return f"cl {form(CLOCK, CLOCK_CONTENTS.pack(*clock_start(source))).hex()}"
 
 
 def serial_line(source):

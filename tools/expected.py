@@ -1,13 +1,11 @@
 """What a script prints, and what recorded calls reply, by the search of the past in oracle.py."""
 import re
-from struct import Struct
 
-from oracle import Clock, Port, resets, start_fact
-from saved_bytes import CLOCK, SERIAL, form, reply_to
+from oracle import CLOCK_FIELDS, Clock, Port, resets, start_fact
+from saved_bytes import CLOCK, CLOCK_CONTENTS, REGISTERS, SERIAL, form, reply_to
 
 ROOM = 256                            # bytes that the output of a script's board takes
 UNREAD = "a5a5a5a5"                   # what an invalid read of a recorded call leaves
-CLOCK_FIELDS = Struct("<IIIIq?")      # of a saved state
 # The first line of a script, and any line.
 REFUSE = re.compile("refuse ([0-9A-Fa-f]{16})")
 LINE = re.compile("s[bcdeiloqst]|c[bl]|(sq|[sc]l) (HH){1,128}|[sk]r HH|[sk]w HH HH|cr H{16} H{4}|cw H{16} H{4} H{8}"
@@ -42,12 +40,12 @@ class Board:
 
     def load(self, data):
         reply = reply_to(SERIAL, data)
-        return self.restore(start_fact(data[8:17], data[17:])) if reply == "ok" else reply
+        return self.restore(start_fact(data[8:8 + REGISTERS], data[8 + REGISTERS:])) if reply == "ok" else reply
 
     def load_clock(self, data):
         reply = reply_to(CLOCK, data)
         if reply == "ok":
-            self.clock.start(*CLOCK_FIELDS.unpack(data[8:]))
+            self.clock.start(**dict(zip(CLOCK_FIELDS, CLOCK_CONTENTS.unpack(data[8:]))))
         return reply
 
     def of_clock(self, moment, offset, *value):
@@ -64,7 +62,7 @@ class Board:
                 "sd": port.drain, "ss": self.restore, "sb": lambda: form(SERIAL, port.state() + port.held()).hex(),
                 "so": lambda: port.output().hex(), "st": lambda: f"{self.count('T', 'R'):016x}",
                 "se": lambda: " ".join(f"{self.count(event):016x}" for event in "bole"),
-                "cb": lambda: form(CLOCK, CLOCK_FIELDS.pack(*self.clock.state())).hex(), "cr": self.of_clock,
+                "cb": lambda: form(CLOCK, CLOCK_CONTENTS.pack(*self.clock.state())).hex(), "cr": self.of_clock,
                 "cw": self.of_clock, "kr": lambda _: "00",
                 "kw": lambda *write: "reset" if resets(*write) else "ok"}[name](*numbers(fields))
 
@@ -81,9 +79,9 @@ def script_replies(script):
     return answered, [board.reply(line) for line in answered], None if bad is None else bad + 1
 
 
-def clock_text(lr, mr, imsc, ris, ahead, armed):
-    """A state of the clock, as recorded calls write it."""
-    return f"{lr:08x} {ahead} {mr:08x} {imsc:08x} {ris:08x}{' armed' * armed}"
+def clock_text(lr, mr, imsc, ris, ahead, *others):
+    """A state of the clock, as recorded calls write it: what vm-superio has of it, and whether an alarm is set."""
+    return f"{lr:08x} {ahead} {mr:08x} {imsc:08x} {ris:08x}{' armed' * others[-1]}"
 
 
 class Monitor:
@@ -154,7 +152,8 @@ class Monitor:
         return clock_text(*self.clock.state()), ()
 
     def cl(self, lr, ahead, mr, imsc, ris, *armed):
-        self.clock.start(*numbers((lr, mr, imsc, ris)), int(ahead), bool(armed))
+        registers = dict(zip(("LR", "MR", "IMSC", "raised"), numbers((lr, mr, imsc, ris))))
+        self.clock.start(**registers, ahead=int(ahead), armed=bool(armed))
         return self.cs()
 
     def kr(self, _):

@@ -206,10 +206,11 @@ class Port(Device):
 
 class Clock(Device):
     def __init__(self):
-        self.start(0, 0, 0, 0, 0, False)
+        self.start()
 
-    def start(self, *fields):
-        self.past = [Fact(dict(zip(CLOCK_FIELDS, fields)))]
+    def start(self, **fields):
+        """Begins at a state, whose other fields are 0."""
+        self.past = [Fact(dict.fromkeys(CLOCK_FIELDS, 0) | fields)]
 
     def raw_status(self):
         """The bits that were raised, by the start or by an access, and that no write has cleared since."""

@@ -1,5 +1,11 @@
 """The byte form of saved states, as docs/SAVED-STATES.md has it: how it is written, and what a load replies."""
+from struct import Struct
+
 SERIAL, CLOCK = 1, 2
+VERSION = 1
+REGISTERS = 9                         # of a port, a byte each, before the bytes that it holds
+CLOCK_CONTENTS = Struct("<IIIIq?")      # of a clock: its registers, its offset, and last its alarm
+CLOCK_SIZE = 8 + CLOCK_CONTENTS.size
 # The names of the statuses below in words, as a script replies them.
 WORDS = ["ok", "too short", "not a saved state", "other device", "unknown version", "wrong length", "too many bytes",
          "invalid armed"]
@@ -8,7 +14,7 @@ OK, TOO_SHORT, NOT_A_SAVED_STATE, OTHER_DEVICE, UNKNOWN_VERSION, WRONG_LENGTH, T
 
 def form(kind, contents):
     """The form with these contents."""
-    return b"SIOS" + bytes([kind, 1]) + len(contents).to_bytes(2, "little") + contents
+    return b"SIOS" + bytes([kind, VERSION]) + len(contents).to_bytes(2, "little") + contents
 
 
 def status(kind, data):
@@ -18,11 +24,11 @@ def status(kind, data):
         (TOO_SHORT, length >= 0),
         (NOT_A_SAVED_STATE, data[:4] == b"SIOS"),
         (OTHER_DEVICE, data[4:5] == bytes([kind])),
-        (UNKNOWN_VERSION, data[5:6] == b"\x01"),
+        (UNKNOWN_VERSION, data[5:6] == bytes([VERSION])),
         (WRONG_LENGTH, int.from_bytes(data[6:8], "little") == length),
-        (WRONG_LENGTH, length >= 9 if kind == SERIAL else length == 25),
-        (TOO_MANY_BYTES, kind == CLOCK or length <= 73),
-        (INVALID_ARMED, kind == SERIAL or data[32:33] in (b"\x00", b"\x01")),
+        (WRONG_LENGTH, length >= REGISTERS if kind == SERIAL else length == CLOCK_CONTENTS.size),
+        (TOO_MANY_BYTES, kind == CLOCK or length <= REGISTERS + 64),
+        (INVALID_ARMED, kind == SERIAL or data[CLOCK_SIZE - 1:CLOCK_SIZE] in (b"\x00", b"\x01")),
     ]
     return next((fault for fault, good in checks if not good), OK)
 

@@ -18,7 +18,6 @@ from typing import Any, Dict, List, Optional
 
 HERE = Path(__file__).resolve().parent
 PACKAGE = HERE / "superio"
-LIBRARY = "libsuperio.so.3"
 # The repository, or the folder of the sources alone.
 ROOT = HERE if (HERE / "LICENSE").is_file() else HERE.parents[1]
 
@@ -39,10 +38,18 @@ Tag: {tag}
 """
 
 
-def _version() -> str:
-    found = re.search(r'^__version__ = "(.+)"$', (PACKAGE / "__init__.py").read_text(encoding="utf-8"), re.MULTILINE)
+def _stated(name: str, form: str) -> str:
+    """What a file of the package says in a line of this form."""
+    found = re.search(form, (PACKAGE / name).read_text(encoding="utf-8"), re.MULTILINE)
     assert found
     return found[1]
+
+
+def _version() -> str:
+    return _stated("__init__.py", r'^__version__ = "(.+)"$')
+
+
+LIBRARY = f"libsuperio.so.{_stated('library.py', r'^ABI = ([0-9]+)$')}"
 
 
 def _library() -> Path:

@@ -11,6 +11,7 @@ from tally import run
 from twin import COM1, Edges, Level, Monitor, different_scripts, random_cases, shown
 
 from planted import read_bugs  # noqa: E402, of the folder that tally adds
+from saved_bytes import CLOCK_SIZE  # noqa: E402
 
 WRAPPED = [f"-Wl,--wrap=superio_{name}" for name in ("abi", "serial_load", "rtc_load")]
 WRONG = TESTS / "wrong-demos.edits"
@@ -64,13 +65,13 @@ CASES = [
      ["m 10 1", "m 4 424", "m 6 7", "m 10004 5", "m -4 5", "m 100000004 5", "n 424", "a", "m 1c 1"],
      [CLOCK_IS_OFF, *["clock: line down, alarm in 60 s"] * 2, "clock: line up, no alarm", CLOCK_IS_OFF], 0),
     ("guest time goes on after a move", ["m 8 64", "n 3ea", "g", "m 10 1", "m 4 a0", "n 424", "a"],
-     [CLOCK_IS_OFF, "moved 17 and 33 bytes, and 0 of input", CLOCK_IS_OFF, CLOCK_IS_OFF, "clock: line down, alarm in 58 s",
+     [CLOCK_IS_OFF, f"moved 17 and {CLOCK_SIZE} bytes, and 0 of input", CLOCK_IS_OFF, CLOCK_IS_OFF, "clock: line down, alarm in 58 s",
       "clock: line up, no alarm"], 0),
     ("a move with an interrupt that was not taken, and with input that waits", ["w 3f9 1", "i 46 78", "g", "h"],
-     ["interrupt", "moved 81 and 33 bytes, and 6 of input", "interrupt", CLOCK_IS_OFF, "interrupt", "interrupt",
+     ["interrupt", f"moved 81 and {CLOCK_SIZE} bytes, and 6 of input", "interrupt", CLOCK_IS_OFF, "interrupt", "interrupt",
       "received 70"], 0),
     ("a move of a guest that polls", ["e", "g", "i 1 78", "r 3f8"],
-     ["moved 17 and 33 bytes, and 0 of input", CLOCK_IS_OFF, "78"], 0),
+     [f"moved 17 and {CLOCK_SIZE} bytes, and 0 of input", CLOCK_IS_OFF, "78"], 0),
     ("a load of the port that fails", ["i 1 78", "f 1", "g", "r 61"], ["loading the serial port failed"], 1),
     ("a load of the clock that fails", ["i 1 78", "f 2", "g", "r 61"], ["loading the clock failed"], 1),
 ]

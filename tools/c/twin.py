@@ -8,6 +8,7 @@ import subprocess
 from functools import lru_cache
 
 from oracle import CLOCK, SERIAL, Clock, Port, resets
+from saved_bytes import CLOCK_SIZE
 
 COM1 = 0x3F8
 RBR, IER, IIR, MCR, LSR = (SERIAL[name].offset for name in ("RBR", "IER", "IIR", "MCR", "LSR"))
@@ -168,7 +169,7 @@ class Monitor:
 
     def g(self):
         self.is_down = self.was_refused = self.is_interrupted = False
-        self.printed.append(f"moved {17 + len(self.port.held())} and 33 bytes, and {len(self.input)} of input")
+        self.printed.append(f"moved {17 + len(self.port.held())} and {CLOCK_SIZE} bytes, and {len(self.input)} of input")
         self.ask(self.port.due())
         self.follow_clock()
 

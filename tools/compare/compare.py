@@ -32,6 +32,7 @@ from collections import Counter
 from concurrent.futures import ThreadPoolExecutor
 
 import scripts
+from saved_bytes import CLOCK, CLOCK_CONTENTS, OK, status
 
 CHUNK = 2_000
 
@@ -72,9 +73,10 @@ def loaded_clock(line):
         data = bytes.fromhex(line[3:].decode("ascii"))
     except ValueError:
         return None
-    if len(data) != 33 or data[:8] != b"SIOS\x02\x01\x19\0" or data[32] > 1:
+    if status(CLOCK, data) != OK:
         return None
-    return int.from_bytes(data[24:32], "little", signed=True), data[32] == 1
+    *_, offset, has_alarm = CLOCK_CONTENTS.unpack(data[8:])
+    return offset, has_alarm
 
 
 def has_effective_match(script):

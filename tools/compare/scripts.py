@@ -4,6 +4,11 @@ Each script is made by one of a few recipes, so that long runs of one device com
 them may end in a malformed line. None has the line `si`, since the original has no character timeout.
 """
 import random
+import sys
+from pathlib import Path
+
+sys.path.append(str(Path(__file__).resolve().parent.parent))
+from saved_bytes import CLOCK, SERIAL, form as saved_form  # noqa: E402
 
 # Offsets and values that mean something, beside any others.
 CLOCK_OFFSETS = [0x000, 0x004, 0x008, 0x00C, 0x010, 0x014, 0x018, 0x01C]
@@ -83,17 +88,13 @@ def load(r, name, form):
     return b" ".join([name] + [b"".join(hexed(r, byte, 2) for byte in data)] * bool(data))
 
 
-def saved_form(kind, contents):
-    return b"SIOS" + bytes([kind, 1]) + len(contents).to_bytes(2, "little") + contents
-
-
 def serial_load(r):
     """A port in any state, or in one like those that a guest leads to. Its IIR and LSR may say what is not so."""
     held = bytes(r.randrange(256) for _ in range(r.choice([0, 0, 1, 2, 5, 63, 64, 65])))
     registers = bytes(r.randrange(256) for _ in range(9)) if r.random() < 0.2 else bytes(
         [12, 0, r.choice([0, 1, 2, 3, 3]), r.choice([1, 2, 4, 6, 0, 3]), r.choice([3, 3, 0x83]),
          r.choice([0x60 | bool(held), 0x60, 0x61]), r.choice([8, 8, 0x18]), 0xB0, r.randrange(256)])
-    return load(r, b"sl", saved_form(1, registers + held))
+    return load(r, b"sl", saved_form(SERIAL, registers + held))
 
 
 def clock_load(r):
@@ -101,7 +102,7 @@ def clock_load(r):
     numbers = [r.choice([r.choice(VALUES), r.getrandbits(32)]) for _ in range(4)]
     offset = r.choice([0, 1, -1, r.randrange(-2**32, 2**32), r.choice(VALUES) - r.choice(VALUES)])
     contents = b"".join(number.to_bytes(4, "little") for number in numbers)
-    return load(r, b"cl", saved_form(2, contents + offset.to_bytes(8, "little", signed=True) + b"\0"))
+    return load(r, b"cl", saved_form(CLOCK, contents + offset.to_bytes(8, "little", signed=True) + b"\0"))
 
 
 def serial_line(r):

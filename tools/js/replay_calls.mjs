@@ -163,7 +163,8 @@ class Monitor {
 
   cl(lr, offset, mr, imsc, ris) {
     const [loaded, match, mask, raw] = [lr, mr, imsc, ris].map(number);
-    this.clock = Rtc.fromState({ lr: loaded, mr: match, imsc: mask, ris: raw, offset: BigInt(offset), armed: false });
+    const five = { lr: loaded, mr: match, imsc: mask, ris: raw, offset: BigInt(offset) };
+    this.clock = Rtc.fromState({ ...new Rtc().state, ...five });
     return textOfClock(this.clock);
   }
 

@@ -15,9 +15,9 @@ PLACES = {
 }
 # The same for the number of the binary interface, which the name of the shared library ends with.
 ABI_PLACES = {
-    "bindings/python/build_wheel.py": r'^LIBRARY = "libsuperio\.so\.(\d+)"$',
+    "bindings/js/superio.mjs": r"^const ABI = (\d+);$",
+    "bindings/js/wasm/lib.rs": r"^const ABI: u32 = (\d+);$",
     "bindings/python/superio/library.py": r"^ABI = (\d+)$",
-    "bindings/rust/capi/build.rs": r"-soname,libsuperio\.so\.(\d+)",
     "bindings/rust/capi/src/lib.rs": r"^const ABI: u32 = (\d+);$",
     "debian/control": r"^Package: libsuperio(\d+)$",
     "include/superio.h": r"^#define SUPERIO_ABI (\d+)$",

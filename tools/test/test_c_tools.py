@@ -5,12 +5,16 @@ import platform
 import re
 import shutil
 import subprocess
+import sys
 import unittest
 
 from repository import ROOT, CopyTest
 
+sys.path.append(str(ROOT / "tools" / "c"))
+from libraries import SHARED, STATIC  # noqa: E402
+
 TARGETS = ("aarch64-linux", "x86_64-linux")
-LIBRARIES = ("libsuperio.so.3", "libsuperio_c.a")
+LIBRARIES = (SHARED, STATIC)
 SOURCES = ("crates/superio_c/src", "crates/superio_core/src")
 # A change of the model, or of what is expected of the controller, and what is said to differ.
 CHANGES = [
@@ -30,8 +34,8 @@ DECLARATIONS = [
     (HEADER, "superio_serial_new(void) SUPERIO_MUST_USE;", "superio_serial_new(void);",
      "superio_serial_new: the header has the attributes []"),
     (HEADER, "    uint32_t lr; ", "    uint16_t lr; ", "superio_rtc: the header has the struct"),
-    (HEADER, "#define SUPERIO_RTC_SAVED_SIZE 33", "#define SUPERIO_RTC_SAVED_SIZE 34",
-     "SUPERIO_RTC_SAVED_SIZE: the header has the constant 34, and crates/superio_c 33"),
+    (HEADER, "#define SUPERIO_SERIAL_FIFO_SIZE 64", "#define SUPERIO_SERIAL_FIFO_SIZE 65",
+     "SUPERIO_SERIAL_FIFO_SIZE: the header has the constant 65, and crates/superio_c 64"),
     (HEADER, "superio_abi(void);", "superio_abi(void), superio_zero(void);", "tools/c/header.py does not know"),
     ("bindings/rust/capi/src/clock.rs", "clock: &mut Clock, offset: u16, now", "clock: &mut Clock, offset: u8, now",
      "superio_rtc_read: the header has the function"),
@@ -58,9 +62,9 @@ echo "shared for $emulation of $(cat "$2")" > "$4"
 """
 BUILT = {
     "aarch64-linux/libsuperio_c.a": "static for --target aarch64-unknown-linux-gnu\n",
-    "aarch64-linux/libsuperio.so.3": "shared for aarch64linux of static for --target aarch64-unknown-linux-gnu\n",
+    f"aarch64-linux/{SHARED}": "shared for aarch64linux of static for --target aarch64-unknown-linux-gnu\n",
     "x86_64-linux/libsuperio_c.a": "static for --cpu=x86-64 \n",
-    "x86_64-linux/libsuperio.so.3": "shared for elf_x86_64 of static for --cpu=x86-64 \n",
+    f"x86_64-linux/{SHARED}": "shared for elf_x86_64 of static for --cpu=x86-64 \n",
 }
 
 

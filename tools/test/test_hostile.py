@@ -8,6 +8,8 @@ from pathlib import Path
 
 import cases
 from expected import Monitor, script_replies
+from oracle import FRESH
+from saved_bytes import CLOCK, CLOCK_CONTENTS, SERIAL, form
 from test_check import TOOLS, module_of
 
 hostile = module_of("hostile")
@@ -35,10 +37,11 @@ RUNS = [("first", ["sl 0c000001036008b000 -", "sw 01 02", "sw 00 41 f"]), ("seco
 
 
 # The forms of a port whose THRE is not enabled.
-FRESH_FORM = "53494f53010109000c000001036008b000"
-CLOCK_FORM = "53494f530201190080009265bc0092650100000000000000f0f1ffffffffffff01"
+FRESH_FORM = form(SERIAL, FRESH).hex()
+REFUSED_FORM = form(SERIAL, bytes.fromhex("0c000104036108b05a61")).hex()
+CLOCK_FORM = form(CLOCK, b"\xbc" + bytes(CLOCK_CONTENTS.size - 1)).hex()
 # A byte goes out. The line refuses the call of the load, so the port stays.
-SCRIPTS = [("first", "refuse 0000000000000001\nsw 00 41\nsl 53494f5301010a000c000104036108b05a61\nsb\nso\n"),
+SCRIPTS = [("first", f"refuse 0000000000000001\nsw 00 41\nsl {REFUSED_FORM}\nsb\nso\n"),
            ("second", f"cl {CLOCK_FORM}\ncb\nss \nss")]
 
 

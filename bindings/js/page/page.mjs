@@ -361,16 +361,17 @@ const hostTime = () => Math.max(0, Math.floor(Date.now() / 1000));
 function showClock(shown) {
   const now = state.boot?.moment ?? hostTime();
   const clock = shown.clock.clone();
-  const { mr, lr, imsc, ris, armed } = shown.clock.state;
+  const kept = shown.clock.state;
   const due = clock.due(now);
-  const set = due === null ? `set for ${dateOf(mr)}, never due` : `in ${plural(due, "second")}`;
+  const set = due === null ? `set for ${dateOf(kept.mr)}, never due` : `in ${plural(due, "second")}`;
   const guestTime = clock.read("DR", now).value;
   const facts = [["Host", `${dateOf(now)} UTC`], ["Guest", `${dateOf(guestTime)} UTC`],
-    ["Alarm", armed ? set : "none is set"], ["Interrupt line", shown.clock.line() ? "up" : "down"]];
+    ["Alarm", kept.armed ? set : "none is set"], ["Interrupt line", shown.clock.line() ? "up" : "down"]];
   id("times").replaceChildren(...facts.flatMap(([name, text]) => [element("dt", {}, name), element("dd", {}, text)]));
-  const before = lastCall()?.before.clock.state ?? shown.clock.state;
-  const values = [["MR", mr, before.mr], ["LR", lr, before.lr], ["IMSC", imsc, before.imsc], ["RIS", ris, before.ris],
-    ["MIS", ris & imsc, before.ris & before.imsc]];
+  const before = lastCall()?.before.clock.state ?? kept;
+  const names = Object.keys(CLOCK).filter((name) => name.toLowerCase() in kept);
+  const values = [...names.map((name) => [name, kept[name.toLowerCase()], before[name.toLowerCase()]]),
+    ["MIS", kept.ris & kept.imsc, before.ris & before.imsc]];
   id("clock-registers").replaceChildren(...values.map(([name, value, old]) => clockRow(CLOCK[name], value, old)));
 }
 

@@ -5,7 +5,8 @@ from typing import TYPE_CHECKING, Callable, Dict, NamedTuple, Tuple
 
 from .devices import Rtc, Serial
 from .faults import BadLine, FileFault, Leave, open_file, write_text
-from .script import Command, ScriptError, shown, text_of
+from .registers import CLOCK
+from .script import FORMS, MASK, Command, ScriptError, shown, text_of
 from .tell import changes, clock_registers, registers
 
 if TYPE_CHECKING:
@@ -14,6 +15,7 @@ if TYPE_CHECKING:
 __all__ = ["HELP", "VERBS", "Help"]
 
 _DEEPEST = 10
+_CLOCK_NAMES = ", ".join(name for name in CLOCK if not name.startswith("ID"))
 
 
 class Help(NamedTuple):
@@ -199,7 +201,7 @@ HELP: Dict[str, Help] = {
     "restore": Help("restore", "saves the port and restores it",
                     "The restored port asks again for each interrupt that is pending and enabled."),
     "clock": Help("clock read|write REGISTER [VALUE] [MOMENT]", "clock read DR now, clock write IMSC 1",
-                  "REGISTER is DR, MR, LR, CR, IMSC, RIS, MIS, ICR, ID0 to ID7, or an offset. MOMENT is now, now+5, or "
+                  f"REGISTER is {_CLOCK_NAMES}, ID0 to ID7, or an offset. MOMENT is now, now+5, or "
                   "seconds since 1970; it is now if left out."),
     "alarm": Help("alarm +SECONDS", "sets the clock's match register",
                   "alarm 0x6553f100 sets it to that guest time. The line goes up if IMSC is 1."),
@@ -233,6 +235,5 @@ _GROUPS: Dict[str, Tuple[str, ...]] = {
     "Clock and reset controller": ("clock", "alarm", "i8042"),
     "What happened": ("regs", "why", "diff", "trace"),
     "Session": ("save", "load", "reset", "source", "help", "quit"),
-    "Lines of a script, with hexadecimal fields": ("sr", "sw", "sq", "si", "sc", "sd", "ss", "sb", "sl", "so", "st",
-                                                   "se", "cr", "cw", "cb", "cl", "kr", "kw", "refuse"),
+    "Lines of a script, with hexadecimal fields": (*(name for name in FORMS if name != MASK), MASK),
 }

@@ -10,9 +10,9 @@ from typing import NamedTuple, Optional, Tuple, Type, Union
 from .checks import byte_string, check_kind, number
 from .library import load
 from .registers import CLOCK, SERIAL, Register, bit_names, clock_offset, serial_offset
-from .saved import RTC_SAVED_SIZE, SERIAL_SAVED_MAX, Saved
+from .saved import Saved
 from .states import RtcState, SerialState
-from .structs import FIFO_SIZE, RtcStruct, SerialStruct
+from .structs import FIFO_SIZE, RTC_SAVED_SIZE, SERIAL_SAVED_MAX, RtcStruct, SerialStruct
 
 __all__ = ["EnqueueEffects", "I8042", "I8042WriteEffects", "ReadEffects", "Rtc", "RtcReadEffects", "RtcWriteEffects",
            "Serial", "WriteEffects", "clock_state", "serial_state"]
@@ -21,6 +21,8 @@ _NEVER = 2 ** 64 - 1
 _STATES = 1024
 _HEAD, _LENGTH, _RING = SerialStruct.head.offset, SerialStruct.len.offset, SerialStruct.bytes.offset
 _REGISTERS = tuple(name for name, *_ in SerialStruct._fields_)[:_HEAD]  # each is a byte
+_CLOCK_FIELDS = tuple(name for name, *_ in RtcStruct._fields_)
+_CLOCK_REGISTERS = tuple(name for name in map(str.upper, _CLOCK_FIELDS) if name in CLOCK)
 
 
 class ReadEffects(NamedTuple):
@@ -242,13 +244,13 @@ class Rtc(Saved):
         check_kind("state", state, RtcState)
         clock = cls()
         device = clock._struct
-        device.lr, device.mr, device.imsc, device.ris = state.lr, state.mr, state.imsc, state.ris
-        device.offset, device.armed = state.offset, int(state.armed)
+        for name in _CLOCK_FIELDS:
+            setattr(device, name, getattr(state, name))
         return clock
 
     def __repr__(self) -> str:
         state = self.state
-        shown = [_decoded(CLOCK[name], getattr(state, name.lower()), 10) for name in ("LR", "MR", "IMSC", "RIS")]
+        shown = [_decoded(CLOCK[name], getattr(state, name.lower()), 10) for name in _CLOCK_REGISTERS]
         return f"<Rtc {' '.join(shown)} offset={state.offset} armed={state.armed}>"
 
 
@@ -266,7 +268,7 @@ def serial_state(raw: bytes) -> SerialState:
 def clock_state(raw: bytes) -> RtcState:
     """The state that a struct has."""
     device = RtcStruct.from_buffer_copy(raw)
-    return RtcState(device.lr, device.mr, device.imsc, device.ris, device.offset, bool(device.armed))
+    return RtcState(**{name: getattr(device, name) for name in _CLOCK_FIELDS})
 
 
 class I8042:

@@ -6,15 +6,9 @@ from typing import Any, Callable, Tuple, Type, TypeVar
 from .checks import byte_string
 from .library import load
 
-__all__ = ["LoadStatus", "RTC_SAVED_SIZE", "SERIAL_SAVED_MAX", "Saved", "SavedStateError", "script_words"]
+__all__ = ["LoadStatus", "Saved", "SavedStateError", "script_words"]
 
 _Device = TypeVar("_Device", bound="Saved")
-
-SERIAL_SAVED_MAX = 81
-"""The length of the longest saved state of a serial port."""
-
-RTC_SAVED_SIZE = 33
-"""The length of the saved state of a clock."""
 
 
 class LoadStatus(IntEnum):

@@ -1,11 +1,18 @@
-"""The structs of superio.h, field by field."""
+"""The structs of superio.h, field by field, and its sizes."""
 from ctypes import Structure, c_bool, c_int64, c_size_t, c_uint8, c_uint32, c_uint64
 
-__all__ = ["FIFO_SIZE", "SerialStruct", "RtcStruct", "ReadEffectsStruct", "WriteEffectsStruct", "EnqueueEffectsStruct",
-           "RtcReadEffectsStruct", "RtcWriteEffectsStruct", "I8042WriteEffectsStruct"]
+__all__ = ["FIFO_SIZE", "RTC_SAVED_SIZE", "SERIAL_SAVED_MAX", "SerialStruct", "RtcStruct", "ReadEffectsStruct",
+           "WriteEffectsStruct", "EnqueueEffectsStruct", "RtcReadEffectsStruct", "RtcWriteEffectsStruct",
+           "I8042WriteEffectsStruct"]
 
 FIFO_SIZE = 64
 """How many received bytes a serial port holds at most."""
+
+SERIAL_SAVED_MAX = 81
+"""The length of the longest saved state of a serial port."""
+
+RTC_SAVED_SIZE = 33
+"""The length of the saved state of a clock."""
 
 
 class SerialStruct(Structure):

@@ -20,6 +20,8 @@ ENABLES = bits_by_name(SERIAL["IER"])
 
 _REGISTERS = {"interrupt_enable": "IER", "line_control": "LCR", "modem_control": "MCR", "line_status": "LSR",
               "modem_status": "MSR", "scratch": "SCR", "baud_divisor_low": "DLL", "baud_divisor_high": "DLM"}
+# The registers of the clock that are fields of its state.
+_KEPT = tuple(name for name in CLOCK if hasattr(RtcState, name.lower()))
 
 
 def plural(count: int, noun: str) -> str:
@@ -185,7 +187,7 @@ def clock_registers(state: RtcState, now: Optional[int] = None) -> List[str]:
     if now is not None:
         guest_time = copy(clock).read("DR", now).value
         rows.append(f"  DR   {guest_time:#010x}  {date_of(guest_time)}")
-    rows.extend(_row(name, getattr(state, name.lower()), CLOCK[name], 10) for name in ("MR", "LR", "IMSC", "RIS"))
+    rows.extend(_row(name, getattr(state, name.lower()), CLOCK[name], 10) for name in _KEPT)
     rows.append(f"  {_alarm(clock, now)}")
     rows.append(f"  interrupt line {'up' if clock.line() else 'down'}")
     return rows
@@ -207,7 +209,7 @@ def changes(call: Call) -> List[str]:
     if identification[0] != identification[1]:
         rows.append(_change("IIR", *identification, SERIAL["IIR"], 4))
     rows.extend(_change(name, getattr(before.clock, name.lower()), getattr(after.clock, name.lower()), CLOCK[name], 10)
-                for name in ("MR", "LR", "IMSC", "RIS")
+                for name in _KEPT
                 if getattr(before.clock, name.lower()) != getattr(after.clock, name.lower()))
     return rows + _other_changes(before, after) + _answers(call)
 

@@ -94,8 +94,8 @@ class Layout(unittest.TestCase):
         self.assertEqual(statuses, [(f"SUPERIO_LOAD_{status.name}", status.value) for status in saved.LoadStatus])
 
     def test_constants_are_those_of_the_header(self):
-        for name, value in (("SUPERIO_SERIAL_SAVED_MAX", saved.SERIAL_SAVED_MAX),
-                            ("SUPERIO_RTC_SAVED_SIZE", saved.RTC_SAVED_SIZE),
+        for name, value in (("SUPERIO_SERIAL_SAVED_MAX", structs.SERIAL_SAVED_MAX),
+                            ("SUPERIO_RTC_SAVED_SIZE", structs.RTC_SAVED_SIZE),
                             ("SUPERIO_SERIAL_FIFO_SIZE", structs.FIFO_SIZE)):
             self.assertEqual(DECLARED.constants[name], value)
 

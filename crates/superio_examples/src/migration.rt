@@ -21,7 +21,7 @@ use vm_superio::{Rtc, RtcState, Serial, SerialState, Trigger};
 pub struct Saved {
     /// The serial port's state as bytes, at most 81.
     pub serial: Vec<u8>,
-    /// The clock's state as 33 bytes.
+    /// The clock's state as bytes.
     pub clock: Vec<u8>,
     /// The input that the serial port has not taken.
     pub input: Vec<u8>,

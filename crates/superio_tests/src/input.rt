@@ -7,6 +7,7 @@ use superio_examples::first_claims::read_back;
 use superio_examples::input::Input;
 use superio_examples::migration::{RestoreError, Saved, restore, restore_input, save};
 use vm_superio::Rtc;
+use vm_superio::rtc_pl031::saved_form::SAVED_SIZE;
 use vm_superio::run::{Call, Done, Reply};
 use vm_superio::saved::{Error as FormError, Fault};
 
@@ -214,7 +215,7 @@ fn devices_are_saved_and_restored_however_many_bytes_are_held(rt: HostRuntime) -
     let object = Object::new(&log);
     for count in 0..=64usize {
         let saved = save(rt.alloc(), &serial, &clock, &input)?;
-        assert!(rt; saved.serial.len() == 17 + count && saved.clock.len() == 33);
+        assert!(rt; saved.serial.len() == 17 + count && saved.clock.len() == SAVED_SIZE);
         let restored = restore(rt.alloc(), &saved, object, object, object, object);
         let moved = restored.ok().expect(&rt, "restored devices");
         assert!(rt; save(rt.alloc(), &moved.serial, &moved.clock, &input)? == saved);

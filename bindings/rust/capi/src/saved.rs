@@ -42,12 +42,12 @@ unsafe fn store<T>(place: *mut T, loaded: Result<T, Error>) -> u32 {
 ///
 /// # Safety
 ///
-/// 81 bytes outside the port can be written at `bytes`. They need not be set.
+/// [`SAVED_MAX`] bytes outside the port can be written at `bytes`. They need not be set.
 #[no_mangle]
 pub unsafe extern "C" fn superio_serial_save(port: &SerialPort, bytes: *mut u8) -> usize {
     let mut form = [0; SAVED_MAX];
     let count = port.to_bytes(&mut form);
-    // SAFETY: `count` is at most 81, the size of `form` and of the room at `bytes`.
+    // SAFETY: `count` is at most the size of `form` and of the room at `bytes`.
     unsafe { bytes.copy_from_nonoverlapping(form.as_ptr(), count) };
     count
 }
@@ -68,11 +68,11 @@ pub unsafe extern "C" fn superio_serial_load(port: *mut SerialPort, bytes: *cons
 ///
 /// # Safety
 ///
-/// 33 bytes outside the clock can be written at `bytes`. They need not be set.
+/// [`SAVED_SIZE`] bytes outside the clock can be written at `bytes`. They need not be set.
 #[no_mangle]
 pub unsafe extern "C" fn superio_rtc_save(clock: &Clock, bytes: *mut u8) {
     let form = clock.state().to_bytes();
-    // SAFETY: the form has 33 bytes, the room at `bytes`.
+    // SAFETY: the form has as many bytes as there is room for at `bytes`.
     unsafe { bytes.copy_from_nonoverlapping(form.as_ptr(), SAVED_SIZE) };
 }
 

@@ -76,15 +76,8 @@ fn text_of_port(alloc: Global, state: &SerialState, room: usize) -> Result<Strin
 }
 
 fn text_of_clock(alloc: Global, state: &RtcState) -> Result<String> {
-    let RtcState {
-        lr,
-        offset,
-        mr,
-        imsc,
-        ris,
-        armed,
-    } = *state;
-    let armed = if armed { " armed" } else { "" };
+    let [lr, mr, imsc, ris] = [state.lr, state.mr, state.imsc, state.ris];
+    let (offset, armed) = (state.offset, if state.armed { " armed" } else { "" });
     Ok(format!(in alloc; "{lr:08x} {offset} {mr:08x} {imsc:08x} {ris:08x}{armed}")?)
 }
 
@@ -201,18 +194,13 @@ impl<'a> Devices<'a> {
     /// Restores a clock. A last word `armed` says that an alarm is set.
     fn load_clock(&mut self, alloc: Global, fields: [&str; 5], armed: &[&str]) -> Result<String> {
         let [lr, offset, mr, imsc, ris] = fields;
-        let state = RtcState {
-            lr: word(lr)?,
-            offset: offset.parse()?,
-            mr: word(mr)?,
-            imsc: word(imsc)?,
-            ris: word(ris)?,
-            armed: match armed {
-                [] => false,
-                ["armed"] => true,
-                _ => bail!("no such state"),
-            },
+        let armed = match armed {
+            [] => false,
+            ["armed"] => true,
+            _ => bail!("no such state"),
         };
+        let five = RtcState::from_five(word(lr)?, offset.parse()?, word(mr)?, word(imsc)?, word(ris)?);
+        let state = RtcState { armed, ..five };
         self.clock = Rtc::from_state(&state, self.object);
         text_of_clock(alloc, &self.clock.state())
     }

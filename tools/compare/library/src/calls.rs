@@ -1,4 +1,7 @@
 //! Random calls of all devices.
+use vm_superio::values::RtcState;
+use vm_superio::values::rtc_pl031::saved_form::SAVED_SIZE;
+
 use crate::call::{Action, Call};
 use crate::random::Random;
 
@@ -74,16 +77,16 @@ impl Random {
     fn clock_form(&mut self) -> Vec<u8> {
         let (few, offset) = (self.number() as i64 % 50, self.ahead());
         let offset = self.one_of(&[few, offset, offset, offset, offset, offset]);
-        let registers = [self.word(), self.word(), self.word(), self.word()];
-        let mut contents: Vec<u8> = registers.iter().flat_map(|register| register.to_le_bytes()).collect();
-        contents.extend(offset.to_le_bytes());
-        contents.push(self.one_of(&[0, 1, 1, 1, 1, 2]));
-        self.form(2, &contents)
+        let [lr, mr, imsc, ris] = [self.word(), self.word(), self.word(), self.word()];
+        let mut form = RtcState { lr, mr, imsc, ris, offset, ..RtcState::default() }.to_bytes();
+        form[SAVED_SIZE - 1] = self.one_of(&[0, 1, 1, 1, 1, 2]);
+        self.form(2, &form[8..])
     }
 
     fn form(&mut self, kind: u8, contents: &[u8]) -> Vec<u8> {
         let count = (contents.len() as u16).to_le_bytes();
-        let mut form = [b"SIOS", &[kind, 1][..], &count, contents].concat();
+        let saved = RtcState::default().to_bytes(); // whose magic and version each form has
+        let mut form = [&saved[..4], &[kind, saved[5]], &count, contents].concat();
         let place = self.below(form.len() as u64) as usize;
         match self.below(8) {
             0 => form.truncate(place),

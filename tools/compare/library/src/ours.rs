@@ -151,7 +151,8 @@ impl Devices {
 
     fn state(&self) -> State {
         let port = self.serial.state();
-        let RtcSnapshot { state: clock, armed } = self.clock.snapshot();
+        let snapshot = self.clock.snapshot();
+        let clock = snapshot.state;
         let registers = [
             port.baud_divisor_low,
             port.baud_divisor_high,
@@ -166,7 +167,7 @@ impl Devices {
         State {
             serial: Port { registers, in_buffer: port.in_buffer },
             clock: Clock { lr: clock.lr, offset: clock.offset, mr: clock.mr, imsc: clock.imsc, ris: clock.ris },
-            is_armed: armed,
+            is_armed: snapshot.armed,
         }
     }
 }
