@@ -24,7 +24,7 @@ from statistics import median, quantiles
 
 from lists import FOLDER, LIST_LENGTH, LISTS, PROCESSOR, ROOT, accesses, build_in_rust
 
-sys.path.insert(0, str(ROOT / "tools"))
+sys.path.insert(0, str(ROOT / "tools" / "checks"))
 from program import built_library, built_program, original_crate  # noqa: E402
 
 # How many nanoseconds of processor time a run takes at least, and how many runs make a measurement.

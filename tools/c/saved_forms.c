@@ -1,5 +1,5 @@
 /*
- * Loads saved forms, and writes what became of each. tools/saved_forms runs it.
+ * Loads saved forms, and writes what became of each. tools/checks/saved_forms runs it.
  *
  * Standard input has records: the device's kind, the number of bytes as four
  * bytes, lowest first, and the bytes. Each is loaded over a struct of bytes

@@ -9,7 +9,7 @@ from libraries import ROOT, STATIC, host_target
 from machines import emulated, machine
 from programs import check_calls, check_demos, check_fuzz, check_pastes
 
-sys.path.insert(0, str(ROOT / "tools"))
+sys.path.insert(0, str(ROOT / "tools" / "checks"))
 from toolchains import toolchain_for  # noqa: E402
 
 CRATE = ROOT / FROM_SOURCE

@@ -4,7 +4,7 @@ import subprocess
 import sys
 from pathlib import Path
 
-sys.path.insert(0, str(Path(__file__).resolve().parent.parent))
+sys.path.insert(0, str(Path(__file__).resolve().parent.parent / "checks"))
 from tried import Tried  # noqa: E402
 
 LIMIT = 300  # seconds, after which a program counts as one that does not end

@@ -192,7 +192,7 @@ def is_plain(script):
 
 
 def rows_of(script, answer):
-    """A script and its answer as `tools/scripts` reads them."""
+    """A script and its answer as `tools/checks/scripts` reads them."""
     status, out, err = answer
     end = [err.decode().rstrip()] if status else []
     if not is_plain(script):

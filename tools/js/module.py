@@ -6,7 +6,7 @@ import sys
 from pathlib import Path
 
 ROOT = Path(__file__).resolve().parent.parent.parent
-sys.path[:0] = [str(ROOT / "tools"), str(ROOT / "tools" / "c")]
+sys.path[:0] = [str(ROOT / "tools" / "checks"), str(ROOT / "tools" / "c")]
 from libraries import PREBUILT, source_line, sums_of  # noqa: E402
 from toolchains import DEBIAN  # noqa: E402
 

@@ -19,9 +19,10 @@ TOOLS = Path(__file__).resolve().parent.parent
 
 def module_of(name):
     """A tool without the ending `.py`, as a module."""
-    loader = importlib.machinery.SourceFileLoader(name, str(TOOLS / name))
-    module = importlib.util.module_from_spec(importlib.util.spec_from_loader(name, loader))
-    with mock.patch.dict("sys.modules", {name: module}):
+    path = TOOLS / name
+    loader = importlib.machinery.SourceFileLoader(path.name, str(path))
+    module = importlib.util.module_from_spec(importlib.util.spec_from_loader(path.name, loader))
+    with mock.patch.dict("sys.modules", {path.name: module}):
         loader.exec_module(module)
     return module
 
@@ -184,9 +185,10 @@ class Tests(unittest.TestCase):
     def run_tests(self, text):
         """The last line of the tests of a file of this text."""
         with tempfile.TemporaryDirectory() as folder:
-            place = Path(folder, "test")
-            place.mkdir()
-            shutil.copy(TOOLS / "tried.py", folder)
+            place, checks = Path(folder, "test"), Path(folder, "checks")
+            for it in (place, checks):
+                it.mkdir()
+            shutil.copy(TOOLS / "checks" / "tried.py", checks)
             shutil.copy(TOOLS / "test" / "run", place)
             (place / "test_it.py").write_text(f"from unittest import *\n{text}\n", encoding="utf-8")
             ran = subprocess.run([sys.executable, place / "run"], stdout=subprocess.PIPE, text=True)
@@ -208,7 +210,7 @@ class Tests(unittest.TestCase):
 
 class Programs(unittest.TestCase):
     def test_a_program_that_replies_nothing_passes_only_scripts_without_replies(self):
-        for name, most in (("scripts", 0.05), ("transcripts", 0), ("replay", 0)):
+        for name, most in (("checks/scripts", 0.05), ("checks/transcripts", 0), ("replay", 0)):
             ran = subprocess.run([sys.executable, TOOLS / name, "/bin/true"], stdout=subprocess.PIPE, text=True)
             passed, failed, *_ = check.counted(ran.stdout.splitlines(), ran.returncode)
             self.assertGreater(failed, 0, name)

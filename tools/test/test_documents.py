@@ -35,7 +35,7 @@ class Links(CopyTest):
 
     def faults(self):
         """What the tool says."""
-        return faults_of(self.run_tool("tools/links"))
+        return faults_of(self.run_tool("tools/checks/links"))
 
     def test_sound(self):
         self.assertEqual(self.faults(), [])
@@ -76,7 +76,7 @@ class Names(CopyTest):
         readme.write_text(text, encoding="utf-8")
         (self.root / "rt").write_text(f"#!/bin/sh\necho {version}\n", encoding="ascii")
         (self.root / "rt").chmod(0o755)
-        ran = self.run_tool("tools/names", env={"PATH": f"{self.root}:{os.environ['PATH']}"})
+        ran = self.run_tool("tools/checks/names", env={"PATH": f"{self.root}:{os.environ['PATH']}"})
         return [re.sub(r":\d+: ", ": ", fault) for fault in faults_of(ran)]
 
     def test_sound(self):
@@ -130,7 +130,7 @@ class Names(CopyTest):
                 ("docs/DIFFERENCES.md", "`Serial::read_all`", "Serial::read_all is nowhere in the sources"),
                 ("CONTRIBUTING.md", "`--write~-floor`", "--write~-floor is nowhere in the sources"),
                 ("CONTRIBUTING.md", "`./superio --wi~dest 2`", "--wi~dest is nowhere in the sources"),
-                ("CONTRIBUTING.md", "`tools/names --all`", "tools/names has no --all"),
+                ("CONTRIBUTING.md", "`tools/checks/names --all`", "tools/checks/names has no --all"),
                 ("CONTRIBUTING.md", "`tools/name PROOFS.md`", "tools/name is nowhere in the sources"),
                 ("docs/USING.md", "\n\n```text\nedit: reset_at_any_offset\nold: a\nnew: b\n```", "no crate has this edit")):
             with open(self.root / document, "a", encoding="utf-8") as text:
@@ -152,7 +152,7 @@ class Facts(CopyTest):
         self.take("README.md", "bindings", "crates/superio_core/specs", "docs", "include")
 
     def test_sound(self):
-        self.assertEqual(faults_of(self.run_tool("tools/facts")), [])
+        self.assertEqual(faults_of(self.run_tool("tools/checks/facts")), [])
 
     def test_a_changed_number_is_noticed(self):
         specs, python = "crates/superio_core/specs", "bindings/python/superio"
@@ -174,21 +174,21 @@ class Facts(CopyTest):
                 ("tools/c/tests/model.c", "{0x31, 0x10,", "{0x31, 0x11,", "1 is 11, and 10")):
             with self.subTest(says):
                 self.change(name, old, new)
-                faults = faults_of(self.run_tool("tools/facts"))
+                faults = faults_of(self.run_tool("tools/checks/facts"))
                 self.assertTrue(faults and all(says in fault for fault in faults), faults)
                 self.change(name, new, old) if new else self.change(name, "is_readable Reserved", f"{old}is_readable Reserved")
 
     def test_a_fact_that_is_lost_is_tried_no_more(self):
         self.change("docs/DEVICES.md", "| 7 | any | SCR | SCR | 0x00 |\n", "")
-        self.assertIn("tried: 10 offsets of the port in DEVICES.md", self.run_tool("tools/facts")[1])
+        self.assertIn("tried: 10 offsets of the port in DEVICES.md", self.run_tool("tools/checks/facts")[1])
 
 
 class Excerpts(CopyTest):
     def test_each_line_that_is_missing_is_named(self):
         self.take("README.md", "docs", "examples/c", "crates/vm_superio/src", "crates/superio_examples/src", "bindings/rust")
-        self.assertEqual(faults_of(self.run_tool("tools/excerpts")), [])
+        self.assertEqual(faults_of(self.run_tool("tools/checks/excerpts")), [])
         self.change("README.md", "    feed(machine);", "    feed_all(machine);")
-        fault, = faults_of(self.run_tool("tools/excerpts"))
+        fault, = faults_of(self.run_tool("tools/checks/excerpts"))
         self.assertRegex(fault, r"^README.md:\d+: monitor.c has no line 'feed_all\(machine\);' there$")
 
 
@@ -199,7 +199,7 @@ class Differences(CopyTest):
 
     def faults(self):
         """What the tool says."""
-        return faults_of(self.run_tool("tools/differences"))
+        return faults_of(self.run_tool("tools/checks/differences"))
 
     def test_sound(self):
         self.assertEqual(self.faults(), [])

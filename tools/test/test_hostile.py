@@ -1,4 +1,4 @@
-"""Tests that `tools/hostile` finds a program that does something else than the search of the past."""
+"""Tests that `tools/checks/hostile` finds a program that does something else than the search of the past."""
 import os
 import sys
 import tempfile
@@ -12,12 +12,12 @@ from oracle import FRESH
 from saved_bytes import CLOCK, CLOCK_CONTENTS, SERIAL, form
 from test_check import TOOLS, module_of
 
-hostile = module_of("hostile")
+hostile = module_of("checks/hostile")
 
 # A program that replies as the search does, but for the changes of a test.
 PROGRAM = f"""#!{sys.executable}
 import sys
-sys.path.insert(0, {str(TOOLS)!r})
+sys.path.insert(0, {str(TOOLS / "checks")!r})
 from expected import Monitor
 monitor = Monitor()
 for line in sys.stdin:
@@ -25,7 +25,7 @@ for line in sys.stdin:
 """
 SCRIPT_PROGRAM = f"""#!{sys.executable}
 import sys
-sys.path.insert(0, {str(TOOLS)!r})
+sys.path.insert(0, {str(TOOLS / "checks")!r})
 from expected import script_replies
 _, replies, bad_line = script_replies(sys.stdin.read())
 for reply in replies:

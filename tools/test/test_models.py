@@ -1,4 +1,4 @@
-"""Tests that `tools/models` finds hidden state and hidden calls, on however many lines they are written."""
+"""Tests that `tools/checks/models` finds hidden state and hidden calls, on however many lines they are written."""
 import tempfile
 import unittest
 from itertools import product
@@ -6,7 +6,7 @@ from pathlib import Path
 
 from test_check import module_of
 
-models = module_of("models")
+models = module_of("checks/models")
 
 COUNTER = "pub struct Counter { count: u64, calls: u64 }"
 GOOD_VIEW = "λ it. record { count = it.count; calls = it.calls }"

@@ -1,4 +1,4 @@
-"""Tests of `tools/paste` over documents with planted faults."""
+"""Tests of `tools/checks/paste` over documents with planted faults."""
 import contextlib
 import io
 import shutil
@@ -9,7 +9,7 @@ from unittest import mock
 from repository import CopyTest
 from test_check import module_of
 
-paste = module_of("paste")
+paste = module_of("checks/paste")
 
 # The lines of a document, and what its blocks pass, fail and skip without the kit.
 DOCUMENTS = [
@@ -67,6 +67,6 @@ class Pasting(CopyTest):
 
     def test_a_repository_without_its_blocks_fails(self):
         (self.root / "README.md").write_text("Nothing.\n", encoding="ascii")
-        status, printed, _ = self.run_tool("tools/paste", "--root", self.root, env={"PATH": "/usr/bin:/bin"})
+        status, printed, _ = self.run_tool("tools/checks/paste", "--root", self.root, env={"PATH": "/usr/bin:/bin"})
         self.assertEqual(1, status)
         self.assertIn("no block was found", printed)

@@ -1,4 +1,4 @@
-"""Tests that the cases of `tools/hostile` reach wrong bodies: each is planted in the search of the past, and then enough random
+"""Tests that the cases of `tools/checks/hostile` reach wrong bodies: each is planted in the search of the past, and then enough random
 scripts or runs have to reply otherwise."""
 import sys
 import unittest
@@ -48,13 +48,13 @@ BODIES = [
 
 def search(old="", new=""):
     """The search of the past, with a text in place of one that occurs once."""
-    texts = {name: (TOOLS / f"{name}.py").read_text(encoding="utf-8") for name in ("oracle", "expected")}
+    texts = {name: (TOOLS / "checks" / f"{name}.py").read_text(encoding="utf-8") for name in ("oracle", "expected")}
     assert not old or sum(text.count(old) for text in texts.values()) == 1, old
     own = {name: sys.modules.get(name) for name in texts}
     try:
         for name, text in texts.items():
             sys.modules[name] = ModuleType(name)
-            sys.modules[name].__file__ = str(TOOLS / f"{name}.py")
+            sys.modules[name].__file__ = str(TOOLS / "checks" / f"{name}.py")
             exec(compile(text.replace(old, new) if old else text, name, "exec"), sys.modules[name].__dict__)
         return sys.modules["expected"]
     finally:

@@ -9,7 +9,7 @@ EXAMPLE = ROOT / "examples" / "three_devices.script"
 # In place of the program: it replies as the search of the past does.
 PROGRAM = f"""#!{sys.executable}
 import sys
-sys.path.insert(0, {str(ROOT / "tools")!r})
+sys.path.insert(0, {str(ROOT / "tools" / "checks")!r})
 from expected import script_replies
 _, replies, bad_line = script_replies(sys.stdin.read())
 for reply in replies:

@@ -1,4 +1,4 @@
-"""Tests of what `tools/wrong_bodies` makes of the lines of a check. No prover runs."""
+"""Tests of what `tools/checks/wrong_bodies` makes of the lines of a check. No prover runs."""
 import tempfile
 import unittest
 

@@ -1,4 +1,4 @@
-"""Tests of what `tools/wrong_bodies` says of edits, by the prover, over a small crate."""
+"""Tests of what `tools/checks/wrong_bodies` says of edits, by the prover, over a small crate."""
 import os
 import re
 import shutil
@@ -12,7 +12,7 @@ import tiny
 from edits import read_edits
 from passed import Passed
 
-TOOL = Path(__file__).resolve().parent.parent / "wrong_bodies"
+TOOL = Path(__file__).resolve().parent.parent / "checks" / "wrong_bodies"
 
 
 def try_edits(*edits):

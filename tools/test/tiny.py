@@ -1,4 +1,4 @@
-"""A repository of one small crate, in which tests of `tools/wrong_bodies` try edits."""
+"""A repository of one small crate, in which tests of `tools/checks/wrong_bodies` try edits."""
 from pathlib import Path
 
 SOURCE = """\

@@ -1,12 +1,12 @@
 //! Makes calls that allocate memory, and prints what they returned and left.
 //!
 //! Each line of standard input has the name of a call and a number. Before the call that many blocks of memory are
-//! allocated, and each is freed at once. `tools/refused_memory` refuses one allocation by its number. So the blocks
+//! allocated, and each is freed at once. `tools/checks/refused_memory` refuses one allocation by its number. So the blocks
 //! choose which allocation of the call it is.
 //!
 //! A line `any SEED` makes each call of `any_state` in any states, with lists of each length to 300, of some greater ones
 //! and of 65,536. A line begins with `+` before the call, after what it takes is prepared, and a line after it says whether
-//! the call returned that memory was refused. `tools/refused_memory` refuses an allocation between the two lines.
+//! the call returned that memory was refused. `tools/checks/refused_memory` refuses an allocation between the two lines.
 mod any_lines;
 mod any_state;
 mod boards;

@@ -1,4 +1,4 @@
-//! What neither a script nor `tools/failing_io` shows of a run: when its writer is flushed, reads of no byte, and
+//! What neither a script nor `tools/checks/failing_io` shows of a run: when its writer is flushed, reads of no byte, and
 //! faults of kinds that no operating system reports.
 use std::alloc::Global;
 use std::io;

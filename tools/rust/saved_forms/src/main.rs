@@ -1,4 +1,4 @@
-//! Reads saved forms, and writes what became of each. tools/saved_forms runs it.
+//! Reads saved forms, and writes what became of each. tools/checks/saved_forms runs it.
 //!
 //! The records of standard input and the replies are those of tools/c/saved_forms.c. A reply has no bytes after a refusal,
 //! since nothing is changed. 255 in place of its first byte says that an error names a version that the bytes do not have.

@@ -4,13 +4,13 @@ There are no registers, and no rule is shared with the definitions that the proo
 what it wrote, raised and acknowledged, which bytes came in, were taken and went out, and the calls of objects. What a
 call shows is found by a search of the facts before it. A search ends at the latest at the newest start state, a fact of
 the past too. docs/DEVICES.md has the rules. Names, offsets and bits are those of the Python package, which
-tools/facts compares with the definitions.
+tools/checks/facts compares with the definitions.
 """
 import sys
 from pathlib import Path
 from typing import NamedTuple
 
-sys.path.append(str(Path(__file__).resolve().parent.parent / "bindings" / "python"))
+sys.path.append(str(Path(__file__).resolve().parents[2] / "bindings" / "python"))
 from superio.registers import (CLOCK, DLAB, FIFO_BITS, IDENTIFICATION, LOOPBACK, SERIAL,  # noqa: E402
                                bits_by_name, clock_register, serial_register)
 from superio.states import SerialState  # noqa: E402

@@ -1,4 +1,4 @@
-"""The scripts of tests/, as `tools/scripts` describes them."""
+"""The scripts of tests/, as `tools/checks/scripts` describes them."""
 import json
 import re
 from itertools import groupby, zip_longest

@@ -2,7 +2,7 @@
 import re
 from pathlib import Path
 
-ROOT = Path(__file__).resolve().parent.parent
+ROOT = Path(__file__).resolve().parents[2]
 # Folders of what is built.
 BUILT = {"out", "target", "build", "__pycache__"}
 FENCED = re.compile(r"^( *)```.*?^\1```$", re.M | re.S)

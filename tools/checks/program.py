@@ -10,7 +10,7 @@ from pathlib import Path
 from status import Status, progress
 from tried import Tried
 
-CRATES = Path(__file__).resolve().parent.parent / "crates"
+CRATES = Path(__file__).resolve().parents[2] / "crates"
 # The programs and the library, each with the crates whose sources it is built of, the lowest last.
 SOURCES = {
     "superio": ["superio", "superio_script", "vm_superio", "superio_core"],

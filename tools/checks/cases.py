@@ -1,4 +1,4 @@
-"""What tools/hostile tries: random scripts for the program `superio`, and runs of calls for `superio_harness`."""
+"""What tools/checks/hostile tries: random scripts for the program `superio`, and runs of calls for `superio_harness`."""
 import random
 from itertools import product
 

@@ -13,7 +13,7 @@ from collections import Counter
 from pathlib import Path
 from unittest import TestSuite, TextTestResult
 
-FLOORS = Path(__file__).resolve().parent / "floors"
+FLOORS = Path(__file__).resolve().parents[1] / "floors"
 TRIED = re.compile(r"tried: (\d+) (\S.*)")
 NOT_TRIED = re.compile(r"not tried: (\S.*)")
 ROW = re.compile(r"(\w+) +(\d+)  (\S.*)")
