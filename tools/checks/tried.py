@@ -10,6 +10,7 @@ for each kind: the check, the number, and the kind.
 """
 import re
 from collections import Counter
+from doctest import DocTestCase
 from pathlib import Path
 from unittest import TestSuite, TextTestResult
 
@@ -65,7 +66,8 @@ class Asserting(TextTestResult):
 
     def startTest(self, test):
         super().startTest(test)
-        self.asserted = False
+        # A doctest compares what it prints.
+        self.asserted = isinstance(test, DocTestCase)
         for name in dir(test):
             if name.startswith("assert"):
                 setattr(test, name, self.noted(getattr(test, name)))

@@ -45,7 +45,7 @@ class MissingFiles(CopyTest):
                 self.assertGreater(failed, 0)
 
     def test_a_file_that_is_lost_later(self):
-        self.take("README.md", "docs", "examples/c")
+        self.take("README.md", "docs", "examples/c", "bindings/rust/tests")
         passed, failed = self.sum_of("excerpts", says="No such file or directory")
         self.assertGreater(passed, 0)
         self.assertEqual(failed, 1)
