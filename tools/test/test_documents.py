@@ -187,9 +187,9 @@ class Excerpts(CopyTest):
     def test_each_line_that_is_missing_is_named(self):
         self.take("README.md", "docs", "examples/c", "crates/vm_superio/src", "crates/superio_examples/src", "bindings/rust")
         self.assertEqual(faults_of(self.run_tool("tools/checks/excerpts")), [])
-        self.change("docs/c.md", "    feed(machine);", "    feed_all(machine);")
+        self.change("docs/c.md", "return done.byte;", "return done.bytes;")
         fault, = faults_of(self.run_tool("tools/checks/excerpts"))
-        self.assertRegex(fault, r"^docs/c.md:\d+: monitor.c has no line 'feed_all\(machine\);' there$")
+        self.assertRegex(fault, r"^docs/c.md:\d+: monitor.c has no line 'return done.bytes;' there$")
 
 
 class Differences(CopyTest):

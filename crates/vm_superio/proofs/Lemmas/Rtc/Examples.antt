@@ -32,6 +32,17 @@ record Gives (start : RtcState) (accesses : List Access) (answers : List (Option
   history : by_history start [] accesses ≡ answers
   reports : reported accesses ≡ events
 
+-- each register of a fresh clock, and the bytes that identify a PL031
+a_fresh_clock_shows : Gives fresh_clock
+    (read 0x000 1000 ∷ read 0x004 1000 ∷ read 0x008 1000 ∷ read 0x00C 1000 ∷ read 0x010 1000 ∷ read 0x014 1000 ∷ read 0x018 1000 ∷
+    read 0xFE0 1000 ∷ read 0xFE4 1000 ∷ read 0xFE8 1000 ∷ read 0xFEC 1000 ∷
+    read 0xFF0 1000 ∷ read 0xFF4 1000 ∷ read 0xFF8 1000 ∷ read 0xFFC 1000 ∷ [])
+    (Some 1000 ∷ Some 0 ∷ Some 0 ∷ Some 1 ∷ Some 0 ∷ Some 0 ∷ Some 0 ∷
+    Some 0x31 ∷ Some 0x10 ∷ Some 0x04 ∷ Some 0x00 ∷ Some 0x0D ∷ Some 0xF0 ∷ Some 0x05 ∷ Some 0xB1 ∷ [])
+    []
+unfolding with_bits
+a_fresh_clock_shows = record { steps = refl; history = refl; reports = refl }
+
 load_sets_guest_time : Gives fresh_clock
     (write 0x008 100 1000 ∷ read 0x000 1007 ∷ [])
     (None ∷ Some 107 ∷ [])
