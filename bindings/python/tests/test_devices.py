@@ -572,6 +572,10 @@ class Finding(unittest.TestCase):
                 self.assertRaisesRegex(LibraryError, "/nowhere/lib.so cannot be loaded"):
             library.open_library()
 
+    def test_an_empty_name_names_none(self):
+        with mock.patch.dict(os.environ, {library.VARIABLE: ""}):
+            self.assertTrue(os.path.isfile(library.open_library().path))
+
     def test_the_packages_own_library_comes_first(self):
         self.assertEqual(["in the package", "in the repository"], [place for place, _ in library.candidates()])
 
