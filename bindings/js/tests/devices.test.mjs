@@ -158,7 +158,10 @@ function chances(seed) {
 
 test("after each of many calls the state is that of the saved form, and no form is a part of something else", () => {
   const below = chances(3);
-  const [port, clock, seen] = [new Serial(), new Rtc(), new Map()];
+  // The port becomes coherent.
+  const [port, clock, seen] = [Serial.fromState({ ...new Serial().state, lineStatus: 0x61 }), new Rtc(), new Map()];
+  const told = (one, other, now) => [one.fifoCapacity(), one.interruptsDue(), one.interruptLine(), one.isCoherent(),
+    other.line(), other.due(now)];
   let forms = [];
   for (let call = 0; call < 10_000; call += 1) {
     const [offset, now, value] = [below(9), below(8), below(6)];
@@ -175,7 +178,9 @@ test("after each of many calls the state is that of the saved form, and no form 
     const view = new DataView(ofClock.buffer, 8);
     assert.deepEqual([lr, mr, imsc, ris], [0, 4, 8, 12].map((place) => view.getUint32(place, true)));
     assert.deepEqual([ahead, armed], [view.getBigInt64(16, true), ofClock[32] === 1]);
-    assert.deepEqual([Serial.fromState(port.state), Rtc.fromState(clock.state)].map((one) => one.toBytes()), forms);
+    const same = [Serial.fromState(port.state), Rtc.fromState(clock.state)];
+    assert.deepEqual(same.map((one) => one.toBytes()), forms);
+    assert.deepEqual(told(port, clock, now), told(...same, now));
     const key = [lr, mr, imsc, ris, ahead].join();
     seen.set(key, (seen.get(key) ?? 0) | (armed ? 2 : 1));
   }

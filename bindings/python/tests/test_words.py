@@ -340,6 +340,12 @@ class Words(SessionTest):
         with self.assertRaises(ScriptError):
             characters('"\\"')
 
+    def test_a_reset_forgets_the_last_call(self):
+        self.said("read LSR", "reset")
+        with self.assertRaisesRegex(ScriptError, "no call was made yet"):
+            self.said("diff")
+
+
 class Interrupted(SessionTest):
     def test_ctrl_c_amid_a_call_comes_after_it(self):
         run = self.session.board.run
