@@ -158,10 +158,10 @@ function chances(seed) {
 
 test("after each of many calls the state is that of the saved form, and no form is a part of something else", () => {
   const below = chances(3);
-  // The port becomes coherent.
   const [port, clock, seen] = [Serial.fromState({ ...new Serial().state, lineStatus: 0x61 }), new Rtc(), new Map()];
   const told = (one, other, now) => [one.fifoCapacity(), one.interruptsDue(), one.interruptLine(), one.isCoherent(),
     other.line(), other.due(now)];
+  assert.equal(port.isCoherent(), false);
   let forms = [];
   for (let call = 0; call < 10_000; call += 1) {
     const [offset, now, value] = [below(9), below(8), below(6)];

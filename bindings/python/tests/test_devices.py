@@ -335,6 +335,12 @@ class Arguments(unittest.TestCase):
             self.assertEqual(2, port.enqueue(data).taken)
         self.assertEqual(b"abcdefgh", port.state.in_buffer)
 
+    def test_a_state_keeps_no_bytes_that_change(self):
+        data = bytearray(b"ab")
+        state = SerialState(in_buffer=data)
+        data[0] = 0
+        self.assertEqual({SerialState(in_buffer=b"ab")}, {state})
+
 
 class Copies(unittest.TestCase):
     WAYS = [copy.copy, copy.deepcopy, *(lambda it, protocol=protocol: pickle.loads(pickle.dumps(it, protocol))
