@@ -340,8 +340,10 @@ class Words(SessionTest):
         with self.assertRaises(ScriptError):
             characters('"\\"')
 
-    def test_a_reset_forgets_the_last_call(self):
-        self.said("read LSR", "reset")
+    def test_a_reset_forgets_the_calls(self):
+        fresh = self.said("why")
+        self.said("type hi", "write IER RDA|THRE", "read IIR", "reset")
+        self.assertEqual(fresh, self.said("why"))
         with self.assertRaisesRegex(ScriptError, "no call was made yet"):
             self.said("diff")
 
