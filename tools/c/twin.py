@@ -265,7 +265,11 @@ class Script:
         self.add("w", port, self.random.choice((*values.get(port, ()), any_byte)))
 
     def read(self):
-        self.add("r", self.port((0, 0, 1, 2, 2, 2, 3, 4, 5, 6, 7)))
+        """A read, or as many of RBR as empty the FIFO, one by one, while input waits."""
+        if self.random.randrange(12):
+            return self.add("r", self.port((0, 0, 1, 2, 2, 2, 3, 4, 5, 6, 7)))
+        for _ in range(self.random.choice((1, 63, 64, 65))):
+            self.add("r", COM1)
 
     def clock(self):
         """A write, then or instead some time passes, and then perhaps the alarm's timer goes off. At times the host's time

@@ -75,6 +75,26 @@ test("each field of a state has its place", () => {
   assert.deepEqual(Rtc.fromBytes(fromHex(CLOCK_SAVED)).state, CLOCK);
 });
 
+test("a port is coherent if its registers fit its held bytes", () => {
+  const ofPort = Object.keys(PORT).filter((name) => name !== "inBuffer");
+  const identifications = [1, 2, 4, 6];
+  for (const count of [0, 1, 64]) {
+    for (const interruptIdentification of identifications) {
+      const inBuffer = new Uint8Array(count);
+      const fitting = { ...PORT, interruptIdentification, lineStatus: count ? 0x61 : 0x60, inBuffer };
+      for (const name of ofPort) {
+        for (let value = 0; value < 256; value += 1) {
+          const state = { ...fitting, [name]: value };
+          const identification = state.interruptIdentification;
+          const fits = ((state.lineStatus & 1) !== 0) === (count > 0) && identifications.includes(identification)
+            && (count > 0 || (identification & 4) === 0);
+          assert.equal(Serial.fromState(state).isCoherent(), fits);
+        }
+      }
+    }
+  }
+});
+
 test("held bytes go round the end of the ring", () => {
   const port = new Serial();
   port.enqueue(new Uint8Array(60));
@@ -104,6 +124,13 @@ test("a clock's alarm", () => {
 const EDGES = [0n, 1n, 2n ** 16n, 2n ** 31n - 1n, 2n ** 31n, 2n ** 32n - 2n, 2n ** 32n - 1n];
 const MOMENTS = [...EDGES, 2n ** 32n, 2n ** 53n + 1n, 2n ** 63n - 1n, 2n ** 63n, 2n ** 64n - 1n];
 
+test("a clock's line is up while bit 0x01 is raised and let pass", () => {
+  const values = [0, 1, 2, 3, 0x80, 0x100, 2 ** 31, 2 ** 32 - 2, 2 ** 32 - 1];
+  for (const [imsc, ris] of values.flatMap((mask) => values.map((raised) => [mask, raised]))) {
+    assert.equal(Rtc.fromState({ ...CLOCK, imsc, ris }).line(), (imsc & ris & 1) !== 0, `${imsc} ${ris}`);
+  }
+});
+
 test("an alarm is due when guest time reaches it", () => {
   for (const match of EDGES) {
     for (const time of EDGES) {
@@ -131,7 +158,10 @@ function chances(seed) {
 
 test("after each of many calls the state is that of the saved form, and no form is a part of something else", () => {
   const below = chances(3);
-  const [port, clock, seen] = [new Serial(), new Rtc(), new Map()];
+  const [port, clock, seen] = [Serial.fromState({ ...new Serial().state, lineStatus: 0x61 }), new Rtc(), new Map()];
+  const told = (one, other, now) => [one.fifoCapacity(), one.interruptsDue(), one.interruptLine(), one.isCoherent(),
+    other.line(), other.due(now)];
+  assert.equal(port.isCoherent(), false);
   let forms = [];
   for (let call = 0; call < 10_000; call += 1) {
     const [offset, now, value] = [below(9), below(8), below(6)];
@@ -148,7 +178,9 @@ test("after each of many calls the state is that of the saved form, and no form 
     const view = new DataView(ofClock.buffer, 8);
     assert.deepEqual([lr, mr, imsc, ris], [0, 4, 8, 12].map((place) => view.getUint32(place, true)));
     assert.deepEqual([ahead, armed], [view.getBigInt64(16, true), ofClock[32] === 1]);
-    assert.deepEqual([Serial.fromState(port.state), Rtc.fromState(clock.state)].map((one) => one.toBytes()), forms);
+    const same = [Serial.fromState(port.state), Rtc.fromState(clock.state)];
+    assert.deepEqual(same.map((one) => one.toBytes()), forms);
+    assert.deepEqual(told(port, clock, now), told(...same, now));
     const key = [lr, mr, imsc, ris, ahead].join();
     seen.set(key, (seen.get(key) ?? 0) | (armed ? 2 : 1));
   }
@@ -166,6 +198,21 @@ test("devices share nothing", () => {
   const twin = clock.clone();
   twin.write("LR", 6, 0);
   assert.deepEqual([clock, later, twin].map((one) => [one.read("DR", 0).value, one.state.lr]), [[5, 5], [0, 0], [6, 6]]);
+});
+
+test("a class of a monitor's own makes plain devices, which lack none of its fields", () => {
+  for (const device of [Serial, Rtc]) {
+    class Own extends device {
+      constructor(name) {
+        super();
+        this.name = name.toUpperCase();
+      }
+    }
+    const own = new Own("own");
+    for (const made of [own.clone(), Own.fromState(own.state), Own.fromBytes(own.toBytes())]) {
+      assert.equal(Object.getPrototypeOf(made), device.prototype);
+    }
+  }
 });
 
 test("saved bytes that are refused change nothing, and say why", () => {
@@ -221,7 +268,6 @@ test("a wrong argument is named, with its value and the range", () => {
   refused(() => port.write(7, 65n), "TypeError", "value is 65n");
   refused(() => port.write(7, true), "TypeError", "value is true");
   refused(() => port.enqueue(65), "TypeError", "bytes is 65, and a Uint8Array is wanted");
-  refused(() => port.enqueue("A"), "TypeError", 'bytes is "A"');
   refused(() => port.enqueue([65]), "TypeError", "bytes is of class Array, and a Uint8Array is wanted");
   refused(() => Serial.fromBytes("53"), "TypeError", 'bytes is "53"');
   refused(() => clock.read(0x10000, 0), "RangeError", "offset is 65536, and a whole number from 0 to 65535 is wanted");
@@ -240,6 +286,30 @@ test("a wrong argument is named, with its value and the range", () => {
   assert.deepEqual([port.state, clock.state], before);
 });
 
+// Objects that JavaScript would make a number or a text of, and what it cannot make a text of.
+const OF_OTHER_KINDS = [undefined, null, true, [7], {}, new Number(7), () => 7, Symbol("seven"), Object.create(null)];
+
+test("any Uint8Array is taken as bytes, and nothing else is", () => {
+  const form = fromHex(PORT_SAVED);
+  const others = [ArrayBuffer, DataView, Int8Array, Uint8ClampedArray, Uint16Array, BigInt64Array]
+    .map((kind) => (kind === DataView ? new DataView(form.buffer) : new kind(8)));
+  const calls = [(it) => new Serial().enqueue(it), (it) => Serial.fromState({ ...PORT, inBuffer: it }),
+    (it) => Serial.fromBytes(it), (it) => Rtc.fromBytes(it)];
+  for (const call of calls) {
+    for (const other of ["53", ...OF_OTHER_KINDS, ...others]) refused(() => call(other), "TypeError", "a Uint8Array");
+  }
+  const shared = new Uint8Array(new SharedArrayBuffer(form.length));
+  shared.set(form);
+  for (const taken of [Buffer.from(form), class extends Uint8Array {}.from(form), shared]) {
+    assert.deepEqual(Serial.fromBytes(taken).toBytes(), form.slice());
+    const held = taken.subarray(17);
+    assert.deepEqual(Serial.fromState({ ...PORT, inBuffer: held }).state, PORT);
+    const port = new Serial();
+    assert.equal(port.enqueue(held).taken, 3);
+    assert.deepEqual(port.state.inBuffer, PORT.inBuffer);
+  }
+});
+
 test("each argument is taken at its edges, and refused beyond them", () => {
   const [port, clock, controller] = [new Serial(), new Rtc(), new I8042()];
   const ofPort = Object.keys(PORT).filter((name) => name !== "inBuffer");
@@ -255,6 +325,10 @@ test("each argument is taken at its edges, and refused beyond them", () => {
     const one = typeof most === "bigint" ? 1n : 1;
     for (const taken of [least, most]) call(taken);
     for (const beyond of [least - one, most + one]) assert.throws(() => call(beyond), RangeError, `${call}: ${beyond}`);
+    for (const other of OF_OTHER_KINDS) refused(() => call(other), "TypeError", "a whole number from");
+  }
+  for (const other of [0, "true", new Boolean(true), ...OF_OTHER_KINDS.filter((it) => it !== true)]) {
+    refused(() => Rtc.fromState({ ...CLOCK, armed: other }), "TypeError", "true or false is wanted");
   }
   for (const [device, state] of [[Serial, PORT], [Rtc, CLOCK]]) {
     for (const name of Object.keys(state)) {
@@ -279,6 +353,14 @@ test("a name in any case is the register that the device has there", () => {
       }
     }
   }
+  for (const [table, access] of [[registers.SERIAL, (it) => new Serial().read(it)],
+    [registers.CLOCK, (it) => new Rtc().read(it, 0)]]) {
+    for (const name of Object.keys(table)) {
+      for (const other of [`RTCRTC${name}`, `${name}RTC`, ` ${name}`, `${name} `, `${name}0`, name.slice(0, -1), ""]) {
+        refused(() => access(other), "RegisterError", "no register has this name");
+      }
+    }
+  }
   for (const [name, { offset }] of Object.entries(registers.CLOCK)) {
     for (const written of [...cases(name), ...cases(`RTC${name}`)]) {
       assert.deepEqual(Rtc.fromState(CLOCK).read(written, 9), Rtc.fromState(CLOCK).read(offset, 9));
@@ -289,6 +371,12 @@ test("a name in any case is the register that the device has there", () => {
     const access = registers.clockRegister(offset)?.access ?? "";
     assert.equal(new Rtc().read(offset, 0).invalidRead, !access.includes("r"), offset);
     assert.equal(new Rtc().write(offset, 0, 0).invalidWrite, !access.includes("w"), offset);
+  }
+});
+
+test("nobody can change the tables of registers", () => {
+  for (const table of [registers.SERIAL, registers.CLOCK]) {
+    for (const one of Object.values(table)) assert.ok([table, one, one.bits].every(Object.isFrozen), one.name);
   }
 });
 

@@ -138,18 +138,26 @@ class Files(unittest.TestCase):
         self.assertEqual(("00", 2), (done.stdout.splitlines()[0], len(done.stdout.splitlines())))
 
     def test_save_and_load(self):
-        saving = f"write SCR 7\ntype hi\nclock write LR 100 1000\nsave '{self.path}'\n"
+        held = f"{'hi':*<64}"  # the longest form
+        saving = f"write SCR 7\ntype {held}\nclock write LR 100 1000\nsave '{self.path}'\n"
         self.assertEqual(0, run(script=saving.encode())[0])
         lines = self.path.read_text().splitlines()
         self.assertEqual(["sl 53494f53", "cl 53494f53"], [line[:11] for line in lines])
         loading = f"load '{self.path}'\nread SCR\nsd\ncr 00000000000003ef 0000\n"
-        self.assertEqual((0, "ok\nok\nSCR = 0x07\n6869\n0000006b\n", ""), run(script=loading.encode()))
+        replies = f"ok\nok\nSCR = 0x07\n{held.encode().hex()}\n0000006b\n"
+        self.assertEqual((0, replies, ""), run(script=loading.encode()))
         port, clock = lines
         for wrong in (b"", b"kr 04\n", b"sl 00\ncl zz\n", b"sl\ncl\n", b"\xff", f"{clock}\n{port}\n".encode(),
                       f"{port} more\n{clock}\n".encode(), f"{port}\n{clock}\n{clock}\n".encode()):
             self.path.write_bytes(wrong)
             status, _, errors = run(script=f"load '{self.path}'\n".encode())
             self.assertEqual((1, True), (status, "is no file that save wrote" in errors), wrong)
+
+    def test_a_name_that_the_output_cannot_have_is_escaped(self):
+        for name, said, encoding in ((b"\xff", "\\udcff", "utf-8"), ("\xe9".encode(), "\\xe9", "ascii")):
+            environment = {**ENVIRONMENT, "PYTHONIOENCODING": encoding}
+            done = run(script=b"save " + name + b"\n", cwd=self.folder.name, env=environment)
+            self.assertEqual((0, f"port and clock saved to {said}\n", ""), done)
 
     def test_source(self):
         self.path.write_bytes(b"write SCR 7\nread SCR\n")

@@ -335,6 +335,12 @@ class Arguments(unittest.TestCase):
             self.assertEqual(2, port.enqueue(data).taken)
         self.assertEqual(b"abcdefgh", port.state.in_buffer)
 
+    def test_a_state_keeps_no_bytes_that_change(self):
+        data = bytearray(b"ab")
+        state = SerialState(in_buffer=data)
+        data[0] = 0
+        self.assertEqual({SerialState(in_buffer=b"ab")}, {state})
+
 
 class Copies(unittest.TestCase):
     WAYS = [copy.copy, copy.deepcopy, *(lambda it, protocol=protocol: pickle.loads(pickle.dumps(it, protocol))
@@ -571,6 +577,10 @@ class Finding(unittest.TestCase):
         with mock.patch.dict(os.environ, {library.VARIABLE: "/nowhere/lib.so"}), \
                 self.assertRaisesRegex(LibraryError, "/nowhere/lib.so cannot be loaded"):
             library.open_library()
+
+    def test_an_empty_name_names_none(self):
+        with mock.patch.dict(os.environ, {library.VARIABLE: ""}):
+            self.assertTrue(os.path.isfile(library.open_library().path))
 
     def test_the_packages_own_library_comes_first(self):
         self.assertEqual(["in the package", "in the repository"], [place for place, _ in library.candidates()])

@@ -1,9 +1,11 @@
 """The shell in a pseudo-terminal: typing, arrows, completion, Ctrl-C, Ctrl-D, a narrow window."""
+import os
 import sys
 import tempfile
 import time
 import unittest
 from pathlib import Path
+from unittest import mock
 
 from support import ENVIRONMENT
 from terminal import Terminal
@@ -261,6 +263,18 @@ class Completions(unittest.TestCase):
                 ("read LSR ", "", [])]:
             with self.subTest(before + text):
                 self.assertEqual(expected, completions(before, text))
+
+    def test_files(self):
+        folder = tempfile.TemporaryDirectory()
+        self.addCleanup(folder.cleanup)
+        for name in ("b", "a[1]", "a1"):
+            Path(folder.name, name).touch()
+        Path(folder.name, "c").mkdir()
+        with mock.patch.dict(os.environ, {"HOME": folder.name}):
+            for text, names in (("", ["a1", "a[1]", "b", "c/"]), ("a[", ["a[1]"]), ("c", ["c/"]), ("?", [])):
+                for start, command in [(start, command) for start in (folder.name, "~")
+                                       for command in ("save ", "load ", "source ", "trace on ")]:
+                    self.assertEqual([f"{start}/{name}" for name in names], completions(command, f"{start}/{text}"))
 
 
 if __name__ == "__main__":

@@ -1,6 +1,7 @@
 """What people type: the commands that it means, what is said of it, and why it means none."""
 import io
 import os
+import signal
 import tempfile
 import unittest
 from pathlib import Path
@@ -9,7 +10,7 @@ from unittest import mock
 import support  # noqa: F401
 
 from superio import Command, Rtc, ScriptError, Serial
-from superio.faults import BadLine, FileFault
+from superio.faults import BadLine, FileFault, Leave
 from superio.session import Session
 from superio.words import characters
 
@@ -47,6 +48,7 @@ MEANINGS = [
     ("clock write LR 100 1000", "cw 00000000000003e8 0008 00000064"),
     ("clock write IMSC ALARM", "cw 000000006553f100 0010 00000001"),
     ("alarm +5", "cw 000000006553f100 0004 6553f105"),
+    (f"alarm +{(1 << 32) - NOW - 1}", "cw 000000006553f100 0004 ffffffff"),
     ("alarm 0x10 now+1", "cw 000000006553f101 0004 00000010"),
     ("i8042 read 4", "kr 04"),
     ("i8042 write 4 0xfe", "kw 04 fe"),
@@ -90,6 +92,7 @@ FAULTS = [
     ("clock set DR 1", "the form is: clock read"),
     ("clock read DR noon", "noon is no moment"),
     ("alarm +4294967295", "guest time has 32 bits"),
+    (f"alarm +{(1 << 32) - NOW}", "guest time has 32 bits"),
     ("i8042 read", "the form is: i8042 read"),
     ("room 5", "room takes no arguments"),
     ("timeout 5", "timeout takes no arguments"),
@@ -337,8 +340,34 @@ class Words(SessionTest):
         with self.assertRaises(ScriptError):
             characters('"\\"')
 
+    def test_a_reset_forgets_the_calls(self):
+        fresh = self.said("why")
+        self.said("type hi", "write IER RDA|THRE", "read IIR", "reset")
+        self.assertEqual(fresh, self.said("why"))
+        with self.assertRaisesRegex(ScriptError, "no call was made yet"):
+            self.said("diff")
+
+
+class Interrupted(SessionTest):
+    def test_ctrl_c_amid_a_call_comes_after_it(self):
+        run = self.session.board.run
+
+        def interrupted(command):
+            os.kill(os.getpid(), signal.SIGINT)
+            return run(command)
+
+        # A shell that starts this in the background lets it ignore the signal.
+        before = signal.signal(signal.SIGINT, signal.default_int_handler)
+        try:
+            with mock.patch.object(self.session.board, "run", interrupted), self.assertRaises(KeyboardInterrupt):
+                self.said("write SCR 7")
+        finally:
+            signal.signal(signal.SIGINT, before)
+        self.assertEqual((7, 1), (self.session.board.serial.state.scratch, self.session.last.number))
+
+
 class Files(SessionTest):
-    """The files of `trace`, `save` and `load`."""
+    """The files of `trace`, `save`, `load` and `source`."""
 
     def setUp(self):
         super().setUp()
@@ -396,6 +425,19 @@ class Files(SessionTest):
             with self.assertRaisesRegex(ValueError, reason):
                 self.said(f"load {self.path}")
             self.assertEqual(before, self.session.board.snapshot())
+
+    def test_a_file_can_end_the_session(self):
+        self.path.write_text("quit\n")
+        with self.assertRaises(Leave):
+            self.said(f"source {self.path}")
+
+    def test_files_follow_those_of_which_each_ended_with_a_fault(self):
+        self.path.write_text("room 5\n")
+        for name in [self.path, self.path.parent / "none", self.path.parent] * 11:
+            with self.assertRaises((ScriptError, FileFault)):
+                self.said(f"source {name}")
+        self.path.write_text("room\n")
+        self.assertEqual(self.said("room"), self.said(f"source {self.path}"))
 
     def test_a_tilde_is_the_home(self):
         with mock.patch.dict(os.environ, {"HOME": str(self.path.parent)}):
