@@ -20,8 +20,11 @@ import tiny
 from repository import ROOT, CopyTest
 from test_check import TOOLS, module_of
 
-sys.path[:0] = [str(TOOLS / folder) for folder in ("c", "js", "page")]
+sys.path[:0] = [str(TOOLS / folder) for folder in ("c", "js", "page", "packages")]
+import licenses  # noqa: E402
+import programs  # noqa: E402
 from failing import Call, Ran  # noqa: E402
+from machines import machines  # noqa: E402
 from tally import Tally, run  # noqa: E402
 
 failing_io, first_crate, hostile, refused_memory, saved_forms = map(
@@ -105,12 +108,22 @@ class Programs(CopyTest):
         folder = self.root / "tests" / "calls"
         (folder / "calls.txt.xz").write_bytes(lzma.compress((folder / "line.txt").read_bytes()))
         tools = {"PATH": str(Path(shutil.which("cc")).parent)}
-        self.assertEqual(sum_of(self.run_tool("tools/calls", self.program(MONITOR), env=tools)[1]), (36, 0))
+        passed, failed = sum_of(self.run_tool("tools/calls", self.program(MONITOR), env=tools)[1])
+        self.assertIn((passed, failed), [(36, 0), (45, 0)])  # with Cargo beside cc there is a library more
         for path in folder.glob("*.txt*"):
             pack, unpack = (lzma.compress, lzma.decompress) if path.suffix == ".xz" else (bytes, bytes)
             before, equals, after = unpack(path.read_bytes()).rpartition(b" = ")
             path.write_bytes(pack(before + equals + b"0" + after))
-        self.assertEqual(sum_of(self.run_tool("tools/calls", self.program(MONITOR), env=tools)[1]), (0, 36))
+        self.assertEqual(sum_of(self.run_tool("tools/calls", self.program(MONITOR), env=tools)[1]), (0, passed))
+
+    @unittest.skipUnless(shutil.which("cc"), "cc is needed")
+    def test_saved_forms(self):
+        self.take("include", "prebuilt", "bindings", "docs/SAVED-STATES.md")
+        tools = {"PATH": str(Path(shutil.which("cc")).parent)}
+        _, printed, _ = self.run_tool("tools/saved_forms", self.program("true"), "--random", "0", env=tools)
+        passed, failed = sum_of(printed)
+        self.assertGreater(passed, 0)
+        self.assertEqual(failed, 1)
 
     @unittest.skipUnless(shutil.which("node"), "node is needed")
     def test_calls_in_javascript(self):
@@ -227,6 +240,8 @@ class Runs(unittest.TestCase):
         self.assertFalse(proves("\n".join(first_crate.PROVED), 1))
         for text in first_crate.PROVED:
             self.assertFalse(proves("\n".join(first_crate.PROVED).replace(text, "")))
+        with mock.patch.multiple(first_crate, unproved=str, links_out=str, steps=str):
+            self.assertTrue(all(message for _, message in silently(first_crate.check)))
         with tempfile.TemporaryDirectory() as name:
             library = Path(name).resolve() / "library"
             library.mkdir()
@@ -277,6 +292,56 @@ class Runs(unittest.TestCase):
             with mock.patch.object(page_check, "FEATURES", [("it", "", "", "", 5)]):
                 silently(page_check.check_features, tally, browser)
             self.assertEqual(tally.failed, failed)
+
+
+def failing(command, **options):
+    """What each program does: it fails, and prints nothing. Cargo only says that it has what was asked for."""
+    if options.get("check"):
+        raise subprocess.CalledProcessError(101, command)
+    status, version = 0 if "fetch" in command else 101, "1.63." if "--version" in command else ""
+    return subprocess.CompletedProcess(command, status, version, "")
+
+
+@mock.patch("subprocess.run", failing)
+@mock.patch("shutil.which", lambda name, **_: f"/usr/bin/{name}")
+class Failing(unittest.TestCase):
+    """Nothing passes if each program that a check starts fails."""
+
+    def test_with_a_tally(self):
+        with tempfile.TemporaryDirectory() as name:
+            of_c = [(check, [machines()[0], Path(name)]) for check in (
+                programs.check_header, programs.check_calls, programs.check_other_abi, programs.check_fuzz,
+                programs.check_pastes, programs.check_demos)]
+            others = [(check, []) for check in (licenses.check_reuse, js_check.check_calls, js_check.check_tests)]
+            for check, arguments in of_c + others:
+                with self.subTest(check.__name__):
+                    tally = Tally()
+                    silently(check, tally, *arguments)
+                    self.assertEqual((tally.passed, tally.skipped), (0, 0))
+                    self.assertGreater(tally.failed, 0)
+
+    def test_of_rust(self):
+        """But that an empty crate is no vm-superio."""
+        for check in rust_check.OF_PROGRAMS:
+            counts = dict.fromkeys(("passed", "failed", "skipped"), 0)
+            with self.subTest(check.__name__), tempfile.TemporaryDirectory() as name, \
+                    mock.patch.multiple(rust_check, counts=counts, is_there=lambda *_: True, MOVED=Path(name),
+                                        COMPARISON=Path(name)), \
+                    mock.patch.object(Path, "exists", lambda _: True), contextlib.suppress(FileNotFoundError), \
+                    mock.patch.dict("os.environ", {"VM_SUPERIO": ""}):
+                silently(check, Path(name) / "place")
+            self.assertEqual(counts["passed"], check is rust_check.check_drop_in)
+            self.assertEqual(counts["skipped"] > 0, check is rust_check.check_moved_original)
+            self.assertEqual(counts["failed"] > 0, check is not rust_check.check_moved_original)
+
+    def test_scripts_of_the_echo(self):
+        counts = dict.fromkeys(("passed", "failed", "skipped"), 0)
+        built = mock.Mock(**{"return_value.run.return_value.returncode": 0})
+        with tempfile.TemporaryDirectory() as name, mock.patch.multiple(
+                rust_check, counts=counts, Cargo=built, different_scripts=lambda *_: ["one", "another"]):
+            built.return_value.folder = Path(name) / "place"
+            silently(rust_check.check_echo, Path(name) / "place")
+        self.assertEqual((counts["passed"], counts["failed"]), (1 + rust_check.SCRIPTS - 2, 2))
 
 
 class Proving(CopyTest):
