@@ -21,6 +21,7 @@ from repository import ROOT, CopyTest
 from test_check import TOOLS, module_of
 
 sys.path[:0] = [str(TOOLS / folder) for folder in ("c", "js", "page", "packages")]
+import demo  # noqa: E402
 import licenses  # noqa: E402
 import programs  # noqa: E402
 from failing import Call, Ran  # noqa: E402
@@ -30,6 +31,7 @@ from tally import Tally, run  # noqa: E402
 failing_io, first_crate, hostile, refused_memory, saved_forms = map(
     module_of, ("failing_io", "first_crate", "hostile", "refused_memory", "saved_forms"))
 rust_check, js_check, page_check = map(module_of, ("rust/check", "js/check", "page/check"))
+c_check, packages_check = map(module_of, ("c/check", "packages/check"))
 # A program that prints its script, and others that differ from it in one thing.
 RIGHT, STATUS = "cat", "cat; exit 1"
 WRONG = ("sed 's/4$/5/'", "cat; echo", "sed '$d'", "cat; echo fault >&2", STATUS, "true")
@@ -124,6 +126,7 @@ class Programs(CopyTest):
         passed, failed = sum_of(printed)
         self.assertGreater(passed, 0)
         self.assertEqual(failed, 1)
+        self.assertIn("loads through superio", printed)
 
     @unittest.skipUnless(shutil.which("node"), "node is needed")
     def test_calls_in_javascript(self):
@@ -319,6 +322,37 @@ class Failing(unittest.TestCase):
                     silently(check, tally, *arguments)
                     self.assertEqual((tally.passed, tally.skipped), (0, 0))
                     self.assertGreater(tally.failed, 0)
+
+    def test_what_is_built_passes_and_nothing_that_it_does(self):
+        built = []
+
+        def builds(command, **_):
+            is_build = command[0] in ("gcc", "g++", "clang", "clang++", "make")
+            built.extend([command] * is_build)
+            return subprocess.CompletedProcess(command, 0 if is_build else 101, "", "")
+        with tempfile.TemporaryDirectory() as name, mock.patch("subprocess.run", builds):
+            for check in (programs.check_calls, programs.check_other_abi, programs.check_fuzz, programs.check_pastes,
+                          programs.check_demos):
+                with self.subTest(check.__name__):
+                    tally = Tally()
+                    built.clear()
+                    silently(check, tally, machines()[0], Path(name))
+                    self.assertEqual(tally.passed, len(built))
+                    self.assertGreaterEqual(tally.failed, len(built))
+
+    def test_a_wrong_demo_that_differs_in_nothing(self):
+        driven = {file: (driver, options, lambda *_: []) for file, (driver, options, _) in demo.DRIVEN.items()}
+        tally = Tally()
+        with tempfile.TemporaryDirectory() as name, mock.patch.object(demo, "DRIVEN", driven), \
+                mock.patch("subprocess.run", lambda command, **_: subprocess.CompletedProcess(command, 0, "", "")):
+            silently(demo.check_driven_demo, tally, machines()[0], Path(name))
+        self.assertEqual(tally.failed, tally.tried.counts["wrong demos"])
+
+    def test_a_check_that_ends_by_an_error(self):
+        for module in (c_check, packages_check):
+            tally, check = Tally(), mock.Mock(__name__="check_it", side_effect=OSError)
+            silently(module.run, check, tally)
+            self.assertEqual((tally.passed, tally.failed), (0, 1))
 
     def test_of_rust(self):
         """But that an empty crate is no vm-superio."""
