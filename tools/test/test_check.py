@@ -89,6 +89,11 @@ class Runs(unittest.TestCase):
             self.assertEqual((result.passed, result.failed), (3, not is_enough), printed)
         self.assertIn("the table of floors has no row of this check", printed)
 
+    def test_a_check_that_passes_less_than_it_has_kinds_fails(self):
+        for passed, failed in ((2, 0), (1, 1), (0, 1)):
+            script = f"echo 'tried: 3 cases'; echo 'tried: 4 scripts'; echo '{passed} passed, 0 failed'"
+            self.assertEqual(self.run_command(script, {"it": {"cases": 3, "scripts": 4}})[0].failed, failed)
+
     def test_a_kind_that_cannot_run_has_to_be_skipped(self):
         for skipped, failed in (("", 1), (", 0 skipped", 1), (", 2 skipped", 0)):
             script = f"echo 'not tried: cases'; echo '3 passed, 0 failed{skipped}'"

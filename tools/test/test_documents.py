@@ -168,6 +168,7 @@ class Facts(CopyTest):
                 ("docs/DEVICES.md", "| 1 | set | DLM", "| 1 | clear | DLM", "DLM is (1, False), and (1, True)"),
                 ("README.md", "At most 64 bytes", "At most 63 bytes", "bytes held is [63], and [64]"),
                 ("README.md", "rejected 27", "rejected 28", "rejected is [30, 28], and [30, 27]"),
+                ("docs/DEVICES.md", "| 0xFE0 to 0xFFF |", "| 0xFE0 to 0xFFB |", "is [4064, 4091], and [4064, 4095]"),
                 ("docs/DEVICES.md", "0x0D 0xF0 0x05", "0x0D 0xF1 0x05", "5 is F1, and F0"),
                 ("bindings/js/superio.mjs", "FIFO_SIZE = 64", "FIFO_SIZE = 63", "bytes held is [63], and [64]"),
                 ("bindings/js/page/why.mjs", "0xFE at offset 4", "0xFE at offset 5", "reset is [5, 254], and [4, 254]"),

@@ -1,0 +1,392 @@
+"""Tests that each check notices a wrong result: what it compares is right, and then right but for one part."""
+import contextlib
+import io
+import lzma
+import random
+import re
+import shutil
+import subprocess
+import sys
+import tempfile
+import unittest
+from collections import Counter
+from dataclasses import replace
+from itertools import islice, product
+from pathlib import Path
+from unittest import mock
+
+import cases
+import tiny
+from repository import ROOT, CopyTest
+from test_check import TOOLS, module_of
+
+sys.path[:0] = [str(TOOLS / folder) for folder in ("c", "js", "page", "packages")]
+import demo  # noqa: E402
+import licenses  # noqa: E402
+import programs  # noqa: E402
+from failing import Call, Ran  # noqa: E402
+from machines import machines  # noqa: E402
+from tally import Tally, run  # noqa: E402
+
+failing_io, first_crate, hostile, refused_memory, saved_forms = map(
+    module_of, ("failing_io", "first_crate", "hostile", "refused_memory", "saved_forms"))
+rust_check, js_check, page_check = map(module_of, ("rust/check", "js/check", "page/check"))
+c_check, packages_check = map(module_of, ("c/check", "packages/check"))
+# A program that prints its script, and others that differ from it in one thing.
+RIGHT, STATUS = "cat", "cat; exit 1"
+WRONG = ("sed 's/4$/5/'", "cat; echo", "sed '$d'", "cat; echo fault >&2", STATUS, "true")
+# In place of `superio_harness`: it replies as the search of the past does.
+MONITOR = f"""#!{sys.executable}
+import sys
+sys.path.insert(0, {str(TOOLS)!r})
+from expected import Monitor
+monitor = Monitor()
+for line in sys.stdin:
+    print(monitor.reply(line.rstrip()))
+"""
+
+
+def silently(function, *arguments):
+    """What a function returns, a list if it yields, without what it prints."""
+    with contextlib.redirect_stdout(io.StringIO()):
+        result = function(*arguments)
+        return list(result) if hasattr(result, "__next__") else result
+
+
+def sum_of(printed):
+    """What the last line of a check says that passed and failed."""
+    return tuple(map(int, re.match(r"(\d+) passed, (\d+) failed", printed.splitlines()[-1]).groups()))
+
+
+@unittest.skipUnless(shutil.which("sed"), "sed is needed")
+class Programs(CopyTest):
+    def program(self, command):
+        path = self.root / "program"
+        path.write_text(command if command.startswith("#!") else f"#!/bin/sh\n{command}\n", encoding="utf-8")
+        path.chmod(0o755)
+        return path
+
+    def judge(self, tool, count, wrong=WRONG, programs=1):
+        """All cases pass with the right program, and none with another."""
+        for command in (RIGHT, *wrong):
+            with self.subTest(f"{tool} with {command}"):
+                status, printed, _ = self.run_tool(f"tools/{tool}", *[self.program(command)] * programs)
+                self.assertEqual((status, sum_of(printed)), (0, (count, 0)) if command == RIGHT else (1, (0, count)))
+
+    def test_scripts(self):
+        names = [path.name for path in (ROOT / "tests").glob("*.txt")]
+        (self.root / "tests").mkdir()
+        for name in names:
+            (self.root / "tests" / name).write_text("kr 04  kr 04\n", encoding="ascii")
+        self.judge("scripts", len(names))
+
+    def test_transcripts(self):
+        (self.root / "examples").mkdir()
+        (self.root / "examples" / "one.script").write_text("kr 04\n", encoding="ascii")
+        (self.root / "README.md").write_text("```\nkr 04  kr 04\n```\n\n```\n$ echo kr 04 | superio\nkr 04\n```\n",
+                                             encoding="ascii")
+        self.judge("transcripts", 3, [it for it in WRONG if it != STATUS])
+
+    def test_replay(self):
+        self.take("examples/linux-boot")
+        for name in ("boot", "console"):
+            path = self.root / "examples" / "linux-boot" / f"{name}.recording"
+            path.write_text("kr 04  kr 04\n\n2 kr 04  kr 04\n", encoding="ascii")
+        self.judge("replay", 6, programs=2)
+
+    def test_hostile(self):
+        """Each script differs, and the first run of each piece of work."""
+        words = [self.program("true")] * 2 + ["--scripts", "60", "--runs", "60", "--jobs", "1"]
+        with mock.patch.object(sys, "argv", ["hostile", *map(str, words)]), \
+                mock.patch.object(cases, "fixed_runs", list), mock.patch.dict(sys.modules, hostile=hostile), \
+                contextlib.redirect_stdout(io.StringIO()) as printed:
+            self.assertEqual(hostile.main(), 1)
+        self.assertEqual(sum_of(printed.getvalue()), (0, 62))
+
+    @unittest.skipUnless(shutil.which("cc"), "cc is needed")
+    def test_calls(self):
+        """Each library notices in each recording that one call was recorded otherwise."""
+        self.take("tests/calls", "bindings/python", "include", "prebuilt")
+        folder = self.root / "tests" / "calls"
+        (folder / "calls.txt.xz").write_bytes(lzma.compress((folder / "line.txt").read_bytes()))
+        tools = {"PATH": str(Path(shutil.which("cc")).parent)}
+        passed, failed = sum_of(self.run_tool("tools/calls", self.program(MONITOR), env=tools)[1])
+        self.assertIn((passed, failed), [(36, 0), (45, 0)])  # with Cargo beside cc there is a library more
+        for path in folder.glob("*.txt*"):
+            pack, unpack = (lzma.compress, lzma.decompress) if path.suffix == ".xz" else (bytes, bytes)
+            before, equals, after = unpack(path.read_bytes()).rpartition(b" = ")
+            path.write_bytes(pack(before + equals + b"0" + after))
+        self.assertEqual(sum_of(self.run_tool("tools/calls", self.program(MONITOR), env=tools)[1]), (0, passed))
+
+    @unittest.skipUnless(shutil.which("cc"), "cc is needed")
+    def test_saved_forms(self):
+        self.take("include", "prebuilt", "bindings", "docs/SAVED-STATES.md")
+        tools = {"PATH": str(Path(shutil.which("cc")).parent)}
+        _, printed, _ = self.run_tool("tools/saved_forms", self.program("true"), "--random", "0", env=tools)
+        passed, failed = sum_of(printed)
+        self.assertGreater(passed, 0)
+        self.assertEqual(failed, 1)
+        self.assertIn("loads through superio", printed)
+
+    @unittest.skipUnless(shutil.which("node"), "node is needed")
+    def test_calls_in_javascript(self):
+        recorded = (ROOT / "tests" / "calls" / "line.txt").read_text(encoding="ascii")
+        for equals, status, said in ((" = ", 0, "99 calls did the same, 0 did not"),
+                                     (" = 0", 1, "98 calls did the same, 1 did not")):
+            ran = run(["node", js_check.REPLAY], input=equals.join(recorded.rpartition(" = ")[::2]))
+            self.assertEqual(ran.returncode, status)
+            self.assertIn(said, ran.stdout)
+
+
+class Runs(unittest.TestCase):
+    """What a check says of a run that went as it should, and of others."""
+
+    def test_failing_io(self):
+        for make in failing_io.MAKERS:
+            for script, settings in islice(make(), 40):
+                (status, printed, errors), given = failing_io.expected_run(script, settings)
+                calls = [Call("read", 0, taken) for taken in given]
+                right = Ran(status, printed, errors, calls)
+                self.assertIsNone(failing_io.difference(script, settings, right))
+                for wrong in (None, replace(right, status=status + 1), replace(right, printed=printed + b"0"),
+                              replace(right, errors=errors + b"0"), replace(right, calls=calls[1:])):
+                    self.assertIsNotNone(failing_io.difference(script, settings, wrong))
+        with mock.patch.object(failing_io, "FailingCalls") as made:
+            made.return_value.run_all.side_effect = lambda pairs: [None for _ in pairs]
+            self.assertTrue(all(message for _, message in failing_io.check("")))
+
+    def refused(self, **more):
+        """How many scripts without memory end otherwise, if a run has more of something, or reads nothing."""
+        def run(script, settings):
+            it, outputs = next(pair for pair in refused_memory.SCRIPTS if pair[0].script == script)
+            number, (status, _, errors) = settings["FAIL_ALLOCATION"], refused_memory.WITHOUT_MEMORY
+            right = Ran(*it.expected)
+            if number <= len(outputs):
+                reads = [Call("read", 1, 1)] * (number > 2 and "calls" not in more)
+                right = Ran(status, outputs[number - 1], errors, [Call("allocate", 1, -1), *reads])
+            return replace(right, **{field: getattr(right, field) + some for field, some in more.items()})
+        results = refused_memory.program_results(mock.Mock(run=run))
+        return sum(message is not None for _, message in results)
+
+    def test_refused_memory(self):
+        counts = [len(outputs) for _, outputs in refused_memory.SCRIPTS]
+        self.assertEqual(self.refused(), 0)
+        for field, some in (("status", 1), ("printed", b"0"), ("errors", b"0")):
+            self.assertEqual(self.refused(**{field: some}), sum(counts) + len(counts), field)
+        self.assertEqual(self.refused(calls=[]), sum(count - 2 for count in counts))
+
+    def test_refused_calls(self):
+        right = {call: [refused_memory.NOT_PREPARED, *Counter(refusals).elements(), made]
+                 for call, (made, refusals) in refused_memory.OUTCOMES.items()}
+
+        def different(call, outcomes):
+            calls = {**{it: list(right[it]) for it in right}, call: outcomes}
+            results = silently(refused_memory.call_results, calls)
+            return sum(message is not None for _, message in results)
+        for call, outcomes in right.items():
+            self.assertEqual(different(call, list(outcomes)), 0)
+            self.assertEqual(different(call, [*outcomes, "0"]), 1)
+            self.assertEqual(different(call, outcomes[:1]), 1 + (len(outcomes) > 2))
+
+    def test_calls_in_any_state(self):
+        """A call says that memory was refused exactly if it was."""
+        lines = [("+ more", 1), ("one: refused", -1), ("other: not refused", 1)]
+
+        def different(lines, status=0):
+            calls = [call for _, given in lines for call in (Call("allocate", 1, given), Call("write", 1, 1))]
+            ran = Ran(status, "".join(f"{line}\n" for line, _ in lines).encode(), b"", calls)
+            failing = mock.Mock(**{"run.return_value": ran})
+            return sum(message is not None for _, message in silently(refused_memory.any_state_results, failing))
+        runs = refused_memory.MOST_OF_A_CALL + 1
+        self.assertEqual(different(lines), 0)
+        self.assertEqual(different([("+ more", 1), ("one: refused", 1), ("other: not refused", -1)]), 2 * runs)
+        self.assertEqual(different(lines, status=1), 1)
+
+    def test_a_call_that_takes_memory(self):
+        for taken in ([], [1]):
+            def run(line, _):
+                return Ran(0, b"", b"", [Call("allocate", 1, it) for it in taken * (b"no such call" not in line)])
+            results = refused_memory.allocation_results(mock.Mock(run=run))
+            self.assertEqual([message is not None for _, message in results], [bool(taken)])
+
+    def test_loads_through_a_library(self):
+        """One returns another status, size or text."""
+        tried, right = list(saved_forms.chosen_bytes(random.Random(1))), []
+        for data, kind in product(tried, saved_forms.LINES):
+            status = saved_forms.status(kind, data)
+            text = data if status == saved_forms.OK else b""
+            right.append((kind, data, status, len(text), text))
+        place = next(place for place, it in enumerate(right) if it[2] == saved_forms.OK)
+        kind, data, status, size, text = right[place]
+        for wrong, failed in ((right[place], 0), ((kind, data, status + 1, 0, b""), 1),
+                              ((kind, data, status, size, b""), 1)):
+            with mock.patch.object(saved_forms, "replies", return_value=[*right[:place], wrong, *right[place + 1:]]):
+                result = silently(saved_forms.through_library, "", tried[:1])
+            self.assertEqual(result, (len(right) - failed, failed))
+
+    def test_loads_through_scripts(self):
+        """The runs of all scripts but the first are right."""
+        tried = list(saved_forms.chosen_bytes(random.Random(1)))
+        right = [(0, replies.encode(), b"") for _, replies in saved_forms.scripts(tried)]
+        for wrong in (right[0], (1, *right[0][1:]), (0, right[0][1][:-2] + b"0\n", b""), (*right[0][:2], b"0"), None):
+            with mock.patch.object(saved_forms, "run_all", return_value=[wrong, *right[1:]]):
+                passed, failed = silently(saved_forms.scripted, "", tried)
+            self.assertGreater(passed, 0)
+            self.assertEqual(failed > 0, wrong != right[0])
+
+    def test_first_crate(self):
+        def proves(printed, status=0):
+            ran = subprocess.CompletedProcess("bash", status, printed)
+            with tempfile.TemporaryDirectory() as name, mock.patch("subprocess.run", return_value=ran):
+                return first_crate.unproved(Path(name)) is None
+        self.assertTrue(proves("\n".join(first_crate.PROVED)))
+        self.assertFalse(proves("\n".join(first_crate.PROVED), 1))
+        for text in first_crate.PROVED:
+            self.assertFalse(proves("\n".join(first_crate.PROVED).replace(text, "")))
+        with mock.patch.multiple(first_crate, unproved=str, links_out=str, steps=str):
+            self.assertTrue(all(message for _, message in silently(first_crate.check)))
+        with tempfile.TemporaryDirectory() as name:
+            library = Path(name).resolve() / "library"
+            library.mkdir()
+            for link, is_good in (("README.md", True), ("lost.md", False), ("../..", False)):
+                (library / "README.md").write_text(f"[a link]({link})\n", encoding="ascii")
+                self.assertEqual(first_crate.links_out(library) is None, is_good)
+
+    def test_a_tally(self):
+        for command, expected, is_good in ((["echo", "a"], "a\n", True), (["echo", "a"], "b\n", False),
+                                           (["false"], None, False)):
+            tally = Tally()
+            silently(tally.run, "it", command, expected)
+            self.assertEqual((tally.passed, tally.failed), (is_good, not is_good))
+
+    def test_tests_of_rust(self):
+        for printed, status, counted in (("12 passed; 0 failed", 0, (12, 0)), ("12 passed; 0 failed", 101, (12, 1)),
+                                         ("10 passed; 2 failed", 101, (10, 2)), ("", 0, (0, 1))):
+            counts = dict.fromkeys(("passed", "failed", "skipped"), 0)
+            ran = subprocess.CompletedProcess("cargo", status, f"test result: ok. {printed}\n" if printed else "")
+            with mock.patch.object(rust_check, "counts", counts):
+                silently(rust_check.count_tests, "it", ran)
+            self.assertEqual((counts["passed"], counts["failed"]), counted)
+
+    def test_calls_and_tests_of_javascript(self):
+        said = {js_check.check_calls: "3 calls did the same, 0 did not\n", js_check.check_tests: "# pass 3\n"}
+        for check, printed in said.items():
+            for change, is_good in ((lambda text: (0, text), True), (lambda text: (1, text), False),
+                                    (lambda text: (0, text.replace("3", "2")), check == js_check.check_tests)):
+                status, text = change(printed)
+                tally = Tally()
+                ran = mock.Mock(return_value=subprocess.CompletedProcess("node", status, text))
+                with mock.patch.multiple(js_check, run=ran, recordings=lambda: [("a.txt", "a = b\n" * 3)],
+                                         RUNTIMES={"node": []}), mock.patch.object(tally, "has", return_value=True):
+                    silently(check, tally)
+                self.assertEqual((tally.passed, tally.failed), (is_good, not is_good))
+
+    def test_the_page(self):
+        """A reply, an end, a feature, and the list as a script."""
+        scripts = [("a", "kr 04\n", ["00"], "")] * 2
+        right = {"replies": ["00"], "end": ""}
+        for got, failed in ((right, 0), ({**right, "replies": ["01"]}, 1), ({**right, "end": "bad line 1"}, 1)):
+            browser = mock.Mock(**{"value.return_value": [right, got]})
+            found = silently(page_check.differences, browser, "", scripts)
+            self.assertEqual(sum(it is not None for it in found), failed)
+        for seen, again, said, failed in ((5, True, [], 0), (6, True, [], 1), (5, False, [], 1), (5, True, ["a"], 1)):
+            browser = mock.Mock(**{"value.side_effect": [None, None, seen, again], "complaints.return_value": said})
+            tally = Tally()
+            with mock.patch.object(page_check, "FEATURES", [("it", "", "", "", 5)]):
+                silently(page_check.check_features, tally, browser)
+            self.assertEqual(tally.failed, failed)
+
+
+def failing(command, **options):
+    """What each program does: it fails, and prints nothing. Cargo only says that it has what was asked for."""
+    if options.get("check"):
+        raise subprocess.CalledProcessError(101, command)
+    status, version = 0 if "fetch" in command else 101, "1.63." if "--version" in command else ""
+    return subprocess.CompletedProcess(command, status, version, "")
+
+
+@mock.patch("subprocess.run", failing)
+@mock.patch("shutil.which", lambda name, **_: f"/usr/bin/{name}")
+class Failing(unittest.TestCase):
+    """Nothing passes if each program that a check starts fails."""
+
+    def test_with_a_tally(self):
+        with tempfile.TemporaryDirectory() as name:
+            of_c = [(check, [machines()[0], Path(name)]) for check in (
+                programs.check_header, programs.check_calls, programs.check_other_abi, programs.check_fuzz,
+                programs.check_pastes, programs.check_demos)]
+            others = [(check, []) for check in (licenses.check_reuse, js_check.check_calls, js_check.check_tests)]
+            for check, arguments in of_c + others:
+                with self.subTest(check.__name__):
+                    tally = Tally()
+                    silently(check, tally, *arguments)
+                    self.assertEqual((tally.passed, tally.skipped), (0, 0))
+                    self.assertGreater(tally.failed, 0)
+
+    def test_what_is_built_passes_and_nothing_that_it_does(self):
+        built = []
+
+        def builds(command, **_):
+            is_build = command[0] in ("gcc", "g++", "clang", "clang++", "make")
+            built.extend([command] * is_build)
+            return subprocess.CompletedProcess(command, 0 if is_build else 101, "", "")
+        with tempfile.TemporaryDirectory() as name, mock.patch("subprocess.run", builds):
+            for check in (programs.check_calls, programs.check_other_abi, programs.check_fuzz, programs.check_pastes,
+                          programs.check_demos):
+                with self.subTest(check.__name__):
+                    tally = Tally()
+                    built.clear()
+                    silently(check, tally, machines()[0], Path(name))
+                    self.assertEqual(tally.passed, len(built))
+                    self.assertGreaterEqual(tally.failed, len(built))
+
+    def test_a_wrong_demo_that_differs_in_nothing(self):
+        driven = {file: (driver, options, lambda *_: []) for file, (driver, options, _) in demo.DRIVEN.items()}
+        tally = Tally()
+        with tempfile.TemporaryDirectory() as name, mock.patch.object(demo, "DRIVEN", driven), \
+                mock.patch("subprocess.run", lambda command, **_: subprocess.CompletedProcess(command, 0, "", "")):
+            silently(demo.check_driven_demo, tally, machines()[0], Path(name))
+        self.assertEqual(tally.failed, tally.tried.counts["wrong demos"])
+
+    def test_a_check_that_ends_by_an_error(self):
+        for module in (c_check, packages_check):
+            tally, check = Tally(), mock.Mock(__name__="check_it", side_effect=OSError)
+            silently(module.run, check, tally)
+            self.assertEqual((tally.passed, tally.failed), (0, 1))
+
+    def test_of_rust(self):
+        """But that an empty crate is no vm-superio."""
+        for check in rust_check.OF_PROGRAMS:
+            counts = dict.fromkeys(("passed", "failed", "skipped"), 0)
+            with self.subTest(check.__name__), tempfile.TemporaryDirectory() as name, \
+                    mock.patch.multiple(rust_check, counts=counts, is_there=lambda *_: True, MOVED=Path(name),
+                                        COMPARISON=Path(name)), \
+                    mock.patch.object(Path, "exists", lambda _: True), contextlib.suppress(FileNotFoundError), \
+                    mock.patch.dict("os.environ", {"VM_SUPERIO": ""}):
+                silently(check, Path(name) / "place")
+            self.assertEqual(counts["passed"], check is rust_check.check_drop_in)
+            self.assertEqual(counts["skipped"] > 0, check is rust_check.check_moved_original)
+            self.assertEqual(counts["failed"] > 0, check is not rust_check.check_moved_original)
+
+    def test_scripts_of_the_echo(self):
+        counts = dict.fromkeys(("passed", "failed", "skipped"), 0)
+        built = mock.Mock(**{"return_value.run.return_value.returncode": 0})
+        with tempfile.TemporaryDirectory() as name, mock.patch.multiple(
+                rust_check, counts=counts, Cargo=built, different_scripts=lambda *_: ["one", "another"]):
+            built.return_value.folder = Path(name) / "place"
+            silently(rust_check.check_echo, Path(name) / "place")
+        self.assertEqual((counts["passed"], counts["failed"]), (1 + rust_check.SCRIPTS - 2, 2))
+
+
+class Proving(CopyTest):
+    def test_ci_runs_all_in_a_copy_and_ends_as_it_does(self):
+        tiny.make(self.root, [])
+        (self.root / "rt").write_text('#!/bin/sh\necho "rt $* in $PWD"\nexit 3\n', encoding="ascii")
+        (self.root / "rt").chmod(0o755)
+        status, printed, _ = self.run_tool("tools/ci", env={"PATH": f"{self.root}:/usr/bin:/bin"})
+        self.assertEqual(status, 3)
+        self.assertRegex(printed, r"(?m)^rt ci in .*/ci-[^/]*$")
+
+
+if __name__ == "__main__":
+    unittest.main()
