@@ -35,6 +35,10 @@ class CopyTest(unittest.TestCase):
         self.assertEqual(text.count(old), 1, f"{name} has {old!r} otherwise than once")
         path.write_text(text.replace(old, new), encoding="utf-8")
 
+    def path_of(self, tool):
+        """Where a tool is: among the checks, or beside them."""
+        return next(f"{folder}/{tool}" for folder in ("tools/checks", "tools") if (self.root / folder / tool).is_file())
+
     def run_tool(self, name, *arguments, **options):
         """The status, the output and the errors of a tool of the copy, which may not end in a traceback."""
         ran = subprocess.run([sys.executable, self.root / name, *arguments], capture_output=True, text=True, timeout=120,

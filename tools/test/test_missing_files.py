@@ -29,8 +29,7 @@ class MissingFiles(CopyTest):
 
     def sum_of(self, tool, *arguments, says, **options):
         """What a tool of the copy passed and failed. One of its lines has to end as `says`."""
-        folder = "tools" if (self.root / "tools" / tool).is_file() else "tools/checks"
-        status, printed, _ = self.run_tool(f"{folder}/{tool}", *arguments, **options)
+        status, printed, _ = self.run_tool(self.path_of(tool), *arguments, **options)
         *lines, last = printed.splitlines()
         self.assertTrue(any(line.endswith(says) for line in lines), printed)
         passed, failed = map(int, re.match(r"(\d+) passed, (\d+) failed", last).groups())

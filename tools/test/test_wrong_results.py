@@ -29,7 +29,7 @@ from machines import machines  # noqa: E402
 from tally import Tally, run  # noqa: E402
 
 failing_io, first_crate, hostile, refused_memory, saved_forms = map(
-    module_of, ("failing_io", "first_crate", "hostile", "refused_memory", "saved_forms"))
+    module_of, map("checks/{}".format, ("failing_io", "first_crate", "hostile", "refused_memory", "saved_forms")))
 rust_check, js_check, page_check = map(module_of, ("rust/check", "js/check", "page/check"))
 c_check, packages_check = map(module_of, ("c/check", "packages/check"))
 # A program that prints its script, and others that differ from it in one thing.
@@ -38,7 +38,7 @@ WRONG = ("sed 's/4$/5/'", "cat; echo", "sed '$d'", "cat; echo fault >&2", STATUS
 # In place of `superio_harness`: it replies as the search of the past does.
 MONITOR = f"""#!{sys.executable}
 import sys
-sys.path.insert(0, {str(TOOLS)!r})
+sys.path.insert(0, {str(TOOLS / "checks")!r})
 from expected import Monitor
 monitor = Monitor()
 for line in sys.stdin:
@@ -70,7 +70,7 @@ class Programs(CopyTest):
         """All cases pass with the right program, and none with another."""
         for command in (RIGHT, *wrong):
             with self.subTest(f"{tool} with {command}"):
-                status, printed, _ = self.run_tool(f"tools/{tool}", *[self.program(command)] * programs)
+                status, printed, _ = self.run_tool(self.path_of(tool), *[self.program(command)] * programs)
                 self.assertEqual((status, sum_of(printed)), (0, (count, 0)) if command == RIGHT else (1, (0, count)))
 
     def test_scripts(self):
@@ -81,6 +81,7 @@ class Programs(CopyTest):
         self.judge("scripts", len(names))
 
     def test_transcripts(self):
+        self.take("bindings/python/superio")
         (self.root / "examples").mkdir()
         (self.root / "examples" / "one.script").write_text("kr 04\n", encoding="ascii")
         (self.root / "README.md").write_text("```\nkr 04  kr 04\n```\n\n```\n$ echo kr 04 | superio\nkr 04\n```\n",
@@ -110,19 +111,19 @@ class Programs(CopyTest):
         folder = self.root / "tests" / "calls"
         (folder / "calls.txt.xz").write_bytes(lzma.compress((folder / "line.txt").read_bytes()))
         tools = {"PATH": str(Path(shutil.which("cc")).parent)}
-        passed, failed = sum_of(self.run_tool("tools/calls", self.program(MONITOR), env=tools)[1])
+        passed, failed = sum_of(self.run_tool("tools/checks/calls", self.program(MONITOR), env=tools)[1])
         self.assertIn((passed, failed), [(36, 0), (45, 0)])  # with Cargo beside cc there is a library more
         for path in folder.glob("*.txt*"):
             pack, unpack = (lzma.compress, lzma.decompress) if path.suffix == ".xz" else (bytes, bytes)
             before, equals, after = unpack(path.read_bytes()).rpartition(b" = ")
             path.write_bytes(pack(before + equals + b"0" + after))
-        self.assertEqual(sum_of(self.run_tool("tools/calls", self.program(MONITOR), env=tools)[1]), (0, passed))
+        self.assertEqual(sum_of(self.run_tool("tools/checks/calls", self.program(MONITOR), env=tools)[1]), (0, passed))
 
     @unittest.skipUnless(shutil.which("cc"), "cc is needed")
     def test_saved_forms(self):
         self.take("include", "prebuilt", "bindings", "docs/SAVED-STATES.md")
         tools = {"PATH": str(Path(shutil.which("cc")).parent)}
-        _, printed, _ = self.run_tool("tools/saved_forms", self.program("true"), "--random", "0", env=tools)
+        _, printed, _ = self.run_tool("tools/checks/saved_forms", self.program("true"), "--random", "0", env=tools)
         passed, failed = sum_of(printed)
         self.assertGreater(passed, 0)
         self.assertEqual(failed, 1)
@@ -189,18 +190,20 @@ class Runs(unittest.TestCase):
             self.assertEqual(different(call, outcomes[:1]), 1 + (len(outcomes) > 2))
 
     def test_calls_in_any_state(self):
-        """A call says that memory was refused exactly if it was."""
+        """A call says that memory was refused exactly if it was, and each function is called."""
         lines = [("+ more", 1), ("one: refused", -1), ("other: not refused", 1)]
 
-        def different(lines, status=0):
+        def different(lines, status=0, functions=("one", "other")):
             calls = [call for _, given in lines for call in (Call("allocate", 1, given), Call("write", 1, 1))]
             ran = Ran(status, "".join(f"{line}\n" for line, _ in lines).encode(), b"", calls)
-            failing = mock.Mock(**{"run.return_value": ran})
-            return sum(message is not None for _, message in silently(refused_memory.any_state_results, failing))
-        runs = refused_memory.MOST_OF_A_CALL + 1
+            failing = mock.Mock(run_all=lambda cases: [ran for _ in cases])
+            with mock.patch.object(refused_memory, "functions_that_take_memory", lambda: functions):
+                return sum(message is not None for _, message in silently(refused_memory.any_state_results, failing))
+        runs = refused_memory.UNREFUSED + refused_memory.MOST_OF_A_CALL
         self.assertEqual(different(lines), 0)
         self.assertEqual(different([("+ more", 1), ("one: refused", 1), ("other: not refused", -1)]), 2 * runs)
         self.assertEqual(different(lines, status=1), 1)
+        self.assertEqual(different(lines, functions=("one", "other", "third")), 1)
 
     def test_a_call_that_takes_memory(self):
         for taken in ([], [1]):
@@ -383,7 +386,7 @@ class Proving(CopyTest):
         tiny.make(self.root, [])
         (self.root / "rt").write_text('#!/bin/sh\necho "rt $* in $PWD"\nexit 3\n', encoding="ascii")
         (self.root / "rt").chmod(0o755)
-        status, printed, _ = self.run_tool("tools/ci", env={"PATH": f"{self.root}:/usr/bin:/bin"})
+        status, printed, _ = self.run_tool("tools/checks/ci", env={"PATH": f"{self.root}:/usr/bin:/bin"})
         self.assertEqual(status, 3)
         self.assertRegex(printed, r"(?m)^rt ci in .*/ci-[^/]*$")
 
