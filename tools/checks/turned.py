@@ -13,7 +13,7 @@ SOURCE = "//! Nothing: the crate has turned definitions among its proofs.\n#![ta
 
 
 class Modules:
-    """Definitions and worked rows of some crates by crate, part and name: their texts, and the modules cited."""
+    """Definitions and worked examples of some crates by crate, part and name: their texts, and the modules cited."""
 
     def __init__(self, root, crates):
         self.texts = {}
