@@ -199,7 +199,13 @@ impl<'a> Devices<'a> {
             ["armed"] => true,
             _ => bail!("no such state"),
         };
-        let five = RtcState::from_five(word(lr)?, offset.parse()?, word(mr)?, word(imsc)?, word(ris)?);
+        let five = RtcState::from_five(
+            word(lr)?,
+            offset.parse()?,
+            word(mr)?,
+            word(imsc)?,
+            word(ris)?,
+        );
         let state = RtcState { armed, ..five };
         self.clock = Rtc::from_state(&state, self.object);
         text_of_clock(alloc, &self.clock.state())
