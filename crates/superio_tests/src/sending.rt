@@ -179,13 +179,11 @@ fn any_machine<'a>(alloc: Global, log: &'a Log, numbers: &mut u64) -> Result<Mac
         2 => COM3,
         _ => COM4,
     };
-    let mut machine = Machine {
-        bus: bus_at(alloc, log, base)?,
-        console: console(alloc, log, 0, (next(numbers) % 4) as usize)?,
-    };
-    machine.bus.serial = port_in(alloc, log, &any_state(alloc, numbers)?)?;
-    machine.console.serial = port_in(alloc, log, &any_state(alloc, numbers)?)?;
-    Ok(machine)
+    let mut bus = bus_at(alloc, log, base)?;
+    bus.serial = port_in(alloc, log, &any_state(alloc, numbers)?)?;
+    let mut console = console(alloc, log, 0, (next(numbers) % 4) as usize)?;
+    console.serial = port_in(alloc, log, &any_state(alloc, numbers)?)?;
+    Ok(Machine { bus, console })
 }
 
 /// Writes a byte to THR by an access of any width, at any of its places.
