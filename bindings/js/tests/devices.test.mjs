@@ -200,6 +200,56 @@ test("devices share nothing", () => {
   assert.deepEqual([clock, later, twin].map((one) => [one.read("DR", 0).value, one.state.lr]), [[5, 5], [0, 0], [6, 6]]);
 });
 
+/** Changes all that an object or an array has. */
+function spoil(given) {
+  for (const name of Object.keys(given)) {
+    if (given[name] instanceof Uint8Array) given[name].fill(0xee);
+    given[name] = 0xee;
+  }
+}
+
+test("what a call gives is the caller's own, and what it takes stays as it was", () => {
+  const controller = new I8042();
+  const [port, clock] = [() => Serial.fromState(PORT), () => Rtc.fromState(CLOCK)];
+  // Each gives the same again.
+  const calls = [[port, (it) => it.read(5)], [port, (it) => it.write(7, 0x77)], [port, (it) => it.enqueue(bytes(""))],
+    [port, (it) => it.toBytes()], [port, (it) => it.state], [clock, (it) => it.read(4, 9)],
+    [clock, (it) => it.write(16, 1, 9)], [clock, (it) => it.toBytes()], [clock, (it) => it.state],
+    [() => controller, (it) => it.write(4, 0xfe)]];
+  for (const [made, call] of calls) {
+    const device = made();
+    const first = call(device);
+    const before = structuredClone(first);
+    const second = call(device);
+    assert.deepEqual(second, before, `${call}`);
+    spoil(second);
+    assert.deepEqual(first, before, `${call}`);
+    assert.deepEqual(call(device), before, `${call}`);
+  }
+  for (const [device, state, saved] of [[Serial, PORT, PORT_SAVED], [Rtc, CLOCK, CLOCK_SAVED]]) {
+    const [form, given] = [fromHex(saved), structuredClone(state)];
+    device.fromBytes(form);
+    device.fromState(given);
+    new Serial().enqueue(form);
+    assert.deepEqual([form, given], [fromHex(saved), state]);
+  }
+});
+
+test("a state can be an object whose getters call devices", () => {
+  for (const [device, state] of [[Serial, PORT], [Rtc, CLOCK]]) {
+    const getter = (name) => ({
+      get() {
+        new Serial().enqueue(Serial.fromBytes(fromHex(PORT_SAVED)).toBytes());
+        Rtc.fromBytes(fromHex(CLOCK_SAVED)).read(0, 1);
+        return state[name];
+      },
+    });
+    class Busy {}
+    for (const name of Object.keys(state)) Object.defineProperty(Busy.prototype, name, getter(name));
+    assert.deepEqual(device.fromState(new Busy()).state, state);
+  }
+});
+
 test("a class of a monitor's own makes plain devices, which lack none of its fields", () => {
   for (const device of [Serial, Rtc]) {
     class Own extends device {
