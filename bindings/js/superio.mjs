@@ -82,6 +82,11 @@ function byteArray(name, value) {
   return value;
 }
 
+function checkState(value) {
+  const isObject = typeof value === "object" && value !== null;
+  if (!isObject) throw new TypeError(`state is ${shown(value)}, and an object is wanted`);
+}
+
 /** Puts bytes where a call reads them. Returns how many it is told of. */
 function pass(bytes) {
   const some = bytes.subarray(0, LONGEST);
@@ -214,6 +219,7 @@ export class Serial {
 
   /** A port of this state. Afterwards ask for the interrupt as often as `interruptsDue` says. */
   static fromState(state) {
+    checkState(state);
     const port = new Serial();
     const held = byteArray("inBuffer", state.inBuffer);
     number("inBuffer.length", held.length, 0, FIFO_SIZE);
@@ -297,6 +303,7 @@ export class Rtc {
 
   /** A clock of this state. */
   static fromState(state) {
+    checkState(state);
     const clock = new Rtc();
     const numbers = CLOCK_FIELDS.map((name) => word(name, state[name]));
     const offset = bigNumber("offset", state.offset, -(2n ** 63n), 2n ** 63n - 1n);

@@ -235,18 +235,21 @@ test("what a call gives is the caller's own, and what it takes stays as it was",
   }
 });
 
-test("a state can be an object whose getters call devices", () => {
+test("a state can be an object whose getters call devices, each once", () => {
   for (const [device, state] of [[Serial, PORT], [Rtc, CLOCK]]) {
+    const asked = [];
     const getter = (name) => ({
       get() {
         new Serial().enqueue(Serial.fromBytes(fromHex(PORT_SAVED)).toBytes());
         Rtc.fromBytes(fromHex(CLOCK_SAVED)).read(0, 1);
+        asked.push(name);
         return state[name];
       },
     });
     class Busy {}
     for (const name of Object.keys(state)) Object.defineProperty(Busy.prototype, name, getter(name));
     assert.deepEqual(device.fromState(new Busy()).state, state);
+    assert.deepEqual(asked.sort(), Object.keys(state).sort());
   }
 });
 
@@ -381,6 +384,9 @@ test("each argument is taken at its edges, and refused beyond them", () => {
     refused(() => Rtc.fromState({ ...CLOCK, armed: other }), "TypeError", "true or false is wanted");
   }
   for (const [device, state] of [[Serial, PORT], [Rtc, CLOCK]]) {
+    for (const other of OF_OTHER_KINDS.filter((it) => typeof it !== "object" || it === null)) {
+      refused(() => device.fromState(other), "TypeError", `state is ${String(other)}, and an object is wanted`);
+    }
     for (const name of Object.keys(state)) {
       refused(() => device.fromState({ ...state, [name]: undefined }), "TypeError", `${name} is undefined`);
     }
