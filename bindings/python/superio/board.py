@@ -112,8 +112,9 @@ class Board:
         check_kind("command", command, Command)
         self._answers = []
         self._is_lost = False
+        reply = _REPLIES[command.name](self, *command.values)
         self.number += 1
-        return _REPLIES[command.name](self, *command.values)
+        return reply
 
     def run(self, command: Command) -> Call:
         """Carries out a command. Returns what it did."""

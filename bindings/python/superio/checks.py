@@ -21,7 +21,7 @@ def number(name: str, value: Any, bits: int, is_signed: bool = False, instead: s
     Raises `TypeError` if it is no whole number, and `ValueError` if it is out of range.
     """
     try:
-        whole = index(value)
+        whole = int(index(value))  # a Boolean is its own index
     except TypeError:
         raise TypeError(_refusal(name, value, _numbers(bits, is_signed) + instead)) from None
     if (whole + (1 << bits - 1) if is_signed else whole) >> bits:

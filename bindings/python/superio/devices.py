@@ -5,12 +5,12 @@ name of a register. A number out of range raises `ValueError`, and an argument o
 changes.
 """
 from functools import lru_cache
-from typing import NamedTuple, Optional, Tuple, Type, Union
+from typing import Any, NamedTuple, Optional, Tuple, Type, Union
 
 from .checks import byte_string, check_kind, number
 from .library import load
 from .registers import CLOCK, SERIAL, Register, bit_names, clock_offset, serial_offset
-from .saved import Saved
+from .saved import Saved, attributes_of
 from .states import RtcState, SerialState
 from .structs import FIFO_SIZE, RTC_SAVED_SIZE, SERIAL_SAVED_MAX, RtcStruct, SerialStruct
 
@@ -283,8 +283,9 @@ class I8042:
     def __init__(self) -> None:
         self._library = load()
 
-    def __reduce__(self) -> "Tuple[Type[I8042], Tuple[()]]":
-        return type(self), ()
+    def __reduce__(self) -> Tuple[Any, ...]:
+        """Attributes of a subclass go along."""
+        return _controller, (type(self),), attributes_of(self, I8042)
 
     def read(self, offset: int) -> int:
         """What the guest reads at an offset, 0 to 255: 0, at every one."""
@@ -297,6 +298,13 @@ class I8042:
 
     def __repr__(self) -> str:
         return "<I8042>"
+
+
+def _controller(kind: Type[I8042]) -> I8042:
+    """A controller of this class, whose own constructor may want arguments."""
+    controller = kind.__new__(kind)
+    I8042.__init__(controller)
+    return controller
 
 
 def _clock_offset(offset: Union[int, str]) -> int:

@@ -43,8 +43,7 @@ def _parser() -> Parser:
 
 
 def _complain(text: str) -> None:
-    if sys.stderr is not None:
-        print(text, file=sys.stderr, flush=True)
+    print(text, file=sys.stderr, flush=True)
 
 
 def _lines_as_they_come(out: "IO[str]", file: "IO[bytes]") -> Iterator[bytes]:
@@ -143,6 +142,8 @@ def _interrupt_once(_number: int, _frame: object) -> None:
 
 
 def _run(arguments: List[str]) -> int:
+    if sys.stderr is None:
+        sys.stderr = open(os.devnull, "w")  # otherwise messages go among the replies, and a prompt reads no line
     if sys.stdout is None:
         return _closed("output")
     sys.stdout.reconfigure(errors="backslashreplace")  # type: ignore[union-attr]

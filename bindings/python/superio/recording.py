@@ -85,5 +85,5 @@ def replay(name: str, rows: Iterable[bytes]) -> Iterator[Step]:
             for line, recorded in entries_of(text):
                 command = parse(line.encode("utf-8", "replace"), is_first=board.number == 0)
                 yield Step(piece, board.run(command), recorded)
-        except ScriptError as error:
+        except ValueError as error:  # among them a number of more digits than Python converts
             raise BadLine(name, number, row.rstrip(b"\r\n"), str(error)) from error

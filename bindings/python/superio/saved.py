@@ -1,12 +1,12 @@
 """Saved states: the bytes that a device is saved as, and why other bytes are refused."""
 from ctypes import byref, c_uint8
 from enum import IntEnum
-from typing import Any, Callable, Tuple, Type, TypeVar
+from typing import Any, Callable, Iterable, List, Tuple, Type, TypeVar, Union
 
 from .checks import byte_string
 from .library import load
 
-__all__ = ["LoadStatus", "Saved", "SavedStateError", "script_words"]
+__all__ = ["LoadStatus", "Saved", "SavedStateError", "attributes_of", "script_words"]
 
 _Device = TypeVar("_Device", bound="Saved")
 
@@ -77,9 +77,7 @@ class Saved:
         Raises `SavedStateError` if the bytes are no saved state of this device.
         """
         device, data = cls(), byte_string("data", data)
-        status = LoadStatus(device._function("load")(device._pointer, data, len(data)))
-        if status is not LoadStatus.OK:
-            raise SavedStateError(status)
+        device._load(data)
         return device
 
     @property
@@ -87,13 +85,35 @@ class Saved:
         """The struct of superio.h, as it is in this machine's memory. `serial_state` and `clock_state` tell its state."""
         return bytes(self._struct)
 
+    def _load(self, data: bytes) -> None:
+        status = LoadStatus(self._function("load")(self._pointer, data, len(data)))
+        if status is not LoadStatus.OK:
+            raise SavedStateError(status)
+
     def __reduce__(self) -> Tuple[Any, ...]:
         """Attributes of a subclass go along."""
-        return _restored, (type(self), self.to_bytes()), getattr(self, "__dict__", None)
+        return _restored, (type(self), self.to_bytes()), attributes_of(self, Saved)
+
+
+def attributes_of(device: Any, base: type) -> Any:
+    """The attributes that subclasses of `base` added, in the form that `copy` and `pickle` set them from."""
+    kinds = type(device).__mro__[:type(device).__mro__.index(base)]
+    slots = [slot for kind in kinds for slot in _names(vars(kind).get("__slots__", ())) if hasattr(device, slot)]
+    named = getattr(device, "__dict__", None)
+    added = {slot: getattr(device, slot) for slot in slots if slot not in ("__dict__", "__weakref__")}
+    return (named, added) if added else named
+
+
+def _names(slots: Union[str, Iterable[str]]) -> List[str]:
+    return [slots] if isinstance(slots, str) else list(slots)
 
 
 def _restored(kind: Type[Saved], data: bytes) -> Saved:
-    return kind.from_bytes(data)
+    """A device of this class, whose own constructor may want arguments."""
+    device = kind.__new__(kind)
+    Saved.__init__(device)
+    device._load(data)
+    return device
 
 
 def script_words(status: LoadStatus, data: bytes) -> str:

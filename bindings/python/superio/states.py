@@ -1,6 +1,6 @@
 """The states of the devices, as plain values, and as the Rust crate vm-superio has them."""
 from dataclasses import dataclass, fields
-from typing import Any, Dict, Mapping, Sequence
+from typing import Any, Dict, Mapping, Sequence, Tuple
 
 from .checks import byte_string, number
 from .structs import FIFO_SIZE
@@ -16,6 +16,9 @@ class AlarmIsSetError(ValueError):
 
     def __init__(self) -> None:
         super().__init__("an alarm is set, and the five fields of vm-superio's RtcState cannot hold it")
+
+    def __reduce__(self) -> Tuple[Any, ...]:
+        return type(self), ()
 
 
 def _check_names(named: Mapping[str, Any], wanted: Sequence[str]) -> None:
@@ -44,7 +47,7 @@ class SerialState:
 
     def __post_init__(self) -> None:
         for field in fields(self)[:9]:
-            number(field.name, getattr(self, field.name), 8)
+            object.__setattr__(self, field.name, number(field.name, getattr(self, field.name), 8))
         object.__setattr__(self, "in_buffer", byte_string("in_buffer", self.in_buffer))
         if len(self.in_buffer) > FIFO_SIZE:
             raise ValueError(f"in_buffer has {len(self.in_buffer)} bytes, and a port holds at most {FIFO_SIZE}")
@@ -82,8 +85,8 @@ class RtcState:
 
     def __post_init__(self) -> None:
         for name in ("lr", "mr", "imsc", "ris"):
-            number(name, getattr(self, name), 32)
-        number("offset", self.offset, 64, is_signed=True)
+            object.__setattr__(self, name, number(name, getattr(self, name), 32))
+        object.__setattr__(self, "offset", number("offset", self.offset, 64, is_signed=True))
         object.__setattr__(self, "armed", bool(self.armed))
 
     def to_vm_superio(self) -> Dict[str, Any]:

@@ -120,7 +120,7 @@ class Viewer(cmd.Cmd):
         self._show()
 
     def _seek(self, rest: str, direction: int) -> None:
-        if not rest or rest.isdigit():
+        if not rest or rest.isdecimal():
             self._go(self._place + direction * int(rest or 1))
             return
         wanted = wanted_of(rest)
@@ -142,7 +142,7 @@ class Viewer(cmd.Cmd):
 
     def do_goto(self, rest: str) -> None:
         """goto N: to call N, counted from 1"""
-        if not rest.isdigit():
+        if not rest.isdecimal():
             raise ScriptError("the form is: goto N")
         self._go(int(rest) - 1)
 
@@ -202,7 +202,7 @@ class Viewer(cmd.Cmd):
             return True
         try:
             return bool(super().onecmd(line.strip()))
-        except (ScriptError, FileFault) as error:
+        except (ValueError, FileFault) as error:
             self._say(self._style.error(str(error)))
             return False
 

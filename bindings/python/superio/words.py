@@ -139,7 +139,11 @@ class Speaker:
         """A moment: `now`, `now+5`, `+5`, or seconds since 1970."""
         match = re.fullmatch(r"(?:now)?([+-]\d+)?", text)
         if text and match:
-            return max(0, self._time() + int(match[1] or 0))
+            seconds = _integer((match[1] or "0").lstrip("+-"), "number of seconds", 64)
+            moment = self._time() + (-seconds if "-" in text else seconds)
+            if moment >= 1 << 64:
+                raise ScriptError(f"{shown(text)} is no moment: it has 64 bits")
+            return max(0, moment)
         return _integer(text, "moment: it is now, now+5, or seconds since 1970", 64, base)
 
     def _bytes(self, text: str) -> bytes:

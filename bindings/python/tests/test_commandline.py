@@ -358,6 +358,14 @@ class Streams(unittest.TestCase):
                               env=ENVIRONMENT, timeout=TIMEOUT)
         self.assertEqual((0, 15), (done.returncode, done.stdout.count(b"\n")))
 
+    def test_no_message_comes_among_the_replies(self):
+        """Neither to a closed standard error nor elsewhere."""
+        for arguments, status in (("", 1), ("--strict", 1), ("view -", 1), ("--unknown", 5), ("view --unknown", 5),
+                                  ("/nowhere", 2), ("view /nowhere", 2)):
+            done = subprocess.run(["bash", "-c", f"{sys.executable} -m superio {arguments} 2>&-"], input=b"kr\n",
+                                  stdout=subprocess.PIPE, env=ENVIRONMENT, timeout=TIMEOUT)
+            self.assertEqual((status, b""), (done.returncode, done.stdout), arguments)
+
     def test_each_reply_goes_out_at_once(self):
         with subprocess.Popen([sys.executable, "-m", "superio"], stdin=subprocess.PIPE, stdout=subprocess.PIPE,
                               env=ENVIRONMENT) as process:

@@ -2,6 +2,7 @@
 import copy
 import dataclasses
 import doctest
+import inspect
 import itertools
 import json
 import os
@@ -9,14 +10,16 @@ import pickle
 import random
 import re
 import struct
+import typing
 import unittest
 from unittest import mock
 
 from support import ROOT
 
-from superio import (AlarmIsSetError, Board, EnqueueEffects, I8042, LibraryError, LoadStatus, ReadEffects,
-                     RegisterError, Rtc, RtcState, SavedStateError, Serial, SerialState, WriteEffects, board, devices,
-                     library, parse, registers)
+import superio
+from superio import (AlarmIsSetError, Board, Command, EnqueueEffects, I8042, LibraryError, LoadStatus, ReadEffects,
+                     RegisterError, Rtc, RtcState, SavedStateError, ScriptError, Serial, SerialState, WriteEffects,
+                     board, devices, library, parse, registers)
 
 SAVED_STATES = ROOT / "docs" / "SAVED-STATES.md"
 # What programs over vm-superio 0.8.2 saved: the device, the format, and the contents.
@@ -382,20 +385,129 @@ class Copies(unittest.TestCase):
             self.assertEqual(("61", "62"), (other.reply(parse(b"sr 00")), other.reply(parse(b"sr 00"))))
             self.assertEqual(("3e", "40"), (board.reply(parse(b"sc")), other.reply(parse(b"sc"))))
 
+    def test_a_copied_board_goes_on_as_its_original(self):
+        """Every part of it, among them what its line has still to refuse."""
+        lines = [b"sw 01 03", b"sq 6162", b"sw 00 41", b"sr 02", b"si", b"sw 00 42", b"st", b"se", b"so", b"sb", b"cb"]
+        board = Board()
+        for line in (b"refuse 0000000000000055", b"cw 0000000000000000 0004 00000009", *lines):
+            board.reply(parse(line, is_first=board.number == 0))
+        copies = [way(board) for way in self.WAYS[1:]]
+        calls = [board.run(parse(line)) for line in lines]
+        for other in copies:
+            self.assertEqual(calls, [other.run(parse(line)) for line in lines])
+
     def test_attributes_of_a_subclass_go_along(self):
-        port = NamedPort()
-        port.name = "ttyS0"
-        for way in self.WAYS:
-            self.assertEqual("ttyS0", way(port).name)
+        """With a constructor of its own, and in slots."""
+        for kind in (NamedPort, NamedClock, NamedController):
+            device = kind("ttyS0")
+            device.name = "COM1"
+            for way in self.WAYS:
+                other = way(device)
+                self.assertEqual((kind, "COM1"), (type(other), other.name))
 
     def test_an_error_keeps_its_status(self):
         for way in self.WAYS:
             error = way(SavedStateError(LoadStatus.OTHER_DEVICE))
             self.assertEqual((LoadStatus.OTHER_DEVICE, "the saved state of another device"), (error.status, str(error)))
 
+    def test_each_error_can_be_copied(self):
+        """As a pool of processes does that passes one on."""
+        errors = [AlarmIsSetError(), LibraryError("a"), RegisterError("a"), ScriptError("a"),
+                  *(SavedStateError(LoadStatus(number)) for number in range(1, 8))]
+        public = {kind for kind in vars(superio).values() if isinstance(kind, type) and issubclass(kind, Exception)}
+        self.assertEqual(public, set(map(type, errors)))
+        for error in errors:
+            for way in self.WAYS:
+                other = way(error)
+                self.assertEqual((type(error), str(error), vars(error)), (type(other), str(other), vars(other)))
+
 
 class NamedPort(Serial):
     """A port with an attribute of its own."""
+
+    def __init__(self, name):
+        super().__init__()
+        self.name = name
+
+
+class NamedClock(Rtc):
+    """A clock with a slot of its own."""
+
+    __slots__ = ("name",)
+
+    def __init__(self, name):
+        super().__init__()
+        self.name = name
+
+
+class NamedController(I8042):
+    """A controller with an attribute of its own."""
+
+    def __init__(self, name):
+        super().__init__()
+        self.name = name
+
+
+# A good value for each parameter of a call, and for each kind of value, by its type.
+GOOD = {"offset": 0, "value": 0, "now": 0}
+KINDS = {int: 0, str: "SCR", bytes: b"", float: 1.0, type(None): None, list: [], SerialState: SerialState(),
+         RtcState: RtcState()}
+
+
+class Types(unittest.TestCase):
+    """What the calls are annotated with, which a type checker believes."""
+
+    def setUp(self):
+        alarm = Rtc.from_state(RtcState(mr=5, armed=True))
+        self.calls = [(device, name, call) for device in (Serial(), Rtc(), alarm, I8042())
+                      for name, call in inspect.getmembers(type(device), callable) if not name.startswith("_")]
+
+    @staticmethod
+    def good_for(device, name):
+        """A good value for each parameter of the call of this name."""
+        data = device.to_bytes() if name == "from_bytes" else b""
+        return {**GOOD, "data": data, "state": getattr(device, "state", None)}
+
+    def test_each_parameter_takes_the_types_that_it_is_annotated_with_and_no_other(self):
+        tried = 0
+        for device, name, _ in self.calls:
+            call, hints = getattr(device, name), typing.get_type_hints(getattr(device, name))
+            good = self.good_for(device, name)
+            names = list(inspect.signature(call).parameters)
+            for wrong, (kind, value) in itertools.product(names, KINDS.items()):
+                given = {parameter: good[parameter] for parameter in names}
+                is_taken = kind in (typing.get_args(hints[wrong]) or (hints[wrong],))
+                with self.subTest((name, wrong, kind)):
+                    if not is_taken:
+                        self.assertRaisesRegex(TypeError, f"^{wrong} is ", call, **{**given, wrong: value})
+                    elif not isinstance(given[wrong], kind):
+                        value = "LR" if isinstance(device, Rtc) and kind is str else value
+                        call(**{**given, wrong: value})
+                    else:
+                        call(**given)
+                tried += 1
+        self.assertGreater(tried, 100)
+
+    def test_each_call_gives_the_types_that_it_is_annotated_with(self):
+        given = {}
+        for device, name, call in self.calls:
+            good = self.good_for(device, name)
+            names = list(inspect.signature(getattr(device, name)).parameters)
+            result = getattr(device, name)(*(good[parameter] for parameter in names))
+            given.setdefault((type(device), name), set()).add(type(result))
+            if isinstance(result, tuple):
+                self.assertEqual(list(typing.get_type_hints(type(result)).values()), list(map(type, result)), name)
+        for (kind, name), types in given.items():
+            hint = typing.get_type_hints(getattr(kind, name))["return"]
+            hint = kind if isinstance(hint, typing.TypeVar) else hint
+            self.assertEqual(set(typing.get_args(hint) or (hint,)), types, name)
+
+    def test_a_state_has_the_types_that_it_is_annotated_with(self):
+        """Also one that was made of other numbers, such as Booleans, which JSON has as other values."""
+        one = [SerialState(*[True] * 9, in_buffer=bytearray(b"a")), RtcState(*[True] * 5, armed=1)]
+        for state in (SerialState(), RtcState(), Serial().state, Rtc().state, *one):
+            types = {name: type(value) for name, value in vars(state).items()}
+            self.assertEqual(typing.get_type_hints(type(state)), types)
 
 
 class Walks(unittest.TestCase):
@@ -428,6 +540,17 @@ class Walks(unittest.TestCase):
             self.assertEqual(form, Rtc.from_state(clock.state).to_bytes())
             seen.setdefault(tuple(fields), set()).add(armed)
         self.assertGreater(sum(len(armed) == 2 for armed in seen.values()), 50)
+
+
+class BoardCalls(unittest.TestCase):
+    def test_a_refused_command_is_no_call(self):
+        board = Board()
+        board.reply(parse(b"sq 61"))
+        before = board.number, board.snapshot()
+        for command in (Command("sr", (256,)), Command("sw", (7, -1)), Command("sq", ("a",)),
+                        Command("cr", (1 << 64, 0))):
+            self.assertRaises((TypeError, ValueError), board.reply, command)
+            self.assertEqual(before, (board.number, board.snapshot()))
 
 
 class Controller(unittest.TestCase):
@@ -540,6 +663,16 @@ class MovedStates(unittest.TestCase):
         for kind, state, text in texts:
             device = kind.from_state(state.from_vm_superio(json.loads(text)))
             self.assertEqual(text, json.dumps(device.state.to_vm_superio(), separators=(",", ":")))
+
+    def test_the_fields_are_the_callers_own(self):
+        for state in (SerialState(in_buffer=b"ab"), RtcState(1, 2), Serial().state, Rtc().state):
+            before, named = vars(state).copy(), state.to_vm_superio()
+            kept = copy.deepcopy(named)
+            self.assertEqual(state, type(state).from_vm_superio(named))
+            self.assertEqual(kept, named)
+            for name in named:
+                named[name] = None
+            self.assertEqual((before, kept), (vars(state), state.to_vm_superio()))
 
     def test_an_alarm_is_not_lost(self):
         clock = Rtc()

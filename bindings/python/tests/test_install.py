@@ -1,5 +1,9 @@
 """The package as pip installs it, and what every Python that it is for needs."""
 import ast
+import base64
+import builtins
+import hashlib
+import importlib
 import os
 import re
 import subprocess
@@ -12,10 +16,19 @@ from pathlib import Path
 
 from support import ENVIRONMENT, PACKAGE, ROOT, TIMEOUT
 
+import superio
 from superio import library
 
 SOURCES = sorted((PACKAGE / "superio").glob("*.py"))
 CLEAN = {name: value for name, value in ENVIRONMENT.items() if name not in ("PYTHONPATH", library.VARIABLE)}
+
+# What Python got after 3.8.
+NEWER = {"removeprefix", "removesuffix", "randbytes", "bit_count", "pairwise", "batched", "lcm", "nextafter", "unparse",
+         "is_relative_to", "with_stem", "to_thread", "aiter", "anext", "ExceptionGroup", "add_note", "StrEnum", "Self",
+         "TypeAlias", "TypeGuard", "Annotated", "ParamSpec", "Concatenate", "override", "assert_never", "chdir",
+         "file_digest", "hardlink_to", "zoneinfo", "tomllib", "graphlib", "cache", "UTC", "EnumType"}
+NEWER_ARGUMENTS = {"strict", "slots", "kw_only", "match_args", "weakref_slot", "root_dir", "ignore_cleanup_errors",
+                   "delete_on_close"}
 
 try:
     LIBRARY = library.open_library().path
@@ -27,6 +40,33 @@ class Sources(unittest.TestCase):
     def test_syntax_of_python_3_8(self):
         for path in [*SOURCES, PACKAGE / "build_wheel.py", ROOT / "superio"]:
             self.assertTrue(ast.parse(path.read_text(encoding="utf-8"), str(path), feature_version=(3, 8)))
+
+    def test_names_of_python_3_8(self):
+        """Nothing that came later, and no annotation that Python 3.8 cannot evaluate."""
+        for path in [*SOURCES, PACKAGE / "build_wheel.py", ROOT / "superio"]:
+            for node in ast.walk(ast.parse(path.read_text(encoding="utf-8"))):
+                name = node.attr if isinstance(node, ast.Attribute) else node.id if isinstance(node, ast.Name) else \
+                    node.name if isinstance(node, ast.alias) else None
+                self.assertNotIn(name, NEWER, path)
+                for argument in node.keywords if isinstance(node, ast.Call) else []:
+                    self.assertNotIn(argument.arg, NEWER_ARGUMENTS, f"{path}:{node.lineno}")
+                given = [node.annotation] if isinstance(node, (ast.arg, ast.AnnAssign)) else \
+                    [node.returns] if isinstance(node, ast.FunctionDef) else []
+                for part in [part for annotation in given if annotation for part in ast.walk(annotation)]:
+                    self.assertNotIsInstance(part, ast.BinOp, f"{path}:{node.lineno}")
+                    if isinstance(part, ast.Subscript) and isinstance(part.value, ast.Name):
+                        self.assertFalse(hasattr(builtins, part.value.id), f"{path}:{node.lineno}")
+
+    def test_public_names_are_there(self):
+        """Those of each module, and of the package all that it imports."""
+        for path in SOURCES:
+            if path.name != "__main__.py":
+                module = importlib.import_module("superio" if path.stem == "__init__" else f"superio.{path.stem}")
+                for name in module.__all__:
+                    self.assertTrue(hasattr(module, name), f"{path.name}: {name}")
+        body = ast.parse((PACKAGE / "superio" / "__init__.py").read_text(encoding="utf-8")).body
+        imported = [alias.name for node in body if isinstance(node, ast.ImportFrom) for alias in node.names]
+        self.assertEqual(sorted([*imported, "__version__"]), sorted(superio.__all__))
 
     @unittest.skipUnless(hasattr(sys, "stdlib_module_names"), "this Python does not list its library")
     def test_standard_library_alone(self):
@@ -75,7 +115,16 @@ class Wheel(unittest.TestCase):
         with zipfile.ZipFile(self.folder / name) as wheel:
             names = set(wheel.namelist())
             record = wheel.read(next(name for name in names if name.endswith("/RECORD"))).decode()
-        self.assertEqual(names, {line.split(",")[0] for line in record.splitlines()})
+            files = {name: wheel.read(name) for name in names}
+        rows = dict(line.split(",", 1) for line in record.splitlines())
+        self.assertEqual(names, set(rows))
+        for name, data in files.items():
+            digest = base64.urlsafe_b64encode(hashlib.sha256(data).digest()).decode().rstrip("=")
+            self.assertEqual("," if name.endswith("/RECORD") else f"sha256={digest},{len(data)}", rows[name], name)
+        package = {f"superio/{name}" for name in (*(path.name for path in SOURCES), "py.typed", library.FILE_NAME)}
+        self.assertEqual(package, {name for name in names if name.startswith("superio/")})
+        said = next(data for name, data in files.items() if name.endswith("/METADATA")).decode()
+        self.assertIn("\nRequires-Python: >=3.8\n", said)
         for path in SOURCES:
             self.assertIn(f"superio/{path.name}", names)
         for license in ("LICENSE", "LICENSES/Apache-2.0.txt", "LICENSES/BSD-3-Clause.txt"):

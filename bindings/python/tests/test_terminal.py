@@ -148,6 +148,13 @@ class Typing(ShellTest):
             self.assertIn("\x1b[1m", self.terminal.log)
             self.assertEqual("no command is called foo: help lists them\n", path.read_text())
 
+    def test_no_message_where_errors_are_closed(self):
+        self.terminal = Terminal(["/bin/sh", "-c", f"exec {sys.executable} -m superio 2>&-"], ENVIRONMENT)
+        self.terminal.read_until(PROMPT)
+        self.assertEqual("", self.answer("foo"))
+        self.assertEqual("00\n", self.answer("kr 04"))
+        self.end()
+
     def test_files_at_a_terminal(self):
         with tempfile.TemporaryDirectory() as folder:
             path = Path(folder, "lines")

@@ -218,6 +218,23 @@ class CommandLine(unittest.TestCase):
         self.assertNotIn("\x1b", output)
         self.assertEqual(0, run("view", "-", "--table", script=TRACE)[0])
 
+    def test_a_table_and_a_picture(self):
+        with tempfile.TemporaryDirectory() as folder:
+            both, alone = ([Path(folder, f"{kind}{name}") for name in ("table", "svg")] for kind in ("both-", ""))
+            self.assertEqual((0, "", ""), run("view", "-", "--table", both[0], "--svg", both[1], script=TRACE))
+            for option, path in zip(("--table", "--svg"), alone):
+                self.assertEqual((0, "", ""), run("view", "-", option, path, script=TRACE))
+            self.assertEqual(*([path.read_text() for path in paths] for paths in (both, alone)))
+
+    def test_numbers_that_are_none(self):
+        viewer = Viewer(steps_of(TRACE), "trace", io.StringIO(), Style(False))
+        for word in ("\u00b2", "-1", "1.5", "9" * 5000):
+            for line in (f"next {word}", f"back {word}", f"goto {word}"):
+                self.assertFalse(viewer.onecmd(line))
+        self.assertTrue(viewer.onecmd("quit"))
+        for row in (b"9" * 5000 + b" kr 04\n", b"\xb2 kr 04\n"):
+            self.assertRaises(BadLine, steps_of, row)
+
     def test_faults(self):
         self.assertEqual((1, "", '<stdin>:1: "sr": an offset is missing\n'), run("view", "-", script=b"sr\n"))
         self.assertEqual((1, "", "- has no call\n"), run("view", "-", script=b"# nothing\n"))

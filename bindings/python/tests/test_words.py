@@ -1,6 +1,7 @@
 """What people type: the commands that it means, what is said of it, and why it means none."""
 import io
 import os
+import re
 import signal
 import tempfile
 import unittest
@@ -10,8 +11,11 @@ from unittest import mock
 import support  # noqa: F401
 
 from superio import Command, Rtc, ScriptError, Serial
+from superio.commands import HELP
 from superio.faults import BadLine, FileFault, Leave
+from superio.registers import CLOCK, SERIAL
 from superio.session import Session
+from superio.tell import quoted
 from superio.words import characters
 
 NOW = 0x6553F100
@@ -91,6 +95,9 @@ FAULTS = [
     ("clock read", "the form is: clock read"),
     ("clock set DR 1", "the form is: clock read"),
     ("clock read DR noon", "noon is no moment"),
+    (f"clock read DR now+{1 << 64}", "is no number of seconds: it has 64 bits"),
+    (f"clock read DR now+{(1 << 64) - NOW}", "is no moment: it has 64 bits"),
+    ("clock read DR now+" + "9" * 5000, "is no number of seconds"),
     ("alarm +4294967295", "guest time has 32 bits"),
     (f"alarm +{(1 << 32) - NOW}", "guest time has 32 bits"),
     ("i8042 read", "the form is: i8042 read"),
@@ -334,6 +341,10 @@ class Words(SessionTest):
         self.said("alarm +5")
         self.assertIn("  alarm due in 5 s", self.said("regs clock"))
 
+    def test_what_is_quoted_can_be_typed(self):
+        for data in (bytes([one, other]) for one in range(256) for other in b"a0\\\"\xff"):
+            self.assertEqual(data, characters(quoted(data)))
+
     def test_characters(self):
         self.assertEqual(b'a"b', characters(r'"a\"b"'))
         self.assertEqual(b"\\", characters(r'"\\"'))
@@ -446,6 +457,13 @@ class Files(SessionTest):
 
 
 class Helping(SessionTest):
+    def test_help_names_the_registers_that_a_command_reaches(self):
+        for command, letter, table in (("read", "r", SERIAL), ("write", "w", SERIAL)):
+            named = re.findall(r"\b[A-Z]{3}\b", HELP[command].more.partition(", or an offset")[0])
+            self.assertEqual(sorted(name for name, one in table.items() if letter in one.access), sorted(named))
+        named = re.findall(r"\b[A-Z]{2,4}\b", HELP["clock"].more.partition("ID0")[0].partition("REGISTER is")[2])
+        self.assertEqual([name for name in CLOCK if not name.startswith("ID")], named)
+
     def test_help_names_every_command(self):
         listed = "\n".join(self.said("help"))
         for name in ("read", "write", "type", "timeout", "si", "regs", "why", "save", "source", "sr", "cw", "refuse", "quit"):
