@@ -1,7 +1,7 @@
 """Saved states: the bytes that a device is saved as, and why other bytes are refused."""
 from ctypes import byref, c_uint8
 from enum import IntEnum
-from typing import Any, Callable, Iterable, List, Tuple, Type, TypeVar, Union
+from typing import Any, Callable, Iterator, Tuple, Type, TypeVar
 
 from .checks import byte_string
 from .library import load
@@ -98,14 +98,19 @@ class Saved:
 def attributes_of(device: Any, base: type) -> Any:
     """The attributes that subclasses of `base` added, in the form that `copy` and `pickle` set them from."""
     kinds = type(device).__mro__[:type(device).__mro__.index(base)]
-    slots = [slot for kind in kinds for slot in _names(vars(kind).get("__slots__", ())) if hasattr(device, slot)]
+    slots = [slot for kind in kinds for slot in _slots_of(kind) if hasattr(device, slot)]
     named = getattr(device, "__dict__", None)
-    added = {slot: getattr(device, slot) for slot in slots if slot not in ("__dict__", "__weakref__")}
-    return (named, added) if added else named
+    return (named, {slot: getattr(device, slot) for slot in slots}) if slots else named
 
 
-def _names(slots: Union[str, Iterable[str]]) -> List[str]:
-    return [slots] if isinstance(slots, str) else list(slots)
+def _slots_of(kind: type) -> Iterator[str]:
+    """The slots that a class adds, by the names of their attributes."""
+    slots = vars(kind).get("__slots__", ())
+    for slot in [slots] if isinstance(slots, str) else slots:
+        if not slot.startswith("__"):
+            yield slot
+        elif not slot.endswith("__"):
+            yield f"_{kind.__name__.lstrip('_')}{slot}"
 
 
 def _restored(kind: Type[Saved], data: bytes) -> Saved:

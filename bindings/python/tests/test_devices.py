@@ -431,13 +431,21 @@ class NamedPort(Serial):
 
 
 class NamedClock(Rtc):
-    """A clock with a slot of its own."""
+    """A clock with slots of its own, of which one has no value."""
 
-    __slots__ = ("name",)
+    __slots__ = ("__name", "unset")
 
     def __init__(self, name):
         super().__init__()
         self.name = name
+
+    @property
+    def name(self):
+        return self.__name
+
+    @name.setter
+    def name(self, name):
+        self.__name = name
 
 
 class NamedController(I8042):
