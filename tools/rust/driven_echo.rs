@@ -1,7 +1,7 @@
 
 /// Drives the machine from standard input, by the lines w, r, i and h of tools/c/tests/demo.c. After each it prints whether
 /// the guest was interrupted, and how much room there is.
-fn main() -> Result<(), PortError> {
+fn main() -> io::Result<()> {
     let mut machine = Machine::new();
     let mut is_interrupted = false;
     for line in io::stdin().lock().lines() {
@@ -10,8 +10,8 @@ fn main() -> Result<(), PortError> {
         let numbers: Vec<usize> = numbers.split_whitespace().map(|it| usize::from_str_radix(it, 16).unwrap()).collect();
         match (word, &numbers[..]) {
             ("w", [port, value]) => machine.write((port - 0x3F8) as u8, *value as u8)?,
-            ("r", [port]) => println!("{:02x}", machine.read((port - 0x3F8) as u8)?),
-            ("i", [count, byte]) => machine.input(&vec![*byte as u8; *count])?,
+            ("r", [port]) => println!("{:02x}", machine.read((port - 0x3F8) as u8)),
+            ("i", [count, byte]) => machine.input(&vec![*byte as u8; *count]),
             _ => {
                 machine.line.0.set(std::mem::take(&mut is_interrupted));
                 while machine.line.0.replace(false) {

@@ -10,7 +10,7 @@ use std::io::{self, BufRead, Stdout};
 use std::rc::Rc;
 
 use vm_superio::serial::timeout::CharacterTimeout;
-use vm_superio::serial::NoEvents;
+use vm_superio::serial::{Error, NoEvents};
 use vm_superio::{Serial, Trigger};
 
 const DATA: u8 = 0;
@@ -37,67 +37,72 @@ impl Trigger for Line {
     }
 }
 
-type PortError = vm_superio::serial::Error<Infallible>;
-
-/// The monitor: the port, its interrupt line, and input that the FIFO had no room for yet.
+/// The monitor: the port, its interrupt line, input that the FIFO had no room for yet, and whether to ask for a refused
+/// interrupt again. This line refuses none, but an eventfd may.
 struct Machine {
     port: Serial<Line, NoEvents, Stdout>,
     line: Line,
     waiting: VecDeque<u8>,
+    must_retry: bool,
 }
 
 impl Machine {
     fn new() -> Machine {
         let line = Line::default();
-        Machine { port: Serial::new(line.clone(), io::stdout()), line, waiting: VecDeque::new() }
+        Machine { port: Serial::new(line.clone(), io::stdout()), line, waiting: VecDeque::new(), must_retry: false }
     }
 
-    /// Offers the input that waits, once: a guest need not read, and takes nothing while it is in loopback.
-    fn offer(&mut self) -> Result<(), PortError> {
-        if !self.waiting.is_empty() && self.port.fifo_capacity() > 0 {
-            let taken = self.port.enqueue_raw_bytes(self.waiting.make_contiguous())?;
-            self.waiting.drain(..taken);
+    /// Offers the input that waits, once: a guest need not read, and takes nothing while it is in loopback. The port has
+    /// taken bytes also if the interrupt was refused.
+    fn offer(&mut self) {
+        let room = self.port.fifo_capacity();
+        if !self.waiting.is_empty() && room > 0 {
+            self.must_retry |= self.port.enqueue_raw_bytes(self.waiting.make_contiguous()).is_err();
+            self.waiting.drain(..room - self.port.fifo_capacity());
         }
-        Ok(())
     }
 
     /// The guest reads a register. Bytes that it has left in the FIFO interrupt it again once it has read that nothing
     /// is pending: a monitor that leaves this out leaves such bytes, and the guest, waiting.
-    fn read(&mut self, offset: u8) -> Result<u8, PortError> {
+    fn read(&mut self, offset: u8) -> u8 {
         let value = self.port.read(offset);
         if offset == DATA && self.port.fifo_capacity() == FIFO_SIZE {
-            self.offer()?;
+            self.offer();
         }
         if offset == INTERRUPT_IDENTIFICATION && value & 1 != 0 {
-            self.port.character_timeout()?;
+            self.must_retry |= self.port.character_timeout().is_err();
         }
-        Ok(value)
+        value // the guest has read it, whatever the line answered
     }
 
     /// The guest writes a register. A write to MCR may have ended loopback.
-    fn write(&mut self, offset: u8, value: u8) -> Result<(), PortError> {
-        self.port.write(offset, value)?;
+    fn write(&mut self, offset: u8, value: u8) -> io::Result<()> {
+        match self.port.write(offset, value) {
+            Err(Error::IOError(fault)) => return Err(fault),
+            written => self.must_retry |= written.is_err(),
+        }
         if offset == MODEM_CONTROL {
-            self.offer()?;
+            self.offer();
         }
         Ok(())
     }
 
-    /// What the event loop does when input has arrived. A monitor bounds what waits.
-    fn input(&mut self, bytes: &[u8]) -> Result<(), PortError> {
+    /// A turn of the event loop, with the input that has arrived. A monitor bounds what waits.
+    fn input(&mut self, bytes: &[u8]) {
         self.waiting.extend(bytes);
-        self.offer()?;
-        self.port.character_timeout()
+        self.must_retry = self.must_retry && self.port.retry_interrupts().is_err();
+        self.offer();
+        self.must_retry |= self.port.character_timeout().is_err();
     }
 
     /// The guest's interrupt handler, as drivers of a 16550 have it.
-    fn handle_interrupt(&mut self) -> Result<(), PortError> {
-        while self.read(INTERRUPT_IDENTIFICATION)? & 1 == 0 {
+    fn handle_interrupt(&mut self) -> io::Result<()> {
+        while self.read(INTERRUPT_IDENTIFICATION) & 1 == 0 {
             for _ in 0..MOST {
-                if self.read(LINE_STATUS)? & 1 == 0 {
+                if self.read(LINE_STATUS) & 1 == 0 {
                     break;
                 }
-                let byte = self.read(DATA)?.to_ascii_uppercase();
+                let byte = self.read(DATA).to_ascii_uppercase();
                 self.write(DATA, byte)?;
             }
         }
@@ -105,11 +110,11 @@ impl Machine {
     }
 }
 
-fn main() -> Result<(), Box<dyn std::error::Error>> {
+fn main() -> io::Result<()> {
     let mut machine = Machine::new();
     machine.write(INTERRUPT_ENABLE, 0x01)?; // the guest's driver starts
     for typed in io::stdin().lock().lines() {
-        machine.input(format!("{}\n", typed?).as_bytes())?;
+        machine.input(format!("{}\n", typed?).as_bytes());
         while machine.line.0.replace(false) {
             machine.handle_interrupt()?;
         }

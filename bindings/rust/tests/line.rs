@@ -1,7 +1,6 @@
 //! The interrupt line as edges and as a level, under models of both kinds of interrupt controller.
 use std::cell::Cell;
-use std::convert::Infallible;
-use std::io::{self, Sink};
+use std::io::{self, ErrorKind, Sink};
 
 use vm_superio::serial::line::InterruptLine;
 use vm_superio::serial::timeout::CharacterTimeout;
@@ -11,51 +10,73 @@ use vm_superio::{Serial, SerialState, Trigger};
 const RDA: u8 = 0x04;
 const THRE: u8 = 0x02;
 
-type PortError = Error<Infallible>;
+type PortError = Error<io::Error>;
 
 /// A monitor with its guest's interrupt controller.
 trait Board {
-    fn read(&mut self, offset: u8) -> Result<u8, PortError>;
+    fn read(&mut self, offset: u8) -> u8;
     fn write(&mut self, offset: u8, value: u8) -> Result<(), PortError>;
     fn enqueue(&mut self, bytes: &[u8]) -> Result<usize, PortError>;
     /// Whether the controller interrupts the guest now.
     fn is_interrupted(&mut self) -> bool;
 }
 
-/// A controller for edges keeps that there was a pulse.
+/// A controller for edges keeps that there was a pulse. An eventfd whose counter is full refuses one.
 #[derive(Default)]
-struct Pulse(Cell<bool>);
+struct Pulse {
+    came: Cell<bool>,
+    refusals: Cell<usize>,
+}
 
 impl Trigger for Pulse {
-    type E = Infallible;
+    type E = io::Error;
 
-    fn trigger(&self) -> Result<(), Infallible> {
-        self.0.set(true); // a monitor writes to an eventfd
+    fn trigger(&self) -> io::Result<()> {
+        if let Some(left) = self.refusals.get().checked_sub(1) {
+            self.refusals.set(left);
+            return Err(ErrorKind::WouldBlock.into());
+        }
+        self.came.set(true); // a monitor writes to an eventfd
         Ok(())
     }
 }
 
-struct Edges(Serial<Pulse, NoEvents, Sink>);
+struct Edges {
+    port: Serial<Pulse, NoEvents, Sink>,
+    must_retry: bool,
+}
+
+impl Edges {
+    fn new() -> Edges {
+        Edges { port: Serial::new(Pulse::default(), io::sink()), must_retry: false }
+    }
+
+    /// A turn of the event loop.
+    fn turn(&mut self) {
+        let retried = if self.must_retry { self.port.retry_interrupts() } else { Ok(()) };
+        self.must_retry = retried.is_err() || self.port.character_timeout().is_err();
+    }
+}
 
 impl Board for Edges {
-    fn read(&mut self, offset: u8) -> Result<u8, PortError> {
-        let value = self.0.read(offset);
-        if offset == 2 && value & 0x01 != 0 {
-            self.0.character_timeout()?;
+    fn read(&mut self, offset: u8) -> u8 {
+        let value = self.port.read(offset);
+        if offset == 2 && value & 0x01 != 0 && self.port.character_timeout().is_err() {
+            self.must_retry = true; // by `retry_interrupts` in the next turn
         }
-        Ok(value)
+        value // the guest has read it, whatever the trigger answered
     }
 
     fn write(&mut self, offset: u8, value: u8) -> Result<(), PortError> {
-        self.0.write(offset, value)
+        self.port.write(offset, value)
     }
 
     fn enqueue(&mut self, bytes: &[u8]) -> Result<usize, PortError> {
-        self.0.enqueue_raw_bytes(bytes)
+        self.port.enqueue_raw_bytes(bytes)
     }
 
     fn is_interrupted(&mut self) -> bool {
-        self.0.interrupt_evt().0.replace(false)
+        self.port.interrupt_evt().came.replace(false)
     }
 }
 
@@ -63,9 +84,9 @@ impl Board for Edges {
 struct NoPulse;
 
 impl Trigger for NoPulse {
-    type E = Infallible;
+    type E = io::Error;
 
-    fn trigger(&self) -> Result<(), Infallible> {
+    fn trigger(&self) -> io::Result<()> {
         Ok(())
     }
 }
@@ -84,12 +105,12 @@ impl Level {
 }
 
 impl Board for Level {
-    fn read(&mut self, offset: u8) -> Result<u8, PortError> {
+    fn read(&mut self, offset: u8) -> u8 {
         let value = self.port.read(offset);
         if offset == 2 && value & 0x01 != 0 {
-            self.port.character_timeout()?;
+            let _ = self.port.character_timeout(); // whose trigger does nothing
         }
-        self.set_line(Ok(value))
+        self.set_line(value)
     }
 
     fn write(&mut self, offset: u8, value: u8) -> Result<(), PortError> {
@@ -108,9 +129,8 @@ impl Board for Level {
 }
 
 fn boards() -> [Box<dyn Board>; 2] {
-    let edges = Edges(Serial::new(Pulse::default(), io::sink()));
     let level = Level { port: Serial::new(NoPulse, io::sink()), line: false };
-    [Box::new(edges), Box::new(level)]
+    [Box::new(Edges::new()), Box::new(level)]
 }
 
 /// What a guest receives of a paste that takes at most `most` bytes for each look at IIR.
@@ -120,10 +140,10 @@ fn received(board: &mut dyn Board, paste: &[u8], most: usize) -> Vec<u8> {
     while offered < paste.len() {
         offered += board.enqueue(&paste[offered..]).unwrap();
         while board.is_interrupted() {
-            while board.read(2).unwrap() & 0x01 == 0 {
+            while board.read(2) & 0x01 == 0 {
                 for _ in 0..most {
-                    if board.read(5).unwrap() & 0x01 != 0 {
-                        received.push(board.read(0).unwrap());
+                    if board.read(5) & 0x01 != 0 {
+                        received.push(board.read(0));
                     }
                 }
             }
@@ -140,6 +160,24 @@ fn pastes_arrive_whole_by_edges_and_by_levels() {
             assert_eq!(received(board.as_mut(), &paste, most), paste, "{most} bytes at a look");
         }
     }
+}
+
+#[test]
+fn a_guest_reads_its_byte_and_is_interrupted_later_if_the_timeout_is_refused() {
+    let mut edges = Edges::new();
+    edges.write(1, 0x01).unwrap();
+    edges.enqueue(b"ab").unwrap();
+    assert!(edges.is_interrupted());
+    edges.port.interrupt_evt().refusals.set(2);
+
+    let refused = [edges.read(2), edges.read(0), edges.read(2)];
+    assert_eq!((refused, edges.is_interrupted()), ([0xc4, b'a', 0xc1], false));
+    let interrupted = [(); 3].map(|()| {
+        edges.turn();
+        edges.is_interrupted()
+    });
+    assert_eq!(interrupted, [false, true, false]);
+    assert_eq!([edges.read(2), edges.read(0), edges.read(2)], [0xc4, b'b', 0xc1]);
 }
 
 /// The guest masks THRE while it is pending, and unmasks it. That makes no edge, since the first one was made.

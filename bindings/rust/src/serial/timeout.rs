@@ -13,7 +13,8 @@ use crate::Trigger;
 /// # When to make the call
 ///
 /// Make it after each guest read of offset 2 whose answer has bit 0x01 (none pending), and once in each turn of your
-/// event loop. Where DLAB is set or loopback is on, the same call does no harm.
+/// event loop. Where DLAB is set or loopback is on, the same call does no harm. If the trigger refuses, the guest has read
+/// the value all the same: return it, and call [`retry_interrupts`](Serial::retry_interrupts) in the next turn.
 ///
 /// # Example
 ///
@@ -40,13 +41,11 @@ use crate::Trigger;
 ///
 /// type Port = Serial<Interrupt, NoEvents, Vec<u8>>;
 ///
-/// /// The guest reads at `offset` from the port's base.
-/// fn guest_reads(port: &mut Port, offset: u8) -> Result<u8, Error<Infallible>> {
+/// /// The guest reads at `offset` from the port's base. The result says whether to retry in the next turn, too.
+/// fn guest_reads(port: &mut Port, offset: u8) -> (u8, bool) {
 ///     let value = port.read(offset);
-///     if offset == 2 && value & 0x01 != 0 {
-///         port.character_timeout()?;
-///     }
-///     Ok(value)
+///     let is_refused = offset == 2 && value & 0x01 != 0 && port.character_timeout().is_err();
+///     (value, is_refused)
 /// }
 ///
 /// let mut port = Serial::new(Interrupt::default(), Vec::new());
@@ -55,8 +54,8 @@ use crate::Trigger;
 ///
 /// let mut received = Vec::new();
 /// while port.interrupt_evt().0.replace(false) {
-///     while guest_reads(&mut port, 2)? & 0x01 == 0 {
-///         received.push(guest_reads(&mut port, 0)?);
+///     while guest_reads(&mut port, 2).0 & 0x01 == 0 {
+///         received.push(guest_reads(&mut port, 0).0);
 ///     }
 /// }
 /// assert_eq!(received, b"abc");
