@@ -6,6 +6,7 @@ What a random script expects is what a second monitor does, that of `twin.py`.
 import random
 import shutil
 
+from header import read_header
 from programs import DEMO, TESTS
 from tally import run
 from twin import COM1, Edges, Level, Monitor, different_scripts, random_cases, shown
@@ -16,7 +17,8 @@ from saved_bytes import CLOCK_SIZE  # noqa: E402
 WRAPPED = [f"-Wl,--wrap=superio_{name}" for name in ("abi", "serial_load", "rtc_load")]
 WRONG = TESTS / "wrong-demos.edits"
 CLOCK_IS_OFF = "clock: line down, no alarm"
-
+# What a load may give beside 0, each of which a monitor has to notice.
+LOAD_FAULTS = [number for name, number in read_header().constants.items() if name.startswith("SUPERIO_LOAD_") and number]
 
 # How many random scripts there are of each monitor.
 SCRIPTS, SCRIPTS_OF_LINES = 300, 40
@@ -78,9 +80,14 @@ CASES = [
       "received 1"], 0),
     ("a move of a guest that polls", ["e", "g", "i 1 78", "r 3f8"],
      [f"moved 17 and {CLOCK_SIZE} bytes, and 0 of input", CLOCK_IS_OFF, "78"], 0),
-    ("a load of the port that fails", ["i 1 78", "f 1", "g", "r 61"], ["loading the serial port failed"], 1),
-    ("a load of the clock that fails", ["i 1 78", "f 2", "g", "r 61"], ["loading the clock failed"], 1),
+    *((f"a load of {device} that gives {fault}", ["i 1 78", f"f {which} {fault}", "g", "r 61"],
+       [f"loading {device} failed"], 1)
+      for which, device in ((1, "the serial port"), (2, "the clock")) for fault in LOAD_FAULTS),
+    ("a write between two registers, one of them the start, finds an alarm", ["m 10 1", "m 4 424", "n 424", "m d 1"],
+     [CLOCK_IS_OFF, "clock: line down, alarm in 60 s", "clock: line up, no alarm"], 0),
 ]
+# The same of lines.c as a level: masked and unmasked, which asks for no interrupt, THRE takes the line down and up.
+CASES_OF_LEVEL = [("the line moves without being asked for", ["w 3f9 2", "w 3f9 0", "w 3f9 2"], [" 1 64", " 0 64", " 1 64"], 0)]
 # Its own main, over a library of an older or a newer interface.
 OTHER_LIBRARY = (1, "the comparison of header and library failed\n")
 
@@ -96,8 +103,8 @@ def differences(program, seed=0):
 
 def differences_of_lines(program, seed=0):
     """The same of lines.c, as edges and as a level."""
-    for words, monitor in (([], Edges), (["level"], Level)):
-        yield from different_scripts([program, *words], random_cases(monitor, SCRIPTS_OF_LINES, seed))
+    for words, monitor, fixed in (([], Edges, ()), (["level"], Level, CASES_OF_LEVEL)):
+        yield from different_scripts([program, *words], (*fixed, *random_cases(monitor, SCRIPTS_OF_LINES, seed)))
 
 
 # The driver of each, and what finds its differences.
@@ -121,7 +128,7 @@ def check_driven_demo(tally, machine, folder):
         tally.tried.leave_out("wrong demos")
         return
     program, place = folder / "driven", folder / "wrong-demo"
-    for file, cases, scripts in (("monitor.c", len(CASES) + 2, SCRIPTS), ("lines.c", 1, 2 * SCRIPTS_OF_LINES)):
+    for file, cases, scripts in (("monitor.c", len(CASES) + 2, SCRIPTS), ("lines.c", len(CASES_OF_LEVEL), 2 * SCRIPTS_OF_LINES)):
         if tally.run(f"the driven {file} is built", build(machine, compiler, DEMO, program, file), number=0):
             found = list(DRIVEN[file][2](program, random.randrange(10**9)))
             tally.check(not found, "\n".join(found[:3]), cases)

@@ -5,6 +5,8 @@ docs/THREATS.md.
 """
 import random
 import subprocess
+import tempfile
+import threading
 from functools import lru_cache
 
 from oracle import CLOCK, SERIAL, Clock, Port, resets
@@ -13,6 +15,8 @@ from saved_bytes import CLOCK_SIZE
 COM1 = 0x3F8
 RBR, IER, IIR, MCR, LSR = (SERIAL[name].offset for name in ("RBR", "IER", "IIR", "MCR", "LSR"))
 MOST_INPUT, MOST_LINES = 127, 80
+# How long a script may take, in seconds, and how much more it may print than it should, before the program is ended.
+LIMIT, MORE = 20, 4000
 IS_MASKED = CLOCK["MIS"].offset
 # Moments and matches at which a number of fewer bits, or with a sign, would be another.
 EDGES = (0, 1, 2**16, 2**31 - 1, 2**31, 2**32 - 1)
@@ -319,10 +323,26 @@ def random_cases(monitor, count, seed):
             for number, script in enumerate(scripts)]
 
 
+def run_bounded(command, given, most):
+    """The status of a program, and of what it prints so many bytes at most. It is ended if it prints more, or does not end."""
+    with tempfile.TemporaryFile() as script:
+        script.write(given)
+        script.seek(0)
+        with subprocess.Popen(command, stdin=script, stdout=subprocess.PIPE, stderr=subprocess.STDOUT) as process:
+            timer = threading.Timer(LIMIT, process.kill)
+            timer.start()
+            printed = process.stdout.read(most)
+            if len(printed) == most:
+                process.kill()
+            process.wait()
+            timer.cancel()
+    return process.returncode, printed
+
+
 def different_scripts(command, cases):
     """The names of the cases in which a program does something else."""
     for name, lines, printed, status in cases:
         given, wanted = ("".join(f"{line}\n" for line in text).encode("latin-1") for text in (lines, printed))
-        ran = subprocess.run(command, input=given, stdout=subprocess.PIPE, stderr=subprocess.STDOUT)
-        if (ran.returncode, ran.stdout) != (status, wanted):
-            yield f"{name}: status {ran.returncode}\n{ran.stdout[-2000:].decode('latin-1')}"
+        ended, got = run_bounded(command, given, len(wanted) + MORE)
+        if (ended, got) != (status, wanted):
+            yield f"{name}: status {ended}\n{got[-2000:].decode('latin-1')}"

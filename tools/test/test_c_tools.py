@@ -7,10 +7,12 @@ import shutil
 import subprocess
 import sys
 import unittest
+from unittest import mock
 
 from repository import ROOT, CopyTest
 
 sys.path.append(str(ROOT / "tools" / "c"))
+import twin  # noqa: E402
 from libraries import SHARED, STATIC  # noqa: E402
 
 TARGETS = ("aarch64-linux", "x86_64-linux")
@@ -146,6 +148,15 @@ class Pasting(CopyTest):
     def test_too_few_pastes_are_noticed(self):
         self.change("tools/c/tests/pastes.c", "PASTES = 10000", "PASTES = 9990")
         self.assertEqual(self.paste(), (1, [0, 0, 0]))
+
+
+class Scripts(unittest.TestCase):
+    def test_a_monitor_that_differs_prints_on_or_does_not_end_is_found(self):
+        cases = [("it", ["r 3fd"], ["r 3fd"], 0)]
+        for command, is_good in (("cat", True), ("cat; echo", False), ("cat; exit 1", False), ("true", False),
+                                 ("head -c 3", False), ("cat; yes", False), ("cat; exec sleep 600", False)):
+            with mock.patch.object(twin, "LIMIT", 2):
+                self.assertEqual(list(twin.different_scripts(["sh", "-c", command], cases)) == [], is_good, command)
 
 
 class Building(CopyTest):

@@ -8,7 +8,7 @@
  *   d DOWN           the interrupt line takes nothing, or takes requests again
  *   n SECONDS        the time                     a              the alarm's timer goes off
  *   t                a turn of the event loop     h              the guest's handler runs while it is interrupted
- *   g                the machine moves            f WHICH        later loads of the port (1) or the clock (2) fail
+ *   g                the machine moves            f WHICH HOW    later loads of the port (1) or the clock (2) give HOW
  *   e                input is offered although the guest is not ready
  *
  * With an argument it runs the monitor's own `main`, over a library whose binary interface differs by that number.
@@ -18,6 +18,7 @@
 #undef main
 
 static unsigned failing;
+static uint32_t fault;
 static int difference;
 
 /* The linker gives the calls of the monitor to these, by its option --wrap. */
@@ -33,11 +34,11 @@ uint32_t __wrap_superio_abi(void) {
 }
 
 uint32_t __wrap_superio_serial_load(superio_serial *port, const uint8_t *bytes, size_t count) {
-    return __real_superio_serial_load(port, bytes, failing == 1 ? count - 1 : count);
+    return failing == 1 ? fault : __real_superio_serial_load(port, bytes, count);
 }
 
 uint32_t __wrap_superio_rtc_load(superio_rtc *clock, const uint8_t *bytes, size_t count) {
-    return __real_superio_rtc_load(clock, bytes, failing == 2 ? count - 1 : count);
+    return failing == 2 ? fault : __real_superio_rtc_load(clock, bytes, count);
 }
 
 static void run_handler(struct machine *machine) {
@@ -68,7 +69,10 @@ static void serve(struct machine *machine, char word, long long first, long long
     case 'h': run_handler(machine); break;
     case 'g': *machine = migrate(machine); break;
     case 'e': machine->feeds_early = true; break;
-    case 'f': failing = (unsigned)first; break;
+    case 'f':
+        failing = (unsigned)first;
+        fault = (uint32_t)second;
+        break;
     default: check(false, "a word of no form");
     }
 }
