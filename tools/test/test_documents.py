@@ -192,6 +192,13 @@ class Excerpts(CopyTest):
         fault, = faults_of(self.run_tool("tools/checks/excerpts"))
         self.assertRegex(fault, r"^docs/c.md:\d+: monitor.c has no line 'return done.bytes;' there$")
 
+    def test_lines_in_another_order_are_missing(self):
+        (self.root / "one.c").write_text("one;\nanother;\nmore;\n", encoding="utf-8")
+        for lines, missing in (("one;\n    more;", ""), ("more;\none;", "one;"), ("one;\none;", "one;")):
+            (self.root / "README.md").write_text(f"Of [it](one.c):\n\n```c\n{lines}\n```\n", encoding="utf-8")
+            says = [f"README.md:4: one.c has no line '{missing}' there"] * bool(missing)
+            self.assertEqual(faults_of(self.run_tool("tools/checks/excerpts")), says)
+
 
 class Differences(CopyTest):
     def setUp(self):
