@@ -98,6 +98,10 @@ class Names(CopyTest):
                   f"{proofs}: vm_superio::serial::Serial::fifo_capacity: room_and_held is not named"]),
                 ("crates/superio_c/src/serial.rt", "ensures pending {", "ensures waiting {",
                  [f"{proofs}: superio_c::serial::superio_serial_character_timeout: waiting is not named"]),
+                ("docs/WRONG-BODIES.md", "| `dropped` |\n| a dropped", "| `alarm` |\n| a dropped",
+                 ["docs/WRONG-BODIES.md: crates/superio_tests/src has no module alarm"]),
+                (proofs, "`sending`; `errors`;", "`serial`; `errors`;",
+                 [f"{proofs}: crates/superio_tests/src has no module serial"]),
                 ("crates/vm_superio/CALLING.md", "| | `data` |", "| | `date` |",
                  ["crates/vm_superio/CALLING.md: vm_superio::serial::Serial::read has no clause date"])):
             with self.subTest(new):
@@ -149,13 +153,15 @@ class Names(CopyTest):
 class Facts(CopyTest):
     def setUp(self):
         super().setUp()
-        self.take("README.md", "bindings", "crates/superio_core/specs", "docs", "include")
+        self.take("README.md", "CONTRIBUTING.md", "bindings", "crates", "docs", "examples/rust", "include", "prebuilt",
+                  "tools/test")
 
     def test_sound(self):
         self.assertEqual(faults_of(self.run_tool("tools/checks/facts")), [])
 
     def test_a_changed_number_is_noticed(self):
         specs, python = "crates/superio_core/specs", "bindings/python/superio"
+        proofs, bodies = "docs/PROOFS.md", "docs/WRONG-BODIES.md"
         for name, old, new, says in (
                 (f"{specs}/Serial/Port/Bits.antt", "mcr_loop_bit = 0x10", "mcr_loop_bit = 0x20", "MCR LOOP is 16, and 32"),
                 (f"{specs}/Serial/Port/Registers.antt", "iir_bit Rda = 0x04", "iir_bit Rda = 0x08", "IIR RDA is 4, and 8"),
@@ -172,12 +178,34 @@ class Facts(CopyTest):
                 ("docs/DEVICES.md", "0x0D 0xF0 0x05", "0x0D 0xF1 0x05", "5 is F1, and F0"),
                 ("bindings/js/superio.mjs", "FIFO_SIZE = 64", "FIFO_SIZE = 63", "bytes held is [63], and [64]"),
                 ("bindings/js/page/why.mjs", "0xFE at offset 4", "0xFE at offset 5", "reset is [5, 254], and [4, 254]"),
-                ("tools/c/tests/model.c", "{0x31, 0x10,", "{0x31, 0x11,", "1 is 11, and 10")):
+                ("tools/c/tests/model.c", "{0x31, 0x10,", "{0x31, 0x11,", "1 is 11, and 10"),
+                ("include/superio.h", "0x01 is data ready", "0x01 is XX", "LSR XX is 1, and None"),
+                ("README.md", "(offset 2: IIR", "(offset 3: IIR", "IIR is [(3, 1)], and [(2, 1)]"),
+                ("README.md", "Rust 1.63+", "Rust 1.60+", "Rust is [(1, 60)], and [(1, 63)]"),
+                ("README.md", "Python 3.8+", "Python 3.7+", "Python is [(3, 7)], and [(3, 8)]"),
+                ("README.md", "(9 kB", "(90 kB", "libsuperio_c.a is [(90,)], and [(9,)]"),
+                ("docs/RELEASE.md", "| shared library | 8 kB", "| shared library | 9 kB", "so.3 is [(9,)], and [(8,)]"),
+                (proofs, "in at most 81 bytes", "in at most 82 bytes", "bytes is [(82,)], and [(81,)]"),
+                (proofs, "`state` saves the ten", "`state` saves the nine", "SerialState is [(9,), (10,)], and [(10,)]"),
+                (proofs, "the version at place 5", "the version at place 4", "version is [(4,)], and [(5,)]"),
+                (proofs, "at 0x020 to 0xFDF", "at 0x020 to 0xFE0", "addresses is [(32, 4064)], and [(32, 4063)]"),
+                (proofs, "10,000 random", "20,000 random", "pastes is [(20000,)], and [(10000,)]"),
+                (proofs, "does in 50 million", "does in 5 million", "calls is [(5000000,)], and [(50000000,)]"),
+                (proofs, "lists to 300", "lists to 400", "lists is [(400, 65536)], and [(300, 65536)]"),
+                (bodies, "first twelve", "first eleven", "allocations is [('eleven',)], and [(12,)]"),
+                (bodies, "At least 3 of", "At least 5 of", "cases is [(5, 500, 3, 500)], and [(3, 500, 3, 500)]"),
+                (bodies, "621 turns", "612 turns", "turns is [(612,)], and [(621,)]"),
+                (bodies, "check` plants ten", "check` plants four", "monitors is [(4,)], and [(10,)]"),
+                ("docs/SCRIPT.md", "at most 65,536 bytes", "at most 65,535 bytes", "bytes is [(65535,), (65536,)]")):
             with self.subTest(says):
+                path = self.root / name
+                kept = path.read_text(encoding="utf-8")
                 self.change(name, old, new)
                 faults = faults_of(self.run_tool("tools/checks/facts"))
+                path.write_text(kept, encoding="utf-8")
+                # Another definition may have another number of turns.
+                faults = [fault for fault in faults if ": turns: " not in fault or says in fault]
                 self.assertTrue(faults and all(says in fault for fault in faults), faults)
-                self.change(name, new, old) if new else self.change(name, "is_readable Reserved", f"{old}is_readable Reserved")
 
     def test_a_fact_that_is_lost_is_tried_no_more(self):
         self.change("docs/DEVICES.md", "| 7 | any | SCR | SCR | 0x00 |\n", "")
