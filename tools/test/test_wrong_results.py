@@ -20,9 +20,10 @@ import tiny
 from repository import ROOT, CopyTest
 from test_check import TOOLS, module_of
 
-sys.path[:0] = [str(TOOLS / folder) for folder in ("c", "js", "page", "packages")]
+sys.path[:0] = [str(TOOLS / folder) for folder in ("c", "js", "kvm", "page", "packages")]
 import demo  # noqa: E402
 import licenses  # noqa: E402
+import misuse  # noqa: E402
 import programs  # noqa: E402
 from failing import Call, Ran  # noqa: E402
 from machines import machines  # noqa: E402
@@ -32,6 +33,7 @@ failing_io, first_crate, hostile, refused_memory, saved_forms = map(
     module_of, map("checks/{}".format, ("failing_io", "first_crate", "hostile", "refused_memory", "saved_forms")))
 rust_check, js_check, page_check = map(module_of, ("rust/check", "js/check", "page/check"))
 c_check, packages_check = map(module_of, ("c/check", "packages/check"))
+kvm_check = module_of("kvm/check")
 # A program that prints its script, and others that differ from it in one thing.
 RIGHT, STATUS = "cat", "cat; exit 1"
 WRONG = ("sed 's/4$/5/'", "cat; echo", "sed '$d'", "cat; echo fault >&2", STATUS, "true")
@@ -113,6 +115,8 @@ class Programs(CopyTest):
         tools = {"PATH": str(Path(shutil.which("cc")).parent)}
         passed, failed = sum_of(self.run_tool("tools/checks/calls", self.program(MONITOR), env=tools)[1])
         self.assertIn((passed, failed), [(36, 0), (45, 0)])  # with Cargo beside cc there is a library more
+        ends_badly = self.program(f"{MONITOR}sys.exit(1)\n")
+        self.assertEqual(sum_of(self.run_tool("tools/checks/calls", ends_badly, env=tools)[1]), (passed - 9, 9))
         for path in folder.glob("*.txt*"):
             pack, unpack = (lzma.compress, lzma.decompress) if path.suffix == ".xz" else (bytes, bytes)
             before, equals, after = unpack(path.read_bytes()).rpartition(b" = ")
@@ -283,6 +287,82 @@ class Runs(unittest.TestCase):
                                          RUNTIMES={"node": []}), mock.patch.object(tally, "has", return_value=True):
                     silently(check, tally)
                 self.assertEqual((tally.passed, tally.failed), (is_good, not is_good))
+
+    def judge_package(self, of_evaluated, said, declared):
+        """How much fails of the package, by what Node gives for an expression with some text, by what the package says of
+        another interface, and by what superio.d.ts declares."""
+        def evaluated(expression):
+            return next(value for text, value in of_evaluated.items() if text in expression)
+        tally, ran = Tally(), mock.Mock(side_effect=lambda command, **_: subprocess.CompletedProcess(
+            "node", 1, said.format(abi, *re.findall(r"\d+", command[-1]))))
+        abi = js_check.read_header().constants["SUPERIO_ABI"]
+        with mock.patch.multiple(js_check, evaluated=evaluated, run=ran, declared=declared.items), \
+                mock.patch.object(tally, "has", return_value=True):
+            silently(js_check.check_package, tally)
+        return tally.failed
+
+    def test_the_package_of_javascript(self):
+        serial, clock = map(js_check.table, (js_check.SERIAL, js_check.CLOCK))
+        device = {"extends": "", "constructor": [[], "Rtc"], "read": [["offset"], "number"]}
+        right = {"Module.imports": [], "registers.SERIAL": serial, "registers.CLOCK": clock,
+                 js_check.OWN: {"Rtc": device}}
+        said, declared = "interface {}, and this package is for {}", {"Rtc": dict(device)}
+        self.assertEqual(self.judge_package(right, said, declared), 0)
+        for text, wrong in (("Module.imports", ["memory"]), ("registers.SERIAL", clock), ("registers.CLOCK", serial),
+                            (js_check.OWN, {"Rtc": {**device, "read": [[], "number"]}}),
+                            (js_check.OWN, {"Rtc": {**device, "write": [[], "number"]}})):
+            self.assertEqual(self.judge_package({**right, text: wrong}, said, declared), 1, text)
+        self.assertEqual(self.judge_package(right, said, {"Rtc": {**device, "line": [[], "boolean"]}}), 1)
+        self.assertEqual(self.judge_package(right, "", declared), 3)
+
+    def test_traces_of_a_monitor(self):
+        """A trace that lacks what its case is about, or a timeout, or to which the program replies otherwise."""
+        good = "sw 01 01  ok\nsr 02  c1\nsi  0\n"
+        for text, replies, failed in ((good, "ok\nc1\n0\n", 0), (good, "ok\nc1\n1\n", 1), (good, None, 1),
+                                      (good.replace("sw", "kw"), "ok\nc1\n0\n", 1),
+                                      (good.replace("si", "ss"), "ok\nc1\n0\n", 1)):
+            tally, got = Tally(), replies and (0, replies.encode(), b"")
+            with tempfile.TemporaryDirectory() as name, mock.patch.object(kvm_check, "run_all", lambda *_: [got]):
+                trace = Path(name, "trace")
+                trace.write_text(text, encoding="ascii")
+                silently(kvm_check.judge_traces, tally, "it", [trace], ["sw 01"], "program")
+            self.assertEqual((tally.passed, tally.failed), (3 - failed, failed), text)
+
+    def test_a_wrong_monitor_that_is_not_noticed(self):
+        def notices(_):
+            raise kvm_check.Wrong("it")
+        for body, failed in ((notices, 0), (lambda _: None, len(kvm_check.WRONG))):
+            tally, wrong = Tally(), [(file, old, new, body) for file, old, new, _ in kvm_check.WRONG]
+            ran = subprocess.CompletedProcess("make", 0, "")
+            with tempfile.TemporaryDirectory() as name, mock.patch("subprocess.run", return_value=ran), \
+                    mock.patch.multiple(kvm_check, WRONG=wrong, Bench=mock.Mock()):
+                silently(kvm_check.check_wrong, tally, Path(name), Path(name))
+            self.assertEqual((tally.failed, tally.tried.counts.total()), (failed, len(wrong)))
+
+    def test_warnings_of_misuse(self):
+        """A compiler warns of a right call, or not of a mistake."""
+        def failed(change):
+            def warned(compiler, number):
+                place = misuse.COMPILERS.index(compiler)
+                return change(place, number, misuse.WANTED[number][place] or "" if number else "")
+            tally = Tally()
+            with mock.patch.object(misuse, "warned", warned), mock.patch.object(tally, "has", return_value=True):
+                silently(misuse.check_misuse, tally)
+            return tally.failed
+        self.assertEqual(failed(lambda place, number, text: text), 0)
+        for at in range(len(misuse.COMPILERS)):
+            self.assertEqual(failed(lambda place, number, text: text if (place, number) != (at, 0) else "a warning"), 1)
+            for it, texts in enumerate(misuse.WANTED):
+                if it and texts[at]:
+                    self.assertEqual(failed(lambda place, number, text: text if (place, number) != (at, it) else ""), 1)
+
+    def test_a_library_of_another_interface(self):
+        status, printed = demo.OTHER_LIBRARY
+        for ended, failed in ((demo.OTHER_LIBRARY, 0), ((status - 1, printed), 3), ((status + 1, printed), 3),
+                              ((status, ""), 3), ((status, f"{printed}more"), 3)):
+            ran = mock.Mock(return_value=subprocess.CompletedProcess("demo", *ended))
+            with mock.patch.multiple(demo, run=ran, different_scripts=lambda *_: [], random_cases=lambda *_: []):
+                self.assertEqual(len(list(demo.differences("demo"))), failed, ended)
 
     def test_the_page(self):
         """A reply, an end, a feature, and the list as a script."""
