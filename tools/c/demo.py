@@ -18,7 +18,7 @@ WRAPPED = [f"-Wl,--wrap=superio_{name}" for name in ("abi", "serial_load", "rtc_
 WRONG = TESTS / "wrong-demos.edits"
 CLOCK_IS_OFF = "clock: line down, no alarm"
 # What a load may give beside 0, each of which a monitor has to notice.
-LOAD_FAULTS = [number for name, number in read_header().constants.items() if name.startswith("SUPERIO_LOAD_") and number]
+LOAD_FAULTS = [fault for name, fault in read_header().constants.items() if name.startswith("SUPERIO_LOAD_") and fault]
 
 # How many random scripts there are of each monitor.
 SCRIPTS, SCRIPTS_OF_LINES = 300, 40
@@ -87,7 +87,9 @@ CASES = [
      [CLOCK_IS_OFF, "clock: line down, alarm in 60 s", "clock: line up, no alarm"], 0),
 ]
 # The same of lines.c as a level: masked and unmasked, which asks for no interrupt, THRE takes the line down and up.
-CASES_OF_LEVEL = [("the line moves without being asked for", ["w 3f9 2", "w 3f9 0", "w 3f9 2"], [" 1 64", " 0 64", " 1 64"], 0)]
+CASES_OF_LEVEL = [
+    ("the line moves without being asked for", ["w 3f9 2", "w 3f9 0", "w 3f9 2"], [" 1 64", " 0 64", " 1 64"], 0),
+]
 # Its own main, over a library of an older or a newer interface.
 OTHER_LIBRARY = (1, "the comparison of header and library failed\n")
 
@@ -128,7 +130,8 @@ def check_driven_demo(tally, machine, folder):
         tally.tried.leave_out("wrong demos")
         return
     program, place = folder / "driven", folder / "wrong-demo"
-    for file, cases, scripts in (("monitor.c", len(CASES) + 2, SCRIPTS), ("lines.c", len(CASES_OF_LEVEL), 2 * SCRIPTS_OF_LINES)):
+    for file, cases, scripts in (("monitor.c", len(CASES) + 2, SCRIPTS),
+                                 ("lines.c", len(CASES_OF_LEVEL), 2 * SCRIPTS_OF_LINES)):
         if tally.run(f"the driven {file} is built", build(machine, compiler, DEMO, program, file), number=0):
             found = list(DRIVEN[file][2](program, random.randrange(10**9)))
             tally.check(not found, "\n".join(found[:3]), cases)

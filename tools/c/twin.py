@@ -237,9 +237,16 @@ class Echo(Edges):
         self.w(COM1 + RBR, ord(bytes([byte]).upper()))
 
     def h(self):
-        self.is_interrupted, self.was_interrupted = self.was_interrupted, False
+        self.is_interrupted, self.was_interrupted = self.is_interrupted or self.was_interrupted, False
         while self.is_interrupted:
             self.handle()
+
+
+class LastingEcho(Echo):
+    """The same, whose interrupts stay until the guest's handler runs."""
+
+    def serve(self, word, *numbers):
+        Edges.serve(self, word, *numbers)
 
 
 class Script:
@@ -324,7 +331,7 @@ def random_cases(monitor, count, seed):
 
 
 def run_bounded(command, given, most):
-    """The status of a program, and of what it prints so many bytes at most. It is ended if it prints more, or does not end."""
+    """The status of a program, and so many bytes at most of what it prints. It is ended if it prints more or goes on."""
     with tempfile.TemporaryFile() as script:
         script.write(given)
         script.seek(0)

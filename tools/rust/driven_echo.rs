@@ -1,9 +1,11 @@
 
 /// Drives the machine from standard input, by the lines w, r, i and h of tools/c/tests/demo.c. After each it prints whether
-/// the guest was interrupted, and how much room there is.
+/// the guest was interrupted, and how much room there is. With an argument an interrupt stays until h, and it prints
+/// whether there is one.
 fn main() -> io::Result<()> {
     let mut machine = Machine::new();
     let mut is_interrupted = false;
+    let stays = std::env::args().count() > 1;
     for line in io::stdin().lock().lines() {
         let line = line.unwrap();
         let (word, numbers) = line.split_at(1);
@@ -13,14 +15,17 @@ fn main() -> io::Result<()> {
             ("r", [port]) => println!("{:02x}", machine.read((port - 0x3F8) as u8)),
             ("i", [count, byte]) => machine.input(&vec![*byte as u8; *count]),
             _ => {
-                machine.line.0.set(std::mem::take(&mut is_interrupted));
+                let was_interrupted = std::mem::take(&mut is_interrupted);
+                machine.line.0.set(was_interrupted || machine.line.0.get());
                 while machine.line.0.replace(false) {
                     machine.handle_interrupt()?;
                 }
             }
         }
-        let was_raised = machine.line.0.replace(false);
-        is_interrupted |= was_raised;
+        let was_raised = machine.line.0.get();
+        if !stays {
+            is_interrupted |= machine.line.0.replace(false);
+        }
         println!(" {} {}", u8::from(was_raised), machine.port.fifo_capacity());
     }
     Ok(())

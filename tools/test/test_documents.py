@@ -186,7 +186,7 @@ class Facts(CopyTest):
                 ("README.md", "(9 kB", "(90 kB", "libsuperio_c.a is [(90,)], and [(9,)]"),
                 ("docs/RELEASE.md", "| shared library | 8 kB", "| shared library | 9 kB", "so.3 is [(9,)], and [(8,)]"),
                 (proofs, "in at most 81 bytes", "in at most 82 bytes", "bytes is [(82,)], and [(81,)]"),
-                (proofs, "`state` saves the ten", "`state` saves the nine", "SerialState is [(9,), (10,)], and [(10,)]"),
+                (proofs, "`state` saves the ten", "`state` saves the six", "SerialState is [(6,), (10,)], and [(10,)]"),
                 (proofs, "the version at place 5", "the version at place 4", "version is [(4,)], and [(5,)]"),
                 (proofs, "at 0x020 to 0xFDF", "at 0x020 to 0xFE0", "addresses is [(32, 4064)], and [(32, 4063)]"),
                 (proofs, "10,000 random", "20,000 random", "pastes is [(20000,)], and [(10000,)]"),

@@ -53,7 +53,8 @@ class Table(unittest.TestCase):
         self.assertEqual(len(shortfalls(rows, Tried.read(some.lines()), 0)), 1)
         self.assertEqual(len(shortfalls({"scripts": 3}, Tried.read(some.lines()), 1)), 1)
         # The other kinds keep their floors.
-        self.assertEqual(shortfalls({**rows, "scripts": 4}, Tried.read(some.lines()), 1), ["scripts: 3 tried, of 4 at least"])
+        message, = shortfalls({**rows, "scripts": 4}, Tried.read(some.lines()), 1)
+        self.assertEqual(message, "scripts: 3 tried, of 4 at least")
 
 
 class Lines(unittest.TestCase):

@@ -289,8 +289,8 @@ class Runs(unittest.TestCase):
                 self.assertEqual((tally.passed, tally.failed), (is_good, not is_good))
 
     def judge_package(self, of_evaluated, said, declared):
-        """How much fails of the package, by what Node gives for an expression with some text, by what the package says of
-        another interface, and by what superio.d.ts declares."""
+        """How much fails of the package, by what Node gives for an expression with some text, what the package says of
+        another interface, and what superio.d.ts declares."""
         def evaluated(expression):
             return next(value for text, value in of_evaluated.items() if text in expression)
         tally, ran = Tally(), mock.Mock(side_effect=lambda command, **_: subprocess.CompletedProcess(
@@ -458,7 +458,19 @@ class Failing(unittest.TestCase):
                 rust_check, counts=counts, Cargo=built, different_scripts=lambda *_: ["one", "another"]):
             built.return_value.folder = Path(name) / "place"
             silently(rust_check.check_echo, Path(name) / "place")
-        self.assertEqual((counts["passed"], counts["failed"]), (1 + rust_check.SCRIPTS - 2, 2))
+        wrong = len(list(rust_check.read_bugs(rust_check.WRONG_ECHOES, "echo.rs")))
+        self.assertEqual((counts["passed"], counts["failed"]), (1 + 2 * rust_check.SCRIPTS - 4 + wrong, 4))
+
+    def test_a_wrong_echo_that_differs_in_nothing(self):
+        for statuses, failed in (([0], 1), ([0, 101], 1)):
+            counts = dict.fromkeys(("passed", "failed", "skipped"), 0)
+            results = [subprocess.CompletedProcess("cargo", status, "") for status in statuses]
+            crate = mock.Mock(**{"return_value.run.side_effect": results + results[-1:] * 100})
+            with tempfile.TemporaryDirectory() as name, mock.patch.multiple(
+                    rust_check, counts=counts, Cargo=crate, different_scripts=lambda *_: []):
+                silently(rust_check.check_echo, Path(name) / "place")
+            wrong = len(list(rust_check.read_bugs(rust_check.WRONG_ECHOES, "echo.rs")))
+            self.assertEqual((counts["passed"], counts["failed"]), (1 + 2 * rust_check.SCRIPTS, failed * wrong))
 
 
 class Proving(CopyTest):
