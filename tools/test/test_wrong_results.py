@@ -315,6 +315,31 @@ class Runs(unittest.TestCase):
         self.assertEqual(self.judge_package(right, said, {"Rtc": {**device, "line": [[], "boolean"]}}), 1)
         self.assertEqual(self.judge_package(right, "", declared), 3)
 
+    def test_programs_of_the_package_of_javascript(self):
+        """One prints something else, or fails, or its document does not say what it prints."""
+        for wanted, printed, status, failed in (("1\n", "1\n", 0, 0), ("1\n", "2\n", 0, 1), ("1\n", "1\n", 1, 1),
+                                                ("", "", 0, 1)):
+            tally, ran = Tally(), subprocess.CompletedProcess("node", status, printed)
+            with mock.patch.object(js_check, "programs", lambda: [("it", "", wanted)]), \
+                    mock.patch("subprocess.run", return_value=ran), mock.patch.object(tally, "has", return_value=True):
+                silently(js_check.check_documents, tally)
+            self.assertEqual(tally.failed, failed)
+
+    def test_wrong_words_for_a_monitor(self):
+        """Each has to end with its status, and to say something."""
+        def failed(change):
+            def run(words, **_):
+                status = 0 if "--help" in words else 1 if "-m" in words else 2
+                said = ("", "why") if status else ("usage", "")
+                return subprocess.CompletedProcess("monitor", *change(status, *said))
+            tally = Tally()
+            with mock.patch("subprocess.run", run):
+                silently(kvm_check.check_usage, tally, "monitor")
+            return tally.failed, tally.tried.counts.total()
+        self.assertEqual(failed(lambda *it: it), (0, 5))
+        self.assertEqual(failed(lambda status, *said: (status + 1, *said)), (5, 5))
+        self.assertEqual(failed(lambda status, *said: (status, *said[::-1])), (5, 5))
+
     def test_traces_of_a_monitor(self):
         """A trace that lacks what its case is about, or a timeout, or to which the program replies otherwise."""
         good = "sw 01 01  ok\nsr 02  c1\nsi  0\n"
