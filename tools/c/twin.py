@@ -46,6 +46,7 @@ def seconds_due(clock, now):
 class Monitor:
     """The devices, what the monitor keeps beside them, and the lines that it has printed."""
 
+    may_refuse = False        # whether a monitor with a port alone takes the line d
     most = 40                 # how many bytes the guest's handler takes for each look at IIR
     feeds_after = (IER, MCR)  # the registers whose write may make the guest ready
 
@@ -212,14 +213,22 @@ class Level(Edges):
 
 
 class Echo(Edges):
-    """The monitor of examples/rust. What does not fit waits, and the guest sends back what it takes, in capitals. Each
-    interrupt is printed once."""
+    """The monitor of examples/rust. What does not fit waits, and the guest sends back what it takes, in capitals. A call
+    asks for its interrupts itself, and what is refused is asked for again with the next input. Each interrupt is printed
+    once."""
 
     feeds_after = (MCR,)
+    may_refuse = True
 
     def __init__(self):
         super().__init__()
+        self.port = Port(lambda _: self.is_down, lambda: "")
         self.feeds_early, self.was_interrupted = True, False
+
+    def call(self, name, *arguments):
+        reply, did, times = super().call(name, *arguments)
+        self.was_refused |= "R" in did
+        return reply, did, times
 
     def serve(self, word, *numbers):
         super().serve(word, *numbers)
@@ -227,10 +236,16 @@ class Echo(Edges):
         self.is_interrupted = False
 
     def feed(self):
-        Monitor.feed(self)
+        room = self.port.room()
+        self.ask(self.call("enqueue", self.input)[2])
+        self.input = self.input[room - self.port.room():]
 
     def i(self, count, byte):
-        super().i(count, byte)
+        self.input += bytes([byte]) * count
+        if self.was_refused:
+            self.was_refused = False
+            self.ask(self.call("retry")[2])
+        self.feed()
         self.ask(self.call("character_timeout")[2])
 
     def take(self, byte):
@@ -256,7 +271,7 @@ class Script:
         self.random, self.monitor, self.lines = random, monitor(), []
         self.has_port_alone = monitor is not Monitor
         makers = [self.write, self.read, self.type, self.serve, self.clock, self.host]
-        weights = (4, 6, 3, 1, 0, 0) if self.has_port_alone else (3, 3, 1, 2, 2, 2)
+        weights = (4, 6, 3, 1, 0, 3 * self.monitor.may_refuse) if self.has_port_alone else (3, 3, 1, 2, 2, 2)
         for _ in range(length):
             random.choices(makers, weights)[0]()
 
@@ -313,12 +328,20 @@ class Script:
     def host(self):
         """The interrupt line takes nothing, or takes requests again; the machine moves; input comes early; or the guest resets
         the machine, and the next one finds its port."""
+        if self.has_port_alone:
+            return self.refuse()
         choices = {("d", 1): 4, ("d", 0): 4, ("g",): 2, ("w", 0x64, 0xFE): 2, ("e",): 1}
         word, *numbers = self.random.choices(list(choices), choices.values())[0]
         self.add(word, *numbers)
         if word == "w":
             self.add("w", COM1 + IER, self.random.choice((1, 2, 3)))
             self.add("t")
+
+    def refuse(self):
+        """The line takes nothing, or takes requests again. The guest's next looks at IIR ask for one, if bytes wait."""
+        self.add("d", self.random.randrange(2))
+        for _ in range(self.random.randrange(4)):
+            self.add("r", COM1 + IIR)
 
 
 @lru_cache(maxsize=None)

@@ -1,5 +1,12 @@
 
-/// Drives the machine from standard input, by the lines w, r, i and h of tools/c/tests/demo.c. After each it prints whether
+thread_local!(static IS_DOWN: Cell<bool> = const { Cell::new(false) });
+
+/// What the line's trigger calls first here.
+fn refused() -> io::Result<()> {
+    if IS_DOWN.with(Cell::get) { Err(io::ErrorKind::WouldBlock.into()) } else { Ok(()) }
+}
+
+/// Drives the machine from standard input, by the lines w, r, i, d and h of tools/c/tests/demo.c. After each it prints whether
 /// the guest was interrupted, and how much room there is. With an argument an interrupt stays until h, and it prints
 /// whether there is one.
 fn main() -> io::Result<()> {
@@ -14,6 +21,7 @@ fn main() -> io::Result<()> {
             ("w", [port, value]) => machine.write((port - 0x3F8) as u8, *value as u8)?,
             ("r", [port]) => println!("{:02x}", machine.read((port - 0x3F8) as u8)),
             ("i", [count, byte]) => machine.input(&vec![*byte as u8; *count]),
+            ("d", [is_down]) => IS_DOWN.with(|it| it.set(*is_down != 0)),
             _ => {
                 let was_interrupted = std::mem::take(&mut is_interrupted);
                 machine.line.0.set(was_interrupted || machine.line.0.get());

@@ -5,7 +5,6 @@
 //! program.
 use std::cell::Cell;
 use std::collections::VecDeque;
-use std::convert::Infallible;
 use std::io::{self, BufRead, Stdout};
 use std::rc::Rc;
 
@@ -24,21 +23,21 @@ const FIFO_SIZE: usize = 64;
 /// How many bytes the guest's driver takes at an interrupt. It leaves the others to the next one, as many drivers do.
 const MOST: usize = 16;
 
-/// The interrupt line: a flag that the guest's processor looks at.
+/// The interrupt line: a flag that the guest's processor looks at. An eventfd in its place may refuse an interrupt.
 #[derive(Clone, Default)]
 struct Line(Rc<Cell<bool>>);
 
 impl Trigger for Line {
-    type E = Infallible;
+    type E = io::Error;
 
-    fn trigger(&self) -> Result<(), Infallible> {
+    fn trigger(&self) -> io::Result<()> {
         self.0.set(true);
         Ok(())
     }
 }
 
 /// The monitor: the port, its interrupt line, input that the FIFO had no room for yet, and whether to ask for a refused
-/// interrupt again. This line refuses none, but an eventfd may.
+/// interrupt again.
 struct Machine {
     port: Serial<Line, NoEvents, Stdout>,
     line: Line,
