@@ -17,8 +17,6 @@ from saved_bytes import CLOCK_SIZE  # noqa: E402
 WRAPPED = [f"-Wl,--wrap=superio_{name}" for name in ("abi", "serial_load", "rtc_load")]
 WRONG = TESTS / "wrong-demos.edits"
 CLOCK_IS_OFF = "clock: line down, no alarm"
-# What a load may give beside 0, each of which a monitor has to notice.
-LOAD_FAULTS = [fault for name, fault in read_header().constants.items() if name.startswith("SUPERIO_LOAD_") and fault]
 
 # How many random scripts there are of each monitor.
 SCRIPTS, SCRIPTS_OF_LINES = 300, 40
@@ -80,12 +78,20 @@ CASES = [
       "received 1"], 0),
     ("a move of a guest that polls", ["e", "g", "i 1 78", "r 3f8"],
      [f"moved 17 and {CLOCK_SIZE} bytes, and 0 of input", CLOCK_IS_OFF, "78"], 0),
-    *((f"a load of {device} that gives {fault}", ["i 1 78", f"f {which} {fault}", "g", "r 61"],
-       [f"loading {device} failed"], 1)
-      for which, device in ((1, "the serial port"), (2, "the clock")) for fault in LOAD_FAULTS),
     ("a write between two registers, one of them the start, finds an alarm", ["m 10 1", "m 4 424", "n 424", "m d 1"],
      [CLOCK_IS_OFF, "clock: line down, alarm in 60 s", "clock: line up, no alarm"], 0),
 ]
+
+
+def cases_of_loads():
+    """The same for each fault of a load, which a monitor has to notice."""
+    constants = read_header().constants.items()
+    faults = [fault for name, fault in constants if name.startswith("SUPERIO_LOAD_") and fault]
+    return [(f"a load of {device} that gives {fault}", ["i 1 78", f"f {which} {fault}", "g", "r 61"],
+             [f"loading {device} failed"], 1)
+            for which, device in ((1, "the serial port"), (2, "the clock")) for fault in faults]
+
+
 # The same of lines.c as a level: masked and unmasked, which asks for no interrupt, THRE takes the line down and up.
 CASES_OF_LEVEL = [
     ("the line moves without being asked for", ["w 3f9 2", "w 3f9 0", "w 3f9 2"], [" 1 64", " 0 64", " 1 64"], 0),
@@ -96,7 +102,7 @@ OTHER_LIBRARY = (1, "the comparison of header and library failed\n")
 
 def differences(program, seed=0):
     """The names of the cases in which the monitor does something else. `seed` is that of the random scripts."""
-    yield from different_scripts([program], (*CASES, *random_cases(Monitor, SCRIPTS, seed)))
+    yield from different_scripts([program], (*CASES, *cases_of_loads(), *random_cases(Monitor, SCRIPTS, seed)))
     for difference in ("1", "-1", "256"):
         ran = run([program, difference])
         if (ran.returncode, ran.stdout) != OTHER_LIBRARY:
@@ -130,7 +136,7 @@ def check_driven_demo(tally, machine, folder):
         tally.tried.leave_out("wrong demos")
         return
     program, place = folder / "driven", folder / "wrong-demo"
-    for file, cases, scripts in (("monitor.c", len(CASES) + 2, SCRIPTS),
+    for file, cases, scripts in (("monitor.c", len(CASES) + len(cases_of_loads()) + 2, SCRIPTS),
                                  ("lines.c", len(CASES_OF_LEVEL), 2 * SCRIPTS_OF_LINES)):
         if tally.run(f"the driven {file} is built", build(machine, compiler, DEMO, program, file), number=0):
             found = list(DRIVEN[file][2](program, random.randrange(10**9)))

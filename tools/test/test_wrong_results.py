@@ -304,11 +304,11 @@ class Runs(unittest.TestCase):
     def test_the_package_of_javascript(self):
         serial, clock = map(js_check.table, (js_check.SERIAL, js_check.CLOCK))
         device = {"extends": "", "constructor": [[], "Rtc"], "read": [["offset"], "number"]}
-        right = {"Module.imports": [], "registers.SERIAL": serial, "registers.CLOCK": clock,
-                 js_check.OWN: {"Rtc": device}}
+        right = {js_check.TAKEN: dict(js_check.declared_kinds()), js_check.OWN: {"Rtc": device},
+                 "Module.imports": [], "registers.SERIAL": serial, "registers.CLOCK": clock}
         said, declared = "interface {}, and this package is for {}", {"Rtc": dict(device)}
         self.assertEqual(self.judge_package(right, said, declared), 0)
-        for text, wrong in (("Module.imports", ["memory"]), ("registers.SERIAL", clock), ("registers.CLOCK", serial),
+        for text, wrong in ((js_check.TAKEN, {}), ("Module.imports", ["memory"]), ("registers.SERIAL", clock), ("registers.CLOCK", serial),
                             (js_check.OWN, {"Rtc": {**device, "read": [[], "number"]}}),
                             (js_check.OWN, {"Rtc": {**device, "write": [[], "number"]}})):
             self.assertEqual(self.judge_package({**right, text: wrong}, said, declared), 1, text)
