@@ -213,9 +213,9 @@ class Level(Edges):
 
 
 class Echo(Edges):
-    """The monitor of examples/rust. What does not fit waits, and the guest sends back what it takes, in capitals. A call
-    asks for its interrupts itself, and what is refused is asked for again with the next input. Each interrupt is printed
-    once."""
+    """The monitor of examples/rust. What does not fit waits, and the guest sends back what it takes, in capitals. A
+    call asks for its interrupts itself, and what is refused is asked for again with the next input. Each interrupt is
+    printed once."""
 
     feeds_after = (MCR,)
     may_refuse = True
@@ -354,7 +354,7 @@ def random_cases(monitor, count, seed):
 
 
 def run_bounded(command, given, most):
-    """The status of a program, and so many bytes at most of what it prints. It is ended if it prints more or goes on."""
+    """The status of a program, and at most so many bytes that it prints. It is ended if it prints more or goes on."""
     with tempfile.TemporaryFile() as script:
         script.write(given)
         script.seek(0)

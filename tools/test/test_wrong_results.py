@@ -308,7 +308,8 @@ class Runs(unittest.TestCase):
                  "Module.imports": [], "registers.SERIAL": serial, "registers.CLOCK": clock}
         said, declared = "interface {}, and this package is for {}", {"Rtc": dict(device)}
         self.assertEqual(self.judge_package(right, said, declared), 0)
-        for text, wrong in ((js_check.TAKEN, {}), ("Module.imports", ["memory"]), ("registers.SERIAL", clock), ("registers.CLOCK", serial),
+        for text, wrong in ((js_check.TAKEN, {}), ("Module.imports", ["memory"]), ("registers.SERIAL", clock),
+                            ("registers.CLOCK", serial),
                             (js_check.OWN, {"Rtc": {**device, "read": [[], "number"]}}),
                             (js_check.OWN, {"Rtc": {**device, "write": [[], "number"]}})):
             self.assertEqual(self.judge_package({**right, text: wrong}, said, declared), 1, text)
@@ -484,7 +485,8 @@ class Failing(unittest.TestCase):
             built.return_value.folder = Path(name) / "place"
             silently(rust_check.check_echo, Path(name) / "place")
         wrong = len(list(rust_check.read_bugs(rust_check.WRONG_ECHOES, "echo.rs")))
-        self.assertEqual((counts["passed"], counts["failed"]), (1 + 2 * rust_check.SCRIPTS - 4 + wrong, 4))
+        scripts = 2 * rust_check.SCRIPTS + len(rust_check.REFUSALS)
+        self.assertEqual((counts["passed"], counts["failed"]), (1 + scripts - 4 + wrong, 4))
 
     def test_a_wrong_echo_that_differs_in_nothing(self):
         for statuses, failed in (([0], 1), ([0, 101], 1)):
@@ -495,7 +497,8 @@ class Failing(unittest.TestCase):
                     rust_check, counts=counts, Cargo=crate, different_scripts=lambda *_: []):
                 silently(rust_check.check_echo, Path(name) / "place")
             wrong = len(list(rust_check.read_bugs(rust_check.WRONG_ECHOES, "echo.rs")))
-            self.assertEqual((counts["passed"], counts["failed"]), (1 + 2 * rust_check.SCRIPTS, failed * wrong))
+            scripts = 2 * rust_check.SCRIPTS + len(rust_check.REFUSALS)
+            self.assertEqual((counts["passed"], counts["failed"]), (1 + scripts, failed * wrong))
 
 
 class Proving(CopyTest):
