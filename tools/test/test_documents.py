@@ -172,7 +172,7 @@ class Facts(CopyTest):
                  "RIS is (20, 'rw'), and (20, 'r')"),
                 ("include/superio.h", "0x01 is data ready", "0x02 is data ready", "LSR DR is 2, and 1"),
                 ("docs/DEVICES.md", "| 1 | set | DLM", "| 1 | clear | DLM", "DLM is (1, False), and (1, True)"),
-                ("README.md", "At most 64 bytes", "At most 63 bytes", "bytes held is [63], and [64]"),
+                ("README.md", "At most 64 bytes", "At most 63 bytes", "bytes held is [(63,)], and [(64,)]"),
                 ("README.md", "rejected 27", "rejected 28", "rejected is [30, 28, 3], and [30, 27, 3]"),
                 ("README.md", "[the other 3]", "[the other 4]", "rejected is [30, 27, 4], and [30, 27, 3]"),
                 ("README.md", "in 16 pieces", "in 17 pieces", "paste is [(1000, 17)], and [(1000, 16)]"),
@@ -181,7 +181,7 @@ class Facts(CopyTest):
                 (bodies, "length above 300", "length above 400", "lists is [(400,)], and [(300,)]"),
                 ("docs/DEVICES.md", "| 0xFE0 to 0xFFF |", "| 0xFE0 to 0xFFB |", "is [4064, 4091], and [4064, 4095]"),
                 ("docs/DEVICES.md", "0x0D 0xF0 0x05", "0x0D 0xF1 0x05", "5 is F1, and F0"),
-                ("bindings/js/superio.mjs", "FIFO_SIZE = 64", "FIFO_SIZE = 63", "bytes held is [63], and [64]"),
+                ("bindings/js/superio.mjs", "FIFO_SIZE = 64", "FIFO_SIZE = 63", "bytes held is [(63,)], and [(64,)]"),
                 ("bindings/js/page/why.mjs", "0xFE at offset 4", "0xFE at offset 5", "reset is [5, 254], and [4, 254]"),
                 ("tools/c/tests/model.c", "{0x31, 0x10,", "{0x31, 0x11,", "1 is 11, and 10"),
                 ("include/superio.h", "0x01 is data ready", "0x01 is XX", "LSR XX is 1, and None"),
@@ -190,6 +190,9 @@ class Facts(CopyTest):
                 ("README.md", "Python 3.8+", "Python 3.7+", "Python is [(3, 7)], and [(3, 8)]"),
                 ("README.md", " 9 kB,", " 90 kB,", "libsuperio_c.a is [(90,)], and [(9,)]"),
                 ("docs/RELEASE.md", "| shared library | 8 kB", "| shared library | 9 kB", "so.3 is [(9,)], and [(8,)]"),
+                ("README.md", "with the call 80 of 80", "with the call 80 of 90", "1, 4, 5, 80, 90)], and [(1, 4, 5, 80, 80)]"),
+                ("README.md", "stops after 256", "stops after 255", "bytes is [(255,)], and [(256,)]"),
+                (proofs, "2 more for each read of IIR", "3 more for each read of IIR", "bound is [(2, 3)], and [(2, 2)]"),
                 (proofs, "in at most 81 bytes", "in at most 82 bytes", "bytes is [(82,)], and [(81,)]"),
                 (proofs, "`state` saves the ten", "`state` saves the six", "SerialState is [(6,), (10,)], and [(10,)]"),
                 (proofs, "the version at place 5", "the version at place 4", "version is [(4,)], and [(5,)]"),
@@ -211,6 +214,17 @@ class Facts(CopyTest):
                 # Another definition may have another number of turns.
                 faults = [fault for fault in faults if ": turns: " not in fault or says in fault]
                 self.assertTrue(faults and all(says in fault for fault in faults), faults)
+
+    def test_each_number_is_in_a_row_or_in_a_quoted_text(self):
+        for name, old, new, number in (
+                ("README.md", "15 to 60", "15 to 70", "70"), ("docs/PROOFS.md", "65,536 writes", "65,535 writes", "65,535"),
+                ("docs/WRONG-BODIES.md", "from line 16,001 on", "from line 16,002 on", "16,002"),
+                ("README.md", "## Read on\n", "## Read on\n\nWe tried 10 guests.\n", "10")):
+            with self.subTest(new):
+                self.change(name, old, new)
+                faults = faults_of(self.run_tool("tools/checks/facts"))
+                self.change(name, new, old)
+                self.assertTrue([it for it in faults if it.startswith(f"{name}: no row compares {number} in ")], faults)
 
     def test_a_fact_that_is_lost_is_tried_no_more(self):
         self.change("docs/DEVICES.md", "| 7 | any | SCR | SCR | 0x00 |\n", "")
