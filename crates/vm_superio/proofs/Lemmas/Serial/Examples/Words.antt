@@ -1,5 +1,5 @@
 -- Worked examples of words that laws and contracts only assume, or bound by: with a wrong one they would say less.
-use Rattle.std.proofs.Common.{◌≡◌, ℕ, ◌≤◌, true, false, [], List, ◌++◌, length, refl, sym, ap, ◌∙◌, replicate, arith, count_by}
+use Rattle.std.proofs.Common.{◌≡◌, ℕ, ◌≤◌, true, false, [], ◌∷◌, List, ◌++◌, length, refl, sym, ap, ◌∙◌, replicate, arith, count_by}
 use Rattle.std.proofs.lemmas.Bool.{false≢true}
 use Rattle.superio_core.specs.Bits.{has_bits}
 use Rattle.superio_core.specs.Serial.Port.Coherent.{Coherent}
@@ -16,6 +16,7 @@ use Rattle.vm_superio.specs.Serial.Laws.InterruptDriver.{RunsAtInterrupts, Taken
 use Rattle.vm_superio.specs.Serial.Laws.InterruptLine.{may_lower_line}
 use Rattle.vm_superio.specs.Serial.Laws.PortRun.{PortCall, PortCallsFollow, ops_of_calls, trace_with, interrupts_told, PortBoundLaw}
 use Rattle.vm_superio.specs.Serial.Port.Model.{Port}
+use Rattle.vm_superio.specs.Serial.Run.Trace.{Act, Done, without_restores}
 use Rattle.vm_superio.specs.Serial.Step.Restore.{RefusesRestore}
 
 -- ---- the bound on interrupts that a caller is told
@@ -35,6 +36,11 @@ four_told_with_one_read : PortBoundLaw → (start end : State) (calls : List Por
     → interrupts_told calls ≤ 4
 four_told_with_one_read law start end calls coherent follow one no_data =
     omega (arith, law start end calls coherent follow, one, no_data)
+
+-- ---- the calls by which the reads of a run are determined
+
+no_restore_is_left : {O E : Type 0} (done : Done O E) → done.act ≡ Act.Restore → without_restores (done ∷ []) ≡ []
+no_restore_is_left done restored = simp (restored)
 
 -- ---- what waiting bytes, drivers and the line are said of
 
