@@ -1,7 +1,10 @@
 """The page docs/try.html, one file: bindings/js/page (the page, its styles and its modules), bindings/js (the package,
-with the module in base 64) and the recordings of examples/linux-boot.
+with the module in base 64) and the recordings of examples/linux-boot, packed.
 """
+import base64
 import re
+import textwrap
+import zlib
 from pathlib import Path
 
 ROOT = Path(__file__).resolve().parent.parent.parent
@@ -32,19 +35,20 @@ def one_script():
 
 
 def packed(recording):
-    """The recording without the texts that `so` repeats: they are what was sent since the piece began."""
-    pieces = []
-    for piece in recording.rstrip("\n").split("\n\n"):
-        sent = "".join(re.findall(r'^(?:polled|sent) "(.*)"$', piece, flags=re.M))
-        pieces.append(piece.replace(f'\nso "{sent}"', "\nso ="))
-    return "\n\n".join(pieces)
+    """A recording in the form that browsers unpack."""
+    return "\n".join(textwrap.wrap(base64.b64encode(zlib.compress(recording, 9)).decode("ascii"), 120))
+
+
+def unpacked(page):
+    """A page with its recordings as they unpack, since zlib's versions do not pack alike."""
+    return re.sub('(?<=-recording">)[^<]*', lambda found: zlib.decompress(base64.b64decode(found[0])).decode("ascii"), page)
 
 
 def build():
     """The text of the page."""
     parts = {
         "CSS": (PAGE / "page.css").read_text(encoding="utf-8"),
-        **{name.upper(): packed((RECORDINGS / f"{name}.recording").read_text(encoding="ascii"))
+        **{name.upper(): packed((RECORDINGS / f"{name}.recording").read_bytes())
            for name in ("boot", "console")},
         "SCRIPT": one_script(),
         "SIZE": f"{MODULE.stat().st_size / 1000:.1f}",

@@ -87,6 +87,7 @@ class Page(Checked):
         self.check(1, "asks the network for ['href=\"https://example.invalid/icon.png']")
 
     def test_a_page_into_a_file(self):
+        self.assertEqual(self.run_tool("tools/page/build"), (0, "", ""))
         self.assertEqual(self.run_tool("tools/page/build", self.root / "page.html"), (0, "", ""))
         self.assertEqual((self.root / "page.html").read_bytes(), (self.root / "docs/try.html").read_bytes())
 

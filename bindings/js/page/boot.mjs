@@ -11,17 +11,21 @@ const CALLS_OF_BYTES = {
   received: (byte) => [["sr 05", "61"], ["sr 00", byte]],
 };
 
-/** The lines that a row stands for, each with its recorded reply. `sent` has what earlier rows of the piece sent. */
-function entriesOf(row, sent) {
+/** A recording that the page holds deflated and in base 64. */
+export async function unpacked(text) {
+  const bytes = Uint8Array.from(atob(text), (character) => character.charCodeAt(0));
+  return new Response(new Blob([bytes]).stream().pipeThrough(new DecompressionStream("deflate"))).text();
+}
+
+/** The lines that a row stands for, each with its recorded reply. */
+function entriesOf(row) {
   const [, kind, quoted, reply] = /^([a-z]+) (".*")(?: {2}(\S+))?$/.exec(row) ?? [];
   if (quoted) {
     const codes = codesOf(JSON.parse(quoted));
     if (kind === "so") return [["so", hexOf(codes)]];
     if (kind === "sq") return [[`sq ${hexOf(codes)}`, reply]];
-    if (kind !== "received") sent.text += JSON.parse(quoted);
     return codes.flatMap((code) => CALLS_OF_BYTES[kind](hex(code, 2)));
   }
-  if (row === "so =") return [["so", hexOf(codesOf(sent.text))]];
   const [, count, line, plain] = /^(?:(\d+) )?(\S.*?) {2}(\S.*)$/.exec(row);
   return Array.from({ length: Number(count ?? 1) }, () => [line, plain]);
 }
@@ -87,8 +91,7 @@ export class Boot {
     for (const piece of text.trim().split("\n\n")) {
       this.starts.push(this.lines.length);
       this.texts.push(before);
-      const sent = { text: "" };
-      const entries = piece.split("\n").flatMap((row) => entriesOf(row, sent));
+      const entries = piece.split("\n").flatMap(entriesOf);
       for (const entry of entries) this.add(...entry);
       const output = entries.find(([line]) => line === "so")?.[1] ?? "";
       before += textOf(output);

@@ -1,7 +1,7 @@
 /** The page: what it shows of a board, and which call each control makes. */
 import { CLOCK, DLAB, SERIAL } from "../registers.mjs";
 import { Board, formOf, hex, hexOf, parse, runScript } from "./board.mjs";
-import { Boot, RECORDINGS } from "./boot.mjs";
+import { Boot, RECORDINGS, unpacked } from "./boot.mjs";
 import { CONDITIONS, dateOf, lineFormat, plural, quoted, ruleOf, shownRegisters, storyOf, told } from "./why.mjs";
 
 const id = (name) => document.getElementById(name);
@@ -413,12 +413,16 @@ function show() {
 
 // The boots.
 
+/** The texts of the recordings, by their names. */
+const texts = Object.fromEntries(await Promise.all(Object.keys(RECORDINGS).map(async (name) =>
+  [name, await unpacked(id(`${name}-recording`).textContent)])));
+
 /** The recordings that were opened, by their names. */
 const opened = {};
 
 function openBoot() {
   const name = id("choice").value;
-  opened[name] ??= new Boot(id(`${name}-recording`).textContent, RECORDINGS[name]);
+  opened[name] ??= new Boot(texts[name], RECORDINGS[name]);
   state.boot = opened[name];
 }
 
