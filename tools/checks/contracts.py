@@ -1,20 +1,27 @@
-"""The functions of the proved crates, with the names of their clauses, as their sources have them."""
+"""The functions of the proved crates, with their clauses by name, and the definitions that these use."""
 import re
+from collections import defaultdict
 from dataclasses import dataclass, field
 
 from documents import ROOT
 
 FUNCTION = re.compile(r"\s*(pub(?:\([^)]*\))? )?(?:const |unsafe |extern \"C\" )*fn (\w+)")
-CLAUSE = re.compile(r"\s*(?:unfoldable )?ensures\*? (?:(\w+) )?\{")
+CLAUSE = re.compile(r"\s*(?:unfoldable )?ensures\*? (?:(\w+) )?\{(.*)")
+# A definition is its head and the lines below that are further in, or a text without an empty line.
+RECORD = re.compile(r"^( *)(?:pub )?record (\w+)(.*(?:\n(?:\1 +\S.*)?(?=\n))*)", re.M)
+VALUE = re.compile(r"^ *(?:abbrev |unfoldable |pub )*(\w+) :(.*(?:\n.*\S.*)*)", re.M)
+FOLLOWED = re.compile(r"\b(?:[A-Z]\w*|\w+_\w+|step)\b")
+FIELD = re.compile(r"^ +pub (\w+) :", re.M)
 OWNER = re.compile(r"(?:pub )?(?:unsafe )?(?:impl\b|(trait) )(.*)")
 
 
 @dataclass
 class Function:
-    """A function: its path from its crate on, whether a user of the crate can call it, and its clauses by name."""
+    """A function: its path from its crate on, whether a user of the crate can call it, and its clauses, each as its
+    text, by name."""
     path: tuple
     is_public: bool
-    clauses: list = field(default_factory=list)
+    clauses: dict = field(default_factory=dict)
 
     def is_named(self, path):
         """Whether `path` is the end of this function's path. It may leave out the modules between."""
@@ -48,14 +55,43 @@ def functions_of(crate):
     source = ROOT / "crates" / crate / "src"
     for path in sorted(source.rglob("*.rt")):
         modules = [part for part in path.relative_to(source).with_suffix("").parts if part not in ("lib", "main")]
-        owner, shows_all, current = None, False, None
+        owner, shows_all, current, clause = None, False, None, None
         for line in path.read_text(encoding="utf-8").splitlines():
             if line.startswith("}"):
                 owner, shows_all = None, False
             owner, shows_all = owner_of(line) or (owner, shows_all)
             if found := FUNCTION.match(line):
-                current = Function((crate, *modules, *([owner] if owner else []), found[2]),
-                                   shows_all or found[1] == "pub ")
+                clause, current = None, Function((crate, *modules, *([owner] if owner else []), found[2]),
+                                                 shows_all or found[1] == "pub ")
                 yield current
             elif (found := CLAUSE.match(line)) and current:
-                current.clauses.append(found[1])
+                clause = found[1]
+                current.clauses[clause] = found[2]
+            elif line.strip() == "{":
+                clause = None
+            elif current and clause in current.clauses:
+                current.clauses[clause] += line
+
+
+class Definitions:
+    """The definitions of the crates, by which a clause has parts: definitions that it uses, and the fields of records
+    among them. A short name may be a variable, so only types, names of several words and `step` are followed."""
+
+    def __init__(self, crates):
+        self.fields, self.uses, self.texts = defaultdict(set), defaultdict(set), {}
+        for path in sorted(it for crate in crates for it in (ROOT / "crates" / crate / "specs").rglob("*.antt")):
+            text = self.texts[str(path.relative_to(ROOT))] = path.read_text(encoding="utf-8")
+            for _, name, body in RECORD.findall(text):
+                self.fields[name] |= set(FIELD.findall(body))
+                self.uses[name] |= set(FOLLOWED.findall(body))
+            for name, body in VALUE.findall(RECORD.sub("", text)):
+                self.uses[name] |= set(FOLLOWED.findall(body))
+
+    def parts(self, clause):
+        """The definitions that a clause uses, those that these use, and the fields of the records among them."""
+        seen, waiting = set(), set(FOLLOWED.findall(clause))
+        while waiting:
+            name = waiting.pop()
+            seen.add(name)
+            waiting |= self.uses.get(name, set()) - seen
+        return {name for name in seen if name in self.uses}.union(*(self.fields.get(name, set()) for name in seen))

@@ -66,8 +66,8 @@ class Links(CopyTest):
 class Names(CopyTest):
     def setUp(self):
         super().setUp()
-        self.take("README.md", "CHANGELOG.md", "CONTRIBUTING.md", "HANDLES", "SECURITY.md", "crates.txt", "docs", "crates", "bindings",
-                  "examples", "include", "prebuilt", "tests", "tools/test", ".reuse")
+        self.take("README.md", "CHANGELOG.md", "CONTRIBUTING.md", "HANDLES", "SECURITY.md", "crates.txt", "docs", "crates",
+                  "bindings", "examples", "include", "prebuilt", "tests", "tools/test", ".reuse")
 
     def faults(self, version="the version"):
         """What the tool says if `rt version` prints this, and README.md says 'the version'."""
@@ -103,7 +103,13 @@ class Names(CopyTest):
                 (proofs, "`sending`; `errors`;", "`serial`; `errors`;",
                  [f"{proofs}: crates/superio_tests/src has no module serial"]),
                 ("crates/vm_superio/CALLING.md", "| | `data` |", "| | `date` |",
-                 ["crates/vm_superio/CALLING.md: vm_superio::serial::Serial::read has no clause date"])):
+                 ["crates/vm_superio/CALLING.md: vm_superio::serial::Serial::read has no clause date"]),
+                (proofs, "`Port::write: step` (`answered`)", "`Port::write: step` (`fault`)",
+                 [f"{proofs}: no clause there has a part fault"]),
+                (proofs, "- `State`: `State`, `not_empty`", "- `State`: `State`, `count_if`",
+                 [f"{proofs}: State does not define count_if"]),
+                ("docs/WRONG-BODIES.md", "- `writer`, `interrupt_evt` and", "- `writer`, `interrupt_enable` and",
+                 ["docs/WRONG-BODIES.md: interrupt_enable has an edit"])):
             with self.subTest(new):
                 self.change(name, old, new)
                 self.assertEqual(self.faults(), says)
@@ -130,6 +136,11 @@ class Names(CopyTest):
                 ("docs/USING.md", "`library.d.t~s`", "library.d.t~s is nowhere in the sources"),
                 ("docs/USING.md", "`monitor.c~c`", "monitor.c~c is nowhere in the sources"),
                 ("docs/USING.md", "as PROOF.md says", "PROOF.md is nowhere in the sources"),
+                ("docs/USING.md", "as laws::same_read says", "laws::same_read is nowhere in the sources"),
+                ("docs/USING.md", "`Serial::read: step and data`", "Serial::read: step and data is no citation"),
+                ("docs/USING.md", '`a = "../rust/bindings"`', "rust/bindings is nowhere in the sources"),
+                ("docs/USING.md", "`tools/check floors`", "tools/check has no floors"),
+                ("docs/USING.md", "`tools/run docs/one.script`", "tools/run has no docs/one.script"),
                 ("docs/USING.md", "as tools/proofs says", "tools/proofs is nowhere in the sources"),
                 ("docs/DIFFERENCES.md", "`Serial::read_all`", "Serial::read_all is nowhere in the sources"),
                 ("CONTRIBUTING.md", "`--write~-floor`", "--write~-floor is nowhere in the sources"),
@@ -173,8 +184,8 @@ class Facts(CopyTest):
                 ("include/superio.h", "0x01 is data ready", "0x02 is data ready", "LSR DR is 2, and 1"),
                 ("docs/DEVICES.md", "| 1 | set | DLM", "| 1 | clear | DLM", "DLM is (1, False), and (1, True)"),
                 ("README.md", "At most 64 bytes", "At most 63 bytes", "bytes held is [(63,)], and [(64,)]"),
-                ("README.md", "rejected 27", "rejected 28", "rejected is [30, 28, 3], and [30, 27, 3]"),
-                ("README.md", "[the other 3]", "[the other 4]", "rejected is [30, 27, 4], and [30, 27, 3]"),
+                ("README.md", "[five points]", "[four points]", "points is [(4,)], and [(5,)]"),
+                ("docs/PROOFS.md", "at most two interrupts at", "at most three interrupts at", "is [(3,)], and [(2,)]"),
                 ("README.md", "in 16 pieces", "in 17 pieces", "paste is [(1000, 17)], and [(1000, 16)]"),
                 (proofs, "ends with status 3", "ends with status 4", "status is [(4,)], and [(3,)]"),
                 (proofs, "300 scripts with", "400 scripts with", "scripts is [(400,)], and [(300,)]"),
@@ -220,12 +231,18 @@ class Facts(CopyTest):
                 ("README.md", "15 to 60", "15 to 70", "70"),
                 ("docs/PROOFS.md", "65,536 writes", "65,535 writes", "65,535"),
                 ("docs/WRONG-BODIES.md", "from line 16,001 on", "from line 16,002 on", "16,002"),
+                ("docs/PROOFS.md", "no two states", "no three states", "three"),
                 ("README.md", "## Read on\n", "## Read on\n\nWe tried 10 guests.\n", "10")):
             with self.subTest(new):
                 self.change(name, old, new)
                 faults = faults_of(self.run_tool("tools/checks/facts"))
                 self.change(name, new, old)
                 self.assertTrue([it for it in faults if it.startswith(f"{name}: no row compares {number} in ")], faults)
+
+    def test_a_quoted_text_stands_once(self):
+        self.change("README.md", "C library | 1 to 4 |", "C library | 1 to 4 |\n| the C library | 1 to 4 |")
+        faults = faults_of(self.run_tool("tools/checks/facts"))
+        self.assertIn("README.md: 'C library | 1 to 4 |' stands there 2 times", faults)
 
     def test_a_fact_that_is_lost_is_tried_no_more(self):
         self.change("docs/DEVICES.md", "| 7 | any | SCR | SCR | 0x00 |\n", "")
@@ -234,7 +251,8 @@ class Facts(CopyTest):
 
 class Excerpts(CopyTest):
     def test_each_line_that_is_missing_is_named(self):
-        self.take("README.md", "docs", "examples/c", "crates/vm_superio/src", "crates/superio_examples/src", "bindings/rust")
+        self.take("README.md", "docs", "examples/c", "crates/vm_superio/src", "crates/superio_examples/src",
+                  "bindings/rust")
         self.assertEqual(faults_of(self.run_tool("tools/checks/excerpts")), [])
         self.change("docs/c.md", "return done.byte;", "return done.bytes;")
         fault, = faults_of(self.run_tool("tools/checks/excerpts"))

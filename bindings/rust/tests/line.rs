@@ -64,7 +64,7 @@ impl Board for Edges {
         if offset == 2 && value & 0x01 != 0 && self.port.character_timeout().is_err() {
             self.must_retry = true; // by `retry_interrupts` in the next turn
         }
-        value // the guest has read it in any case
+        value
     }
 
     fn write(&mut self, offset: u8, value: u8) -> Result<(), PortError> {
