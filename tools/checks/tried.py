@@ -62,12 +62,12 @@ class Tried:
 
 
 class Asserting(TextTestResult):
-    """What a run of unittest found. A test that passes and asserted nothing is a failure."""
+    """What a run of unittest found. A test that passes and asserted nothing, or caught what failed, is a failure."""
 
     def startTest(self, test):
         super().startTest(test)
         # A doctest compares what it prints.
-        self.asserted = isinstance(test, DocTestCase)
+        self.asserted, self.caught = isinstance(test, DocTestCase), False
         for name in dir(test):
             if name.startswith("assert"):
                 setattr(test, name, self.noted(getattr(test, name)))
@@ -75,14 +75,19 @@ class Asserting(TextTestResult):
     def noted(self, method):
         def call(*arguments, **options):
             self.asserted = True
-            return method(*arguments, **options)
+            try:
+                return method(*arguments, **options)
+            except AssertionError:
+                self.caught = True
+                raise
         return call
 
     def addSuccess(self, test):
-        if self.asserted:
+        if self.asserted and not self.caught:
             super().addSuccess(test)
         else:
-            self.addFailure(test, (AssertionError, AssertionError("it asserted nothing"), None))
+            why = "what it asserted was caught" if self.caught else "it asserted nothing"
+            self.addFailure(test, (AssertionError, AssertionError(why), None))
 
 
 def tests_of(suite):

@@ -81,6 +81,12 @@ class Runs(unittest.TestCase):
         self.assertIn("this differs\n", printed)
         self.assertIn("and this\n", printed)
 
+    def test_a_check_that_passes_and_dies_fails(self):
+        for end, says in (("exit 3", "exit status 3"), ("kill -9 $$", "exit status -9")):
+            result, printed = self.run_command(f"echo 'tried: 1 cases'; echo '1 passed, 0 failed'; {end}")
+            self.assertEqual((result.passed, result.failed), (1, 1))
+            self.assertIn(says, printed)
+
     def test_a_check_that_tries_less_than_its_floors_fails(self):
         script = "echo 'tried: 3 cases'; echo '3 passed, 0 failed'"
         for floors, is_enough in (({"cases": 3}, True), ({"cases": 4}, False), ({"cases": 3, "scripts": 1}, False),
@@ -205,7 +211,9 @@ class Tests(unittest.TestCase):
         one = "class It(TestCase):\n    def test_it(self): {}"
         self.assertEqual(self.run_tests(one.format("self.assertTrue(1)")), "1 passed, 0 failed")
         self.assertEqual(self.run_tests(one.format("self.skipTest('why')")), "0 passed, 0 failed, 1 skipped")
-        for text in (one.format("pass"), one.format("[self.fail() for _ in ()]"), one.format("self.fail()"),
+        caught = one.format("\n        try: self.assertEqual(1, 2)\n        except AssertionError: pass")
+        for text in (one.format("pass"), one.format("[self.fail() for _ in ()]"), one.format("self.fail()"), caught,
+                     one.format("self.assertTrue(1); self._outcome.result.stop()"),
                      one.format("raise OSError()"), "import nowhere",
                      one.replace("    def", "    @expectedFailure\n    def").format("self.fail()"),
                      one.replace("    def", "    @expectedFailure\n    def").format("pass")):

@@ -49,6 +49,13 @@ class Package(Checked):
         self.change("bindings/js/wasm/lib.rs", "const NONE: i64 = -1;", "const NONE: i64 = -2;")
         self.check(1, "the module was built from other sources")
 
+    def test_words_that_not_all_have(self):
+        for name, text in (("registers.mjs", "[].toSorted();"), ("superio.mjs", "'i'.toLocaleUpperCase();")):
+            with open(self.root / "bindings/js" / name, "a", encoding="utf-8") as file:
+                file.write(f"{text}\n")
+        self.check(1, "registers.mjs has .toSorted(, which Node 18 lacks",
+                   "superio.mjs has toLocale, which differs with the user's language")
+
     def test_another_version_and_interface(self):
         self.change("bindings/js/package.json", '"version": "', '"version": "9')
         self.change("bindings/js/superio.mjs", "const ABI = ", "const ABI = 9")
