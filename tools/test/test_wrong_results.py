@@ -32,7 +32,7 @@ from tally import Tally, run  # noqa: E402
 failing_io, first_crate, hostile, refused_memory, saved_forms = map(
     module_of, map("checks/{}".format, ("failing_io", "first_crate", "hostile", "refused_memory", "saved_forms")))
 rust_check, js_check, page_check = map(module_of, ("rust/check", "js/check", "page/check"))
-c_check, packages_check = map(module_of, ("c/check", "packages/check"))
+packages_check = module_of("packages/check")
 kvm_check = module_of("kvm/check")
 # A program that prints its script, and others that differ from it in one thing.
 RIGHT, STATUS = "cat", "cat; exit 1"
@@ -368,18 +368,22 @@ class Runs(unittest.TestCase):
     def test_warnings_of_misuse(self):
         """A compiler warns of a right call, or not of a mistake."""
         def failed(change):
-            def warned(compiler, number):
-                place = misuse.COMPILERS.index(compiler)
-                return change(place, number, misuse.WANTED[number][place] or "" if number else "")
+            def warned(compiler, statements):
+                place, number = misuse.COMPILERS.index(compiler), tried.index(statements)
+                return change(place, number, wanted[number][place] or "")
             tally = Tally()
             with mock.patch.object(misuse, "warned", warned), mock.patch.object(tally, "has", return_value=True):
                 silently(misuse.check_misuse, tally)
             return tally.failed
+        tried, wanted = [misuse.RIGHT], [[None] * len(misuse.COMPILERS)]
+        for _, statements, texts in misuse.MISTAKES:
+            tried.append(statements)
+            wanted.append(texts)
         self.assertEqual(failed(lambda place, number, text: text), 0)
         for at in range(len(misuse.COMPILERS)):
             self.assertEqual(failed(lambda place, number, text: text if (place, number) != (at, 0) else "a warning"), 1)
-            for it, texts in enumerate(misuse.WANTED):
-                if it and texts[at]:
+            for it, texts in enumerate(wanted):
+                if texts[at]:
                     self.assertEqual(failed(lambda place, number, text: text if (place, number) != (at, it) else ""), 1)
 
     def test_a_library_of_another_interface(self):
@@ -422,7 +426,7 @@ class Failing(unittest.TestCase):
     def test_with_a_tally(self):
         with tempfile.TemporaryDirectory() as name:
             of_c = [(check, [machines()[0], Path(name)]) for check in (
-                programs.check_header, programs.check_calls, programs.check_other_abi, programs.check_fuzz,
+                programs.check_header, programs.check_calls, programs.check_other_abi, programs.check_random_calls,
                 programs.check_pastes, programs.check_demos)]
             others = [(check, []) for check in (licenses.check_reuse, js_check.check_calls, js_check.check_tests)]
             for check, arguments in of_c + others:
@@ -439,8 +443,9 @@ class Failing(unittest.TestCase):
             is_build = command[0] in ("gcc", "g++", "clang", "clang++", "make")
             built.extend([command] * is_build)
             return subprocess.CompletedProcess(command, 0 if is_build else 101, "", "")
-        with tempfile.TemporaryDirectory() as name, mock.patch("subprocess.run", builds):
-            for check in (programs.check_calls, programs.check_other_abi, programs.check_fuzz, programs.check_pastes,
+        with tempfile.TemporaryDirectory() as name, mock.patch("subprocess.run", builds), \
+                mock.patch.object(programs, "drawn", lambda _: ("/dev/null", [])):
+            for check in (programs.check_calls, programs.check_other_abi, programs.check_random_calls, programs.check_pastes,
                           programs.check_demos):
                 with self.subTest(check.__name__):
                     tally = Tally()
@@ -458,9 +463,9 @@ class Failing(unittest.TestCase):
         self.assertEqual(tally.failed, tally.tried.counts["wrong demos"])
 
     def test_a_check_that_ends_by_an_error(self):
-        for module in (c_check, packages_check):
+        for run_check in (lambda check, tally: tally.carry_out("it", check), packages_check.run):
             tally, check = Tally(), mock.Mock(__name__="check_it", side_effect=OSError)
-            silently(module.run, check, tally)
+            silently(run_check, check, tally)
             self.assertEqual((tally.passed, tally.failed), (0, 1))
 
     def test_of_rust(self):
