@@ -230,6 +230,11 @@ class Runs(unittest.TestCase):
             with mock.patch.object(saved_forms, "replies", return_value=[*right[:place], wrong, *right[place + 1:]]):
                 result = silently(saved_forms.through_library, "", tried[:1])
             self.assertEqual(result, (len(right) - failed, failed))
+        for printed, failed in ((f"{2 * len(right)} calls did the same, 0 did not\n", 0), ("", len(right)),
+                                (f"{2 * len(right) - 1} calls did the same, 1 did not\n", len(right))):
+            ran = subprocess.CompletedProcess("replay", 0, printed)
+            with mock.patch("subprocess.run", return_value=ran), mock.patch.object(saved_forms, "CHUNK", len(tried)):
+                self.assertEqual(silently(saved_forms.through_c, "", tried), (len(right) - failed, failed))
 
     def test_loads_through_scripts(self):
         """The runs of all scripts but the first are right."""
