@@ -25,6 +25,7 @@ import demo  # noqa: E402
 import licenses  # noqa: E402
 import misuse  # noqa: E402
 import programs  # noqa: E402
+import twin  # noqa: E402
 from failing import Call, Ran  # noqa: E402
 from machines import machines  # noqa: E402
 from tally import Tally, run  # noqa: E402
@@ -392,12 +393,14 @@ class Runs(unittest.TestCase):
                     self.assertEqual(failed(lambda place, number, text: text if (place, number) != (at, it) else ""), 1)
 
     def test_a_library_of_another_interface(self):
-        status, printed = demo.OTHER_LIBRARY
-        for ended, failed in ((demo.OTHER_LIBRARY, 0), ((status - 1, printed), 3), ((status + 1, printed), 3),
-                              ((status, ""), 3), ((status, f"{printed}more"), 3)):
-            ran = mock.Mock(return_value=subprocess.CompletedProcess("demo", *ended))
-            with mock.patch.multiple(demo, run=ran, different_scripts=lambda *_: [], random_cases=lambda *_: []):
-                self.assertEqual(len(list(demo.differences("demo"))), failed, ended)
+        (_, _, (printed,), status), = demo.CASES_OF_OTHERS
+        ended = status, f"{printed}\n".encode()
+        for got, failed in ((ended, 0), ((status - 1, ended[1]), 3), ((status + 1, ended[1]), 3), ((status, b""), 3),
+                            ((status, ended[1] + b"more"), 3)):
+            ways = [way for way in demo.DRIVEN["monitor.c"][2] if way[0]]
+            with mock.patch.dict(demo.DRIVEN, {"monitor.c": ("demo.c", [], ways)}), \
+                    mock.patch.object(twin, "run_bounded", return_value=got):
+                self.assertEqual(len(list(demo.differences("monitor.c", "demo"))), failed, got)
 
     def test_the_page(self):
         """A reply, an end, a feature, and the list as a script."""
@@ -460,9 +463,8 @@ class Failing(unittest.TestCase):
                     self.assertGreaterEqual(tally.failed, len(built))
 
     def test_a_wrong_demo_that_differs_in_nothing(self):
-        driven = {file: (driver, options, lambda *_: []) for file, (driver, options, _) in demo.DRIVEN.items()}
         tally = Tally()
-        with tempfile.TemporaryDirectory() as name, mock.patch.object(demo, "DRIVEN", driven), \
+        with tempfile.TemporaryDirectory() as name, mock.patch.object(demo, "differences", lambda *_: []), \
                 mock.patch("subprocess.run", lambda command, **_: subprocess.CompletedProcess(command, 0, "", "")):
             silently(demo.check_driven_demo, tally, machines()[0], Path(name))
         self.assertEqual(tally.failed, tally.tried.counts["wrong demos"])
