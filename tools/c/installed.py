@@ -5,8 +5,8 @@ from pathlib import Path
 
 from declarations import CALLER, PROVED, differences, versions
 from header import read_header
-from libraries import PREBUILT, SHARED, STATIC, TARGETS, BuildError, build, library_sums, source_line, sums_of
-from programs import DEMO, TESTS
+from libraries import (DEMO, PREBUILT, SHARED, STATIC, TARGETS, TESTS, BuildError, build, library_sums, source_line,
+                       sums_of)
 from tally import run
 
 LIBRARIES = [PREBUILT / target / name for target in sorted(TARGETS) for name in (STATIC, SHARED)]

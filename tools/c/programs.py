@@ -6,13 +6,11 @@ import shutil
 from functools import lru_cache
 
 from declarations import assertions
-from libraries import ROOT
+from libraries import DEMO, ROOT, TESTS
 from machines import C
 from random_calls import write_calls
 from tally import run
 
-TESTS = ROOT / "tools" / "c" / "tests"
-DEMO = ROOT / "examples" / "c"
 # What the examples beside the monitor print.
 EXAMPLES = {
     "paste": "1000 bytes in 16 pieces, in order\n",

@@ -43,7 +43,8 @@ DECLARATIONS = [
 RT = """#!/bin/sh
 case "$1" in
 doc) echo "$KIT/page" ;;
-lib) mkdir -p out && echo "static for $2 $3" > out/libsuperio_c.a && echo built && [ -z "$FAILS" ] ;;
+lib) while [ "$1" != --jobs ]; do said="$said $1"; shift; done
+    mkdir -p out && echo "static for$said" > out/libsuperio_c.a && echo built && [ -z "$FAILS" ] ;;
 esac
 """
 LINKER = """#!/bin/sh
@@ -53,10 +54,10 @@ while [ "$1" != --whole-archive ]; do shift; done
 echo "shared for $emulation of $(cat "$2")" > "$4"
 """
 BUILT = {
-    "aarch64-linux/libsuperio_c.a": "static for --target aarch64-unknown-linux-gnu\n",
-    f"aarch64-linux/{SHARED}": "shared for aarch64linux of static for --target aarch64-unknown-linux-gnu\n",
-    "x86_64-linux/libsuperio_c.a": "static for --cpu=x86-64 \n",
-    f"x86_64-linux/{SHARED}": "shared for elf_x86_64 of static for --cpu=x86-64 \n",
+    "aarch64-linux/libsuperio_c.a": "static for lib --target aarch64-unknown-linux-gnu\n",
+    f"aarch64-linux/{SHARED}": "shared for aarch64linux of static for lib --target aarch64-unknown-linux-gnu\n",
+    "x86_64-linux/libsuperio_c.a": "static for lib --cpu=x86-64\n",
+    f"x86_64-linux/{SHARED}": "shared for elf_x86_64 of static for lib --cpu=x86-64\n",
 }
 
 
@@ -189,10 +190,10 @@ class Building(CopyTest):
     def test_a_build_that_fails_says_where_its_output_is(self):
         status, _, said = self.run_tool("tools/c/prebuild", self.root / "folder", env={**self.environment, "FAILS": "1"})
         self.assertEqual(status, 1)
-        log = re.fullmatch(r"tools/c/prebuild: .* for aarch64-linux failed: (\S+) has what it printed\n", said)[1]
+        log = re.fullmatch(r"tools/c/prebuild: superio_c .* `rt lib --target aarch64\S+ .* (\S+) has what it printed\n", said)[1]
         with open(log, encoding="utf-8") as kept:
             self.assertEqual(kept.read(), "built\n")
-        shutil.rmtree(os.path.dirname(log))
+        os.unlink(log)
 
     def test_without_the_kit(self):
         status, printed, said = self.run_tool("tools/c/prebuild", self.root / "folder", env={"PATH": ""})

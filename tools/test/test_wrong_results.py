@@ -397,8 +397,8 @@ class Runs(unittest.TestCase):
         ended = status, f"{printed}\n".encode()
         for got, failed in ((ended, 0), ((status - 1, ended[1]), 3), ((status + 1, ended[1]), 3), ((status, b""), 3),
                             ((status, ended[1] + b"more"), 3)):
-            ways = [way for way in demo.DRIVEN["monitor.c"][2] if way[0]]
-            with mock.patch.dict(demo.DRIVEN, {"monitor.c": ("demo.c", [], ways)}), \
+            others = [way for way in demo.ways("monitor.c") if way[0]]
+            with mock.patch.object(demo, "ways", return_value=others), \
                     mock.patch.object(twin, "run_bounded", return_value=got):
                 self.assertEqual(len(list(demo.differences("monitor.c", "demo"))), failed, got)
 
