@@ -254,6 +254,7 @@ static void serial_state(void) {
 
 static void clock_state(void) {
     if (words[1]) {
+        *rtc = superio_rtc_new();
         rtc->lr = (uint32_t)number(1);
         rtc->offset = strtoll(words[2], NULL, 10);
         rtc->mr = (uint32_t)number(3);
