@@ -141,7 +141,7 @@ def check_driven_demo(tally, machine, folder):
         wrong.mkdir(parents=True)
         (wrong / bug.file).write_text(source.replace(bug.old, bug.new), encoding="utf-8")
         stands = source.count(bug.old)
+        command = build(machine, compiler, wrong, program, bug.file)
         if tally.check(stands == 1, f"{bug.name}: its text stands {stands} times in {bug.file}", 0) \
-                and tally.run(f"the wrong demo is built: {bug.name}", build(machine, compiler, wrong, program, bug.file),
-                              number=0):
+                and tally.run(f"the wrong demo is built: {bug.name}", command, number=0):
             tally.check(any(differences(bug.file, program)), f"the wrong demo is not refused: {bug.name}")

@@ -40,7 +40,8 @@ def check_build(tally):
             return
         for library in LIBRARIES:
             built = Path(name) / library.relative_to(PREBUILT)
-            tally.check(library.read_bytes() == built.read_bytes(), f"{library} is not what a build gives: run tools/c/prebuild")
+            tally.check(library.read_bytes() == built.read_bytes(),
+                        f"{library} is not what a build gives: run tools/c/prebuild")
 
 
 def symbols(library):

@@ -35,7 +35,8 @@ DECLARATIONS = [
     ("bindings/rust/src/core/serial/effects.rs", "    pub sends: bool,\n", "",
      "superio_serial_write_effects: the header has"),
     (CALLER, "    resets: bool,", "    resets: u16,", "superio_i8042_write_effects: the header has the size 1"),
-    ("tools/c/tests/replay.c", "superio_i8042_read((uint8_t)number(1))", "0", "replay.c does not call ['superio_i8042_read']"),
+    ("tools/c/tests/replay.c", "superio_i8042_read((uint8_t)number(1))", "0",
+     "replay.c does not call ['superio_i8042_read']"),
     (CALLER, "    safe fn superio_rtc_line(clock: &Clock) -> bool;\n", "", "tools/compare/library None"),
 ]
 # In place of the kit: `rt doc` names a page of the kit, `rt lib` writes a library that says what it is for, and the
@@ -79,8 +80,9 @@ class Declaring(CopyTest):
 def built(name, root):
     """A program of tools/c/tests, built in a copy for this machine."""
     library = ROOT / "prebuilt" / f"{platform.machine()}-linux" / "libsuperio_c.a"
-    subprocess.run(["gcc", "-std=c11", "-O2", "-I", ROOT / "include", root / "tools/c/tests" / f"{name}.c", library, "-o",
-                    root / name], check=True, timeout=120)
+    source = root / "tools/c/tests" / f"{name}.c"
+    subprocess.run(["gcc", "-std=c11", "-O2", "-I", ROOT / "include", source, library, "-o", root / name], check=True,
+                   timeout=120)
     return root / name
 
 
@@ -92,8 +94,9 @@ class Replaying(CopyTest):
         self.calls = self.root / "calls"
 
     def replay(self):
-        ran = subprocess.run([built("replay", self.root)], input=self.calls.read_bytes(), capture_output=True, timeout=120)
-        return ran.returncode, ran.stdout.decode().splitlines()[-1]
+        with open(self.calls, encoding="ascii") as calls:
+            ran = subprocess.run([built("replay", self.root)], stdin=calls, capture_output=True, text=True, timeout=120)
+        return ran.returncode, ran.stdout.splitlines()[-1]
 
     def test_a_call_of_each_kind_that_differs_is_found(self):
         self.assertEqual(random_calls.write_calls(self.calls, 20000), [])
@@ -190,7 +193,8 @@ class Building(CopyTest):
     def test_a_build_that_fails_says_where_its_output_is(self):
         status, _, said = self.run_tool("tools/c/prebuild", self.root / "folder", env={**self.environment, "FAILS": "1"})
         self.assertEqual(status, 1)
-        log = re.fullmatch(r"tools/c/prebuild: superio_c .* `rt lib --target aarch64\S+ .* (\S+) has what it printed\n", said)[1]
+        says = r"tools/c/prebuild: superio_c .* `rt lib --target aarch64\S+ .* (\S+) has what it printed\n"
+        log = re.fullmatch(says, said)[1]
         with open(log, encoding="utf-8") as kept:
             self.assertEqual(kept.read(), "built\n")
         os.unlink(log)

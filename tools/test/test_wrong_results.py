@@ -453,8 +453,8 @@ class Failing(unittest.TestCase):
             return subprocess.CompletedProcess(command, 0 if is_build else 101, "", "")
         with tempfile.TemporaryDirectory() as name, mock.patch("subprocess.run", builds), \
                 mock.patch.object(programs, "drawn", lambda _: ("/dev/null", [])):
-            for check in (programs.check_calls, programs.check_other_abi, programs.check_random_calls, programs.check_pastes,
-                          programs.check_demos):
+            for check in (programs.check_calls, programs.check_other_abi, programs.check_random_calls,
+                          programs.check_pastes, programs.check_demos):
                 with self.subTest(check.__name__):
                     tally = Tally()
                     built.clear()

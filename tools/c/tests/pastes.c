@@ -37,7 +37,7 @@ struct machine;
 struct guest {
     const char *name;
     bool (*handler)(struct machine *); /* serves an interrupt. Returns whether its last look at IIR found nothing */
-    unsigned long least[COUNTS];       /* how much has to be tried. The last number is for the run without the timeout */
+    unsigned long least[COUNTS];       /* how much has to be tried; of stuck ones in the run without the timeout */
 };
 
 struct machine {
