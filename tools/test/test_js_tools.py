@@ -30,8 +30,8 @@ class Package(Checked):
 
     def setUp(self):
         super().setUp()
-        self.take("bindings/js", "bindings/python/superio", "bindings/rust/src/core", "crates/superio_c/src", "prebuilt",
-                  "include", "tests/calls", "CHANGELOG.md")
+        self.take("bindings/js", "bindings/python/superio", "bindings/rust/src/core", "bindings/rust/capi/src",
+                  "crates/superio_c/src", "prebuilt", "include", "tests/calls", "CHANGELOG.md")
 
     def test_what_cannot_run_is_named(self):
         printed = self.check(0)
@@ -46,7 +46,7 @@ class Package(Checked):
                    "module.mjs has other bytes")
 
     def test_other_sources(self):
-        self.change("bindings/js/wasm/lib.rs", "const NONE: i64 = -1;", "const NONE: i64 = -2;")
+        self.change("bindings/rust/capi/src/clock.rs", "const NEVER: u64 = u64::MAX;", "const NEVER: u64 = 0;")
         self.check(1, "the module was built from other sources")
 
     def test_words_that_not_all_have(self):
