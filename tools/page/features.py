@@ -9,11 +9,11 @@ HELPERS = """
 window.by = (id) => document.getElementById(id);
 window.click = (id) => by(id).click();
 window.fill = (id, value) => { by(id).value = value; by(id).dispatchEvent(new Event("input")); };
-window.row = (offset) => { const [read, write] = by("registers").children[offset].querySelectorAll(".act button");
-  const bits = by("registers").children[offset].querySelectorAll(".bit");
-  return { read, write, input: by("registers").children[offset].querySelector("input"), bits,
-    value: by("registers").children[offset].querySelector("code").textContent,
-    isLit: by("registers").children[offset].classList.contains("changed") }; };
+window.row = (offset) => { const row = by("registers").querySelectorAll(".register:not([hidden])")[offset];
+  const [read, write] = row.querySelectorAll(".act button");
+  return { read, write, input: row.querySelector("input"), bits: row.querySelectorAll(".bit"),
+    name: row.querySelector("b").textContent, value: row.querySelector("code").textContent,
+    isLit: row.classList.contains("changed") }; };
 window.put = (offset, value) => { row(offset).input.value = value; row(offset).write.click(); };
 window.bit = (offset, name) => Array.from(row(offset).bits).find((one) => one.textContent === name);
 window.lines = () => Array.from(by("list").children, (item) => Array.from(item.children, (part) => part.textContent)
@@ -69,7 +69,7 @@ FEATURES = [
      ["sw 01 03=ok sw 01 02=ok", "false"]),
     ("the divisor takes the place of RBR and IER",
      "", "bit(3, 'DLAB').click(); put(0, '1')",
-     "[lines(), by('registers').children[0].children[1].textContent, row(0).value]",
+     "[lines(), row(0).name, row(0).value]",
      ["sw 03 83=ok sw 00 01=ok", "DLL", "0x01"]),
     ("input is typed",
      "#sw+01+01", "fill('input', 'hello'); submit('typing')",
@@ -90,7 +90,7 @@ FEATURES = [
     ("a driver takes all of them, in order",
      "#sw+01+01", "click('paste-many'); click('serve')",
      "[held(), has('counts', 'wait'), text('place'), text('taken-heading'), text('taken')]",
-     ["0", False, "2021 of 2021", "What the guest read: 1,000 bytes",
+     ["0", False, "2,021 of 2,021", "What the guest read: 1,000 bytes",
       "".join(f"{line:02} abcdefghijklmnopqrstuvwxyz0123456789ABCDEFGHIJ\n" for line in range(1, 21))]),
     ("a driver enables the interrupt if it has to",
      "#sw+03+83", "fill('input', 'hi'); submit('typing'); click('serve')", "[lines(), text('taken')]",
