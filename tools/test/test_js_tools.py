@@ -58,9 +58,9 @@ class Package(Checked):
         self.check(1, "package.json has version 9", "superio.mjs is for the binary interface 9")
 
     def test_a_build_without_the_compiler(self):
-        status, printed, said = self.run_tool("tools/js/prebuild", env=ALONE)
+        status, printed, said = self.run_tool("tools/js/prebuild.py", env=ALONE)
         self.assertEqual((status, printed), (1, ""))
-        self.assertIn("tools/js/prebuild: the module needs Debian 12's rustc", said)
+        self.assertIn("tools/js/prebuild.py: the module needs Debian 12's rustc", said)
 
 
 class Page(Checked):

@@ -1,4 +1,12 @@
-"""The WebAssembly module: where it is, and how it is built from Cargo's C library, over the erased proved devices."""
+#!/usr/bin/env python3
+"""Builds the WebAssembly module that the repository holds: Cargo's C library, over the erased proved devices.
+
+    tools/js/prebuild.py
+
+Writes prebuilt/wasm32/superio.wasm, its lines in prebuilt/SHA256SUMS and prebuilt/SOURCES, and bindings/js/module.mjs,
+which has its bytes. They are the same on every machine. Needs Debian 12's rustc, libstd-rust-dev-wasm32 and lld. Prints
+nothing if all is well. Otherwise it says why on standard error, and exits 1.
+"""
 import base64
 import shutil
 import subprocess
@@ -7,7 +15,7 @@ from pathlib import Path
 
 ROOT = Path(__file__).resolve().parent.parent.parent
 sys.path[:0] = [str(ROOT / "tools" / "checks"), str(ROOT / "tools" / "c")]
-from libraries import PREBUILT, BuildError, source_line, sums_of  # noqa: E402
+from libraries import PREBUILT, BuildError, replace_lines, source_line, sums_of  # noqa: E402
 from toolchains import DEBIAN  # noqa: E402
 
 TARGET = "wasm32-unknown-unknown"
@@ -56,7 +64,7 @@ def build(place):
 def embedded(module):
     """The text of module.mjs, which has the module's bytes."""
     text = base64.b64encode(module).decode("ascii")
-    return (f"// Made by the command tools/js/prebuild from prebuilt/{MODULE}, whose bytes these are in base 64.\n"
+    return (f"// Made by the command tools/js/prebuild.py from prebuilt/{MODULE}, whose bytes these are in base 64.\n"
             f'export default "{text}";\n')
 
 
@@ -66,3 +74,21 @@ def sum_line():
 
 def module_sources():
     return source_line([SOURCES, "bindings/rust/src/core"], ".rs")
+
+
+def main():
+    if sys.argv[1:]:
+        sys.exit(__doc__)
+    if not has_compiler():
+        sys.exit(f"tools/js/prebuild.py: the module needs {PACKAGES}")
+    try:
+        build(PREBUILT / MODULE)
+    except BuildError as error:
+        sys.exit(f"tools/js/prebuild.py: {error}")
+    EMBEDDED.write_text(embedded((PREBUILT / MODULE).read_bytes()), encoding="ascii")
+    replace_lines(PREBUILT / "SHA256SUMS", [sum_line()])
+    replace_lines(PREBUILT / "SOURCES", [module_sources()])
+
+
+if __name__ == "__main__":
+    main()
