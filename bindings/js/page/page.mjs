@@ -280,13 +280,17 @@ function showLine({ serial, answers, asked }) {
   say("asked", `The line was called ${plural(asked, "time")}${refused}.`);
 }
 
+/** A text whose control characters are shown as ^[ and the like, but for the ends of lines and tabs. */
+const printable = (text) => text.replace(/[\0-\x08\x0b\x0c\x0e-\x1f]/g, (one) =>
+  `^${String.fromCharCode(0x40 + one.charCodeAt(0))}`);
+
 function showOutput({ output, counts, taken }) {
   const [sent, read] = state.boot ? [state.boot.text, state.boot.taken] : [state.log + output, taken];
-  say("output", sent || "Nothing was sent yet.");
+  say("output", printable(sent) || "Nothing was sent yet.");
   const waits = state.queue.length ? `; ${plural(state.queue.length, "byte")} of input wait` : "";
   say("counts", `${plural(sent.length, "byte")} sent, ${counts.txLostByte} lost${waits}`);
   say("taken-heading", `What the guest read: ${plural(read.length, "byte")}`);
-  say("taken", read);
+  say("taken", printable(read));
   for (const name of ["output", "taken"]) id(name).scrollTop = id(name).scrollHeight;
 }
 
