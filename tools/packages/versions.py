@@ -16,7 +16,6 @@ PLACES = {
 # The same for the number of the binary interface, which the name of the shared library ends with.
 ABI_PLACES = {
     "bindings/js/superio.mjs": r"^const ABI = (\d+);$",
-    "bindings/js/wasm/lib.rs": r"^const ABI: u32 = (\d+);$",
     "bindings/python/superio/library.py": r"^ABI = (\d+)$",
     "bindings/rust/capi/src/lib.rs": r"^const ABI: u32 = (\d+);$",
     "debian/control": r"^Package: libsuperio(\d+)$",
