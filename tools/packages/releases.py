@@ -114,34 +114,31 @@ def check_provenance(tally, made):
         tally.check(not wrong, f"provenance: {wrong}")
 
 
-def is_genuine(place, signers):
-    """Whether the sums of a release are signed by its maintainer, and its files have them, as docs/RELEASE.md says."""
-    words = ["ssh-keygen", "-Y", "verify", "-n", "superio-release", "-f", signers, "-I", "maintainer",
-             "-s", "SHA256SUMS.sig"]
-    with open(place / "SHA256SUMS", encoding="ascii") as sums:
-        is_signed = run(words, cwd=place, stdin=sums).returncode == 0
-    return is_signed and run(["sha256sum", "--check", "--strict", "--quiet", "SHA256SUMS"], cwd=place).returncode == 0
-
-
 def check_signature(tally, made, folder):
-    """Counts whether a signature holds, and not by another key, for another use, or of a changed file."""
+    """Counts whether the commands of docs/RELEASE.md accept a release that the maintainer signed, and none that another key
+    signed, or the same for another use, or that was changed afterwards."""
     if not tally.has("ssh-keygen", "a signature of a release"):
         return
-    place, signers = folder / "signed", folder / "allowed_signers"
+    place, text = folder / "signed", (ROOT / "docs" / "RELEASE.md").read_text(encoding="utf-8")
+    sign, *verify = re.search(r"^(ssh-keygen -Y sign .*?)\n```", text, re.M | re.S)[1].split("\n")
     shutil.copytree(made, place)
-    for name in ("other", "key"):
+    for name in ("key", "other"):
         tally.run(f"a new {name}", ["ssh-keygen", "-q", "-t", "ed25519", "-N", "", "-C", "", "-f", folder / name])
-    signers.write_text(f"maintainer {(folder / 'key.pub').read_text(encoding='ascii')}", encoding="ascii")
-    for name, use in (("other", "superio-release"), ("key", "mail"), ("key", "superio-release")):
-        (place / "SHA256SUMS.sig").unlink(missing_ok=True)
-        signed = run(["ssh-keygen", "-Y", "sign", "-n", use, "-f", folder / name, "SHA256SUMS"], cwd=place)
-        wanted = (name, use) == ("key", "superio-release")
-        tally.check(signed.returncode == 0 and is_genuine(place, signers) == wanted, f"{name}, {use}: {signed.stdout}")
+    (place / "allowed_signers").write_text(f"maintainer {(folder / 'key.pub').read_text()}", encoding="ascii")
+
+    def check(is_genuine, what, *commands):
+        ran = run(["sh", "-c", " && ".join([*commands, *verify])], cwd=place)
+        tally.check((ran.returncode == 0) == is_genuine, f"{what}: status {ran.returncode}\n{ran.stdout}")
+
+    for key, use in (("other", "superio-release"), ("key", "mail"), ("key", "superio-release")):
+        signing = sign.replace("~/.ssh/release_key", f"../{key}").replace("superio-release", use)
+        check((key, use) == ("key", "superio-release"), signing, f"rm -f SHA256SUMS.sig && {signing}")
     for path in (place / "SHA256SUMS", next(place.glob("*.crate"))):
         whole = path.read_bytes()
         path.write_bytes(whole[:-2] + bytes([whole[-2] ^ 1]) + whole[-1:])
-        tally.check(not is_genuine(place, signers), f"a changed {path.name} passes for what was signed")
+        check(False, f"a changed {path.name}")
         path.write_bytes(whole)
+    check(True, "what was signed")
 
 
 def check_contents(tally, made):
