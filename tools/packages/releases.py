@@ -58,7 +58,7 @@ def lines_of(path):
 
 
 def check_refusals(tally, tree, folder):
-    """Counts whether a release is refused by name: of another version, without a tag, and of files that no commit has."""
+    """Counts whether a release is refused: of another version, without a tag, and of files that no commit has."""
     subprocess.run(["git", "-C", tree, "tag", "--delete", f"v{VERSION}"], check=True, stdout=subprocess.DEVNULL)
     for words, new, says in ((["--version", "9.9.9"], [], "and not 9.9.9"), ([], [], "HEAD has no tag"),
                              ([], ["new"], "the checkout is not clean:\n?? new")):
@@ -115,8 +115,8 @@ def check_provenance(tally, made):
 
 
 def check_signature(tally, made, folder):
-    """Counts whether the commands of docs/RELEASE.md accept a release that the maintainer signed, and none that another key
-    signed, or the same for another use, or that was changed afterwards."""
+    """Counts whether the commands of docs/RELEASE.md accept a release that the maintainer signed, and none that another
+    key signed, or the same for another use, or that was changed afterwards."""
     if not tally.has("ssh-keygen", "a signature of a release"):
         return
     place, text = folder / "signed", (ROOT / "docs" / "RELEASE.md").read_text(encoding="utf-8")

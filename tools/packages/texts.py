@@ -45,13 +45,13 @@ def files():
 def check_texts(tally):
     """Counts whether the texts of both licenses are whole, and what repeats them."""
     for name, wanted in LICENSES.items():
-        tally.check(digest(ROOT / f"LICENSES/{name}.txt") == wanted, f"LICENSES/{name}.txt is not the text of the license")
+        tally.check(digest(ROOT / f"LICENSES/{name}.txt") == wanted, f"LICENSES/{name}.txt is not its text")
     bsd, notice, debian = ((ROOT / name).read_text(encoding="utf-8")
                            for name in ("LICENSES/BSD-3-Clause.txt", "LICENSE", "debian/copyright"))
     holders, _, words = bsd.partition("\n")
     same = [it for it in debian.partition("\nLicense: BSD-3-Clause\n")[2].split() if it != "."] == words.split()
     tally.check(same, "debian/copyright has other words than BSD-3-Clause")
-    tally.check(f"\n{holders.partition('.')[0]}\n" in notice, f"BSD-3-Clause names other holders than LICENSE: {holders}")
+    tally.check(f"\n{holders.partition('.')[0]}\n" in notice, f"LICENSE has other holders: {holders}")
 
 
 def check_reuse(tally):
@@ -61,7 +61,7 @@ def check_reuse(tally):
 
 
 def check_addresses(tally):
-    """Counts whether a text has an address that only stands for one. A test may need the name of a host that is nowhere."""
+    """Counts whether a text has an address that only stands for one. A test may need a host that is nowhere."""
     if not tally.has("git", "addresses that lead nowhere"):
         return
     texts = {path: path.read_bytes() for path in files() if ROOT / "tools" / "test" not in path.parents}

@@ -43,7 +43,8 @@ def finding(libdir):
 
 def run_example(tally, name, libdir, **environment):
     """Counts whether a test of Debian's packages passes with what is installed in a folder."""
-    tally.run(f"debian/tests/{name}", [ROOT / "debian" / "tests" / name], cwd=ROOT, env={**finding(libdir), **environment})
+    program = ROOT / "debian" / "tests" / name
+    tally.run(f"debian/tests/{name}", [program], cwd=ROOT, env={**finding(libdir), **environment})
 
 
 def check_links(tally, program, is_shared, what):
@@ -90,7 +91,8 @@ def check_cmake(tally, libdir, folder):
             place = folder / f"{c}-{version}"
             ran = run(["cmake", "-S", project, "-B", place, f"-Dsuperio_DIR={libdir / 'cmake' / 'superio'}",
                        f"-DCMAKE_C_COMPILER={c}", f"-DCMAKE_CXX_COMPILER={cpp}"])
-            tally.check((ran.returncode == 0) == (version == wanted), f"CMake asked for superio {version}:\n{ran.stdout}")
+            is_found = ran.returncode == 0
+            tally.check(is_found == (version == wanted), f"CMake asked for superio {version}:\n{ran.stdout}")
         if tally.run("the project of CMake", ["cmake", "--build", folder / f"{c}-{wanted}"]):
             for name in ("superio_c", "superio_cpp", "static_c", "static_cpp"):
                 program = folder / f"{c}-{wanted}" / name
@@ -105,8 +107,8 @@ def check_exports(tally, tree, folder):
     source, made = folder / "over.c", folder / "libover.so"
     source.write_text("#include <superio.h>\nunsigned over(void) { return superio_abi(); }\n", encoding="ascii")
     for options, is_hidden in (([], False), (["-Wl,--exclude-libs,ALL"], True)):
-        words = ["cc", "-shared", "-fPIC", *options, "-I", tree / "usr" / "include", source, tree / LIBDIR / "libsuperio.a"]
-        if tally.run("a shared library over the static one", [*words, "-o", made]):
+        words = ["cc", "-shared", "-fPIC", *options, "-I", tree / "usr" / "include", source, "-o", made]
+        if tally.run("a shared library over the static one", [*words, tree / LIBDIR / "libsuperio.a"]):
             found = symbols(r"\w", made, "--dynamic", "--defined-only")
             is_good = found == {"over"} if is_hidden else found >= {"over", "superio_abi"}
             tally.check(is_good, f"a shared library over the static one shows {found}")

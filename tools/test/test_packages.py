@@ -49,7 +49,7 @@ BREAKING = {
         {"    uint64_t armed; ": "    uint8_t more;\n    uint64_t armed; "},
         "field superio_rtc.armed uint64_t at 24 size 8", "superio_rtc"),
     "a parameter of another type": (
-        {"superio_rtc_due(const superio_rtc *clock, uint64_t now)": "superio_rtc_due(const superio_rtc *clock, int64_t now)"},
+        {"superio_rtc_due(const superio_rtc *clock, uint64_t": "superio_rtc_due(const superio_rtc *clock, uint32_t"},
         "function uint64_t superio_rtc_due(const superio_rtc *, uint64_t)", "superio_rtc_due"),
     "a constant of another value": (
         {ARMED.format(7): ARMED.format(8)}, "constant SUPERIO_LOAD_INVALID_ARMED 7", "SUPERIO_LOAD_INVALID_ARMED"),
@@ -127,7 +127,8 @@ class Interface(CopyTest):
 
     def test_a_new_function_and_another_name_of_a_parameter(self):
         """Programs that were compiled before go on."""
-        self.change(HEADER, "uint32_t superio_abi(void);", "uint32_t superio_abi(void);\nuint8_t superio_new(uint8_t value);")
+        self.change(HEADER, "uint32_t superio_abi(void);",
+                    "uint32_t superio_abi(void);\nuint8_t superio_new(uint8_t value);")
         self.change(HEADER, "superio_rtc_line(const superio_rtc *clock)", "superio_rtc_line(const superio_rtc *it)")
         before = self.kept()
         self.assertIn("run tools/packages/abi --write", self.run_tool("tools/packages/abi", "--check")[2])
@@ -242,8 +243,8 @@ class Installing(CopyTest):
             library.write_bytes(whole)
 
     def test_a_file_that_does_not_fit_or_cannot_go_into_its_place(self):
-        """As on a disk that is full: over an older installation, and where there was nothing. Whichever it is, the files
-        before it are again what they were."""
+        """As on a disk that is full: over an older installation, and where there was nothing. Whichever it is, the
+        files before it are again what they were."""
         limit = {"preexec_fn": lambda: resource.setrlimit(resource.RLIMIT_FSIZE, (16000, 16000))}
         for is_over in (False, True):
             if is_over:
