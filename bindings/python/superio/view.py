@@ -5,17 +5,14 @@ import pydoc
 import sys
 from typing import IO, Callable, List, Optional, Sequence
 
-from .arguments import BAD_LINE, OK, Parser
-from .faults import BadLine, FileFault, open_file, write_text
-from .prompt import run_prompt
-from .recording import Step, replay
+from .faults import FileFault, opened, write_text
+from .prompt import Style, run_prompt
+from .recording import Step, picture, replay
 from .registers import CLOCK, SERIAL, clock_register, serial_register
 from .script import ScriptError, shown, text_of
-from .style import Style, is_wanted
-from .svg import picture
 from .tell import CONDITIONS, changes, clock_registers, plural, registers, told
 
-__all__ = ["Viewer", "main", "table"]
+__all__ = ["Viewer", "table", "view"]
 
 Wanted = Callable[[Step], bool]
 
@@ -59,9 +56,9 @@ def _raises(bit: int) -> Wanted:
 
 _PLACES = {
     "interrupt": lambda step: bool(step.call.answers),
-    "refused": lambda step: False in step.call.answers,
+    "refused": lambda step: step.is_refused,
     "change": lambda step: bool(changes(step.call)),
-    "sent": lambda step: step.call.after.sent > step.call.before.sent,
+    "sent": lambda step: step.has_sent,
     "input": lambda step: len(step.call.after.serial.in_buffer) > len(step.call.before.serial.in_buffer),
     "timeout": lambda step: step.call.command.name == "si",
     "reset": lambda step: step.call.reply == "reset",
@@ -163,8 +160,7 @@ class Viewer(cmd.Cmd):
     def do_regs(self, _: str) -> None:
         """regs: every register after this call"""
         after = self._steps[self._place].call.after
-        for row in [*registers(after), *clock_registers(after.clock)]:
-            self._say(row)
+        self._say("\n".join([*registers(after), *clock_registers(after.clock)]))
 
     def do_table(self, rest: str) -> None:
         """table [FILE]: all calls, to a pager or a file"""
@@ -217,44 +213,20 @@ def write_table(steps: Sequence[Step], path: Optional[str]) -> None:
         sys.stdout.write(table(steps))
 
 
-def _parser() -> Parser:
-    parser = Parser("python3 -m superio view", description="Steps through a recorded trace, call by call.")
-    parser.add_argument("trace", metavar="TRACE",
-                        help="a script, or a recording as in examples/linux-boot; - is standard input")
-    parser.add_argument("--table", nargs="?", const="", metavar="FILE",
-                        help="all calls as a table, to a pager or a file")
-    parser.add_argument("--svg", metavar="FILE",
-                        help="a picture of the whole: what was pending when, how full the FIFO was")
-    parser.add_argument("--no-color", action="store_true", help="no colours")
-    return parser
-
-
-def _steps_of(path: str) -> List[Step]:
+def view(path: str, table_path: Optional[str], svg_path: Optional[str], has_colours: bool) -> None:
+    """Steps through the trace in a file, or writes its table, to a file of this name or else to standard output, or its
+    picture. Raises `BadLine` at a row that stands for no calls, and `ScriptError` if there is none."""
     if path == "-":
-        return list(replay("<stdin>", sys.stdin.buffer))
-    with open_file(path, "rb") as file:
-        try:
-            return list(replay(path, file))
-        except OSError as error:
-            raise FileFault(path, error) from None
-
-
-def main(arguments: List[str]) -> int:
-    """Runs the command line of the viewer. Returns the exit status."""
-    options = _parser().parse_args(arguments)
-    try:
-        steps = _steps_of(options.trace)
-    except BadLine as error:
-        print(error, file=sys.stderr)
-        return BAD_LINE
+        steps = list(replay("<stdin>", sys.stdin.buffer))
+    else:
+        with opened(path) as file:
+            steps = list(replay(path, file))
     if not steps:
-        print(f"{options.trace} has no call", file=sys.stderr)
-        return BAD_LINE
-    name = os.path.basename(options.trace)
-    if options.svg:
-        write_text(options.svg, picture(steps, name))
-    if options.table is not None:
-        write_table(steps, options.table or None)
-    if not options.svg and options.table is None:
-        run_prompt(Viewer(steps, name, sys.stdout, Style(not options.no_color and is_wanted(sys.stdout))))
-    return OK
+        raise ScriptError(f"{path} has no call")
+    name = os.path.basename(path)
+    if svg_path:
+        write_text(svg_path, picture(steps, name))
+    if table_path is not None:
+        write_table(steps, table_path or None)
+    if not svg_path and table_path is None:
+        run_prompt(Viewer(steps, name, sys.stdout, Style.of(sys.stdout, has_colours)))

@@ -17,7 +17,7 @@ from unittest import mock
 from support import ENVIRONMENT, ROOT, TIMEOUT, run
 
 import superio
-from superio import main
+from superio import __main__ as main
 from superio.faults import FileFault, write_text
 from superio.library import FILE_NAME
 from superio.session import Session
@@ -387,7 +387,7 @@ class Streams(unittest.TestCase):
             self.assertEqual((128 + signal.SIGINT, b""), (process.wait(TIMEOUT), process.stderr.read()))
 
     def test_out_of_memory(self):
-        code = ("import sys; from unittest import mock; from superio import main\n"
+        code = ("import sys; from unittest import mock; from superio import __main__ as main\n"
                 "with mock.patch.object(main, 'load', side_effect=MemoryError): sys.exit(main.main([]))")
         done = subprocess.run([sys.executable, "-c", code], input=b"", capture_output=True, env=ENVIRONMENT,
                               timeout=TIMEOUT)

@@ -8,9 +8,8 @@ from pathlib import Path
 from support import ROOT, run
 
 from superio.faults import BadLine
-from superio.recording import entries_of, replay
-from superio.style import Style
-from superio.svg import picture
+from superio.recording import entries_of, picture, replay
+from superio.prompt import Style
 from superio.view import Viewer, table
 
 RECORDING = ROOT / "examples" / "linux-boot" / "boot.recording"

@@ -1,33 +1,25 @@
-"""The package describes the library as superio.h does: structs, functions, constants, version."""
+"""The library: the package describes it as superio.h does, finds it, and refuses another one."""
 import ctypes
+import os
 import re
 import shutil
 import subprocess
 import tempfile
 import unittest
 from pathlib import Path
+from unittest import mock
 
 from support import ROOT
 
 from header import HEADER, read_header
 
 import superio
-from superio import library, saved, structs
+from superio import LibraryError, LoadStatus, library
 
 DECLARED = read_header(ctypes.sizeof(ctypes.c_size_t))
-STRUCTS = {
-    "superio_serial": structs.SerialStruct,
-    "superio_rtc": structs.RtcStruct,
-    "superio_serial_read_effects": structs.ReadEffectsStruct,
-    "superio_serial_write_effects": structs.WriteEffectsStruct,
-    "superio_serial_enqueue_effects": structs.EnqueueEffectsStruct,
-    "superio_rtc_read_effects": structs.RtcReadEffectsStruct,
-    "superio_rtc_write_effects": structs.RtcWriteEffectsStruct,
-    "superio_i8042_write_effects": structs.I8042WriteEffectsStruct,
-}
 TYPES = {"uint8_t": ctypes.c_uint8, "uint16_t": ctypes.c_uint16, "uint32_t": ctypes.c_uint32, "uint64_t": ctypes.c_uint64,
          "int64_t": ctypes.c_int64, "size_t": ctypes.c_size_t, "bool": ctypes.c_bool, "void": None,
-         "const uint8_t *": ctypes.c_char_p, **STRUCTS}
+         "const uint8_t *": ctypes.c_char_p, **library.STRUCTS}
 
 
 def type_of(declared):
@@ -47,10 +39,10 @@ class Layout(unittest.TestCase):
     def test_structs_have_the_fields_of_the_header(self):
         for name, fields in DECLARED.structs.items():
             with self.subTest(name):
-                self.assertEqual([(field.name, type_of(field)) for field in fields], STRUCTS[name]._fields_)
+                self.assertEqual([(field.name, type_of(field)) for field in fields], library.STRUCTS[name]._fields_)
 
     def test_structs_have_the_sizes_that_the_header_asserts(self):
-        self.assertEqual(DECLARED.sizes, {name: ctypes.sizeof(struct) for name, struct in STRUCTS.items()})
+        self.assertEqual(DECLARED.sizes, {name: ctypes.sizeof(struct) for name, struct in library.STRUCTS.items()})
 
     def test_functions_are_those_of_the_header(self):
         self.assertEqual(DECLARED.functions.keys(), library.PROTOTYPES.keys())
@@ -70,9 +62,9 @@ class Layout(unittest.TestCase):
 
     @unittest.skipUnless(shutil.which("cc"), "no C compiler is there")
     def test_offsets_are_those_of_the_compiler(self):
-        asked = [(f"sizeof({name})", ctypes.sizeof(struct)) for name, struct in STRUCTS.items()]
+        asked = [(f"sizeof({name})", ctypes.sizeof(struct)) for name, struct in library.STRUCTS.items()]
         asked += [(f"offsetof({name}, {field})", getattr(struct, field).offset)
-                  for name, struct in STRUCTS.items() for field, _ in struct._fields_]
+                  for name, struct in library.STRUCTS.items() for field, _ in struct._fields_]
         prints = "".join(f'printf("%zu\\n", {expression});' for expression, _ in asked)
         source = f'#include <stdio.h>\n#include "{HEADER}"\nint main(void) {{ {prints} return 0; }}\n'
         with tempfile.TemporaryDirectory() as folder:
@@ -81,23 +73,49 @@ class Layout(unittest.TestCase):
             printed = subprocess.run([program], capture_output=True, check=True).stdout.split()
         self.assertEqual([expected for _, expected in asked], [int(line) for line in printed])
 
-    def test_version_is_that_of_the_changes(self):
+    def test_constants_are_those_of_the_header(self):
         changes = (ROOT / "CHANGELOG.md").read_text(encoding="utf-8")
         self.assertEqual(superio.__version__, re.search(r"^## (\d+\.\d+\.\d+)$", changes, re.M)[1])
+        named = {"VERSION": superio.__version__, "ABI": library.ABI, "SERIAL_SAVED_MAX": library.SERIAL_SAVED_MAX,
+                 "RTC_SAVED_SIZE": library.RTC_SAVED_SIZE, "SERIAL_FIFO_SIZE": library.FIFO_SIZE,
+                 **{f"LOAD_{status.name}": status.value for status in LoadStatus}}
+        for name, value in named.items():
+            self.assertEqual(value, DECLARED.constants[f"SUPERIO_{name}"], name)
+        self.assertEqual(len(LoadStatus), sum(name.startswith("SUPERIO_LOAD_") for name in DECLARED.constants))
 
-    def test_version_and_interface_are_those_of_the_header(self):
-        self.assertEqual(superio.__version__, DECLARED.constants["SUPERIO_VERSION"])
-        self.assertEqual(library.ABI, DECLARED.constants["SUPERIO_ABI"])
 
-    def test_statuses_are_those_of_the_header(self):
-        statuses = [it for it in DECLARED.constants.items() if it[0].startswith("SUPERIO_LOAD_")]
-        self.assertEqual(statuses, [(f"SUPERIO_LOAD_{status.name}", status.value) for status in saved.LoadStatus])
+class Finding(unittest.TestCase):
+    def test_another_interface_is_refused(self):
+        own = library.ABI
+        for other in (own - 1, own + 1, own + 256):  # the library is newer than the package, or older
+            with self.subTest(needs=other), mock.patch.object(library, "ABI", other), \
+                    self.assertRaisesRegex(LibraryError, f"interface {own}, .* needs {other}:"):
+                library.open_library()
 
-    def test_constants_are_those_of_the_header(self):
-        for name, value in (("SUPERIO_SERIAL_SAVED_MAX", structs.SERIAL_SAVED_MAX),
-                            ("SUPERIO_RTC_SAVED_SIZE", structs.RTC_SAVED_SIZE),
-                            ("SUPERIO_SERIAL_FIFO_SIZE", structs.FIFO_SIZE)):
-            self.assertEqual(DECLARED.constants[name], value)
+    def test_a_named_library_that_is_not_there(self):
+        with mock.patch.dict(os.environ, {library.VARIABLE: "/nowhere/lib.so"}), \
+                self.assertRaisesRegex(LibraryError, "/nowhere/lib.so cannot be loaded"):
+            library.open_library()
+
+    def test_an_empty_name_names_none(self):
+        with mock.patch.dict(os.environ, {library.VARIABLE: ""}):
+            self.assertTrue(os.path.isfile(library.open_library().path))
+
+    def test_the_packages_own_library_comes_first(self):
+        self.assertEqual(["in the package", "in the repository"], [place for place, _ in library.candidates()])
+
+    def test_no_library(self):
+        environment = {name: value for name, value in os.environ.items() if name != library.VARIABLE}
+        with mock.patch.dict(os.environ, environment, clear=True), mock.patch.object(library, "FILE_NAME", "none.so"), \
+                self.assertRaisesRegex(LibraryError, "none.so was not found .* set SUPERIO_LIBRARY"):
+            library.open_library()
+
+    def test_a_missing_function_says_so_when_it_is_called(self):
+        with mock.patch.dict(library.PROTOTYPES, superio_nothing=(None, [])):
+            found = library.open_library()
+            with self.assertRaisesRegex(LibraryError, "has no function superio_nothing"):
+                found.superio_nothing()
+        self.assertFalse(hasattr(found, "superio_nothing"))
 
 
 if __name__ == "__main__":
