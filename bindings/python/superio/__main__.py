@@ -64,7 +64,7 @@ def _viewer_parser() -> _Parser:
     return parser
 
 
-def _complain(text: str) -> None:
+def _complain(text: object) -> None:
     print(text, file=sys.stderr, flush=True)
 
 
@@ -112,7 +112,7 @@ def _batch(path: Optional[str], is_strict: bool) -> int:
         return OK
     except BadLine as error:
         sys.stdout.flush()
-        _complain(str(error))
+        _complain(error)
         return FAULT if _is_fault(error) else BAD_LINE
     finally:
         sys.stdout.flush()
@@ -139,7 +139,7 @@ def _view(arguments: List[str]) -> int:
     try:
         view(options.trace, options.table, options.svg, not options.no_color)
     except (BadLine, ScriptError) as error:
-        _complain(str(error))
+        _complain(error)
         return BAD_LINE
     return OK
 

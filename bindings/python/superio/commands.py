@@ -33,13 +33,14 @@ _GROUPS: Dict[str, Dict[str, Help]] = {
                      "REGISTER is RBR, IER, IIR, LCR, MCR, LSR, MSR, SCR, DLL or DLM, or an offset from 0 to 255.",
                      ("serial",)),
         "write": Help("write REGISTER VALUE", "the guest writes: write IER RDA|THRE",
-                      "REGISTER is THR, IER, FCR, LCR, MCR, LSR, MSR, SCR, DLL or DLM, or an offset. VALUE is 65, 0x41, "
-                      "'A', or names of bits as RDA|THRE.", ("serial", "bits")),
+                      "REGISTER is THR, IER, FCR, LCR, MCR, LSR, MSR, SCR, DLL or DLM, or an offset. VALUE is 65, "
+                      "0x41, 'A', or names of bits as RDA|THRE.", ("serial", "bits")),
         "type": Help('type "TEXT"', "bytes arrive for the guest",
                      r"""1 to 128 bytes. In quotes \n, \r, \t, \0, \e, \\, \" and \x41 are single bytes."""),
         "timeout": Help("timeout", "raises RDA again if bytes wait without it",
-                        "Bytes wait if IER enables RDA, and a read of IIR or RBR has ended it and left them. A monitor makes "
-                        "this call after each guest read of IIR that answers none, and once in each turn of its event loop."),
+                        "Bytes wait if IER enables RDA, and a read of IIR or RBR has ended it and left them. A monitor "
+                        "makes this call after each guest read of IIR that answers none, and once in each turn of its "
+                        "event loop."),
         "drain": Help("drain", "the guest's driver reads what is held"),
         "output": Help("output", "what the guest sent"),
         "room": Help("room", "how many more bytes fit"),
@@ -65,8 +66,8 @@ _GROUPS: Dict[str, Dict[str, Help]] = {
                       "file, a script for the program superio. trace alone lists them.", ("on off", "file")),
     },
     "Session": {
-        "save": Help("save FILE", "saves port and clock", "The file has the two script lines that load them, sl and cl.",
-                     ("file",)),
+        "save": Help("save FILE", "saves port and clock",
+                     "The file has the two script lines that load them, sl and cl.", ("file",)),
         "load": Help("load FILE", "loads what save wrote",
                      "The port goes on over the board's own line and output. If the line refuses an interrupt "
                      "that is due, the port stays as it was.", ("file",)),

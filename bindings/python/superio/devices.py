@@ -5,12 +5,12 @@ name of a register. A number out of range raises `ValueError`, and an argument o
 changes.
 """
 from functools import lru_cache
-from typing import Any, NamedTuple, Optional, Tuple, Type, Union
+from typing import NamedTuple, Optional, Union
 
 from .checks import byte_string, check_kind, number
 from .library import FIFO_SIZE, RTC_SAVED_SIZE, SERIAL_SAVED_MAX, RtcStruct, SerialStruct, load
 from .registers import CLOCK, FIELDS, SERIAL, Register, bit_names, clock_offset, serial_offset
-from .saved import RtcState, Saved, SerialState, attributes_of
+from .saved import RtcState, Saved, SerialState
 
 __all__ = ["EnqueueEffects", "I8042", "I8042WriteEffects", "ReadEffects", "Rtc", "RtcReadEffects", "RtcWriteEffects",
            "Serial", "WriteEffects", "clock_state", "serial_state"]
@@ -262,33 +262,20 @@ class I8042:
     I8042WriteEffects(resets=True)
     """
 
-    __slots__ = ("_library",)
-
     def __init__(self) -> None:
-        self._library = load()
-
-    def __reduce__(self) -> Tuple[Any, ...]:
-        """Attributes of a subclass go along."""
-        return _controller, (type(self),), attributes_of(self, I8042)
+        load()  # as each device does, so that the first one says if there is no library
 
     def read(self, offset: int) -> int:
         """What the guest reads at an offset, 0 to 255: 0, at every one."""
-        return self._library.superio_i8042_read(number("offset", offset, 8))
+        return load().superio_i8042_read(number("offset", offset, 8))
 
     def write(self, offset: int, value: int) -> I8042WriteEffects:
         """The guest writes a value, 0 to 255, at an offset, 0 to 255."""
-        done = self._library.superio_i8042_write(number("offset", offset, 8), number("value", value, 8))
+        done = load().superio_i8042_write(number("offset", offset, 8), number("value", value, 8))
         return I8042WriteEffects(done.resets)
 
     def __repr__(self) -> str:
         return "<I8042>"
-
-
-def _controller(kind: Type[I8042]) -> I8042:
-    """A controller of this class, whose own constructor may want arguments."""
-    controller = kind.__new__(kind)
-    I8042.__init__(controller)
-    return controller
 
 
 def _clock_offset(offset: Union[int, str]) -> int:

@@ -35,7 +35,8 @@ def _struct(name: str, **fields: Any) -> Any:
 
 SerialStruct = _struct("superio_serial", **dict.fromkeys(FIELDS.values(), c_uint8), head=c_uint8, len=c_uint8,
                        bytes=c_uint8 * FIFO_SIZE)
-RtcStruct = _struct("superio_rtc", lr=c_uint32, mr=c_uint32, imsc=c_uint32, ris=c_uint32, offset=c_int64, armed=c_uint64)
+RtcStruct = _struct("superio_rtc", lr=c_uint32, mr=c_uint32, imsc=c_uint32, ris=c_uint32, offset=c_int64,
+                    armed=c_uint64)
 _Read = _struct("superio_serial_read_effects", byte=c_uint8, buffer_read=c_bool, in_buffer_empty=c_bool)
 _Write = _struct("superio_serial_write_effects", sends=c_bool, interrupts=c_uint8)
 _Enqueue = _struct("superio_serial_enqueue_effects", taken=c_size_t, full=c_bool, interrupts=c_uint8)

@@ -26,7 +26,8 @@ class Style:
     @classmethod
     def of(cls, stream: "IO[str]", is_wanted: bool) -> "Style":
         """Colours, if they are wanted, the stream is a terminal that shows them, and NO_COLOR is not set."""
-        return cls(is_wanted and stream.isatty() and not os.environ.get("NO_COLOR") and os.environ.get("TERM") != "dumb")
+        return cls(is_wanted and stream.isatty()
+                   and not os.environ.get("NO_COLOR") and os.environ.get("TERM") != "dumb")
 
     def _marked(self, code: str, text: str) -> str:
         return f"\x1b[{code}m{text}\x1b[0m" if self.is_coloured and text else text

@@ -8,6 +8,7 @@ output. An empty row ends a piece, and the next begins on a fresh board. A row t
 import json
 import re
 from html import escape
+from itertools import groupby
 from typing import Callable, Iterable, Iterator, List, NamedTuple, Optional, Sequence, Tuple
 
 from .board import Board, Call
@@ -145,15 +146,12 @@ def _lanes(columns: List[Sequence[Step]]) -> List[_Lane]:
 def _bars(heights: List[float], base: int, width: float) -> str:
     """A path around the bars. A bar that is not 0 is high and wide enough to be seen."""
     parts, place = [], 0
-    while place < len(heights):
-        end = place + 1
-        while end < len(heights) and heights[end] == heights[place]:
-            end += 1
-        if heights[place]:
-            left, right = _LEFT + place * width, _LEFT + end * width
-            high = max(_LEAST, heights[place] * _HEIGHT)
-            parts.append(f"M{left:.4g} {base}v{-high:.3g}h{max(1.0, right - left):.4g}v{high:.3g}z")
-        place = end
+    for height, group in groupby(heights):
+        left = _LEFT + place * width
+        place += len(list(group))
+        if height:
+            high = max(_LEAST, height * _HEIGHT)
+            parts.append(f"M{left:.4g} {base}v{-high:.3g}h{max(1.0, _LEFT + place * width - left):.4g}v{high:.3g}z")
     return "".join(parts)
 
 

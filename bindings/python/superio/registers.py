@@ -67,7 +67,8 @@ CLOCK: Dict[str, Register] = {register.name: register for register in (
     Register("RIS", 0x014, "raw interrupt status", _ALARM, None, "r"),
     Register("MIS", 0x018, "masked interrupt status", _ALARM, None, "r"),
     Register("ICR", 0x01C, "interrupt clear", _ALARM, None, "w"),
-    *(Register(f"ID{index}", 0xFE0 + 4 * index, "identification", (), None, "r") for index in range(len(IDENTIFICATION))),
+    *(Register(f"ID{index}", 0xFE0 + 4 * index, "identification", (), None, "r")
+      for index in range(len(IDENTIFICATION))),
 )}
 """The registers of the clock by name, each without the `RTC` that the data sheet begins it with."""
 
@@ -113,8 +114,9 @@ def clock_offset(name: str) -> int:
 
 def serial_register(offset: int, line_control: int, is_write: bool) -> Optional[Register]:
     """The register that an access of the serial port reaches, `None` if there is none at the offset."""
-    return next((register for register in SERIAL.values() if register.offset == offset and "rw"[is_write] in register.access
-                 and register.latched in (None, bool(line_control & DLAB))), None)
+    return next((register for register in SERIAL.values()
+                 if register.offset == offset and register.latched in (None, bool(line_control & DLAB))
+                 and "rw"[is_write] in register.access), None)
 
 
 def clock_register(offset: int) -> Optional[Register]:

@@ -7,8 +7,7 @@ from typing import Any, Callable, Dict, Iterator, Mapping, Sequence, Tuple, Type
 from .checks import byte_string, number
 from .library import FIFO_SIZE, load
 
-__all__ = ["AlarmIsSetError", "LoadStatus", "RtcState", "Saved", "SavedStateError", "SerialState", "attributes_of",
-           "script_words"]
+__all__ = ["AlarmIsSetError", "LoadStatus", "RtcState", "Saved", "SavedStateError", "SerialState", "script_words"]
 
 _Device = TypeVar("_Device", bound="Saved")
 
@@ -47,8 +46,7 @@ class SerialState:
     modem_control: int = 0x08
     modem_status: int = 0xB0
     scratch: int = 0x00
-    in_buffer: bytes = b""
-    """The received bytes, oldest first: at most 64."""
+    in_buffer: bytes = b""  # the received bytes, oldest first: at most 64
 
     def __post_init__(self) -> None:
         for field in fields(self)[:9]:
@@ -75,18 +73,12 @@ class SerialState:
 class RtcState:
     """The state of a clock. The defaults are those of a new one."""
 
-    lr: int = 0
-    """The value that was loaded last, or 0."""
-    mr: int = 0
-    """The guest time that an alarm waits for."""
-    imsc: int = 0
-    """The interrupt mask."""
-    ris: int = 0
-    """The raw interrupt status."""
-    offset: int = 0
-    """How far guest time is ahead of the host's, in seconds: a signed number of 64 bits."""
-    armed: bool = False
-    """Whether an alarm is set."""
+    lr: int = 0          # the value that was loaded last, or 0
+    mr: int = 0          # the guest time that an alarm waits for
+    imsc: int = 0        # the interrupt mask
+    ris: int = 0         # the raw interrupt status
+    offset: int = 0      # how far guest time is ahead of the host's, in seconds: a signed number of 64 bits
+    armed: bool = False  # whether an alarm is set
 
     def __post_init__(self) -> None:
         for name in ("lr", "mr", "imsc", "ris"):
@@ -179,7 +171,7 @@ class Saved:
 
     @property
     def raw(self) -> bytes:
-        """The struct of superio.h, as it is in this machine's memory. `serial_state` and `clock_state` tell its state."""
+        """The struct of superio.h, as it is in memory. `serial_state` and `clock_state` tell its state."""
         return bytes(self._struct)
 
     def _load(self, data: bytes) -> None:
@@ -188,16 +180,11 @@ class Saved:
             raise SavedStateError(status)
 
     def __reduce__(self) -> Tuple[Any, ...]:
-        """Attributes of a subclass go along."""
-        return _restored, (type(self), self.to_bytes()), attributes_of(self, Saved)
-
-
-def attributes_of(device: Any, base: type) -> Any:
-    """The attributes that subclasses of `base` added, in the form that `copy` and `pickle` set them from."""
-    kinds = type(device).__mro__[:type(device).__mro__.index(base)]
-    slots = [slot for kind in kinds for slot in _slots_of(kind) if hasattr(device, slot)]
-    named = getattr(device, "__dict__", None)
-    return (named, {slot: getattr(device, slot) for slot in slots}) if slots else named
+        """Attributes of a subclass go along, in the form that `copy` and `pickle` set them from."""
+        kinds = type(self).__mro__[:type(self).__mro__.index(Saved)]
+        slots = {slot: getattr(self, slot) for kind in kinds for slot in _slots_of(kind) if hasattr(self, slot)}
+        named = getattr(self, "__dict__", None)
+        return _restored, (type(self), self.to_bytes()), (named, slots) if slots else named
 
 
 def _slots_of(kind: type) -> Iterator[str]:

@@ -11,7 +11,8 @@ from .registers import (CLOCK, FIELDS, FIFO_BITS, LOOPBACK, SERIAL, Register, bi
 from .saved import RtcState, SerialState
 from .script import Command, text_of
 
-__all__ = ["CONDITIONS", "Story", "changes", "pending", "plural", "quoted", "registers", "clock_registers", "told"]
+__all__ = ["CONDITIONS", "Story", "changes", "clock_registers", "pending", "plural", "quoted", "raised", "registers",
+           "told"]
 
 CONDITIONS = bits_by_name(SERIAL["IIR"])
 """The interrupt conditions, each with its bit of IIR."""
@@ -50,7 +51,8 @@ def pending(state: SerialState) -> List[str]:
     return [name for name, bit in CONDITIONS.items() if state.interrupt_identification & bit]
 
 
-def _raised(call: Call) -> List[str]:
+def raised(call: Call) -> List[str]:
+    """The conditions that a call raised."""
     return [name for name in pending(call.after.serial) if name not in pending(call.before.serial)]
 
 
@@ -58,9 +60,9 @@ def _interrupts(call: Call) -> str:
     """What the interrupt line was asked, empty if it was not called."""
     if not call.answers:
         return ""
-    raised = _raised(call) or pending(call.after.serial)
+    names = raised(call) or pending(call.after.serial)
     return "; interrupt for " + ", ".join(name + ("" if taken else " refused")
-                                          for name, taken in zip(raised, call.answers))
+                                          for name, taken in zip(names, call.answers))
 
 
 def told(call: Call) -> str:

@@ -3,18 +3,17 @@ import cmd
 import os
 import pydoc
 import sys
-from typing import IO, Callable, List, Optional, Sequence
+from itertools import groupby
+from typing import IO, Callable, Dict, Optional, Sequence
 
 from .faults import FileFault, opened, write_text
 from .prompt import Style, run_prompt
 from .recording import Step, picture, replay
 from .registers import CLOCK, SERIAL, clock_register, serial_register
 from .script import ScriptError, shown, text_of
-from .tell import CONDITIONS, changes, clock_registers, plural, registers, told
+from .tell import CONDITIONS, changes, clock_registers, plural, raised, registers, told
 
 __all__ = ["Viewer", "table", "view"]
-
-Wanted = Callable[[Step], bool]
 
 
 def row_of(number: int, step: Step) -> str:
@@ -26,35 +25,24 @@ def row_of(number: int, step: Step) -> str:
 
 def table(steps: Sequence[Step]) -> str:
     """All calls, one in a row."""
-    rows, piece = [], 0
-    for number, step in enumerate(steps, 1):
-        if step.piece != piece:
-            piece = step.piece
-            rows.append(f"piece {piece}")
-        rows.append(row_of(number, step))
+    rows = []
+    for piece, numbered in groupby(enumerate(steps, 1), key=lambda it: it[1].piece):
+        rows.extend([f"piece {piece}", *(row_of(number, step) for number, step in numbered)])
     return "\n".join([*rows, ""])
 
 
 def register_of(step: Step) -> str:
     """The name of the register that a call reaches, empty if it is no access of one."""
     name, values = step.call.command
+    register = None
     if name in ("sr", "sw"):
         register = serial_register(int(values[0]), step.call.before.serial.line_control, name == "sw")
     elif name in ("cr", "cw"):
         register = clock_register(int(values[1]))
-    else:
-        register = None
     return register.name if register else ""
 
 
-def _raises(bit: int) -> Wanted:
-    def wanted(step: Step) -> bool:
-        before, after = (state.serial.interrupt_identification & bit for state in (step.call.before, step.call.after))
-        return bool(after) and not before
-    return wanted
-
-
-_PLACES = {
+_PLACES: Dict[str, Callable[[Step], bool]] = {
     "interrupt": lambda step: bool(step.call.answers),
     "refused": lambda step: step.is_refused,
     "change": lambda step: bool(changes(step.call)),
@@ -63,12 +51,12 @@ _PLACES = {
     "timeout": lambda step: step.call.command.name == "si",
     "reset": lambda step: step.call.reply == "reset",
     "difference": lambda step: step.differs,
-    **{name.lower(): _raises(bit) for name, bit in CONDITIONS.items()},
+    **{name.lower(): lambda step, name=name: name in raised(step.call) for name in CONDITIONS},
 }
 """What a step can be looked for by, beside the registers."""
 
 
-def wanted_of(word: str) -> Wanted:
+def wanted_of(word: str) -> Callable[[Step], bool]:
     """What `next WORD` looks for. Raises `ScriptError` if nothing is called so."""
     if word.lower() in _PLACES:
         return _PLACES[word.lower()]

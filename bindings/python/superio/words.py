@@ -4,8 +4,9 @@ from copy import copy
 from typing import Callable, List, Optional
 
 from .board import Board
-from .registers import CLOCK, SERIAL, Register, bits_by_name, clock_offset, clock_register, serial_offset, serial_register
-from .script import (BYTES, CLOCK_OFFSET, FORMS, MASK, MOMENT, OFFSET, SAVED, TOO_MANY, VALUE, Command, Field,
+from .registers import (CLOCK, SERIAL, Register, bits_by_name, clock_offset, clock_register, serial_offset,
+                        serial_register)
+from .script import (BYTES, CLOCK_OFFSET, FORMS, MASK, MOMENT, OFFSET, TOO_MANY, VALUE, Command, Field,
                      ScriptError, missing, parse, shown)
 
 __all__ = ["ALONE", "Speaker", "characters"]
@@ -83,9 +84,9 @@ class Speaker:
     def _short(self, name: str, rest: str, error: ScriptError) -> Command:
         """A form of a script whose fields are not written out: `sr LSR`, `sw 3 0x83`, `cr now DR`."""
         texts, fields = rest.split(), FORMS[name]
-        if fields == (BYTES,) and rest[:1] in ("'", '"'):
+        if name == "sq" and rest[:1] in ("'", '"'):
             return Command(name, (self._bytes(rest),))
-        if fields in ((BYTES,), (SAVED,)):
+        if fields == (BYTES,):
             raise error
         if len(texts) != len(fields):
             raise ScriptError(TOO_MANY if len(texts) > len(fields) else missing(fields[len(texts)]))

@@ -28,8 +28,9 @@ NOWHERE = "/nowhere/at/all: No such file or directory\n"
 
 # Arguments and standard input, and the status, the output and the errors.
 RUNS = [
-    ([], b"# comment\nkr 04\nread XYZ\nkr 04\n", (1, "00\n", "<stdin>:3: \"read XYZ\": XYZ is no offset, and no register: "
-                                                  "those are RBR THR DLL IER DLM IIR FCR LCR MCR LSR MSR SCR\n")),
+    ([], b"# comment\nkr 04\nread XYZ\nkr 04\n",
+     (1, "00\n", '<stdin>:3: "read XYZ": XYZ is no offset, and no register: '
+                 "those are RBR THR DLL IER DLM IIR FCR LCR MCR LSR MSR SCR\n")),
     ([], b"kr 04\nsr\nkr 04\n", (1, "00\n", '<stdin>:2: "sr": an offset is missing\n')),
     ([], b"\xff\x1b\n", (1, "", '<stdin>:1: "\\xff\\x1b": no command is called \\xff\\x1b: help lists them\n')),
     ([], b"\n   # indented\n  kr 04  \t\r\nread LSR\r\n\r\nkr 04", (0, "00\nLSR = 0x60  THRE TEMT\n00\n", "")),
@@ -93,7 +94,8 @@ class Runs(FolderTest):
                                  r"set SUPERIO_LIBRARY to its path\n$")
 
     def test_replies_come_before_the_message(self):
-        _, output, _ = run(script=b"kr 04\nkr 4 4\n", capture_output=False, stdout=subprocess.PIPE, stderr=subprocess.STDOUT)
+        together = {"capture_output": False, "stdout": subprocess.PIPE, "stderr": subprocess.STDOUT}
+        _, output, _ = run(script=b"kr 04\nkr 4 4\n", **together)
         self.assertEqual(("00", 2), (output.splitlines()[0], output.count("\n")))
 
     def test_save_and_load(self):
@@ -161,7 +163,8 @@ class FullDisk(FolderTest):
                    preexec_fn=lambda: resource.setrlimit(resource.RLIMIT_FSIZE, (limit, limit)))
 
     def test_the_file_that_was_there_stays(self):
-        for arguments, script in ((["-"], f"save {self.path}\n".encode()), (["-"], f"sr 05\nsave {self.path}\n".encode()),
+        saving = f"save {self.path}\n".encode()
+        for arguments, script in ((["-"], saving), (["-"], b"sr 05\n" + saving),
                                   (["view", "-", "--svg", self.path], self.TRACE),
                                   (["view", "-", "--table", self.path], self.TRACE)):
             with self.subTest(arguments):
@@ -232,7 +235,7 @@ def seconds(*arguments, script=b""):
 
 class Speed(unittest.TestCase):
     def test_a_line_of_a_pipe_takes_little_more_than_its_call(self):
-        """Against calls of a device in a loop. A line took some 30 calls when each one was decoded, and takes about 6."""
+        """Against calls of a device in a loop. A line took some 30 calls when each was decoded, and takes about 6."""
         script = b"sw 01 01\n" + b"sq 61\nsr 02\nsr 00\nsr 05\n" * 5000
         loop = "from superio import Serial\nport = Serial()\nfor _ in range(20001): port.read(5)"
 
@@ -246,14 +249,19 @@ class Speed(unittest.TestCase):
         self.assertLess(seconds("-m", "superio") - seconds("-c", "pass"), 0.2)
 
 
+def listening(command):
+    """A program between pipes, which Ctrl-C ends also if a shell that starts this in the background ignores it."""
+    pipes = dict.fromkeys(("stdin", "stdout", "stderr"), subprocess.PIPE)
+    return subprocess.Popen(command, env=ENVIRONMENT, **pipes,
+                            preexec_fn=lambda: signal.signal(signal.SIGINT, signal.SIG_DFL))
+
+
 class Interrupted(unittest.TestCase):
-    """Ctrl-C at many moments, once and again, ends in silence. A shell that starts this in the background lets its
-    children ignore the signal."""
+    """Ctrl-C at many moments, once and again, ends in silence."""
 
     def interrupt(self, arguments, script, seconds, times):
         command = [ROOT / "superio", *map(str, arguments)]
-        with subprocess.Popen(command, stdin=subprocess.PIPE, stdout=subprocess.PIPE, stderr=subprocess.PIPE, env=ENVIRONMENT,
-                              preexec_fn=lambda: signal.signal(signal.SIGINT, signal.SIG_DFL)) as process:
+        with listening(command) as process:
             reader = threading.Thread(target=process.stdout.read)
             reader.start()
             try:
@@ -285,7 +293,7 @@ class Interrupted(unittest.TestCase):
 
 SUPERIO = f"{sys.executable} -m superio"
 
-# Commands for bash, and the status, the output and the errors, `None` for those of EXAMPLE. Standard input is a bad line.
+# Commands for bash, and the status, the output and the errors, `None` for those of EXAMPLE. Their input is a bad line.
 COMMANDS = [
     (f"yes 'kr 04' | {SUPERIO} | head -n 1; exit ${{PIPESTATUS[1]}}", (128 + signal.SIGPIPE, "00\n", "")),
     (f"{SUPERIO} view {BOOT} --table | head -n 1; exit ${{PIPESTATUS[0]}}", (128 + signal.SIGPIPE, "piece 1\n", "")),
@@ -307,10 +315,7 @@ class Streams(unittest.TestCase):
                 self.assertEqual(expected or run(EXAMPLE), ended(["bash", "-c", command], b"kr\n"))
 
     def test_each_reply_goes_out_at_once_and_ctrl_c_ends_a_pipe(self):
-        # A shell that starts this in the background lets it ignore the signal.
-        with subprocess.Popen([sys.executable, "-m", "superio"], stdin=subprocess.PIPE, stdout=subprocess.PIPE,
-                              stderr=subprocess.PIPE, env=ENVIRONMENT,
-                              preexec_fn=lambda: signal.signal(signal.SIGINT, signal.SIG_DFL)) as process:
+        with listening([sys.executable, "-m", "superio"]) as process:
             for line, reply in ((b"kr 04\n", b"00\n"), (b"read LSR\n", b"LSR = 0x60  THRE TEMT\n")):
                 process.stdin.write(line)
                 process.stdin.flush()

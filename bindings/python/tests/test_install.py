@@ -70,7 +70,8 @@ class Sources(unittest.TestCase):
     @unittest.skipUnless(hasattr(sys, "stdlib_module_names"), "this Python does not list its library")
     def test_standard_library_alone(self):
         for place, node in self.nodes(ast.Import, ast.ImportFrom):
-            names = [alias.name for alias in node.names] if isinstance(node, ast.Import) else [node.module] * (not node.level)
+            names = [alias.name for alias in node.names] if isinstance(node, ast.Import) else \
+                [node.module] * (not node.level)
             if not place.startswith("superio:"):
                 self.assertLessEqual({name.split(".")[0] for name in names}, sys.stdlib_module_names, place)
 
@@ -115,7 +116,8 @@ class Wheel(FolderTest):
             self.assertEqual("," if name.endswith("/RECORD") else f"sha256={digest},{len(data)}", rows.pop(name), name)
         self.assertEqual({}, rows)
         licenses = ("LICENSE", "LICENSES/Apache-2.0.txt", "LICENSES/BSD-3-Clause.txt")
-        self.assertEqual({*(f"superio/{name}" for name in (*(path.name for path in SOURCES), "py.typed", library.FILE_NAME)),
+        package = (*(path.name for path in SOURCES), "py.typed", library.FILE_NAME)
+        self.assertEqual({*(f"superio/{name}" for name in package),
                           *(f"{info}/{name}" for name in ("METADATA", "WHEEL", "RECORD")),
                           *(f"{info}/licenses/{name}" for name in licenses)}, set(files))
         self.assertIn("\nRequires-Python: >=3.8\n", files[f"{info}/METADATA"].decode())
@@ -142,7 +144,8 @@ class Wheel(FolderTest):
         (self.folder / library.FILE_NAME).symlink_to(LIBRARY)
         shutil.copytree(PACKAGE / "superio", self.folder / "superio", ignore=shutil.ignore_patterns("*.so.*"))
         environment = {**CLEAN, "PYTHONPATH": str(self.folder), "LD_LIBRARY_PATH": str(self.folder)}
-        self.assertEqual((0, "00\n", ""), ended([sys.executable, "-m", "superio"], b"kr 04\n", cwd="/", env=environment))
+        command = [sys.executable, "-m", "superio"]
+        self.assertEqual((0, "00\n", ""), ended(command, b"kr 04\n", cwd="/", env=environment))
 
 
 if __name__ == "__main__":

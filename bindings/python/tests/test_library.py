@@ -17,9 +17,9 @@ import superio
 from superio import LibraryError, LoadStatus, library
 
 DECLARED = read_header(ctypes.sizeof(ctypes.c_size_t))
-TYPES = {"uint8_t": ctypes.c_uint8, "uint16_t": ctypes.c_uint16, "uint32_t": ctypes.c_uint32, "uint64_t": ctypes.c_uint64,
-         "int64_t": ctypes.c_int64, "size_t": ctypes.c_size_t, "bool": ctypes.c_bool, "void": None,
-         "const uint8_t *": ctypes.c_char_p, **library.STRUCTS}
+TYPES = {"bool": ctypes.c_bool, "void": None, "size_t": ctypes.c_size_t, "const uint8_t *": ctypes.c_char_p,
+         **{f"{name}_t": getattr(ctypes, f"c_{name}") for name in ("uint8", "uint16", "uint32", "uint64", "int64")},
+         **library.STRUCTS}
 
 
 def type_of(declared):
@@ -36,29 +36,22 @@ def parameter_of(declared):
 
 
 class Layout(unittest.TestCase):
-    def test_structs_have_the_fields_of_the_header(self):
+    def test_structs_have_the_fields_and_sizes_of_the_header(self):
         for name, fields in DECLARED.structs.items():
-            with self.subTest(name):
-                self.assertEqual([(field.name, type_of(field)) for field in fields], library.STRUCTS[name]._fields_)
-
-    def test_structs_have_the_sizes_that_the_header_asserts(self):
+            expected = [(field.name, type_of(field)) for field in fields]
+            self.assertEqual(expected, library.STRUCTS[name]._fields_, name)
         self.assertEqual(DECLARED.sizes, {name: ctypes.sizeof(struct) for name, struct in library.STRUCTS.items()})
 
-    def test_functions_are_those_of_the_header(self):
-        self.assertEqual(DECLARED.functions.keys(), library.PROTOTYPES.keys())
-        for name, function in DECLARED.functions.items():
-            with self.subTest(name):
-                parameters = [parameter_of(parameter) for parameter in function.parameters]
-                self.assertEqual((TYPES[function.returned], parameters), library.PROTOTYPES[name])
-
-    def test_functions_of_the_library_have_their_prototypes(self):
+    def test_functions_are_those_of_the_header_and_have_their_prototypes(self):
         """Otherwise ctypes passes and returns an `int`, whose 32 bits many numbers fit by chance."""
+        self.assertEqual(DECLARED.functions.keys(), library.PROTOTYPES.keys())
         found = library.open_library()
         self.assertIsInstance(found._file, ctypes.PyDLL, "calls on one device may overlap: they give up Python's lock")
-        for name, prototype in library.PROTOTYPES.items():
-            with self.subTest(name):
-                function = getattr(found, name)
-                self.assertEqual(prototype, (function.restype, function.argtypes))
+        for name, declared in DECLARED.functions.items():
+            function = getattr(found, name)
+            expected = TYPES[declared.returned], [parameter_of(parameter) for parameter in declared.parameters]
+            self.assertEqual(expected, library.PROTOTYPES[name], name)
+            self.assertEqual(expected, (function.restype, function.argtypes), name)
 
     @unittest.skipUnless(shutil.which("cc"), "no C compiler is there")
     def test_offsets_are_those_of_the_compiler(self):
@@ -85,30 +78,26 @@ class Layout(unittest.TestCase):
 
 
 class Finding(unittest.TestCase):
-    def test_another_interface_is_refused(self):
-        own = library.ABI
-        for other in (own - 1, own + 1, own + 256):  # the library is newer than the package, or older
-            with self.subTest(needs=other), mock.patch.object(library, "ABI", other), \
-                    self.assertRaisesRegex(LibraryError, f"interface {own}, .* needs {other}:"):
-                library.open_library()
-
-    def test_a_named_library_that_is_not_there(self):
-        with mock.patch.dict(os.environ, {library.VARIABLE: "/nowhere/lib.so"}), \
-                self.assertRaisesRegex(LibraryError, "/nowhere/lib.so cannot be loaded"):
-            library.open_library()
-
-    def test_an_empty_name_names_none(self):
-        with mock.patch.dict(os.environ, {library.VARIABLE: ""}):
-            self.assertTrue(os.path.isfile(library.open_library().path))
-
-    def test_the_packages_own_library_comes_first(self):
-        self.assertEqual(["in the package", "in the repository"], [place for place, _ in library.candidates()])
-
-    def test_no_library(self):
+    def opened(self, named=None, **constants):
+        """The library, if SUPERIO_LIBRARY and constants of the module have these values."""
         environment = {name: value for name, value in os.environ.items() if name != library.VARIABLE}
-        with mock.patch.dict(os.environ, environment, clear=True), mock.patch.object(library, "FILE_NAME", "none.so"), \
-                self.assertRaisesRegex(LibraryError, "none.so was not found .* set SUPERIO_LIBRARY"):
-            library.open_library()
+        variables = {**environment, **({} if named is None else {library.VARIABLE: named})}
+        with mock.patch.dict(os.environ, variables, clear=True), mock.patch.dict(vars(library), constants):
+            return library.open_library()
+
+    def test_what_is_refused(self):
+        own = library.ABI
+        for said, named, constants in (
+                ("/nowhere/lib.so cannot be loaded", "/nowhere/lib.so", {}),
+                ("none.so was not found .* set SUPERIO_LIBRARY", None, {"FILE_NAME": "none.so"}),
+                *((f"interface {own}, .* needs {other}:", None, {"ABI": other})  # newer than the package, or older
+                  for other in (own - 1, own + 1, own + 256))):
+            with self.subTest(said), self.assertRaisesRegex(LibraryError, said):
+                self.opened(named, **constants)
+
+    def test_the_packages_own_library_comes_first_and_an_empty_name_names_none(self):
+        self.assertEqual(["in the package", "in the repository"], [place for place, _ in library.candidates()])
+        self.assertTrue(os.path.isfile(self.opened("").path))
 
     def test_a_missing_function_says_so_when_it_is_called(self):
         with mock.patch.dict(library.PROTOTYPES, superio_nothing=(None, [])):

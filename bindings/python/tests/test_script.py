@@ -1,7 +1,7 @@
 """The lines of a script: what they mean, why others have no form, and what the package replies, as the program does.
 
-The program `superio` is the one that the environment variable SUPERIO_PROGRAM names, or else the built one. Without it the
-tests beside it are skipped.
+The program `superio` is the one that the environment variable SUPERIO_PROGRAM names, or else the built one. Without it
+the tests beside it are skipped.
 """
 import os
 import random

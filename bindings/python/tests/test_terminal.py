@@ -70,7 +70,8 @@ class Typing(ShellTest):
     def test_completion(self):
         (self.folder / "session-one").write_text("kr 04\n")
         self.start()
-        for typed, said in (("rea\tLS\t", "LSR = 0x60  THRE TEMT\n"), ("wri\tie\tRD\t|TH\t", "ok; interrupt for THRE\n"),
+        for typed, said in (("rea\tLS\t", "LSR = 0x60  THRE TEMT\n"),
+                            ("wri\tie\tRD\t|TH\t", "ok; interrupt for THRE\n"),
                             ("read ier", "IER = 0x03  RDA THRE\n"), (f"source {self.folder}/ses\t", "00\n")):
             self.assertEqual(said, self.answer(typed))
         self.end()
@@ -116,8 +117,9 @@ class Typing(ShellTest):
         self.end()
 
     def test_colours(self):
-        for arguments, variables, is_coloured in (([], {}, True), ([], {"NO_COLOR": ""}, True), (["--no-color"], {}, False),
-                                                  ([], {"NO_COLOR": "1"}, False), ([], {"TERM": "dumb"}, False)):
+        for arguments, variables, is_coloured in (
+                ([], {}, True), ([], {"NO_COLOR": ""}, True), (["--no-color"], {}, False),
+                ([], {"NO_COLOR": "1"}, False), ([], {"TERM": "dumb"}, False)):
             with self.subTest((arguments, variables)):
                 self.start(*arguments, **variables)
                 for line in ("foo", "regs", "trace on", "kr 04"):
@@ -168,7 +170,8 @@ class History(ShellTest):
         self.assertEqual({}, self.kept("kr 04", HOME=str(self.folder)))
         self.assertEqual({}, self.kept("kr 04", SUPERIO_HISTORY="/nowhere/at/all"))
         self.assertEqual("", self.terminal.shown().strip())
-        self.assertEqual({".superio_history": "kr 04\n"}, self.kept("kr 04", environment=unnamed, HOME=str(self.folder)))
+        kept = self.kept("kr 04", environment=unnamed, HOME=str(self.folder))
+        self.assertEqual({".superio_history": "kr 04\n"}, kept)
 
     def test_it_outlasts_the_session_and_has_the_last_thousand_lines(self):
         path = str(self.path)

@@ -81,12 +81,13 @@ class Recordings(unittest.TestCase):
 
 # The calls that commands lead to, one after the other in TRACE, or what is said where none is.
 PLACES = [("next", 2), ("next 3", 5), ("back 2", 3), ("next thre", 8), ("back rda", 6), ("back rda", 3),
-          ("next input", "no input further on"), ("first", 1), ("next interrupt", 3), ("next refused", 6), ("next sent", 8),
-          ("next reset", 11), ("back IIR", 7), ("back lsr", 4), ("first", 1), ("next difference", 11), ("goto 4", 4),
-          ("next change", 5), ("back input", 3), ("last", 11), ("next", "there is no call further on"),
-          ("next thre", "no thre further on"), ("goto 12", "there is no call further on"),
-          ("goto 0", "there is no call before"), ("goto x", "the form is: goto N"), ("first", 1),
-          ("back", "there is no call before"), ("", 2), ("foo", "no command is called foo: help lists them")]
+          ("next input", "no input further on"), ("first", 1), ("next interrupt", 3), ("next refused", 6),
+          ("next sent", 8), ("next reset", 11), ("back IIR", 7), ("back lsr", 4), ("first", 1),
+          ("next difference", 11), ("goto 4", 4), ("next change", 5), ("back input", 3), ("last", 11),
+          ("next", "there is no call further on"), ("next thre", "no thre further on"),
+          ("goto 12", "there is no call further on"), ("goto 0", "there is no call before"),
+          ("goto x", "the form is: goto N"), ("first", 1), ("back", "there is no call before"), ("", 2),
+          ("foo", "no command is called foo: help lists them")]
 
 
 class Stepping(FolderTest):
@@ -117,7 +118,8 @@ class Stepping(FolderTest):
 
     def test_what_is_shown(self):
         self.assertEqual("call 6 of 11, piece 1: sw 01 03  trigger\n  IER: ok; interrupt for RDA refused\n"
-                         "  IER 0x01 -> 0x03  RDA THRE\n  IIR 0xc1 -> 0xc4  RDA\n  interrupt refused\n", self.said("goto 6"))
+                         "  IER 0x01 -> 0x03  RDA THRE\n  IIR 0xc1 -> 0xc4  RDA\n  interrupt refused\n",
+                         self.said("goto 6"))
         self.assertIn(">       6  sw 01 03", self.said("list"))
         self.said("goto 3")
         self.assertIn("  pending: RDA\n", self.said("regs"))
@@ -204,8 +206,8 @@ class CommandLine(FolderTest):
         self.assertEqual((0, ""), (status, errors))
         self.assertNotIn("recorded:", output)
         _, output, _ = run("view", WITH_INPUT, script=b"next input\nnext timeout\nnext reset\n")
-        for row in ("none with another reply than recorded", ": sq 756e616d65202d73720a  0a\n", "  FIFO 0 -> 10 bytes\n",
-                    ": si  ok\n", ": kw 04 fe  reset\n"):
+        for row in ("none with another reply than recorded", ": sq 756e616d65202d73720a  0a\n",
+                    "  FIFO 0 -> 10 bytes\n", ": si  ok\n", ": kw 04 fe  reset\n"):
             self.assertIn(row, output)
 
     def test_commands_come_by_a_pipe(self):

@@ -1,4 +1,4 @@
-"""What people type: the commands that it means, what is said of it, and why it means none. And what the documents show."""
+"""What people type: the commands that it means, what is said of it, and why it means none. And what documents show."""
 import doctest
 import io
 import os
@@ -51,7 +51,8 @@ MEANINGS = {
     "cw 000000006553f101 0004 00000010": ["alarm 0x10 now+1"],
     "kr 04": ["i8042 read 4", "kr 4"],
     "kw 04 fe": ["i8042 write 4 0xfe"],
-    "si": ["timeout"], "sd": ["drain"], "sc": ["room"], "so": ["output"], "st": ["calls"], "se": ["events"], "ss": ["restore"],
+    "si": ["timeout"], "sd": ["drain"], "sc": ["room"], "so": ["output"], "st": ["calls"], "se": ["events"],
+    "ss": ["restore"],
     "sr 10": ["sr 10"],
     "sw 01 01": ["sw IER 1"],
     "sw 03 80": ["sw LCR DLAB"],
@@ -112,8 +113,8 @@ DIALOGUES = [
      ["ok", "1 byte received; interrupt for RDA", "1 byte received; no interrupt: RDA is pending already"]),
     (["refuse 1", "write IER RDA", "type a", "restore"],
      ["ok", "1 byte received; interrupt for RDA refused", "restored; interrupt for RDA"]),
-    (["timeout", "type a", "timeout", "write IER RDA", "timeout", "read IIR", "timeout", "type b", "read RBR", "timeout",
-      "calls"],
+    (["timeout", "type a", "timeout", "write IER RDA", "timeout", "read IIR", "timeout", "type b", "read RBR",
+      "timeout", "calls"],
      ["no interrupt: no byte is held", "1 byte received; no interrupt: IER does not enable RDA",
       "1 byte held; no interrupt: IER does not enable RDA", "ok; interrupt for RDA",
       "1 byte held; no interrupt: RDA is pending already", "IIR = 0xc4  RDA", "1 byte held; interrupt for RDA",
@@ -122,17 +123,19 @@ DIALOGUES = [
     (["refuse 2", "write IER RDA", "type a", "read IIR", "timeout", "timeout", "restore"],
      ["ok", "1 byte received; interrupt for RDA", "IIR = 0xc4  RDA", "1 byte held; interrupt for RDA refused",
       "1 byte held; no interrupt: RDA is pending already", "restored; interrupt for RDA"]),
-    (["write IER RDA|THRE", "type a", "read IIR", "write THR 'A'", "write LCR DLAB", "write MCR LOOP", "timeout", "read IIR"],
-     ["ok; interrupt for THRE", "1 byte received; interrupt for RDA", "IIR = 0xc6  RDA THRE", 'sent "A"; interrupt for THRE',
-      "ok", "ok", "1 byte held; interrupt for RDA", "IIR = 0xc6  RDA THRE"]),
+    (["write IER RDA|THRE", "type a", "read IIR", "write THR 'A'", "write LCR DLAB", "write MCR LOOP", "timeout",
+      "read IIR"],
+     ["ok; interrupt for THRE", "1 byte received; interrupt for RDA", "IIR = 0xc6  RDA THRE",
+      'sent "A"; interrupt for THRE', "ok", "ok", "1 byte held; interrupt for RDA", "IIR = 0xc6  RDA THRE"]),
     (["type " + "x" * 60, "type 12345", "type 6", "write MCR LOOP", "type 7", "room"],
      ["60 bytes received; no interrupt: IER does not enable RDA", "4 of 5 bytes received: the FIFO is full",
-      "0 of 1 byte received: the FIFO is full", "ok", "0 of 1 byte received: the port is in loopback", "room for 0 bytes"]),
+      "0 of 1 byte received: the FIFO is full", "ok", "0 of 1 byte received: the port is in loopback",
+      "room for 0 bytes"]),
     (["write THR 'A'", "write FCR 7", "write 9 1", "output", "events", "calls"],
      ['sent "A"', "ignored", "ignored", '"A"', "0 reads of RBR, 0 of them left no byte; 1 byte out, 0 lost",
       "the interrupt line was called 0 times"]),
-    (["clock read DR", "clock write DR 1", "clock read ICR", "clock write LR 100", "clock write MR 99", "clock write MR 100",
-      "clock read RIS"],
+    (["clock read DR", "clock write DR 1", "clock read ICR", "clock write LR 100", "clock write MR 99",
+      "clock write MR 100", "clock read RIS"],
      ["DR = 0x6553f100  2023-11-14 22:13:20 UTC", "invalid: nothing can be written at 0x0000, DR",
       "invalid: nothing can be read at 0x001c, ICR", "ok", "ok: that time is past",
       "ok: guest time is there, so the alarm is up", "RIS = 0x00000001  ALARM"]),
@@ -154,8 +157,8 @@ WHY = [
     ([], f"{NEITHER}.", f"{NEITHER}."),
     (["sq 61"], f"{NEITHER}, and 1 byte is held.", None),
     (["sw 01 01", "sq 61"], raised("2, sq 61", ENDS_RDA), None),
-    (["sw 01 01", "sq 6162", "sr 02"], "is not pending: call 3, sr 02, acknowledged it. 2 bytes are held: a timeout, the next "
-     "byte or a write to IER raises it.", None),
+    (["sw 01 01", "sq 6162", "sr 02"], "is not pending: call 3, sr 02, acknowledged it. 2 bytes are held: a timeout, "
+     "the next byte or a write to IER raises it.", None),
     (["sw 01 01", "sq 6162", "sr 02", "si"], raised("4, si", ENDS_RDA), None),
     (["refuse 2", "sw 01 01", "sq 6162", "sr 02", "si"], raised("5, si", ENDS_RDA, "refused"), None),
     (["sw 01 01", "sq 61", "sd"], "is not pending: call 3, sd, acknowledged it. The next byte raises it.", None),
@@ -202,8 +205,8 @@ REGS = [
      ["DR   0x00000064  1970-01-01 00:01:40", "MR   0x00000069", "LR   0x00000064", "IMSC 0x00000001  ALARM",
       "RIS  0x00000001  ALARM", "no alarm is set", "interrupt line up"]),
     (["clock write LR 100", "clock write MR 95 now-10"], "clock",
-     ["DR   0x00000064  1970-01-01 00:01:40", "MR   0x0000005f", "LR   0x00000064", "IMSC 0x00000000", "RIS  0x00000000",
-      "alarm due now", "interrupt line down"]),
+     ["DR   0x00000064  1970-01-01 00:01:40", "MR   0x0000005f", "LR   0x00000064", "IMSC 0x00000000",
+      "RIS  0x00000000", "alarm due now", "interrupt line down"]),
 ]
 
 
@@ -319,7 +322,7 @@ class Words(SessionTest):
     def test_help(self):
         """It names every command, and the registers that a command reaches."""
         listed = "\n".join(self.said("help"))
-        for name in ("read", "write", "type", "timeout", "si", "regs", "why", "save", "source", "sr", "cw", "refuse", "quit"):
+        for name in "read write type timeout si regs why save source sr cw refuse quit".split():
             self.assertIn(f"  {name}", listed)
             self.assertTrue(self.said(f"help {name}"))
         for command, letter in (("read", "r"), ("write", "w")):
