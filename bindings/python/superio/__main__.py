@@ -12,8 +12,6 @@ from .prompt import Style, run_prompt
 from .script import MAXIMUM, ScriptError, lines_of
 from .session import Session
 
-__all__ = ["main"]
-
 _PIECE = 65_536
 
 # The exit statuses. Those below `USAGE` mean what they mean for the program `superio`.

@@ -11,8 +11,6 @@ from .registers import DLAB, SERIAL, bits_by_name
 from .saved import RtcState, SavedStateError, SerialState, script_words
 from .script import Command
 
-__all__ = ["Board", "Call", "Counts", "OUTPUT_SIZE", "Snapshot"]
-
 OUTPUT_SIZE = 256
 """How many bytes the board's output takes. Each byte after them is lost."""
 

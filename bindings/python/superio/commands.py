@@ -12,8 +12,6 @@ from .tell import changes, clock_registers, registers
 if TYPE_CHECKING:
     from .session import Session
 
-__all__ = ["HELP", "VERBS", "Help"]
-
 _DEEPEST = 10
 _CLOCK_NAMES = ", ".join(name for name in CLOCK if not name.startswith("ID"))
 

@@ -12,9 +12,6 @@ from .library import FIFO_SIZE, RTC_SAVED_SIZE, SERIAL_SAVED_MAX, RtcStruct, Ser
 from .registers import CLOCK, FIELDS, SERIAL, Register, bit_names, clock_offset, serial_offset
 from .saved import RtcState, Saved, SerialState
 
-__all__ = ["EnqueueEffects", "I8042", "I8042WriteEffects", "ReadEffects", "Rtc", "RtcReadEffects", "RtcWriteEffects",
-           "Serial", "WriteEffects", "clock_state", "serial_state"]
-
 _NEVER = 2 ** 64 - 1
 _STATES = 1024
 _HEAD, _LENGTH, _RING = SerialStruct.head.offset, SerialStruct.len.offset, SerialStruct.bytes.offset

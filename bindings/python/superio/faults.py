@@ -5,8 +5,6 @@ from typing import IO, Iterator
 
 from .script import shown
 
-__all__ = ["BadLine", "FileFault", "Leave", "opened", "replaced", "write_text"]
-
 
 class Leave(Exception):
     """The session ends."""

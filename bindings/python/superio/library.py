@@ -8,9 +8,6 @@ from typing import Any, Iterator, Tuple
 
 from .registers import FIELDS
 
-__all__ = ["ABI", "FIFO_SIZE", "FILE_NAME", "PROTOTYPES", "RTC_SAVED_SIZE", "RtcStruct", "SERIAL_SAVED_MAX", "STRUCTS",
-           "SerialStruct", "VARIABLE", "LibraryError", "Library", "candidates", "load", "open_library"]
-
 ABI = 3
 """The binary interface of superio.h that this package is written for."""
 

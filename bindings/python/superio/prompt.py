@@ -9,8 +9,6 @@ from .faults import FileFault, replaced
 if TYPE_CHECKING:
     import cmd
 
-__all__ = ["HISTORY_VARIABLE", "Style", "run_prompt", "use_history"]
-
 HISTORY_VARIABLE = "SUPERIO_HISTORY"
 """The environment variable that can name the history's file. Empty: there is none."""
 

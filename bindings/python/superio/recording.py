@@ -17,8 +17,6 @@ from .library import FIFO_SIZE
 from .script import ScriptError, parse
 from .tell import CONDITIONS
 
-__all__ = ["Step", "entries_of", "picture", "replay"]
-
 _TEXT = re.compile(r'(polled|sent|received|so|sq) +(".*")(?: {2,}(\S+))?')
 _REPEATED = re.compile(r"(\d+) (.+)", re.DOTALL)
 

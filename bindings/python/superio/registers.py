@@ -1,9 +1,6 @@
 """The registers of the serial port and of the clock: names, offsets and bits."""
 from typing import Dict, List, NamedTuple, Optional, Tuple
 
-__all__ = ["Register", "RegisterError", "SERIAL", "CLOCK", "DLAB", "FIELDS", "LOOPBACK", "FIFO_BITS", "IDENTIFICATION",
-           "serial_offset", "clock_offset", "serial_register", "clock_register", "bits_by_name", "bit_names"]
-
 DLAB = 0x80
 """The bit of LCR that puts the divisor at the offsets 0 and 1."""
 

@@ -7,8 +7,6 @@ from typing import Any, Callable, Dict, Iterator, Mapping, Sequence, Tuple, Type
 from .checks import byte_string, number
 from .library import FIFO_SIZE, load
 
-__all__ = ["AlarmIsSetError", "LoadStatus", "RtcState", "Saved", "SavedStateError", "SerialState", "script_words"]
-
 _Device = TypeVar("_Device", bound="Saved")
 
 # The fields of a clock in vm-superio, in its order.

@@ -8,9 +8,6 @@ from typing import Dict, NamedTuple, Optional, Tuple, Union
 
 from .checks import byte_string
 
-__all__ = ["Command", "FORMS", "Field", "MASK", "MAXIMUM", "ScriptError", "TOO_MANY", "lines_of",
-           "missing", "parse", "shown", "text_of"]
-
 MAXIMUM = 65_536
 """A script has at most this many bytes."""
 

@@ -12,8 +12,6 @@ from .script import FORMS, Command, ScriptError, parse, shown, text_of
 from .tell import Story, told
 from .words import Speaker
 
-__all__ = ["Session", "Trace"]
-
 
 @contextmanager
 def _undisturbed() -> Iterator[None]:

@@ -2,15 +2,13 @@
 import cmd
 import glob
 import os
-from typing import IO, List, Optional
+from typing import IO, List
 
 from .commands import HELP
 from .faults import FileFault, Leave
 from .prompt import Style, use_history
 from .registers import CLOCK, SERIAL
 from .session import Session
-
-__all__ = ["Shell", "completions"]
 
 INTRO = """\
 A serial port, a clock and a reset controller, as a guest sees them.
@@ -71,11 +69,6 @@ class Shell(cmd.Cmd):
     def completedefault(self, *ignored: object) -> List[str]:
         text, line, begin, _ = ignored
         return completions(str(line)[:int(str(begin))], str(text))
-
-    def parseline(self, line: str) -> "tuple[Optional[str], Optional[str], str]":
-        """The line as it is: the session takes it apart."""
-        name = line.strip().partition(" ")[0]
-        return name or None, line.strip()[len(name):].strip(), line
 
     def onecmd(self, line: str) -> bool:
         if line == "EOF":

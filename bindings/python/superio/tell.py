@@ -11,9 +11,6 @@ from .registers import (CLOCK, FIELDS, FIFO_BITS, LOOPBACK, SERIAL, Register, bi
 from .saved import RtcState, SerialState
 from .script import Command, text_of
 
-__all__ = ["CONDITIONS", "Story", "changes", "clock_registers", "pending", "plural", "quoted", "raised", "registers",
-           "told"]
-
 CONDITIONS = bits_by_name(SERIAL["IIR"])
 """The interrupt conditions, each with its bit of IIR."""
 

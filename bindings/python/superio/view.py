@@ -13,8 +13,6 @@ from .registers import CLOCK, SERIAL, clock_register, serial_register
 from .script import ScriptError, shown, text_of
 from .tell import CONDITIONS, changes, clock_registers, plural, raised, registers, told
 
-__all__ = ["Viewer", "table", "view"]
-
 
 def row_of(number: int, step: Step) -> str:
     """A call as a row of the table: its number, line, reply, and what it changed."""

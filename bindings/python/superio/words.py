@@ -9,8 +9,6 @@ from .registers import (CLOCK, SERIAL, Register, bits_by_name, clock_offset, clo
 from .script import (BYTES, CLOCK_OFFSET, FORMS, MASK, MOMENT, OFFSET, TOO_MANY, VALUE, Command, Field,
                      ScriptError, missing, parse, shown)
 
-__all__ = ["ALONE", "Speaker", "characters"]
-
 ALONE = {"timeout": "si", "drain": "sd", "room": "sc", "output": "so", "calls": "st", "events": "se", "restore": "ss"}
 """The words that are a line by themselves, and the line of a script that each means."""
 

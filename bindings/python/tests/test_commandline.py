@@ -347,7 +347,3 @@ class Arguments(unittest.TestCase):
         self.assertEqual((2, ""), (status, output))
         self.assertTrue(errors.startswith("python3 -m superio: /nowhere/lib.so cannot be loaded"), errors)
         self.assertEqual(1, errors.count("\n"))
-
-
-if __name__ == "__main__":
-    unittest.main()

@@ -323,6 +323,7 @@ class Types(unittest.TestCase):
         for state in (SerialState(), RtcState(), Serial().state, Rtc().state, *one):
             types = {name: type(value) for name, value in vars(state).items()}
             self.assertEqual(typing.get_type_hints(type(state)), types)
+        self.assertTrue(one[1].armed)
 
 
 class Walks(unittest.TestCase):
@@ -441,7 +442,3 @@ def load_tests(loader, tests, ignored):
     tests.addTests(doctest.DocTestSuite(devices))
     tests.addTests(doctest.DocTestSuite(board, extraglobs={"Board": Board, "parse": parse}))
     return tests
-
-
-if __name__ == "__main__":
-    unittest.main()

@@ -105,7 +105,3 @@ class Finding(unittest.TestCase):
             with self.assertRaisesRegex(LibraryError, "has no function superio_nothing"):
                 found.superio_nothing()
         self.assertFalse(hasattr(found, "superio_nothing"))
-
-
-if __name__ == "__main__":
-    unittest.main()

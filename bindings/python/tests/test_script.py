@@ -144,7 +144,3 @@ class Program(unittest.TestCase):
             got = run("--strict", script=script)
             self.assertEqual((status, output.decode()), got[:2])
             self.assertTrue(got[2].startswith(f"<stdin>:{number}: "), got[2])
-
-
-if __name__ == "__main__":
-    unittest.main()

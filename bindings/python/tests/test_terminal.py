@@ -2,7 +2,6 @@
 import os
 import sys
 import time
-import unittest
 from unittest import mock
 
 from support import ENVIRONMENT, FolderTest
@@ -233,7 +232,3 @@ class Completions(FolderTest):
                 for start, command in [(start, command) for start in (self.folder, "~")
                                        for command in ("save ", "load ", "source ", "trace on ")]:
                     self.assertEqual([f"{start}/{name}" for name in names], completions(command, f"{start}/{text}"))
-
-
-if __name__ == "__main__":
-    unittest.main()

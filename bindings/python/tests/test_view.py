@@ -224,7 +224,3 @@ class CommandLine(FolderTest):
         for option, path in zip(("--table", "--svg"), alone):
             self.assertEqual((0, "", ""), run("view", "-", option, path, script=TRACE))
         self.assertEqual(*([path.read_text() for path in paths] for paths in (both, alone)))
-
-
-if __name__ == "__main__":
-    unittest.main()

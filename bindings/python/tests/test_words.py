@@ -4,7 +4,6 @@ import io
 import os
 import re
 import signal
-import unittest
 from unittest import mock
 
 from support import PACKAGE, ROOT, FolderTest, run
@@ -445,7 +444,3 @@ class Documents(SessionTest):
             said = []
             failed = doctest.DocTestRunner(verbose=False).run(test, out=said.append).failed
             self.assertEqual(0, failed, "".join(said))
-
-
-if __name__ == "__main__":
-    unittest.main()
