@@ -85,13 +85,13 @@ def clock_text(lr, mr, imsc, ris, ahead, *others):
 
 
 class Monitor:
-    """The devices of recorded calls, as tests/calls/README.md describes them. The methods with the name of a call
-    return its reply, and the calls of objects in it."""
+    """The devices of recorded calls, as tests/calls/README.md describes them: those of the oracle, or others of their
+    interface. The methods with the name of a call return its reply, and the calls of objects in it."""
 
-    def __init__(self):
+    def __init__(self, port=Port, clock=Clock):
         self.words = []               # how the objects behave in a call
-        self.port = Port(lambda number: str(number) in self.words, lambda: self.words)
-        self.clock = Clock()
+        self.port = port(lambda number: str(number) in self.words, lambda: self.words)
+        self.clock = clock()
 
     def reply(self, line):
         """What stands after ` = ` in a line of a recording, of what stands before."""

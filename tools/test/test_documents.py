@@ -194,7 +194,6 @@ class Facts(CopyTest):
                 ("docs/DEVICES.md", "0x0D 0xF0 0x05", "0x0D 0xF1 0x05", "5 is F1, and F0"),
                 ("bindings/js/superio.mjs", "FIFO_SIZE = 64", "FIFO_SIZE = 63", "bytes held is [(63,)], and [(64,)]"),
                 ("bindings/js/page/why.mjs", "0xFE at offset 4", "0xFE at offset 5", "reset is [5, 254], and [4, 254]"),
-                ("tools/c/tests/model.c", "{0x31, 0x10,", "{0x31, 0x11,", "1 is 11, and 10"),
                 ("include/superio.h", "0x01 is data ready", "0x01 is XX", "LSR XX is 1, and None"),
                 ("README.md", "read of offset 2 (IIR)", "read of offset 3 (IIR)", "IIR is [(3, 1)], and [(2, 1)]"),
                 ("README.md", "Rust 1.63+", "Rust 1.60+", "Rust is [(1, 60)], and [(1, 63)]"),

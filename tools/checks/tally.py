@@ -1,11 +1,8 @@
 """What a check passed, failed and could not run."""
 import shutil
 import subprocess
-import sys
-from pathlib import Path
 
-sys.path.insert(0, str(Path(__file__).resolve().parent.parent / "checks"))
-from tried import Tried  # noqa: E402
+from tried import Tried
 
 LIMIT = 300  # seconds, after which a program counts as one that does not end
 
@@ -30,6 +27,14 @@ class Tally:
     def of(self, kind):
         """Names the kind of what is counted from now on."""
         self.kind = kind
+
+    def carry_out(self, kind, check, *arguments):
+        """Runs a check, which counts what is of a kind. A file or a program that it cannot use counts as failed."""
+        self.of(kind)
+        try:
+            check(self, *arguments)
+        except (OSError, LookupError, ValueError, subprocess.CalledProcessError) as error:
+            self.check(False, f"{check.__name__}: {error}")
 
     def check(self, is_good, message, number=1):
         """Counts a check, which tries so many of its kind. The message says what failed."""
