@@ -69,10 +69,10 @@ class Names(CopyTest):
         self.take("README.md", "CHANGELOG.md", "CONTRIBUTING.md", "HANDLES", "SECURITY.md", "crates.txt", "docs", "crates",
                   "bindings", "examples", "include", "prebuilt", "tests", "tools/test", ".reuse")
 
-    def faults(self, version="the version"):
-        """What the tool says if `rt version` prints this, and README.md says 'the version'."""
+    def faults(self, version="rattle-kit-1a logic 12ab"):
+        """What the tool says if `rt version` prints this, and README.md has the version 1a of the kit."""
         readme = self.root / "README.md"
-        text = re.sub("`rattle-kit-[^`]*`", "`the version`", readme.read_text(encoding="utf-8"))
+        text = re.sub("`rattle-kit-[^`]*`", "`rattle-kit-1a logic 12ab`", readme.read_text(encoding="utf-8"))
         readme.write_text(text, encoding="utf-8")
         (self.root / "rt").write_text(f"#!/bin/sh\necho {version}\n", encoding="ascii")
         (self.root / "rt").chmod(0o755)
@@ -157,8 +157,13 @@ class Names(CopyTest):
         (self.root / "tests" / "forms.txt").unlink()
         self.assertIn("docs/PROOFS.md: tests/forms.txt is nowhere in the sources", self.faults())
 
-    def test_another_version(self):
-        self.assertEqual(self.faults("another"), ["README.md does not show another, which rt version prints"])
+    def test_another_build_of_the_same_logic_passes(self):
+        self.assertEqual(self.faults("rattle-kit-2b logic 12ab"), [])
+
+    def test_another_logic(self):
+        for version in ("rattle-kit-1a logic 12ac", "rattle-kit-1a logic 12a", "rattle-kit-1a"):
+            says = f"README.md does not show the logic of {version}, which rt version prints"
+            self.assertEqual(self.faults(version), [says])
 
 
 class Facts(CopyTest):
