@@ -101,6 +101,11 @@ def documents():
     return [Document(path) for path in sorted(kept, key=lambda path: (len(path.parts), path))]
 
 
+def judged(kind, is_good, fault):
+    """A result of one thing that is good, or has this fault."""
+    return kind, [] if is_good else [fault]
+
+
 def finish(results):
     """Prints what is wrong, how much of each kind was tried, and the sum. A result is a kind and its faults, which are
     `None` if it cannot be tried here. Returns the exit status: 1 if something is wrong, or if nothing was tried."""
