@@ -2,7 +2,8 @@
 import re
 from dataclasses import dataclass, field
 
-from edits import functions_of, has_path
+from contracts import functions_of
+from edits import has_path
 
 PLACE = re.compile(r"(note: )?(?:\./)?((?:src|specs|proofs)/[^:\s]+):(\d+):\d+: (.*)")
 UNPROVED = re.compile(r"fn (\S+): (?:not proved|no proof)\b(.*)")
@@ -144,7 +145,7 @@ def functions_of_edit(edit, texts):
     with this path if it changes something outside any function."""
     found = []
     for file, text in texts.items():
-        for function in functions_of(text):
+        for function in filter(lambda it: it.has_body, functions_of(text)):
             place = Place(file, *function.lines(text), function)
             is_changed = any(it.file == file and place.first <= it.line <= place.last for it in edit.replacements)
             if (edit.is_outside or is_changed) and (not edit.function or has_path(file, function, edit.function)):
