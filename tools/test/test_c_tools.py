@@ -28,7 +28,7 @@ CHANGES = [
     ("fuzz.c", "value == 0xFE), \"superio_i8042_write\"", "value == 0xFF), \"superio_i8042_write\"",
      "superio_i8042_write"),
 ]
-HEADER, CALLER = "include/superio.h", "tools/compare/library/src/library.rs"
+HEADER, CALLER = "include/superio.h", "tools/compare/src/library.rs"
 # A change of a declaration, and what is said of it.
 DECLARATIONS = [
     (HEADER, "superio_rtc_line(const superio_rtc *clock)", "superio_rtc_line(const superio_rtc *it)",
@@ -46,7 +46,7 @@ DECLARATIONS = [
     (CALLER, "    resets: bool,", "    resets: u16,", "superio_i8042_write_effects: the header has the size 1"),
     ("tools/c/tests/calls.c", "CHECK(superio_i8042_read(0) == 0 && superio_i8042_read(4) == 0);", "",
      "calls.c does not call ['superio_i8042_read']"),
-    (CALLER, "    safe fn superio_rtc_line(clock: &Clock) -> bool;\n", "", "tools/compare/library None"),
+    (CALLER, "    safe fn superio_rtc_line(clock: &Clock) -> bool;\n", "", "tools/compare None"),
 ]
 # In place of the kit: `rt doc` names a page of the kit, `rt lib` writes a library that says what it is for, and the
 # linker one that says what it was linked of.

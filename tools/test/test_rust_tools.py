@@ -13,6 +13,7 @@ from unittest import mock
 from test_check import TOOLS, module_of
 
 sys.path[:0] = [str(TOOLS / folder) for folder in ("bench", "rust", "c")]
+import cargo  # noqa: E402
 from libraries import host_target  # noqa: E402
 from planted import Bug, read_bugs  # noqa: E402
 from tally import Tally  # noqa: E402
@@ -108,7 +109,7 @@ class Targets(unittest.TestCase):
         built = [next(targets.toolchains())] + [None] * (len(targets.BUILT) - 1)
         ran = subprocess.CompletedProcess("cargo", 101, "use of undeclared crate `std`")
         with tempfile.TemporaryDirectory() as folder, mock.patch.object(targets, "toolchain_for", side_effect=built), \
-                mock.patch.object(targets, "cargo", return_value=ran):
+                mock.patch.object(targets, "Cargo", return_value=mock.Mock(**{"run.return_value": ran})):
             printed = silently(targets.check_builds, tally, Path(folder))[1]
         self.assertEqual((tally.passed, tally.failed, tally.skipped), (0, 1, len(targets.BUILT) - 1))
         for target in targets.BUILT:
@@ -117,7 +118,7 @@ class Targets(unittest.TestCase):
 
 @unittest.skipIf(host_target() is None, "needs a library for this processor")
 @unittest.skipUnless(shutil.which("cargo") and shutil.which("cc"), "needs cargo and a C compiler")
-@unittest.skipIf(shutil.which("cargo") and is_too_old(random_calls.PROGRAM / "Cargo.toml"), "needs a newer Cargo")
+@unittest.skipIf(shutil.which("cargo") and is_too_old(cargo.COMPARISON / "Cargo.toml"), "needs a newer Cargo")
 class RandomCalls(unittest.TestCase):
     """One folder keeps what Cargo built, so that only the first test compiles the whole program."""
 
@@ -125,12 +126,12 @@ class RandomCalls(unittest.TestCase):
     def setUpClass(cls):
         folder = tempfile.TemporaryDirectory()
         cls.addClassCleanup(folder.cleanup)
-        cls.folder = Path(folder.name)
+        cls.comparison = cargo.Comparison(Path(folder.name), "library")
 
     def try_edit(self, file, old, new):
         """The sum of the checks of a wrong shell, and what they print."""
         tally = Tally()
-        printed = silently(random_calls.check_wrong_shell, tally, self.folder, Bug("planted", file, old, new))[1]
+        printed = silently(random_calls.check_wrong_shell, tally, self.comparison, Bug("planted", file, old, new))[1]
         return (tally.passed, tally.failed), printed
 
     def test_a_shell_that_is_right_is_not_counted_as_refused(self):
@@ -143,18 +144,14 @@ class RandomCalls(unittest.TestCase):
 
     def test_a_case_that_no_call_reaches_fails(self):
         """The calls make no timeout any more."""
-        place = self.folder / "planted" / "library"
-        shutil.copytree(random_calls.PROGRAM, place, ignore=shutil.ignore_patterns("target", "Cargo.lock"))
-        for name in random_calls.SHARED:
-            shutil.copytree(random_calls.PROGRAM.parent / name, place.parent / name,
-                            ignore=shutil.ignore_patterns("target", "Cargo.lock"))
-        source = place / "src" / "calls.rs"
+        source = self.comparison.copy / "src" / "random.rs"
         text = source.read_text(encoding="utf-8")
+        self.addCleanup(source.write_text, text, encoding="utf-8")
         self.assertEqual(text.count("Action::SerialTimeout"), 1)
         source.write_text(text.replace("Action::SerialTimeout", "Action::SerialCoherence"), encoding="utf-8")
+        self.comparison.take(cargo.BINDINGS)
         tally = Tally()
-        with mock.patch.object(random_calls, "PROGRAM", place):
-            printed = silently(random_calls.check_calls, tally, self.folder, 400_000, 1)[1]
+        printed = silently(random_calls.check_calls, tally, self.comparison, 400_000, 1)[1]
         self.assertEqual(tally.passed, 1)
         self.assertGreater(tally.failed, 0)
         self.assertIn("0 different, 2 cases too seldom", printed)
@@ -162,6 +159,6 @@ class RandomCalls(unittest.TestCase):
     def test_each_edit_is_tried_as_one_of_its_kind(self):
         tally = Tally()
         with mock.patch.object(random_calls, "check_wrong_shell") as tries:
-            silently(random_calls.check_wrong_shells, tally, self.folder)
+            silently(random_calls.check_wrong_shells, tally, self.comparison)
         self.assertEqual(tries.call_count, len(list(read_bugs(random_calls.WRONG))))
         self.assertEqual(tally.kind, random_calls.WRONG_SHELLS)
