@@ -49,15 +49,15 @@ class Counts(unittest.TestCase):
         return tally.passed, tally.failed, tally.skipped
 
     def test_each_row_has_a_limit_of_its_own(self):
-        limits = [counts.LIMITS[kind](original) for _, kind, original in counts.table()]
+        limits = [counts.LIMITS[row.kind](row.original) for row in counts.ROWS[1:]]
         limits = [limit if limit != math.inf else 100 for limit in limits]
         self.assertEqual(self.compare(limits)[0], 0)
-        for number, (_, kind, _) in enumerate(counts.table()):
+        for number, row in enumerate(counts.ROWS[1:]):
             over = self.compare([*limits[:number], limits[number] + 0.1, *limits[number + 1:]])[0]
-            self.assertEqual(over, kind != "free", number)
+            self.assertEqual(over, row.kind != "free", number)
 
     def test_each_number_of_the_document_is_compared(self):
-        names = [name for name, _, _ in counts.table()]
+        names = [row.name for row in counts.ROWS[1:]]
         rows = self.compare(list(range(10, 10 + len(names))), list(range(100, 100 + len(names))))[1]
         lines = [f"| {name} | {count} | {' | '.join(fixed)} | {own} |" for name, count, fixed, own in rows]
         text = "\n".join(["rustc 1.2.3", *lines])
@@ -77,15 +77,16 @@ class Counts(unittest.TestCase):
         self.assertEqual(self.compare_document([("x", 1, ["1", "2"], None)], "rustc 1.2.3", "1.2.4"), (0, 0, 1))
 
     def test_one_row_alone_has_no_limit(self):
-        free = [name for name, kind, _ in counts.table() if kind == "free"]
+        free = [row.name for row in counts.ROWS[1:] if row.kind == "free"]
         self.assertEqual(free, ["RTCMR write"])
 
-    def test_a_table_that_lost_a_row_is_refused(self):
-        lines = counts.TABLE.read_text(encoding="ascii").splitlines(keepends=True)
-        with tempfile.TemporaryDirectory() as folder, mock.patch.object(counts, "TABLE", Path(folder, "table.txt")):
-            counts.TABLE.write_text("".join(lines[:-1]), encoding="ascii")
-            with self.assertRaisesRegex(SystemExit, "table.txt does not have the rows.*\n0 passed, 1 failed"):
-                counts.table()
+    def test_rows_of_the_table_are_read(self):
+        rows = {row.name: row for row in counts.ROWS}
+        loopback, many = rows["loopback: THR write, RBR read"], rows["64 bytes in and out"]
+        self.assertEqual((loopback.kind, loopback.original, loopback.prepared, loopback.length), ("fewer", 66, 1, 2))
+        self.assertEqual((loopback.units, loopback.accesses[:12]), (300, b"w\x04\x10w\x00\x41r\x00\x00w\x00\x41"))
+        self.assertEqual((many.prepared, many.length, many.units), (0, 65, 9))
+        self.assertEqual(many.accesses, 9 * (b"e\x00\x40" + 64 * b"r\x00\x00"))
 
 
 class Targets(unittest.TestCase):
