@@ -1,9 +1,9 @@
 //! Makes calls that take memory, and prints whether they returned that it was refused.
 //!
-//! Standard input is a seed. The calls are those of `any_state` in any states, each with lists of each length to 300, of
-//! some greater ones and of 65,536. A line begins with `+` before a call, after what it takes is prepared, and a line after
-//! it says whether the call returned that memory was refused. `tools/checks/refused_memory` refuses an allocation between
-//! the two lines.
+//! Standard input is a seed. The calls are those of `any_state` in any states, each with lists of each length to 300,
+//! of some greater ones and of 65,536. A line begins with `+` before a call, after what it takes is prepared, and a line
+//! after it says whether the call returned that memory was refused. `tools/checks/refused_memory` refuses an allocation
+//! between the two lines.
 mod any_lines;
 mod any_state;
 mod source;

@@ -50,6 +50,13 @@ impl Log {
         }
     }
 
+    /// Forgets how often the writer was called, and lets it do this.
+    pub fn start(&self, writing: Writing) {
+        self.writes.set(0);
+        self.flushes.set(0);
+        self.writing.set(writing);
+    }
+
     /// How often the trigger, the events object, `write` and `flush` were called.
     pub fn calls(&self) -> [u64; 4] {
         [

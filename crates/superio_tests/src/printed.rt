@@ -1,4 +1,4 @@
-//! What values print, and that they are compared and copied by all their fields.
+//! What errors print, and values for debugging. No contract has the text of a derived `Debug`.
 ghost use Rattle.vm_superio.specs.Links.Unspecified.{Unspecified, Unspecified-nil, Unspecified-append};
 
 use std::alloc::{AllocError, Global};
@@ -10,7 +10,7 @@ use vm_superio::saved::Fault;
 use vm_superio::serial::{Error, NoEvents, Three, WriterOut};
 use vm_superio::{RtcState, SerialState, Trigger, saved};
 
-/// The forms of docs/SAVED-STATES.md. Each of the port's ten fields differs from the others.
+/// The forms of docs/SAVED-STATES.md.
 const PORT: [u8; 19] = [
     0x53, 0x49, 0x4F, 0x53, 0x01, 0x01, 0x0B, 0x00, 0x0C, 0x00, 0x01, 0x04, 0x03, 0x61, 0x08, 0xB0,
     0x5A, 0x61, 0x62,
@@ -80,11 +80,6 @@ impl Trigger for Silent {
     }
 }
 
-/// A restore to these objects.
-fn restore_to(trigger: u8, events: u8, writer: u8) -> Call<Three<u8, u8, WriterOut<u8>>> {
-    Call::Restore(Three::with_writer(trigger, events, writer))
-}
-
 #[test]
 fn values_are_printed_by_all_their_fields(rt: HostRuntime) -> Result<(), Fail> {
     let alloc = rt.alloc();
@@ -96,6 +91,7 @@ fn values_are_printed_by_all_their_fields(rt: HostRuntime) -> Result<(), Fail> {
         sent: Sent::Nothing,
         reply: Reply::Enqueued(Err(Error::Trigger(LineRefused))),
     };
+    let restore: Call<Three<u8, u8, WriterOut<u8>>> = Call::Restore(Three::with_writer(1, 2, 3));
     for (printed, expected) in [
         (
             format!(in alloc; "{port:?}")?,
@@ -114,40 +110,11 @@ fn values_are_printed_by_all_their_fields(rt: HostRuntime) -> Result<(), Fail> {
                 reply: Enqueued(Err(Trigger(LineRefused))) }",
         ),
         (
-            format!(in alloc; "{:?}", restore_to(1, 2, 3))?,
+            format!(in alloc; "{:?}", restore.clone()?)?,
             "Restore(Three { trigger: 1, events: 2, out: WriterOut { writer: 3 } })",
         ),
     ] {
         assert!(rt; printed.as_str() == expected);
     }
-    Ok(())
-}
-
-#[test]
-fn values_are_compared_by_all_their_fields(rt: HostRuntime) -> Result<(), Fail> {
-    let alloc = rt.alloc();
-    let port = SerialState::from_bytes(alloc, &PORT)?;
-    for place in 8..19usize {
-        let mut form = PORT;
-        form[place] ^= 0x10;
-        assert!(rt; SerialState::from_bytes(alloc, &form)? != port, "{place}");
-    }
-    let clock = RtcState::from_bytes(&CLOCK)?;
-    for place in 8..33usize {
-        let mut form = CLOCK;
-        form[place] ^= 0x01;
-        let other = RtcState::from_bytes(&form)?;
-        assert!(rt; other != clock && other.to_bytes() == form, "{place}");
-    }
-    let call = restore_to(1, 2, 3);
-    assert!(rt; call.clone()? == call && call != Call::CharacterTimeout);
-    for other in [
-        restore_to(0, 2, 3),
-        restore_to(1, 0, 3),
-        restore_to(1, 2, 0),
-    ] {
-        assert!(rt; other != call);
-    }
-    assert!(rt; Act::Read(1) != Act::Read(2) && Act::Read(1) != Act::CharacterTimeout);
     Ok(())
 }

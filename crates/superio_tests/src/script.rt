@@ -1,5 +1,5 @@
-//! What neither a script nor `tools/checks/failing_io` shows of a run: when its writer is flushed, reads of no byte, and
-//! faults of kinds that no operating system reports.
+//! What neither a script nor `tools/checks/failing_io` shows of a run: when its writer is flushed, reads of no byte,
+//! and faults of kinds that no operating system reports.
 use crate::objects::{Log, Object, Writing};
 use std::alloc::Global;
 use std::io;
@@ -39,7 +39,7 @@ fn expect_run(
     expected: Run,
 ) {
     let log = Log::new();
-    log.writing.set(writing);
+    log.start(writing);
     let mut reader = Input {
         bytes,
         fault: read_fault,

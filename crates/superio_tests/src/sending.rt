@@ -1,6 +1,7 @@
 //! What a data write asks of the writer: one `write`, and one `flush` if that succeeded. Its fault is returned as it is,
-//! whatever the port's state is, and whichever call makes the write. No contract says how often the writer is called, and
-//! of which text its fault is. tests/calls/sending.txt has one fault, over each number of held bytes and what is pending.
+//! in whatever state the port is, and whichever call makes the write. No contract says how often the writer is called,
+//! and of which text its fault is. tests/calls/sending.txt has one fault, over each number of held bytes and what is
+//! pending.
 use crate::objects::{Log, Object, Port, PortObjects, Writing, port};
 use std::alloc::{AllocError, Global};
 use std::io;
@@ -74,29 +75,37 @@ fn faults(alloc: Global) -> Result<Vec<io::Error>, Fail> {
     Ok(faults)
 }
 
-/// All that a caller sees of an error: its number, its kind, its text, and how it is printed for debugging.
-fn shown(alloc: Global, error: &io::Error) -> Result<String, Fail> {
-    let (number, kind) = (error.raw_os_error(), error.kind());
-    Ok(format!(in alloc; "{number:?} {kind:?} {error} {error:?}")?)
+/// All that a caller sees of a fault: its number, its kind, its text, and how it is printed for debugging.
+fn shown(alloc: Global, fault: &io::Error) -> Result<String, Fail> {
+    let (number, kind) = (fault.raw_os_error(), fault.kind());
+    Ok(format!(in alloc; "{number:?} {kind:?} {fault} {fault:?}")?)
 }
 
-/// Whether a call returned this fault, with its text, or `Ok` if there is none.
-fn is_fault(alloc: Global, returned: &Sent, fault: Option<io::Error>) -> Result<bool, Fail> {
-    match (returned, fault) {
-        (Ok(()), None) => Ok(true),
-        (Err(lost), Some(fault)) => {
+/// What a call returned that sent a byte.
+type Sent = Result<(), Error<LineRefused>>;
+
+/// The fault that a call has to return, if any, and how often it has to call `write` and `flush`.
+type Expected = (Option<io::Error>, [u64; 2]);
+
+/// Whether a call did this, and its error prints the fault's text.
+fn is_as_expected(
+    alloc: Global,
+    log: &Log,
+    found: &Sent,
+    (fault, calls): Expected,
+) -> Result<bool, Fail> {
+    let is_same = match (found, fault) {
+        (Ok(()), None) => true,
+        (Err(lost @ Error::IOError(found)), Some(fault)) => {
             let text = format!(in alloc; "Couldn't write/flush to the given destination: {fault}")?;
-            let is_same = match lost {
-                Error::IOError(error) => shown(alloc, error)? == shown(alloc, &fault)?,
-                _ => false,
-            };
-            Ok(is_same && lost.to_string(alloc)? == text)
+            lost.to_string(alloc)? == text && shown(alloc, found)? == shown(alloc, &fault)?
         }
-        _ => Ok(false),
-    }
+        _ => false,
+    };
+    Ok(is_same && [log.writes.get(), log.flushes.get()] == calls)
 }
 
-/// Where the next byte is lost: its `write` fails or takes nothing, or its `flush` fails.
+/// Where a byte is lost: its `write` fails or takes nothing, or its `flush` fails.
 #[derive(Clone, Copy)]
 enum Place {
     Write,
@@ -106,44 +115,25 @@ enum Place {
 
 const PLACES: [Place; 3] = [Place::Write, Place::FullWrite, Place::Flush];
 
-/// The fault that the next call has to return, if any, and how often it has to call `write` and `flush`.
-type Expected = (Option<io::Error>, (u64, u64));
-
 /// Makes the next byte fail with this fault. After interruptions it is written again.
 fn fail(log: &Log, fault: io::Error, place: Place) -> Expected {
     let (writing, expected) = match place {
         Place::Write if fault.kind() == ErrorKind::Interrupted => {
-            (Writing::IsInterrupted(300, fault), (None, (301, 1)))
+            (Writing::IsInterrupted(300, fault), (None, [301, 1]))
         }
-        Place::Write => (Writing::Fails(0, fault), (Some(fault), (1, 0))),
+        Place::Write => (Writing::Fails(0, fault), (Some(fault), [1, 0])),
         Place::FullWrite => {
             let mut room = [0; 0];
             let fault_of_std = room.as_mut_slice().write_all(b"x").err();
-            (Writing::TakesNone, (fault_of_std, (1, 0)))
+            (Writing::TakesNone, (fault_of_std, [1, 0]))
         }
-        Place::Flush => (Writing::FailsToFlush(fault), (Some(fault), (1, 1))),
+        Place::Flush => (Writing::FailsToFlush(fault), (Some(fault), [1, 1])),
     };
-    log.writes.set(0);
-    log.flushes.set(0);
-    log.writing.set(writing);
+    log.start(writing);
     expected
 }
 
-/// Whether a call returned this, and called its writer so often.
-fn is_as_expected(
-    alloc: Global,
-    log: &Log,
-    found: &Sent,
-    expected: Expected,
-) -> Result<bool, Fail> {
-    let calls = (log.writes.get(), log.flushes.get());
-    Ok(is_fault(alloc, found, expected.0)? && calls == expected.1)
-}
-
 // ---- calls that send a byte
-
-/// What a call returned that sent a byte.
-type Sent = Result<(), Error<LineRefused>>;
 
 /// Numbers that look random, the same in each run.
 fn next(numbers: &mut u64) -> u64 {
@@ -191,15 +181,6 @@ enum Way {
     Console,
     NewPort,
 }
-
-const WAYS: [Way; 6] = [
-    Way::Write,
-    Way::Bus,
-    Way::PortOut,
-    Way::Forward,
-    Way::Console,
-    Way::NewPort,
-];
 
 /// What those calls are made on.
 #[derive(Drop)]
@@ -280,7 +261,14 @@ fn a_fault_of_the_writer_is_returned_as_it_is(rt: HostRuntime) -> Result<(), Fai
     for fault in faults(rt.alloc())?.iter() {
         let log = Log::new();
         let mut machine = any_machine(rt.alloc(), &log, &mut numbers)?;
-        for way in WAYS {
+        for way in [
+            Way::Write,
+            Way::Bus,
+            Way::PortOut,
+            Way::Forward,
+            Way::Console,
+            Way::NewPort,
+        ] {
             for place in PLACES {
                 let expected = fail(&log, *fault, place);
                 let found = sent(rt.alloc(), &log, &mut machine, way, &mut numbers);
@@ -332,60 +320,72 @@ fn a_run_returns_the_fault_of_each_writer(rt: HostRuntime) -> Result<(), Fail> {
     Ok(())
 }
 
-/// An `EventFd` makes one `write` of its eight bytes, and a drained `Output` one of all that waits.
+/// Of its eight bytes some were taken before. After an interruption they are written again.
 #[test]
-fn programs_to_copy_return_the_fault_of_their_write(rt: HostRuntime) -> Result<(), Fail> {
-    let alloc = rt.alloc();
+fn an_event_is_one_write_and_returns_its_fault(rt: HostRuntime) -> Result<(), Fail> {
     let log = Log::new();
     let mut event = EventFd { file: Object(&log) };
+    for fault in faults(rt.alloc())?.iter() {
+        for taken in 0..8usize {
+            if fault.kind() != ErrorKind::Interrupted {
+                log.start(Writing::Fails(taken, *fault));
+                let found = event.trigger().map_err(Error::IOError);
+                let expected = (Some(*fault), [1 + u64::from(taken > 0), 0]);
+                assert!(rt;
+                    is_as_expected(rt.alloc(), &log, &found, expected)?,
+                    "{fault:?}"
+                );
+            }
+        }
+        log.start(Writing::Takes);
+        assert!(rt; event.trigger().is_ok() && log.calls() == [0, 0, 1, 0]);
+    }
+    Ok(())
+}
+
+/// Any number of bytes waits, at any place of the ring.
+#[test]
+fn a_drained_output_is_one_write_and_returns_its_fault(rt: HostRuntime) -> Result<(), Fail> {
+    let alloc = rt.alloc();
+    let log = Log::new();
     let mut output = Output::new(alloc, 320)?;
     let bytes = b"waiting ".repeat(alloc, 40)?;
     for (number, fault) in faults(alloc)?.iter().enumerate() {
-        // Some of the bytes were taken before. After an interruption they are written again.
-        for taken in 0..8usize {
-            if fault.kind() != ErrorKind::Interrupted {
-                log.writing.set(Writing::Fails(taken, *fault));
-                log.writes.set(0);
-                let found = event.trigger().map_err(Error::IOError);
-                assert!(rt; is_fault(alloc, &found, Some(*fault))?, "{fault:?}");
-                assert!(rt; log.writes.get() == 1 + u64::from(taken > 0));
-            }
+        for step in 0..4usize {
+            let waiting = &bytes[..(number + 80 * step) % 321];
+            assert!(rt; output.write(waiting).ok() == Some(waiting.len()));
+            log.start(Writing::Fails(0, *fault));
+            let drained = output.drain_into(&mut Object(&log));
+            let found = drained.map(|_| ()).map_err(Error::IOError);
+            let expected = (Some(*fault), [1, 0]);
+            assert!(rt; is_as_expected(alloc, &log, &found, expected)?, "{fault:?}");
+            assert!(rt; output.waiting(alloc)?.as_slice() == waiting && output.dropped() == 0);
+            log.start(Writing::Takes);
+            assert!(rt; output.drain_into(&mut Object(&log)).ok() == Some(waiting.len()));
+            assert!(rt; log.calls() == [0, 0, 1, 0]);
         }
-        // Any number of bytes waits, at any place of the ring.
-        let waiting = &bytes[..number % 321];
-        assert!(rt; output.write(waiting).ok() == Some(waiting.len()));
-        log.writing.set(Writing::Fails(0, *fault));
-        log.writes.set(0);
-        let found = output
-            .drain_into(&mut Object(&log))
-            .map(|_| ())
-            .map_err(Error::IOError);
-        assert!(rt; is_fault(alloc, &found, Some(*fault))? && log.writes.get() == 1);
-        assert!(rt; output.waiting(alloc)?.as_slice() == waiting && output.dropped() == 0);
-        log.writing.set(Writing::Takes);
-        assert!(rt; output.drain_into(&mut Object(&log)).ok() == Some(waiting.len()));
-        assert!(rt; event.trigger().is_ok() && log.writes.get() == 3);
     }
-    assert!(rt; log.flushes.get() == 0);
     Ok(())
 }
 
 #[test]
 fn the_writer_is_asked_once_for_each_byte(rt: HostRuntime) -> Result<(), Fail> {
     let fault = io::Error::from_raw_os_error(5);
-    for (writing, flushes) in [
-        (Writing::Takes, 1_000_000),
-        (Writing::Fails(0, fault), 0),
-        (Writing::FailsToFlush(fault), 1_000_000),
+    for (writing, is_taken, flushes) in [
+        (Writing::Takes, true, 100_000),
+        (Writing::Fails(0, fault), false, 0),
+        (Writing::FailsToFlush(fault), false, 100_000),
     ] {
         let log = Log::new();
-        log.writing.set(writing);
+        log.start(writing);
         let mut serial = port(rt.alloc(), &log)?;
-        for number in 0..1_000_000u32 {
-            let is_taken = serial.write(0, (number % 251) as u8).is_ok();
-            assert!(rt; is_taken == matches!(writing, Writing::Takes), "{number}");
+        for number in 0..100_000u32 {
+            assert!(rt;
+                serial.write(0, (number % 251) as u8).is_ok() == is_taken,
+                "{number}"
+            );
         }
-        assert!(rt; (log.writes.get(), log.flushes.get()) == (1_000_000, flushes));
+        assert!(rt; [log.writes.get(), log.flushes.get()] == [100_000, flushes]);
     }
     Ok(())
 }

@@ -2,7 +2,6 @@
 #![tactic(auto, unfolding(superio_core::specs::Bits::has_bits))]
 
 use crate::objects::{Log, Object, port};
-use std::alloc::Global;
 use std::test::Fail;
 use superio_examples::alarm::{Alarm, alarm_at, find_alarm};
 use superio_examples::bus::{Bus, BusError, COM1, COM2, COM3, COM4, Keyboard};
@@ -176,97 +175,28 @@ fn an_alarm_is_found_when_the_timer_goes_off(rt: HostRuntime) {
 
 // ---- consoles
 
-/// A console over a log's objects.
-type TestConsole<'a> = Console<Object<'a>, Object<'a>, Object<'a>>;
-
-/// A hundred bytes.
-const INPUT: [u8; 100] = *b"\
+/// Eighty bytes.
+const INPUT: [u8; 80] = *b"\
 0123456789abcdefghijABCDEFGHIJ)!@#$%^&*(9876543210\
-jihgfedcbaJIHGFEDCBA(*&^%$#@!)5678901234efghijabcd";
+jihgfedcbaJIHGFEDCBA(*&^%$#@!)";
 
-/// A turn: what the guest writes, which bytes of the input come and how many are taken, and which the guest reads. Then
-/// how many more may come, whether an interrupt was refused, and how often the trigger was called.
-type Turn = (
-    (u8, u8),
-    (usize, usize),
-    usize,
-    (usize, usize),
-    (usize, bool, u64),
-);
-
-/// At most 16 bytes wait. The trigger refuses its first call, and its third.
-const TURNS: [Turn; 9] = [
-    // The guest enables interrupts. The one for the first byte is refused, then retried.
-    ((1, 0x01), (0, 1), 1, (0, 0), (16, true, 1)),
-    // The FIFO takes 63 more bytes, and then the input is full.
-    ((7, 0x00), (1, 100), 16, (0, 0), (16, false, 2)),
-    ((7, 0x00), (17, 100), 16, (0, 0), (16, false, 2)),
-    ((7, 0x00), (33, 100), 16, (0, 0), (16, false, 2)),
-    ((7, 0x00), (49, 100), 16, (0, 0), (15, false, 2)),
-    ((7, 0x00), (65, 100), 15, (0, 0), (0, false, 2)),
-    // No byte is left, so the input goes in. Its interrupt is refused.
-    ((7, 0x00), (80, 100), 0, (0, 64), (16, true, 3)),
-    // Input goes in only after loopback ends.
-    ((4, 0x10), (80, 89), 9, (0, 0), (7, false, 4)),
-    ((4, 0x00), (89, 89), 0, (64, 89), (16, false, 4)),
-];
-
-/// A new console, where at most 16 bytes wait for the guest.
-fn console(alloc: Global, log: &Log) -> Result<TestConsole<'_>, Fail> {
-    Ok(Console {
-        serial: port(alloc, log)?,
-        input: Input::new(alloc, 16)?,
-        output: Output::new(alloc, 0)?,
-        is_refused: false,
-        is_early: false,
-        is_ready: false,
-    })
-}
-
-#[test]
-fn input_stops_and_starts_and_a_refused_interrupt_is_tried_again(
-    rt: HostRuntime,
-) -> Result<(), Fail> {
-    let log = Log::new();
-    log.refused.set(1);
-    let mut console = console(rt.alloc(), &log)?;
-    for ((register, value), (from, to), taken, (first, end), (room, is_refused, calls)) in TURNS {
-        assert!(rt; console.write(register, value).is_ok());
-        assert!(rt; console.receive(&INPUT[from..to]) == taken, "{from}");
-        for byte in &INPUT[first..end] {
-            assert!(rt; console.read(0) == *byte);
-        }
-        assert!(rt;
-            (console.input.room(), console.is_refused) == (room, is_refused),
-            "{from}"
-        );
-        assert!(rt; log.triggers.get() == calls, "{from}");
-        console.character_timeout();
-        console.retry();
-        log.refused.set(3);
-    }
-    // After a reset input waits until the next guest is ready: it has enabled RDA, and not THRE, as a test of the port
-    // does. SeaBIOS finds a port if IIR shows THRE alone.
-    let old = console.reset(port(rt.alloc(), &log)?);
-    assert!(rt; old.fifo_capacity() == 64 && console.receive(b"abc") == 3);
-    console.write(1, 0x0F)?;
-    assert!(rt; console.read(5) == 0x60 && console.read(2) == 0xC2);
-    console.write(1, 0x05)?;
-    assert!(rt; console.read(5) == 0x61 && console.input.room() == 16);
-    Ok(())
-}
-
-/// An event loop without poll, over 80 bytes of input, for a guest that reads when it is interrupted. The trigger refuses
-/// its calls in the first eight turns, and the source has no more bytes from the sixth turn on. A loop that stops there
-/// ends with its source, or waits for more bytes in a blocking read.
+/// An event loop without poll, over 80 bytes of input, for a guest that reads when it is interrupted. The trigger
+/// refuses its calls in the first eight turns, and the source has no more bytes from the sixth turn on. A loop that
+/// stops there ends with its source, or waits for more bytes in a blocking read.
 #[test]
 fn a_loop_without_poll_serves_what_its_source_left(rt: HostRuntime) -> Result<(), Fail> {
-    for (stops, expected) in [(true, 0), (false, 80)] {
+    for (stops, expected, held, room) in [(true, 0, 64, 0), (false, 80, 0, 16)] {
         let log = Log::new();
-        let mut console = console(rt.alloc(), &log)?;
+        let mut console = Console {
+            serial: port(rt.alloc(), &log)?,
+            input: Input::new(rt.alloc(), 16)?,
+            output: Output::new(rt.alloc(), 0)?,
+            is_refused: false,
+            is_early: false,
+            is_ready: false,
+        };
         console.write(1, 0x01)?;
-        let mut rest = &INPUT[..80];
-        let mut served = 0usize;
+        let (mut rest, mut served) = (&INPUT[..], 0usize);
         for turn in 0..20 {
             let next = log.triggers.get().wrapping_add(1);
             log.refused.set(if turn < 8 { next } else { 0 });
@@ -284,16 +214,26 @@ fn a_loop_without_poll_serves_what_its_source_left(rt: HostRuntime) -> Result<()
                     served = served.wrapping_add(usize::from(console.read(0) == *byte));
                 }
             }
+            console.character_timeout();
         }
         assert!(rt; served == expected, "{stops}");
+        // After a reset input waits until the next guest is ready: it has enabled RDA, and not THRE, as a test of the
+        // port does. SeaBIOS finds a port if IIR shows THRE alone.
+        log.refused.set(0);
+        let old = console.reset(port(rt.alloc(), &log)?);
+        assert!(rt; (old.fifo_capacity(), console.receive(&INPUT)) == (64 - held, room));
+        console.write(1, 0x0F)?;
+        assert!(rt; console.read(5) == 0x60 && console.read(2) == 0xC2);
+        console.write(1, 0x05)?;
+        assert!(rt; console.read(5) == 0x61 && console.input.room() == 16);
     }
     Ok(())
 }
 
 // ---- handlers of interrupts
 
-/// The most bytes that a handler takes between two reads of IIR, how often it runs, the sizes of the arrivals before its
-/// reads, and which bytes the guest got, by hand: `ab` is held at first, and `cdef` arrives.
+/// The most bytes that a handler takes between two reads of IIR, how often it runs, the sizes of the arrivals before
+/// its reads, and which bytes the guest got, by hand: `ab` is held at first, and `cdef` arrives.
 type Runs = (usize, usize, &'static [usize], &'static [u8]);
 
 const RUNS: [Runs; 20] = [
