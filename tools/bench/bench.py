@@ -22,10 +22,11 @@ import tempfile
 from pathlib import Path
 from statistics import median, quantiles
 
-from lists import FOLDER, LIST_LENGTH, LISTS, PROCESSOR, ROOT, accesses, build_in_rust
+from lists import FOLDER, PROCESSOR, ROOT, build_in_rust, read_rows
 
 sys.path.insert(0, str(ROOT / "tools" / "checks"))
-from program import built_library, built_program, original_crate  # noqa: E402
+from cargo import BINDINGS, original  # noqa: E402
+from program import built_library, built_program  # noqa: E402
 
 # How many nanoseconds of processor time a run takes at least, and how many runs make a measurement.
 RUN = 10_000_000
@@ -34,18 +35,14 @@ RUNS = 3
 
 def build(folder):
     """Builds the five programs, and returns their commands in the order of the table's columns."""
-    ours = built_program((), "superio_harness")
-    library = built_library()
-    bindings = ["--offline", "--config", f'patch.crates-io.vm-superio.path="{ROOT / "bindings/rust"}"']
-    bindings = build_in_rust(bindings, folder / "bindings")
-    original = build_in_rust(original_crate(), folder / "original_crate")
+    ours, library = built_program((), "superio_harness"), built_library()
+    bindings, crate = build_in_rust(BINDINGS, folder / "bindings"), build_in_rust(original(), folder / "original_crate")
     through_c = []
-    for devices, built in (("ours", library), ("original", original / "liboriginal.a")):
-        program = folder / devices
-        subprocess.run(["gcc", "-O2", f"-march={PROCESSOR}", f'-DDEVICES="{devices}.h"', f"-I{ROOT / 'include'}",
-                        FOLDER / "through_c.c", built, "-o", program], check=True)
-        through_c.append((program,))
-    return [(ours, "bench"), (original / "original",), *through_c, (bindings / "original",)]
+    for name, words in (("ours", [library]), ("original", ["-DORIGINAL", crate.with_name("liboriginal.a")])):
+        subprocess.run(["gcc", "-O2", f"-march={PROCESSOR}", f"-I{ROOT / 'include'}", FOLDER / "through_c.c", *words, "-o",
+                        folder / name], check=True)
+        through_c.append((folder / name,))
+    return [(ours, "bench"), (crate,), *through_c, (bindings,)]
 
 
 def processor_time(program, rounds, prepared, path):
@@ -61,20 +58,16 @@ def processor_time(program, rounds, prepared, path):
 
 
 class Measurement:
-    """A list, and what its repeated accesses cost in each program, turn by turn."""
+    """A row, and what its repeated accesses cost in each program, turn by turn."""
 
-    def __init__(self, folder, number, name, preparation, repeated):
-        self.name = name
-        before, self.prepared = accesses(preparation)
-        unit, self.unit_length = accesses(repeated)
-        self.units = max(1, LIST_LENGTH // self.unit_length)
-        self.path = folder / f"list{number}"
-        self.path.write_bytes(before + unit * self.units)
+    def __init__(self, folder, number, row):
+        self.row, self.path = row, folder / f"list{number}"
+        self.path.write_bytes(row.accesses)
         self.rounds, self.starts, self.costs = 0, {}, {}
 
     def run(self, program, rounds):
         """The least time of some runs, and what they printed."""
-        return min(processor_time(program, rounds, self.prepared, self.path) for _ in range(RUNS))
+        return min(processor_time(program, rounds, self.row.prepared, self.path) for _ in range(RUNS))
 
     def calibrate(self, programs):
         """Finds for how many rounds a run takes long enough, and how long one without a round takes."""
@@ -88,13 +81,10 @@ class Measurement:
         for program in programs:
             time, printed = self.run(program, self.rounds)
             sums.add(printed)
-            cost = (time - self.starts[program]) / (self.rounds * self.units)
+            cost = (time - self.starts[program]) / (self.rounds * self.row.units)
             self.costs.setdefault(program, []).append(cost)
         if len(sums) != 1:
-            sys.exit(f"{self.name}: the programs do not read the same: {sums}")
-
-    def noise(self):
-        return [spread(costs) for costs in self.costs.values()]
+            sys.exit(f"{self.row.name}: the programs do not read the same: {sums}")
 
 
 def spread(costs):
@@ -108,11 +98,11 @@ def row(measurement, loop, programs):
     if measurement is loop:
         ratios = ["", "", ""]
     else:
-        costs = [cost - measurement.unit_length * median(loop.costs[program]) for cost, program in zip(costs, programs)]
+        costs = [cost - measurement.row.length * median(loop.costs[program]) for cost, program in zip(costs, programs)]
         ratios = [ratio(costs[0], costs[1]), ratio(costs[2], costs[3]), ratio(costs[4], costs[1])]
     ours, original, ours_in_c, original_in_c, bindings = [f"{cost:.1f}" for cost in costs]
     cells = [ours, original, ratios[0], ours_in_c, original_in_c, ratios[1], bindings, ratios[2]]
-    return "| " + " | ".join([measurement.name, *cells]) + " |"
+    return "| " + " | ".join([measurement.row.name, *cells]) + " |"
 
 
 def ratio(cost, original):
@@ -128,7 +118,7 @@ def main():
     with tempfile.TemporaryDirectory() as name:
         programs = build(Path(name))
         os.sched_setaffinity(0, {options.processor})
-        measurements = [Measurement(Path(name), number, *entry) for number, entry in enumerate(LISTS)]
+        measurements = [Measurement(Path(name), number, entry) for number, entry in enumerate(read_rows())]
         for measurement in measurements:
             measurement.calibrate(programs)
         for _ in range(options.turns):
@@ -138,7 +128,7 @@ def main():
     print("|---|---|---|---|---|---|---|---|---|")
     for measurement in measurements:
         print(row(measurement, measurements[0], programs))
-    noise = median(value for measurement in measurements for value in measurement.noise())
+    noise = median(spread(costs) for measurement in measurements for costs in measurement.costs.values())
     print(f"\nnoise: {100 * noise:.0f}%, {options.turns} turns on processor {options.processor}")
 
 

@@ -11,11 +11,11 @@ from header import Declared, read_header
 from libraries import ROOT, SOURCE_FOLDERS
 
 # The proved library, that from source, and what calls the library at random, which has the registers in arrays.
-PROVED, FROM_SOURCE, CALLER = "crates/superio_c", "bindings/rust/capi", "tools/compare/library"
+PROVED, FROM_SOURCE, CALLER = "crates/superio_c", "bindings/rust/capi", "tools/compare"
 FOLDERS = {
     PROVED: SOURCE_FOLDERS,
     FROM_SOURCE: ["bindings/rust/capi/src", "bindings/rust/src/core"],
-    CALLER: ["tools/compare/library/src"],
+    CALLER: ["tools/compare/src"],
 }
 # The header's name of each struct, number and constant.
 STRUCTS = {

@@ -1,4 +1,4 @@
-"""What the tools share: the built program and its runs, the built C library, and where Cargo finds the Rust crate."""
+"""What the tools share: the built program and its runs, and the built C library."""
 import os
 import subprocess
 import sys
@@ -92,15 +92,6 @@ def built_library():
     if not is_current(library, SOURCES["superio_c"]):
         build(*libraries_of("superio_c"), ("superio_c", "check"), ("superio_c", "lib"))
     return library
-
-
-def original_crate():
-    """Cargo's arguments for the Rust crate vm-superio 0.8.2: the folder that VM_SUPERIO names, or else none, so that Cargo
-    asks the registry."""
-    folder = os.environ.get("VM_SUPERIO")
-    if not folder:
-        return []
-    return ["--offline", "--config", f'patch.crates-io.vm-superio.path="{Path(folder).resolve()}"']
 
 
 def run(program, script, *arguments):

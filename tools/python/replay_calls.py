@@ -98,5 +98,5 @@ class PackageMonitor(Monitor):
         return f"{self.controller.read(int(offset, 16)):02x}", ()
 
     def kw(self, offset, value):
-        self.port.interrupts = self.controller.write(int(offset, 16), int(value, 16)).resets
-        return self.called(self.port.asks, "ok", self.port.interrupts)
+        did = self.port.line_calls(1) if self.controller.write(int(offset, 16), int(value, 16)).resets else ()
+        return "trigger" if "R" in did else "ok", did

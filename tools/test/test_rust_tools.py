@@ -13,6 +13,7 @@ from unittest import mock
 from test_check import TOOLS, module_of
 
 sys.path[:0] = [str(TOOLS / folder) for folder in ("bench", "rust", "c")]
+import cargo  # noqa: E402
 from libraries import host_target  # noqa: E402
 from planted import Bug, read_bugs  # noqa: E402
 from tally import Tally  # noqa: E402
@@ -48,15 +49,15 @@ class Counts(unittest.TestCase):
         return tally.passed, tally.failed, tally.skipped
 
     def test_each_row_has_a_limit_of_its_own(self):
-        limits = [counts.LIMITS[kind](original) for _, kind, original in counts.table()]
+        limits = [counts.LIMITS[row.kind](row.original) for row in counts.ROWS[1:]]
         limits = [limit if limit != math.inf else 100 for limit in limits]
         self.assertEqual(self.compare(limits)[0], 0)
-        for number, (_, kind, _) in enumerate(counts.table()):
+        for number, row in enumerate(counts.ROWS[1:]):
             over = self.compare([*limits[:number], limits[number] + 0.1, *limits[number + 1:]])[0]
-            self.assertEqual(over, kind != "free", number)
+            self.assertEqual(over, row.kind != "free", number)
 
     def test_each_number_of_the_document_is_compared(self):
-        names = [name for name, _, _ in counts.table()]
+        names = [row.name for row in counts.ROWS[1:]]
         rows = self.compare(list(range(10, 10 + len(names))), list(range(100, 100 + len(names))))[1]
         lines = [f"| {name} | {count} | {' | '.join(fixed)} | {own} |" for name, count, fixed, own in rows]
         text = "\n".join(["rustc 1.2.3", *lines])
@@ -76,15 +77,16 @@ class Counts(unittest.TestCase):
         self.assertEqual(self.compare_document([("x", 1, ["1", "2"], None)], "rustc 1.2.3", "1.2.4"), (0, 0, 1))
 
     def test_one_row_alone_has_no_limit(self):
-        free = [name for name, kind, _ in counts.table() if kind == "free"]
+        free = [row.name for row in counts.ROWS[1:] if row.kind == "free"]
         self.assertEqual(free, ["RTCMR write"])
 
-    def test_a_table_that_lost_a_row_is_refused(self):
-        lines = counts.TABLE.read_text(encoding="ascii").splitlines(keepends=True)
-        with tempfile.TemporaryDirectory() as folder, mock.patch.object(counts, "TABLE", Path(folder, "table.txt")):
-            counts.TABLE.write_text("".join(lines[:-1]), encoding="ascii")
-            with self.assertRaisesRegex(SystemExit, "table.txt does not have the rows.*\n0 passed, 1 failed"):
-                counts.table()
+    def test_rows_of_the_table_are_read(self):
+        rows = {row.name: row for row in counts.ROWS}
+        loopback, many = rows["loopback: THR write, RBR read"], rows["64 bytes in and out"]
+        self.assertEqual((loopback.kind, loopback.original, loopback.prepared, loopback.length), ("fewer", 66, 1, 2))
+        self.assertEqual((loopback.units, loopback.accesses[:12]), (300, b"w\x04\x10w\x00\x41r\x00\x00w\x00\x41"))
+        self.assertEqual((many.prepared, many.length, many.units), (0, 65, 9))
+        self.assertEqual(many.accesses, 9 * (b"e\x00\x40" + 64 * b"r\x00\x00"))
 
 
 class Targets(unittest.TestCase):
@@ -108,7 +110,7 @@ class Targets(unittest.TestCase):
         built = [next(targets.toolchains())] + [None] * (len(targets.BUILT) - 1)
         ran = subprocess.CompletedProcess("cargo", 101, "use of undeclared crate `std`")
         with tempfile.TemporaryDirectory() as folder, mock.patch.object(targets, "toolchain_for", side_effect=built), \
-                mock.patch.object(targets, "cargo", return_value=ran):
+                mock.patch.object(targets, "Cargo", return_value=mock.Mock(**{"run.return_value": ran})):
             printed = silently(targets.check_builds, tally, Path(folder))[1]
         self.assertEqual((tally.passed, tally.failed, tally.skipped), (0, 1, len(targets.BUILT) - 1))
         for target in targets.BUILT:
@@ -117,7 +119,7 @@ class Targets(unittest.TestCase):
 
 @unittest.skipIf(host_target() is None, "needs a library for this processor")
 @unittest.skipUnless(shutil.which("cargo") and shutil.which("cc"), "needs cargo and a C compiler")
-@unittest.skipIf(shutil.which("cargo") and is_too_old(random_calls.PROGRAM / "Cargo.toml"), "needs a newer Cargo")
+@unittest.skipIf(shutil.which("cargo") and is_too_old(cargo.COMPARISON / "Cargo.toml"), "needs a newer Cargo")
 class RandomCalls(unittest.TestCase):
     """One folder keeps what Cargo built, so that only the first test compiles the whole program."""
 
@@ -125,12 +127,12 @@ class RandomCalls(unittest.TestCase):
     def setUpClass(cls):
         folder = tempfile.TemporaryDirectory()
         cls.addClassCleanup(folder.cleanup)
-        cls.folder = Path(folder.name)
+        cls.comparison = cargo.Comparison(Path(folder.name), "library")
 
     def try_edit(self, file, old, new):
         """The sum of the checks of a wrong shell, and what they print."""
         tally = Tally()
-        printed = silently(random_calls.check_wrong_shell, tally, self.folder, Bug("planted", file, old, new))[1]
+        printed = silently(random_calls.check_wrong_shell, tally, self.comparison, Bug("planted", file, old, new))[1]
         return (tally.passed, tally.failed), printed
 
     def test_a_shell_that_is_right_is_not_counted_as_refused(self):
@@ -143,18 +145,14 @@ class RandomCalls(unittest.TestCase):
 
     def test_a_case_that_no_call_reaches_fails(self):
         """The calls make no timeout any more."""
-        place = self.folder / "planted" / "library"
-        shutil.copytree(random_calls.PROGRAM, place, ignore=shutil.ignore_patterns("target", "Cargo.lock"))
-        for name in random_calls.SHARED:
-            shutil.copytree(random_calls.PROGRAM.parent / name, place.parent / name,
-                            ignore=shutil.ignore_patterns("target", "Cargo.lock"))
-        source = place / "src" / "calls.rs"
+        source = self.comparison.copy / "src" / "random.rs"
         text = source.read_text(encoding="utf-8")
+        self.addCleanup(source.write_text, text, encoding="utf-8")
         self.assertEqual(text.count("Action::SerialTimeout"), 1)
         source.write_text(text.replace("Action::SerialTimeout", "Action::SerialCoherence"), encoding="utf-8")
+        self.comparison.take(cargo.BINDINGS)
         tally = Tally()
-        with mock.patch.object(random_calls, "PROGRAM", place):
-            printed = silently(random_calls.check_calls, tally, self.folder, 400_000, 1)[1]
+        printed = silently(random_calls.check_calls, tally, self.comparison, 400_000, 1)[1]
         self.assertEqual(tally.passed, 1)
         self.assertGreater(tally.failed, 0)
         self.assertIn("0 different, 2 cases too seldom", printed)
@@ -162,6 +160,6 @@ class RandomCalls(unittest.TestCase):
     def test_each_edit_is_tried_as_one_of_its_kind(self):
         tally = Tally()
         with mock.patch.object(random_calls, "check_wrong_shell") as tries:
-            silently(random_calls.check_wrong_shells, tally, self.folder)
+            silently(random_calls.check_wrong_shells, tally, self.comparison)
         self.assertEqual(tries.call_count, len(list(read_bugs(random_calls.WRONG))))
         self.assertEqual(tally.kind, random_calls.WRONG_SHELLS)

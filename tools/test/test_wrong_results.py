@@ -29,6 +29,7 @@ import twin  # noqa: E402
 from failing import Call, Ran  # noqa: E402
 from machines import machines  # noqa: E402
 from tally import Tally, run  # noqa: E402
+from toolchains import Toolchain  # noqa: E402
 
 failing_io, first_crate, hostile, refused_memory, saved_forms = map(
     module_of, map("checks/{}".format, ("failing_io", "first_crate", "hostile", "refused_memory", "saved_forms")))
@@ -272,15 +273,6 @@ class Runs(unittest.TestCase):
             silently(tally.run, "it", command, expected)
             self.assertEqual((tally.passed, tally.failed), (is_good, not is_good))
 
-    def test_tests_of_rust(self):
-        for printed, status, counted in (("12 passed; 0 failed", 0, (12, 0)), ("12 passed; 0 failed", 101, (12, 1)),
-                                         ("10 passed; 2 failed", 101, (10, 2)), ("", 0, (0, 1))):
-            counts = dict.fromkeys(("passed", "failed", "skipped"), 0)
-            ran = subprocess.CompletedProcess("cargo", status, f"test result: ok. {printed}\n" if printed else "")
-            with mock.patch.object(rust_check, "counts", counts):
-                silently(rust_check.count_tests, "it", ran)
-            self.assertEqual((counts["passed"], counts["failed"]), counted)
-
     def test_calls_and_tests_of_javascript(self):
         said = {js_check.check_calls: "3 calls did the same, 0 did not\n", js_check.check_tests: "# pass 3\n"}
         for check, printed in said.items():
@@ -419,11 +411,10 @@ class Runs(unittest.TestCase):
 
 
 def failing(command, **options):
-    """What each program does: it fails, and prints nothing. Cargo only says that it has what was asked for."""
+    """What each program does: it fails, and prints nothing. Cargo only has what was asked for, and a version."""
     if options.get("check"):
         raise subprocess.CalledProcessError(101, command)
-    status, version = 0 if "fetch" in command else 101, "1.63." if "--version" in command else ""
-    return subprocess.CompletedProcess(command, status, version, "")
+    return subprocess.CompletedProcess(command, 0 if {"fetch", "--version"} & {*command} else 101, "", "")
 
 
 @mock.patch("subprocess.run", failing)
@@ -478,39 +469,30 @@ class Failing(unittest.TestCase):
     def test_of_rust(self):
         """But that an empty crate is no vm-superio."""
         for check in rust_check.OF_PROGRAMS:
-            counts = dict.fromkeys(("passed", "failed", "skipped"), 0)
+            tally = Tally()
             with self.subTest(check.__name__), tempfile.TemporaryDirectory() as name, \
-                    mock.patch.multiple(rust_check, counts=counts, is_there=lambda *_: True, MOVED=Path(name),
-                                        COMPARISON=Path(name)), \
-                    mock.patch.object(Path, "exists", lambda _: True), contextlib.suppress(FileNotFoundError), \
-                    mock.patch.dict("os.environ", {"VM_SUPERIO": ""}):
-                silently(check, Path(name) / "place")
-            self.assertEqual(counts["passed"], check is rust_check.check_drop_in)
-            self.assertEqual(counts["skipped"] > 0, check is rust_check.check_moved_original)
-            self.assertEqual(counts["failed"] > 0, check is not rust_check.check_moved_original)
+                    mock.patch.object(rust_check, "debian_crates", lambda *_: {}), \
+                    mock.patch.object(rust_check, "toolchains", lambda: [Toolchain("/rustc", rust_check.OLDEST)]), \
+                    contextlib.suppress(FileNotFoundError), mock.patch.dict("os.environ", {"VM_SUPERIO": ""}):
+                silently(check, tally, Path(name) / "place")
+            self.assertEqual(tally.passed, check is rust_check.check_drop_in)
+            self.assertEqual(tally.skipped > 0, check is rust_check.check_moved_original)
+            self.assertEqual(tally.failed > 0, check is not rust_check.check_moved_original)
 
-    def test_scripts_of_the_echo(self):
-        counts = dict.fromkeys(("passed", "failed", "skipped"), 0)
-        built = mock.Mock(**{"return_value.run.return_value.returncode": 0})
+    def judge_echo(self, statuses, *different):
+        """What passes and fails of the example and its wrong ones, if Cargo ends so and each has these differences."""
+        tally, ends = Tally(), [subprocess.CompletedProcess("cargo", status, "") for status in statuses]
+        crate = mock.Mock(**{"return_value.run.side_effect": ends + ends[-1:] * 100})
         with tempfile.TemporaryDirectory() as name, mock.patch.multiple(
-                rust_check, counts=counts, Cargo=built, different_scripts=lambda *_: ["one", "another"]):
-            built.return_value.folder = Path(name) / "place"
-            silently(rust_check.check_echo, Path(name) / "place")
-        wrong = len(list(rust_check.read_bugs(rust_check.WRONG_ECHOES, "echo.rs")))
-        scripts = 2 * rust_check.SCRIPTS + len(rust_check.REFUSALS)
-        self.assertEqual((counts["passed"], counts["failed"]), (1 + scripts - 4 + wrong, 4))
+                rust_check, Cargo=crate, different_scripts=lambda *_: list(different)):
+            silently(rust_check.check_echo, tally, Path(name) / "place")
+        return tally.passed, tally.failed
 
-    def test_a_wrong_echo_that_differs_in_nothing(self):
-        for statuses, failed in (([0], 1), ([0, 101], 1)):
-            counts = dict.fromkeys(("passed", "failed", "skipped"), 0)
-            results = [subprocess.CompletedProcess("cargo", status, "") for status in statuses]
-            crate = mock.Mock(**{"return_value.run.side_effect": results + results[-1:] * 100})
-            with tempfile.TemporaryDirectory() as name, mock.patch.multiple(
-                    rust_check, counts=counts, Cargo=crate, different_scripts=lambda *_: []):
-                silently(rust_check.check_echo, Path(name) / "place")
-            wrong = len(list(rust_check.read_bugs(rust_check.WRONG_ECHOES, "echo.rs")))
-            scripts = 2 * rust_check.SCRIPTS + len(rust_check.REFUSALS)
-            self.assertEqual((counts["passed"], counts["failed"]), (1 + scripts, failed * wrong))
+    def test_the_echo_and_its_wrong_ones(self):
+        wrong = len(list(rust_check.read_bugs(rust_check.WRONG_ECHOES, "echo.rs")))
+        self.assertEqual(self.judge_echo([0], "one", "another"), (1 + wrong, 1))
+        self.assertEqual(self.judge_echo([0]), (2, wrong))
+        self.assertEqual(self.judge_echo([0, 101], "one"), (1, 1 + wrong))
 
 
 class Proving(CopyTest):

@@ -1,8 +1,7 @@
 //! The devices behind C functions, as `through_c.c` declares them.
 use std::slice;
 
-use crate::board::{self, Clock, Controller, Port};
-use crate::moment;
+use crate::{Clock, Controller, Counter, Port, moment, new_port, restore_clock, restore_port};
 
 /// Devices that are given out once and never dropped.
 fn leaked<T>(device: T) -> &'static mut T {
@@ -11,7 +10,7 @@ fn leaked<T>(device: T) -> &'static mut T {
 
 #[unsafe(no_mangle)]
 extern "C" fn original_serial_new() -> &'static mut Port {
-    leaked(board::new_port())
+    leaked(new_port())
 }
 
 #[unsafe(no_mangle)]
@@ -35,7 +34,7 @@ unsafe extern "C" fn original_serial_enqueue(port: &mut Port, bytes: *const u8, 
 
 #[unsafe(no_mangle)]
 extern "C" fn original_serial_restore(port: &mut Port) -> bool {
-    board::restore_port(port).is_ok()
+    restore_port(port).is_ok()
 }
 
 #[unsafe(no_mangle)]
@@ -56,12 +55,12 @@ extern "C" fn original_rtc_write(clock: &mut Clock, offset: u16, bytes: &[u8; 4]
 
 #[unsafe(no_mangle)]
 extern "C" fn original_rtc_restore(clock: &mut Clock) {
-    board::restore_clock(clock);
+    restore_clock(clock);
 }
 
 #[unsafe(no_mangle)]
 extern "C" fn original_i8042_new() -> &'static mut Controller {
-    leaked(board::new_controller())
+    leaked(Controller::new(Counter::default()))
 }
 
 #[unsafe(no_mangle)]

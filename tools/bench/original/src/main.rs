@@ -1,26 +1,27 @@
-//! Makes a list of accesses of the devices again and again, as `crates/superio_harness` does.
+//! Makes a list of accesses of the devices again and again, as `crates/superio_harness` does of Rattle's.
+//!
+//!     original ROUNDS PREPARED < LIST
+//!
+//! An access has three bytes: the kind, the offset and the value. The first PREPARED are made once, and the others ROUNDS
+//! times. Prints the sum of what these read.
 use std::env;
 use std::error::Error;
 use std::io::{self, Read};
 
-use original::access::{Access, list_of};
-use original::board::Board;
-use original::moment;
-
-type Outcome<T> = Result<T, Box<dyn Error>>;
+use original::{Access, Board, moment};
 
 /// Makes the accesses in order, and returns the sum of what they read.
 fn sum_of(board: &mut Board, list: &[Access]) -> u64 {
     list.iter().fold(0, |sum, access| sum.wrapping_add(board.make(*access)))
 }
 
-fn main() -> Outcome<()> {
+fn main() -> Result<(), Box<dyn Error>> {
     let mut arguments = env::args().skip(1);
     let rounds: u64 = arguments.next().ok_or("no number of rounds")?.parse()?;
     let prepared: usize = arguments.next().ok_or("no number of prepared accesses")?.parse()?;
     let mut bytes = Vec::new();
     io::stdin().read_to_end(&mut bytes)?;
-    let list = list_of(&bytes);
+    let list: Vec<Access> = bytes.chunks_exact(3).map(|it| Access::of(it[0], it[1], it[2])).collect();
     moment::set(1_000);
     let mut board = Board::default();
     let (preparation, list) = list.split_at(prepared.min(list.len()));

@@ -1,0 +1,110 @@
+"""Cargo without a network: the crates of its registry, the projects of tools, and the tests that it runs."""
+import json
+import os
+import re
+import shutil
+import subprocess
+from pathlib import Path
+
+ROOT = Path(__file__).resolve().parents[2]
+BINDINGS = ROOT / "bindings" / "rust"
+COMPARISON = ROOT / "tools" / "compare"
+# Where Debian's packages put crates.
+DEBIAN = Path("/usr/share/cargo/registry")
+ORIGINAL = "vm-superio-0.8.2"
+# An optional dependency has to be there, to be left out.
+STAND_INS = {"serde-1.0.0": None, ORIGINAL: None}
+
+
+def original():
+    """The folder of vm-superio 0.8.2 that VM_SUPERIO names, or `None`."""
+    folder = os.environ.get("VM_SUPERIO")
+    return Path(folder).resolve() if folder else None
+
+
+def debian_crates(original=None):
+    """The crates of Debian's packages, by name and version, or `None` if there are none. A given folder takes the place of
+    their vm-superio."""
+    if not DEBIAN.is_dir():
+        return None
+    crates = {it.name: it for it in DEBIAN.iterdir() if not (original and it.name.startswith("vm-superio-"))}
+    return {**crates, ORIGINAL: original} if original else crates
+
+
+class Cargo:
+    """Runs Cargo offline in a folder. Its registry has these crates: by name and version the folder of each, or `None` for
+    one without contents. If they are `None` it is Cargo's own."""
+
+    def __init__(self, folder, crates=None, toolchain=None):
+        self.folder, self.program = folder, toolchain.cargo if toolchain else "cargo"
+        self.environment = {**os.environ, "CARGO_TARGET_DIR": str(folder / "target"), "CARGO_NET_OFFLINE": "true",
+                            **({"RUSTC": toolchain.rustc} if toolchain else {})}
+        folder.mkdir(parents=True, exist_ok=True)
+        if crates is None:
+            return
+        for name, source in crates.items():
+            add_crate(folder / "registry" / name, source)
+        (folder / ".cargo").mkdir()
+        (folder / ".cargo" / "config.toml").write_text(
+            f'[source.crates-io]\nreplace-with = "folder"\n[source.folder]\ndirectory = "{folder}/registry"\n', encoding="utf-8")
+
+    def run(self, *words, **environment):
+        """Runs a command, and gives its status and all that it printed."""
+        return subprocess.run([self.program, *words], cwd=self.folder, env={**self.environment, **environment}, text=True,
+                              stdout=subprocess.PIPE, stderr=subprocess.STDOUT, errors="replace")
+
+
+def add_crate(place, source):
+    """Puts a crate into a registry: as it is, if it comes from one, or else with what a registry adds."""
+    if source and (source / ".cargo-checksum.json").exists():
+        place.parent.mkdir(parents=True, exist_ok=True)
+        return place.symlink_to(source)
+    if source:
+        shutil.copytree(source, place, ignore=shutil.ignore_patterns("target", "Cargo.lock"))
+    else:
+        name, _, version = place.name.rpartition("-")
+        (place / "src").mkdir(parents=True)
+        (place / "src" / "lib.rs").touch()
+        (place / "Cargo.toml").write_text(
+            f'[package]\nname = "{name}"\nversion = "{version}"\n[features]\nderive = []\n', encoding="utf-8")
+    package = f"{sum(place.name.encode()):064}"  # a checksum, by which Cargo.lock tells crates apart
+    return (place / ".cargo-checksum.json").write_text(json.dumps({"files": {}, "package": package}), encoding="utf-8")
+
+
+class Project:
+    """A Cargo project of tools, in a copy: its Cargo.lock differs by the crates that there are."""
+
+    def __init__(self, source, folder, crates, toolchain=None):
+        self.cargo, self.copy = Cargo(folder, crates, toolchain), folder / source.relative_to(ROOT)
+        shutil.copytree(source, self.copy, ignore=shutil.ignore_patterns("target", "Cargo.lock"))
+        self.take(BINDINGS)
+
+    def take(self, bindings):
+        """Puts a folder in the place of bindings/rust."""
+        link = self.cargo.folder / BINDINGS.relative_to(ROOT)
+        link.parent.mkdir(exist_ok=True)
+        link.unlink(missing_ok=True)
+        link.symlink_to(bindings)
+
+    def run(self, *words, **environment):
+        return self.cargo.run(*words, "--manifest-path", self.copy / "Cargo.toml", **environment)
+
+
+class Comparison(Project):
+    """That of tools/compare, with features."""
+
+    def __init__(self, folder, features="", crates=STAND_INS):
+        super().__init__(COMPARISON, folder, crates)
+        self.features, self.program = features, folder / "target" / "release" / "compare"
+
+    def build(self, **environment):
+        """Returns what Cargo ended with."""
+        return self.run("build", "--release", "--quiet", "--features", self.features, **environment)
+
+
+def count_tests(tally, what, ran):
+    """Counts a run of `cargo test`, which has to pass some tests, and says how many."""
+    found = re.findall(r"^test result: ok\. (\d+) passed", ran.stdout, flags=re.M)
+    passed = 0 if ran.returncode else sum(map(int, found))
+    if tally.check(passed, f"{what}: {ran.stdout}", passed):
+        print(f"{what}: {passed} tests")

@@ -1,0 +1,117 @@
+//! The trigger, the events object and the writer of one of the two crates, which behave as a call says, and keep a log.
+use std::cell::{Cell, RefCell};
+use std::fmt;
+use std::io::{self, ErrorKind, Write};
+use std::rc::Rc;
+
+use super::superio::Trigger;
+use super::superio::rtc_pl031::RtcEvents;
+use super::superio::serial::SerialEvents;
+use crate::call::{Behaviour, Event, Writing};
+
+/// What the objects of all devices share: how they are to behave, and what they were asked.
+#[derive(Debug, Default)]
+struct Script {
+    behaviour: Cell<Behaviour>,
+    events: RefCell<Vec<Event>>,
+}
+
+/// A trigger, an events object and a writer in one.
+#[derive(Clone, Debug, Default)]
+pub struct Object(Rc<Script>);
+
+#[derive(Debug)]
+pub struct Refused;
+
+impl Object {
+    /// Prepares a call.
+    pub fn prepare(&self, behaviour: Behaviour) {
+        self.0.behaviour.set(behaviour);
+    }
+
+    /// The calls of objects since the last one of this.
+    pub fn take_events(&self) -> Vec<Event> {
+        self.0.events.take()
+    }
+
+    /// Notes a call of an object, and panics if it is the one that is to.
+    pub fn note(&self, event: Event) {
+        self.0.events.borrow_mut().push(event);
+        let behaviour = self.0.behaviour.get();
+        let left = behaviour.panics_after;
+        self.0.behaviour.set(Behaviour { panics_after: left.and_then(|calls| calls.checked_sub(1)), ..behaviour });
+        assert!(left != Some(0), "an object panics");
+    }
+}
+
+impl fmt::Display for Refused {
+    fn fmt(&self, f: &mut fmt::Formatter) -> fmt::Result {
+        f.write_str("refused")
+    }
+}
+
+impl std::error::Error for Refused {}
+
+impl Trigger for Object {
+    type E = Refused;
+
+    fn trigger(&self) -> Result<(), Refused> {
+        let behaviour = self.0.behaviour.get();
+        let [refuses, next] = behaviour.refuses;
+        self.0.behaviour.set(Behaviour { refuses: [next, false], ..behaviour });
+        self.note(if refuses { Event::Refusal } else { Event::Trigger });
+        if refuses { Err(Refused) } else { Ok(()) }
+    }
+}
+
+impl SerialEvents for Object {
+    fn buffer_read(&self) {
+        self.note(Event::BufferRead);
+    }
+
+    fn out_byte(&self) {
+        self.note(Event::OutByte);
+    }
+
+    fn tx_lost_byte(&self) {
+        self.note(Event::TxLostByte);
+    }
+
+    fn in_buffer_empty(&self) {
+        self.note(Event::InBufferEmpty);
+    }
+}
+
+impl RtcEvents for Object {
+    fn invalid_read(&self) {
+        self.note(Event::InvalidRead);
+    }
+
+    fn invalid_write(&self) {
+        self.note(Event::InvalidWrite);
+    }
+}
+
+impl Write for Object {
+    fn write(&mut self, bytes: &[u8]) -> io::Result<usize> {
+        bytes.iter().for_each(|byte| self.note(Event::Write(*byte)));
+        let behaviour = self.0.behaviour.get();
+        match behaviour.writing {
+            Writing::TakesNone => Ok(0),
+            Writing::Fails => Err(ErrorKind::BrokenPipe.into()),
+            Writing::IsInterruptedOnce => {
+                self.0.behaviour.set(Behaviour { writing: Writing::Takes, ..behaviour });
+                Err(ErrorKind::Interrupted.into())
+            }
+            Writing::Takes | Writing::FailsToFlush => Ok(bytes.len()),
+        }
+    }
+
+    fn flush(&mut self) -> io::Result<()> {
+        self.note(Event::Flush);
+        match self.0.behaviour.get().writing {
+            Writing::FailsToFlush => Err(ErrorKind::WouldBlock.into()),
+            _ => Ok(()),
+        }
+    }
+}
