@@ -6,8 +6,8 @@ What a random script expects is what a second monitor does, that of `twin.py`.
 import random
 
 from header import read_header
+from libraries import DEMO, TESTS
 from planted import read_bugs
-from programs import DEMO, TESTS
 from saved_bytes import CLOCK_SIZE
 from twin import COM1, Edges, Level, Monitor, different_scripts, random_cases, shown
 
@@ -95,25 +95,27 @@ CASES_OF_LEVEL = [
 # Its own main, over a library of an older or a newer interface.
 CASES_OF_OTHERS = [("a library of another interface", [], ["the comparison of header and library failed"], 1)]
 
-# Beside each monitor: its driver, the options of the linker, and how it is driven: the words of the command, the second monitor,
-# the cases, and how many random scripts.
-DRIVEN = {
-    "monitor.c": ("demo.c", WRAPPED, [([], Monitor, [*CASES, *cases_of_loads()], SCRIPTS)] + [
-        ([difference], Monitor, CASES_OF_OTHERS, 0) for difference in ("1", "-1", "256")]),
-    "lines.c": ("driven_lines.c", [], [([], Edges, [], SCRIPTS_OF_LINES),
-                                       (["level"], Level, CASES_OF_LEVEL, SCRIPTS_OF_LINES)]),
-}
+# Beside each monitor its driver, and the options of the linker.
+DRIVERS = {"monitor.c": ("demo.c", WRAPPED), "lines.c": ("driven_lines.c", [])}
+
+
+def ways(file):
+    """How a monitor is driven: the words of the command, the second monitor, the cases, and how many random scripts."""
+    if file == "lines.c":
+        return [([], Edges, [], SCRIPTS_OF_LINES), (["level"], Level, CASES_OF_LEVEL, SCRIPTS_OF_LINES)]
+    others = [([difference], Monitor, CASES_OF_OTHERS, 0) for difference in ("1", "-1", "256")]
+    return [([], Monitor, [*CASES, *cases_of_loads()], SCRIPTS), *others]
 
 
 def differences(file, program, seed=0):
     """The names of the cases in which a monitor does something else. `seed` is that of the random scripts."""
-    for words, monitor, fixed, scripts in DRIVEN[file][2]:
+    for words, monitor, fixed, scripts in ways(file):
         yield from different_scripts([program, *words], (*fixed, *random_cases(monitor, scripts, seed)))
 
 
 def build(machine, compiler, place, program, file="monitor.c"):
     """The words that build the driver over the monitor of a folder."""
-    driver, options, _ = DRIVEN[file]
+    driver, options = DRIVERS[file]
     return machine.program(compiler, [TESTS / driver], program, ["-O1", "-I", place, *options])
 
 
@@ -128,18 +130,18 @@ def check_driven_demo(tally, machine, folder):
         tally.tried.leave_out("wrong demos")
         return
     program, place = folder / "driven", folder / "wrong-demo"
-    for file, (_, _, ways) in DRIVEN.items():
+    for file in DRIVERS:
         if tally.run(f"the driven {file} is built", build(machine, compiler, DEMO, program, file), number=0):
             found = list(differences(file, program, random.randrange(10**9)))
-            tally.check(not found, "\n".join(found[:3]), sum(len(fixed) for _, _, fixed, _ in ways))
-            tally.tried.add("random scripts of the demo", sum(scripts for *_, scripts in ways))
+            tally.check(not found, "\n".join(found[:3]), sum(len(fixed) for _, _, fixed, _ in ways(file)))
+            tally.tried.add("random scripts of the demo", sum(scripts for *_, scripts in ways(file)))
     tally.of("wrong demos")
     for number, bug in enumerate(read_bugs(TESTS / "wrong-demos.edits", "monitor.c")):
         source, wrong = (DEMO / bug.file).read_text(encoding="utf-8"), place / str(number)
         wrong.mkdir(parents=True)
         (wrong / bug.file).write_text(source.replace(bug.old, bug.new), encoding="utf-8")
         stands = source.count(bug.old)
+        command = build(machine, compiler, wrong, program, bug.file)
         if tally.check(stands == 1, f"{bug.name}: its text stands {stands} times in {bug.file}", 0) \
-                and tally.run(f"the wrong demo is built: {bug.name}", build(machine, compiler, wrong, program, bug.file),
-                              number=0):
+                and tally.run(f"the wrong demo is built: {bug.name}", command, number=0):
             tally.check(any(differences(bug.file, program)), f"the wrong demo is not refused: {bug.name}")

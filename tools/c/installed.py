@@ -5,8 +5,8 @@ from pathlib import Path
 
 from declarations import CALLER, PROVED, differences, versions
 from header import read_header
-from libraries import PREBUILT, SHARED, STATIC, TARGETS, BuildError, build, library_sums, source_line, sums_of
-from programs import DEMO, TESTS
+from libraries import (DEMO, PREBUILT, SHARED, STATIC, TARGETS, TESTS, BuildError, build, library_sums, source_line,
+                       sums_of)
 from tally import run
 
 LIBRARIES = [PREBUILT / target / name for target in sorted(TARGETS) for name in (STATIC, SHARED)]
@@ -28,10 +28,6 @@ def check_prebuilt(tally):
         tally.check(False, f"prebuilt is not whole: {error}")
 
 
-def has_same_bytes(path, other):
-    return path.is_file() and other.is_file() and path.read_bytes() == other.read_bytes()
-
-
 def check_build(tally):
     """Counts whether a build from the proofs gives the same bytes."""
     if not tally.has("rt", "a build of the libraries from the proofs"):
@@ -43,8 +39,9 @@ def check_build(tally):
             tally.check(False, str(error))
             return
         for library in LIBRARIES:
-            tally.check(has_same_bytes(Path(name) / library.relative_to(PREBUILT), library),
-                        f"{library} has other bytes than a build: run tools/c/prebuild")
+            built = Path(name) / library.relative_to(PREBUILT)
+            tally.check(library.read_bytes() == built.read_bytes(),
+                        f"{library} is not what a build gives: run tools/c/prebuild")
 
 
 def symbols(library):

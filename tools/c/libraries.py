@@ -4,32 +4,28 @@ import platform
 import shutil
 import subprocess
 import sys
-import tempfile
-import time
 from pathlib import Path
 
 ROOT = Path(__file__).resolve().parents[2]
 sys.path.append(str(ROOT / "tools" / "checks"))  # what all checks share
+from program import NotBuilt as BuildError, build as build_by_rt  # noqa: E402
 
-CRATE = ROOT / "crates" / "superio_c"
 PREBUILT = ROOT / "prebuilt"
 HEADER = ROOT / "include" / "superio.h"
+TESTS = ROOT / "tools" / "c" / "tests"
+DEMO = ROOT / "examples" / "c"
 
 STATIC = "libsuperio_c.a"
 SHARED = "libsuperio.so.3"
 # Beside each folder of `prebuilt`: what `rt lib` is told to build for, and the linker's name of it. The host's is last,
 # so that it is what `out/` keeps.
 TARGETS = {
-    "aarch64-linux": (["--target", "aarch64-unknown-linux-gnu"], "aarch64linux"),
-    "x86_64-linux": (["--cpu=x86-64"], "elf_x86_64"),
+    "aarch64-linux": ("--target aarch64-unknown-linux-gnu", "aarch64linux"),
+    "x86_64-linux": ("--cpu=x86-64", "elf_x86_64"),
 }
 # The crates whose sources are compiled into the library.
 SOURCE_FOLDERS = ["crates/superio_c/src", "crates/superio_core/src"]
 NEEDS_KIT = "this needs the Rattle kit, whose command is `rt`. It is not public yet. The libraries in prebuilt need none"
-
-
-class BuildError(Exception):
-    """The library was not built, for the reason that the text gives."""
 
 
 def digest(path):
@@ -67,21 +63,6 @@ def host_target():
     return target if target in TARGETS else None
 
 
-def run_logged(what, command, log, **options):
-    """Runs a command with a status line on standard error. Its output goes to a file, which is named if it fails."""
-    started = time.monotonic()
-    with open(log, "a", encoding="utf-8") as output:
-        running = subprocess.Popen(command, stdin=subprocess.DEVNULL, stdout=output, stderr=output, **options)
-        while running.poll() is None:
-            if sys.stderr.isatty():
-                print(f"\r\x1b[K{what}, {time.monotonic() - started:.0f} s", end="", file=sys.stderr, flush=True)
-            time.sleep(0.2)
-    if sys.stderr.isatty():
-        print("\r\x1b[K", end="", file=sys.stderr, flush=True)
-    if running.returncode != 0:
-        raise BuildError(f"{what} failed: {log} has what it printed")
-
-
 def linker():
     """The linker of the kit, so that each machine links the same bytes."""
     page = subprocess.run(["rt", "doc"], stdout=subprocess.PIPE, text=True, check=True).stdout.strip()
@@ -100,14 +81,11 @@ def build(folder):
     """Proves the crate, and builds what `prebuilt` holds into a folder."""
     if not shutil.which("rt"):
         raise BuildError(NEEDS_KIT)
-    log = Path(tempfile.mkdtemp(prefix="superio-")) / "log"
-    built = CRATE / "out" / STATIC
-    for target, (words, emulation) in TARGETS.items():
+    for target, (options, emulation) in TARGETS.items():
         place = folder / target
         place.mkdir(parents=True, exist_ok=True)
-        run_logged(f"proving and building the library for {target}", ["rt", "lib", *words], log, cwd=CRATE)
-        shutil.copyfile(built, place / STATIC)
+        build_by_rt(("superio_c", f"lib {options}"))
+        shutil.copyfile(ROOT / "crates" / "superio_c" / "out" / STATIC, place / STATIC)
         link_shared(place / STATIC, emulation, place / SHARED)
-    shutil.rmtree(log.parent)
     replace_lines(folder / "SHA256SUMS", library_sums(folder))
     replace_lines(folder / "SOURCES", [source_line()])

@@ -27,13 +27,12 @@ class Compiler:
 @dataclass
 class Machine:
     """A processor: its folder of `prebuilt`, its compilers, and the words before a program that run it. The library is that
-    of the folder, unless another is named. A narrow processor has 32 bits."""
+    of the folder, unless another is named."""
     target: str
     compilers: list
     runner: list
     options: list
     built: Path = None
-    is_narrow: bool = False
 
     @property
     def is_host(self):

@@ -1,4 +1,4 @@
-"""The programs that are built with the C library for a machine: tests of the header and of calls, pastes, and the demo."""
+"""The programs that are built with the C library for a machine: tests of the header and of calls, pastes, the demo."""
 import lzma
 import random
 import re
@@ -6,13 +6,11 @@ import shutil
 from functools import lru_cache
 
 from declarations import assertions
-from libraries import ROOT
+from libraries import DEMO, ROOT, TESTS
 from machines import C
 from random_calls import write_calls
 from tally import run
 
-TESTS = ROOT / "tools" / "c" / "tests"
-DEMO = ROOT / "examples" / "c"
 # What the examples beside the monitor print.
 EXAMPLES = {
     "paste": "1000 bytes in 16 pieces, in order\n",
@@ -65,8 +63,8 @@ def watched(machine):
 
 @lru_cache(maxsize=None)
 def recorded(folder):
-    """A file of calls, and how many they are: those that are C's own, and then those of tests/calls. The first two begin with
-    new devices, or with such a clock."""
+    """A file of calls, and how many they are: those that are C's own, and then those of tests/calls. The first two begin
+    with new devices, or with such a clock."""
     calls = ROOT / "tests" / "calls"
     own, *others = [path.read_text(encoding="ascii") for path in (TESTS / "own.txt", *calls.glob("*.txt"))]
     texts = [own, lzma.decompress((calls / "calls.txt.xz").read_bytes()).decode(), *others]
@@ -132,8 +130,8 @@ def check_pastes(tally, machine, folder):
 
 
 def check_demos(tally, machine, folder):
-    """Counts whether the examples of a paste, which is more than the FIFO holds, reach the guest whole, by polling and by
-    interrupts of both kinds; and whether the demo builds by its Makefile, and prints what it should."""
+    """Counts whether the examples of a paste, which is more than the FIFO holds, reach the guest whole, by polling and
+    by interrupts of both kinds; and whether the demo builds by its Makefile, and prints what it should."""
     for compiler in compilers_of(tally, machine, "the demo"):
         what, place = f"for {machine.target} under {compiler.name}", folder / "demo"
         for name, printed in EXAMPLES.items():
@@ -149,7 +147,7 @@ def check_demos(tally, machine, folder):
                           (DEMO / "expected").read_text(encoding="utf-8"), cwd=place)
 
 
-# What is checked on each machine, with its kind. All but the header and the number are checked of a library from source too.
+# What is checked on each machine, with its kind. All but the header and the number are for a library from source too.
 CHECKS = {check_header: "checks of header", check_calls: "checks of calls", check_other_abi: "checks of other abi",
           check_random_calls: "random calls", check_pastes: "pastes", check_demos: "checks of demos"}
 OF_SOURCE = {check: kind for check, kind in CHECKS.items() if check not in (check_header, check_other_abi)}

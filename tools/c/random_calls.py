@@ -1,5 +1,5 @@
-"""Random calls of each function of the library, as lines for tests/replay.c, with what each does by the search of the past
-in oracle.py: those of cases.py, and between them the further calls that are C's own."""
+"""Random calls of each function of the library, as lines for tests/replay.c, with what each does by the search of the
+past in oracle.py: those of cases.py, and between them the further calls that are C's own."""
 import random
 from collections import Counter
 from itertools import chain
@@ -101,7 +101,8 @@ def own_of_clock(source):
 
 def random_run(source):
     """A run of cases.py, with further calls between its own. It begins with a state."""
-    make, own = source.choices(((port_run, own_of_port), (clock_run, own_of_clock), (controller_run, None)), (12, 7, 1))[0]
+    makers = (port_run, own_of_port), (clock_run, own_of_clock), (controller_run, None)
+    (make, own), = source.choices(makers, (12, 7, 1))
     for call in make(source):
         yield call
         if own and source.randrange(4) == 0:

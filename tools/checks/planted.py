@@ -7,7 +7,7 @@ ENTRY = re.compile(r"(?:(\S+\.\w+): )?(\S.*)\n((?:-.*\n)+)((?:\+.*\n)*)")
 
 @dataclass(frozen=True)
 class Bug:
-    """A bug: what it does, the file that it goes into, and the text that it takes the place of, which stands there once."""
+    """A bug: what it does, its file, and the text that it takes the place of, which stands there once."""
     name: str
     file: str
     old: str
@@ -15,8 +15,9 @@ class Bug:
 
 
 def read_bugs(path, file=None):
-    """Reads a file of bugs, with an empty line between two. The first line of each says what the bug does, perhaps after the
-    name of its file, which is `file` otherwise. As in a patch, `-` begins the lines that go, and `+` those that come."""
+    """Reads a file of bugs, with an empty line between two. The first line of each says what the bug does, perhaps after
+    the name of its file, which is `file` otherwise. As in a patch, `-` begins the lines that go, and `+` those that
+    come."""
     for entry in path.read_text(encoding="utf-8").strip("\n").split("\n\n"):
         found = ENTRY.fullmatch(f"{entry}\n")
         if not found or not (found[1] or file):

@@ -36,11 +36,11 @@ def is_current(built, sources):
 
 
 def run_rt(crate, command, arguments, log, task):
-    """Runs a command of rt in the folder of a crate, and returns its exit status. The arguments are those of the program.
-    `log` takes what it prints, `task` how far it is. A proof takes as many processors as RT_JOBS says, or two: each reads
-    the libraries anew, so that more cost much and save little time."""
+    """Runs a command of rt, with its options, in the folder of a crate, and returns its exit status. The arguments are
+    those of the program. `log` takes what it prints, `task` how far it is. A proof takes as many processors as RT_JOBS
+    says, or two: each reads the libraries anew, so that more cost much and save little time."""
     task.name = f"proving {crate}"
-    words = ["rt", command, "--jobs", os.environ.get("RT_JOBS", "2"), *(["--", *arguments] if arguments else [])]
+    words = ["rt", *command.split(), "--jobs", os.environ.get("RT_JOBS", "2")] + ["--", *arguments] * bool(arguments)
     with subprocess.Popen(words, cwd=CRATES / crate, stdin=subprocess.DEVNULL, stdout=subprocess.PIPE,
                           stderr=subprocess.STDOUT, text=True, errors="replace") as process:
         for line in process.stdout:

@@ -1,4 +1,4 @@
-"""The recorded calls of tests/calls over the Python package: the devices with the interface that oracle.py gives them."""
+"""The recorded calls of tests/calls over the Python package, whose devices get the interface of oracle.py here."""
 import oracle
 from expected import Monitor
 from oracle import REGISTERS
@@ -9,7 +9,7 @@ THRE = 0x02  # the bit of IIR by which THRE is pending
 
 
 class Port(oracle.Port):
-    """The package's port. What its calls leave to do, to send and to call the interrupt line, is done as in the oracle."""
+    """The package's port. What its calls leave to do, to send and to interrupt, is done as in the oracle."""
 
     def __init__(self, refuses, writing):
         super().__init__(refuses, writing)
@@ -98,5 +98,5 @@ class PackageMonitor(Monitor):
         return f"{self.controller.read(int(offset, 16)):02x}", ()
 
     def kw(self, offset, value):
-        self.port.interrupts = self.controller.write(int(offset, 16), int(value, 16)).resets
-        return self.called(self.port.asks, "ok", self.port.interrupts)
+        did = self.port.line_calls(1) if self.controller.write(int(offset, 16), int(value, 16)).resets else ()
+        return "trigger" if "R" in did else "ok", did

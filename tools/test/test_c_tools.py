@@ -35,7 +35,8 @@ DECLARATIONS = [
     ("bindings/rust/src/core/serial/effects.rs", "    pub sends: bool,\n", "",
      "superio_serial_write_effects: the header has"),
     (CALLER, "    resets: bool,", "    resets: u16,", "superio_i8042_write_effects: the header has the size 1"),
-    ("tools/c/tests/replay.c", "superio_i8042_read((uint8_t)number(1))", "0", "replay.c does not call ['superio_i8042_read']"),
+    ("tools/c/tests/replay.c", "superio_i8042_read((uint8_t)number(1))", "0",
+     "replay.c does not call ['superio_i8042_read']"),
     (CALLER, "    safe fn superio_rtc_line(clock: &Clock) -> bool;\n", "", "tools/compare None"),
 ]
 # In place of the kit: `rt doc` names a page of the kit, `rt lib` writes a library that says what it is for, and the
@@ -43,7 +44,8 @@ DECLARATIONS = [
 RT = """#!/bin/sh
 case "$1" in
 doc) echo "$KIT/page" ;;
-lib) mkdir -p out && echo "static for $2 $3" > out/libsuperio_c.a && echo built && [ -z "$FAILS" ] ;;
+lib) while [ "$1" != --jobs ]; do said="$said $1"; shift; done
+    mkdir -p out && echo "static for$said" > out/libsuperio_c.a && echo built && [ -z "$FAILS" ] ;;
 esac
 """
 LINKER = """#!/bin/sh
@@ -53,10 +55,10 @@ while [ "$1" != --whole-archive ]; do shift; done
 echo "shared for $emulation of $(cat "$2")" > "$4"
 """
 BUILT = {
-    "aarch64-linux/libsuperio_c.a": "static for --target aarch64-unknown-linux-gnu\n",
-    f"aarch64-linux/{SHARED}": "shared for aarch64linux of static for --target aarch64-unknown-linux-gnu\n",
-    "x86_64-linux/libsuperio_c.a": "static for --cpu=x86-64 \n",
-    f"x86_64-linux/{SHARED}": "shared for elf_x86_64 of static for --cpu=x86-64 \n",
+    "aarch64-linux/libsuperio_c.a": "static for lib --target aarch64-unknown-linux-gnu\n",
+    f"aarch64-linux/{SHARED}": "shared for aarch64linux of static for lib --target aarch64-unknown-linux-gnu\n",
+    "x86_64-linux/libsuperio_c.a": "static for lib --cpu=x86-64\n",
+    f"x86_64-linux/{SHARED}": "shared for elf_x86_64 of static for lib --cpu=x86-64\n",
 }
 
 
@@ -78,8 +80,9 @@ class Declaring(CopyTest):
 def built(name, root):
     """A program of tools/c/tests, built in a copy for this machine."""
     library = ROOT / "prebuilt" / f"{platform.machine()}-linux" / "libsuperio_c.a"
-    subprocess.run(["gcc", "-std=c11", "-O2", "-I", ROOT / "include", root / "tools/c/tests" / f"{name}.c", library, "-o",
-                    root / name], check=True, timeout=120)
+    source = root / "tools/c/tests" / f"{name}.c"
+    subprocess.run(["gcc", "-std=c11", "-O2", "-I", ROOT / "include", source, library, "-o", root / name], check=True,
+                   timeout=120)
     return root / name
 
 
@@ -91,8 +94,9 @@ class Replaying(CopyTest):
         self.calls = self.root / "calls"
 
     def replay(self):
-        ran = subprocess.run([built("replay", self.root)], input=self.calls.read_bytes(), capture_output=True, timeout=120)
-        return ran.returncode, ran.stdout.decode().splitlines()[-1]
+        with open(self.calls, encoding="ascii") as calls:
+            ran = subprocess.run([built("replay", self.root)], stdin=calls, capture_output=True, text=True, timeout=120)
+        return ran.returncode, ran.stdout.splitlines()[-1]
 
     def test_a_call_of_each_kind_that_differs_is_found(self):
         self.assertEqual(random_calls.write_calls(self.calls, 20000), [])
@@ -189,10 +193,11 @@ class Building(CopyTest):
     def test_a_build_that_fails_says_where_its_output_is(self):
         status, _, said = self.run_tool("tools/c/prebuild", self.root / "folder", env={**self.environment, "FAILS": "1"})
         self.assertEqual(status, 1)
-        log = re.fullmatch(r"tools/c/prebuild: .* for aarch64-linux failed: (\S+) has what it printed\n", said)[1]
+        says = r"tools/c/prebuild: superio_c .* `rt lib --target aarch64\S+ .* (\S+) has what it printed\n"
+        log = re.fullmatch(says, said)[1]
         with open(log, encoding="utf-8") as kept:
             self.assertEqual(kept.read(), "built\n")
-        shutil.rmtree(os.path.dirname(log))
+        os.unlink(log)
 
     def test_without_the_kit(self):
         status, printed, said = self.run_tool("tools/c/prebuild", self.root / "folder", env={"PATH": ""})

@@ -389,8 +389,8 @@ class Runs(unittest.TestCase):
         ended = status, f"{printed}\n".encode()
         for got, failed in ((ended, 0), ((status - 1, ended[1]), 3), ((status + 1, ended[1]), 3), ((status, b""), 3),
                             ((status, ended[1] + b"more"), 3)):
-            ways = [way for way in demo.DRIVEN["monitor.c"][2] if way[0]]
-            with mock.patch.dict(demo.DRIVEN, {"monitor.c": ("demo.c", [], ways)}), \
+            others = [way for way in demo.ways("monitor.c") if way[0]]
+            with mock.patch.object(demo, "ways", return_value=others), \
                     mock.patch.object(twin, "run_bounded", return_value=got):
                 self.assertEqual(len(list(demo.differences("monitor.c", "demo"))), failed, got)
 
@@ -444,8 +444,8 @@ class Failing(unittest.TestCase):
             return subprocess.CompletedProcess(command, 0 if is_build else 101, "", "")
         with tempfile.TemporaryDirectory() as name, mock.patch("subprocess.run", builds), \
                 mock.patch.object(programs, "drawn", lambda _: ("/dev/null", [])):
-            for check in (programs.check_calls, programs.check_other_abi, programs.check_random_calls, programs.check_pastes,
-                          programs.check_demos):
+            for check in (programs.check_calls, programs.check_other_abi, programs.check_random_calls,
+                          programs.check_pastes, programs.check_demos):
                 with self.subTest(check.__name__):
                     tally = Tally()
                     built.clear()

@@ -26,25 +26,24 @@ enum { RBR, IER, IIR, LSR = 5, MSR };
 enum { ENABLE_RDA = 0x01, NONE_PENDING = 0x01, DATA_READY = 0x01 };
 enum { PASTES = 10000, LONGEST = 4096 };
 
-/* What was tried with a guest. */
-struct tally {
-    unsigned long pastes, stuck, bytes;
-    unsigned long inside;                /* how often bytes arrived while the guest's handler ran */
-    unsigned long after_reads, in_turns; /* how often the timeout asked for an interrupt, by where it was called */
-};
+/* What is counted of a guest: how often bytes arrived while its handler ran, and how often the timeout asked for an
+ * interrupt, by where it was called, among others. */
+enum { PASTED, BYTES, INSIDE, AFTER_READS, IN_TURNS, STUCK, COUNTS };
+static const char *const NAMES[COUNTS] = {"pastes",   "bytes", "arrivals inside the handler", "timeouts after reads",
+                                          "in turns", "stuck"};
 
 struct machine;
 
 struct guest {
     const char *name;
     bool (*handler)(struct machine *); /* serves an interrupt. Returns whether its last look at IIR found nothing */
-    struct tally least;                /* the floor of what has to be tried */
+    unsigned long least[COUNTS];       /* how much has to be tried; of stuck ones in the run without the timeout */
 };
 
 struct machine {
     superio_serial port;
     const struct guest *guest;
-    struct tally *tally;
+    unsigned long *counts;
     bool has_timeout;       /* whether the monitor makes the call */
     bool is_level;          /* whether the guest's interrupt controller looks at the level of the line, or takes edges */
     unsigned interrupts;    /* edges that were raised, and not yet served by the guest */
@@ -100,13 +99,13 @@ static void offer(struct machine *machine) {
 }
 
 /* Makes the call, raises what it asks for, and counts that. */
-static void time_out(struct machine *machine, unsigned long *asked) {
+static void time_out(struct machine *machine, int where) {
     if (!machine->has_timeout)
         return;
     uint8_t interrupts = superio_serial_character_timeout(&machine->port);
     must(interrupts <= 1, machine, "the timeout asks for several interrupts");
     machine->interrupts += interrupts;
-    *asked += interrupts;
+    machine->counts[where] += interrupts;
 }
 
 /* Some of the paste arrives, or all that is left of it. */
@@ -120,21 +119,21 @@ static void arrive(struct machine *machine) {
 static void turn(struct machine *machine) {
     if (is_arriving(machine))
         arrive(machine);
-    time_out(machine, &machine->tally->in_turns);
+    time_out(machine, IN_TURNS);
 }
 
 /* The guest's `in`. The event loop is another thread, so its turn may come before any access. */
 static uint8_t guest_read(struct machine *machine, uint8_t offset) {
     must(machine->accesses-- > 0, machine, "the guest's handler runs on and on");
     if (is_arriving(machine) && one_in(machine->pace)) {
-        machine->tally->inside++;
+        machine->counts[INSIDE]++;
         turn(machine);
     }
     superio_serial_read_effects done = superio_serial_read(&machine->port, offset);
     if (done.in_buffer_empty)
         offer(machine);
     if (offset == IIR && (done.byte & NONE_PENDING))
-        time_out(machine, &machine->tally->after_reads);
+        time_out(machine, AFTER_READS);
     return done.byte;
 }
 
@@ -220,54 +219,46 @@ static void paste(struct machine *machine) {
     must(machine->received + held(machine) == machine->taken, machine, "a byte is lost");
     must(!is_stuck || held(machine) > 0, machine, "the monitor keeps input, though the port has room");
     must(superio_serial_interrupts_due(&machine->port) == 0, machine, "an interrupt is due that was not raised");
-    machine->tally->pastes++;
-    machine->tally->stuck += is_stuck;
-    machine->tally->bytes += machine->received;
+    machine->counts[PASTED]++;
+    machine->counts[STUCK] += is_stuck;
+    machine->counts[BYTES] += machine->received;
 }
 
-static void print(const char *name, const struct tally *tally) {
-    printf("%s: %lu pastes, %lu bytes, %lu arrivals inside the handler, ", name, tally->pastes, tally->bytes,
-           tally->inside);
-    printf("%lu timeouts after reads, %lu in turns, %lu stuck\n", tally->after_reads, tally->in_turns, tally->stuck);
-}
-
-/* Whether enough was tried. The floor of stuck pastes is for the run without the timeout, in which less else happens. */
-static bool is_enough(const struct tally *tally, const struct tally *least, bool has_timeout) {
-    if (!has_timeout)
-        return tally->pastes >= least->pastes && tally->stuck >= least->stuck;
-    return tally->pastes >= least->pastes && tally->stuck == 0 && tally->bytes >= least->bytes &&
-           tally->inside >= least->inside && tally->after_reads >= least->after_reads &&
-           tally->in_turns >= least->in_turns;
+/* Prints what was tried. Returns whether it is enough, and whether pastes are stuck only without the timeout, in which
+ * run less else happens. */
+static bool is_enough(const struct guest *guest, const unsigned long *counts, bool has_timeout) {
+    bool is_good = has_timeout ? counts[STUCK] == 0 : counts[STUCK] >= guest->least[STUCK];
+    printf("%s: ", guest->name);
+    for (int i = 0; i < COUNTS; i++) {
+        printf("%lu %s%s", counts[i], NAMES[i], i == STUCK ? "\n" : ", ");
+        is_good = is_good && (counts[i] >= guest->least[i] || (has_timeout ? i == STUCK : i != PASTED));
+    }
+    return is_good;
 }
 
 /* The floors are well below what each of 40 seeds gave. */
 static const struct guest GUESTS[] = {
-    {"Linux", linux_handler,
-     {.pastes = 3333, .bytes = 1500000, .inside = 4000, .after_reads = 2500, .in_turns = 50, .stuck = 450}},
-    {"Xen", xen_handler,
-     {.pastes = 3333, .bytes = 1500000, .inside = 5000, .after_reads = 1500000, .in_turns = 300, .stuck = 3000}},
-    {"random", random_handler,
-     {.pastes = 3333, .bytes = 1500000, .inside = 4000, .after_reads = 25000, .in_turns = 1500, .stuck = 2000}},
+    {"Linux", linux_handler, {3333, 1500000, 4000, 2500, 50, 450}},
+    {"Xen", xen_handler, {3333, 1500000, 5000, 1500000, 300, 3000}},
+    {"random", random_handler, {3333, 1500000, 4000, 25000, 1500, 2000}},
 };
 enum { GUEST_COUNT = sizeof GUESTS / sizeof *GUESTS };
 
 /* Each guest gets every third paste, by edges and by the level of the line in turn. */
 static bool paste_all(uint64_t seed, bool has_timeout) {
     static struct machine machine;
-    struct tally tallies[GUEST_COUNT] = {{0}};
+    unsigned long counts[GUEST_COUNT][COUNTS] = {{0}};
     bool is_good = true;
     machine.has_timeout = has_timeout;
     for (unsigned i = 0; i < PASTES; i++) {
         state = (seed * PASTES + i) * 0x9E3779B97F4A7C15 | 1;
         machine.guest = &GUESTS[i % GUEST_COUNT];
-        machine.tally = &tallies[i % GUEST_COUNT];
+        machine.counts = counts[i % GUEST_COUNT];
         machine.is_level = i / GUEST_COUNT % 2 == 1;
         paste(&machine);
     }
-    for (unsigned i = 0; i < GUEST_COUNT; i++) {
-        print(GUESTS[i].name, &tallies[i]);
-        is_good = is_enough(&tallies[i], &GUESTS[i].least, has_timeout) && is_good;
-    }
+    for (unsigned i = 0; i < GUEST_COUNT; i++)
+        is_good = is_enough(&GUESTS[i], counts[i], has_timeout) && is_good;
     return is_good;
 }
 

@@ -111,9 +111,11 @@ static bool send(uint8_t byte) {
 /*
  * Asks for interrupts up to the first refusal. The recordings have vm-superio's behaviour: it raises THRE only after
  * the interrupt of RDA is taken. The library raises both, and a refusal changes nothing. So after a refused first of
- * two, this takes THRE back by the field: any bytes are a port.
+ * two, this takes THRE back by the field: any bytes are a port. What a call asks for is due, so that it can be retried.
  */
 static bool ask(int interrupts) {
+    if (superio_serial_interrupts_due(port) < interrupts)
+        note("which is not due");
     for (int i = 0; i < interrupts; i++) {
         if (!trigger()) {
             if (i == 0 && interrupts == 2)
@@ -135,9 +137,10 @@ static bool raise_due(void) {
 /* ---- the serial port */
 
 static void reply_port(void) {
-    const uint8_t registers[REGISTERS] = {port->baud_divisor_low, port->baud_divisor_high, port->interrupt_enable,
-                                  port->interrupt_identification, port->line_control, port->line_status,
-                                  port->modem_control, port->modem_status, port->scratch};
+    const uint8_t registers[REGISTERS] = {
+        port->baud_divisor_low, port->baud_divisor_high, port->interrupt_enable,
+        port->interrupt_identification, port->line_control, port->line_status,
+        port->modem_control, port->modem_status, port->scratch};
     superio_serial copy = *port;
     size_t room = superio_serial_fifo_capacity(port);
     copy.line_control = 0; /* so that offset 0 is RBR */
@@ -177,21 +180,13 @@ static void serial_enqueue(void) {
         reply_with("trigger");
 }
 
-static void serial_timeout(void) {
-    reply_with(ask(superio_serial_character_timeout(port)) ? "ok" : "trigger");
-}
+static void serial_timeout(void) { reply_with(ask(superio_serial_character_timeout(port)) ? "ok" : "trigger"); }
 
-static void serial_retry(void) {
-    reply_with(raise_due() ? "ok" : "trigger");
-}
+static void serial_retry(void) { reply_with(raise_due() ? "ok" : "trigger"); }
 
-static void serial_room(void) {
-    sprintf(reply, "%02zx", superio_serial_fifo_capacity(port));
-}
+static void serial_room(void) { sprintf(reply, "%02zx", superio_serial_fifo_capacity(port)); }
 
-static void serial_line(void) {
-    sprintf(reply, "%02x", superio_serial_interrupt_line(port));
-}
+static void serial_line(void) { sprintf(reply, "%02x", superio_serial_interrupt_line(port)); }
 
 /* A larger `len` counts as 64, and is not coherent. */
 static void serial_fits(void) {
@@ -254,6 +249,7 @@ static void serial_state(void) {
 
 static void clock_state(void) {
     if (words[1]) {
+        *rtc = superio_rtc_new();
         rtc->lr = (uint32_t)number(1);
         rtc->offset = strtoll(words[2], NULL, 10);
         rtc->mr = (uint32_t)number(3);
@@ -287,9 +283,7 @@ static void clock_due(void) {
         reply_with("never");
 }
 
-static void clock_line(void) {
-    sprintf(reply, "%02x", superio_rtc_line(rtc));
-}
+static void clock_line(void) { sprintf(reply, "%02x", superio_rtc_line(rtc)); }
 
 static void controller_read(void) { sprintf(reply, "%02x", superio_i8042_read((uint8_t)number(1))); }
 
@@ -302,8 +296,8 @@ static void controller_write(void) {
 
 /* What a load returned, in the words of docs/SCRIPT.md. A device stays the same if its load is refused. */
 static void reply_load(uint32_t status, const uint8_t *bytes, bool is_same) {
-    static const char *const WORDS[] = {"ok",           "too short",      "not a saved state", "other device", "unknown version",
-                                        "wrong length", "too many bytes", "invalid armed"};
+    static const char *const WORDS[] = {"ok", "too short", "not a saved state", "other device", "unknown version",
+                                        "wrong length", "too many bytes", "invalid armed"}; /* by the status */
     reply_with(status < sizeof WORDS / sizeof *WORDS ? WORDS[status] : "no status");
     if (status == SUPERIO_LOAD_UNKNOWN_VERSION)
         sprintf(reply + strlen(reply), " %02x", bytes[5]);
@@ -357,10 +351,11 @@ static const struct call {
     const char *name;
     void (*make)(void);
 } CALLS[] = {
-    {"sr", serial_read},    {"sw", serial_write}, {"sq", serial_enqueue}, {"si", serial_timeout},  {"sp", serial_retry},
-    {"sc", serial_room},    {"sh", serial_line},  {"sf", serial_fits},    {"ss", serial_restore},  {"sl", serial_load},
-    {"sx", serial_struct},  {"sb", serial_save},  {"cr", clock_read},     {"cw", clock_write},     {"cs", clock_state},
-    {"cl", clock_load},     {"cb", clock_save},   {"cd", clock_due},      {"ch", clock_line},      {"kr", controller_read},
+    {"sr", serial_read},    {"sw", serial_write}, {"sq", serial_enqueue},  {"si", serial_timeout},
+    {"sp", serial_retry},   {"sc", serial_room},  {"sh", serial_line},     {"sf", serial_fits},
+    {"ss", serial_restore}, {"sl", serial_load},  {"sx", serial_struct},   {"sb", serial_save},
+    {"cr", clock_read},     {"cw", clock_write},  {"cs", clock_state},     {"cl", clock_load},
+    {"cb", clock_save},     {"cd", clock_due},    {"ch", clock_line},      {"kr", controller_read},
     {"kw", controller_write},
 };
 
