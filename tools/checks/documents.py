@@ -12,10 +12,12 @@ from usage import takes_no_argument
 ROOT = Path(__file__).resolve().parents[2]
 # Folders of what is built.
 BUILT = {"out", "target", "build", "__pycache__"}
-BLOCK = re.compile(r"^( *)```(\w*)\n(.*?)^\1```$", re.M | re.S)
+BLOCK = re.compile(r"^( *)```(\w*)[^\n]*\n(.*?)^\1```$", re.M | re.S)
 CODE = re.compile(r"(?<!`)(`+)(?!`)(.+?)(?<!`)\1(?!`)")
 HEADING = re.compile(r"^#+ +(.*?) *$", re.M)
 LINK = re.compile(r"(?:\[([^][\n]*))?\]\(([^()\s]+)(?: \"[^\"\n]*\"| '[^'\n]*')?\)")
+# Links other than those in brackets: definitions of labels, and those of tags.
+OTHER_LINK = re.compile(r"^ *\[[^]\n]+\]: *<?([^>\s]+)|\b(?:href|src)=[\"']?([^\"'\s>]+)", re.M)
 
 
 class Block(NamedTuple):
@@ -75,8 +77,9 @@ class Document:
 
     @property
     def links(self):
-        """The links outside code that have a text in brackets: the text, whose code has no brackets, and the target."""
-        return LINK.findall(CODE.sub(lambda code: re.sub(r"[][]", "", code[0]), self.prose))
+        """The links outside code: the text in brackets, in which code has none, or nothing, and the target."""
+        return LINK.findall(CODE.sub(lambda code: re.sub(r"[][]", "", code[0]), self.prose)) \
+            + [("", "".join(targets)) for targets in OTHER_LINK.findall(CODE.sub("", self.prose))]
 
     @property
     def rows(self):
