@@ -374,6 +374,8 @@ impl Trigger for SharedLine {
     }
 }
 
+fn is_sent_and_shared<T: Send + Sync>() {}
+
 fn goes_to_another_thread<T: Send + Sync + Unpin + UnwindSafe + RefUnwindSafe>() {}
 
 #[test]
@@ -382,6 +384,7 @@ fn what_threads_may_do_with_its_objects_they_may_do_with_a_device() {
     goes_to_another_thread::<Rtc<rtc_pl031::NoEvents>>();
     goes_to_another_thread::<I8042Device<SharedLine>>();
     goes_to_another_thread::<(SerialState, RtcState, rtc_pl031::RtcSnapshot, rtc_pl031::AlarmIsSet, SavedStateError)>();
+    is_sent_and_shared::<Error<&'static str>>(); // an `io::Error` in it may not be used after a panic
 }
 
 #[test]

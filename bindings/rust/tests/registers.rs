@@ -128,15 +128,3 @@ impl Trigger for Refusing {
         Err(())
     }
 }
-
-/// A monitor may move a device to the thread of its processor, and share it behind a lock.
-#[test]
-fn devices_and_states_go_to_other_threads() {
-    fn is_sent_and_shared<T: Send + Sync>() {}
-    is_sent_and_shared::<Serial<Silent, serial::NoEvents, Vec<u8>>>();
-    is_sent_and_shared::<Rtc<NoEvents>>();
-    is_sent_and_shared::<I8042Device<Silent>>();
-    is_sent_and_shared::<(SerialState, RtcState, RtcSnapshot)>();
-    is_sent_and_shared::<vm_superio::saved::SavedStateError>();
-    is_sent_and_shared::<serial::Error<std::convert::Infallible>>();
-}
