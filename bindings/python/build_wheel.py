@@ -14,27 +14,17 @@ import sysconfig
 import tarfile
 import zipfile
 from pathlib import Path
-from typing import Any, Dict, List, Optional
+from typing import Any, Dict, Optional
 
 HERE = Path(__file__).resolve().parent
 PACKAGE = HERE / "superio"
 # The repository, or the folder of the sources alone.
 ROOT = HERE if (HERE / "LICENSE").is_file() else HERE.parents[1]
 
-METADATA = """\
-Metadata-Version: 2.1
-Name: superio
-Version: {version}
-Summary: A 16550 serial port, a PL031 clock and an i8042 reset controller for virtual machine monitors
-License: Apache-2.0 OR BSD-3-Clause
-Requires-Python: >=3.8
-"""
-
 WHEEL = """\
 Wheel-Version: 1.0
 Generator: build_wheel
 Root-Is-Purelib: false
-Tag: {tag}
 """
 
 
@@ -45,11 +35,17 @@ def _stated(name: str, form: str) -> str:
     return found[1]
 
 
-def _version() -> str:
-    return _stated("__init__.py", r'^__version__ = "(.+)"$')
-
-
+VERSION = _stated("__init__.py", r'^__version__ = "(.+)"$')
+METADATA = f"""\
+Metadata-Version: 2.1
+Name: superio
+Version: {VERSION}
+Summary: A 16550 serial port, a PL031 clock and an i8042 reset controller for virtual machine monitors
+License: Apache-2.0 OR BSD-3-Clause
+Requires-Python: >=3.8
+"""
 LIBRARY = f"libsuperio.so.{_stated('library.py', r'^ABI = ([0-9]+)$')}"
+LICENSES = ["LICENSE", *(f"LICENSES/{path.name}" for path in sorted((ROOT / "LICENSES").iterdir()))]
 
 
 def _library() -> Path:
@@ -61,58 +57,47 @@ def _library() -> Path:
     return path
 
 
-def _licenses() -> List[str]:
-    """The names of the files that say under which licenses the package is."""
-    return ["LICENSE", *(f"LICENSES/{path.name}" for path in sorted((ROOT / "LICENSES").iterdir()))]
-
-
-def _contents(version: str, tag: str) -> Dict[str, bytes]:
-    """What the wheel has, by name."""
-    folder = f"superio-{version}.dist-info"
-    files = {f"superio/{path.name}": path.read_bytes() for path in sorted(PACKAGE.glob("*.py"))}
-    files["superio/py.typed"] = b""
-    files[f"superio/{LIBRARY}"] = _library().read_bytes()
-    for path in _licenses():
-        files[f"{folder}/licenses/{path}"] = (ROOT / path).read_bytes()
-    files[f"{folder}/METADATA"] = METADATA.format(version=version).encode()
-    files[f"{folder}/WHEEL"] = WHEEL.format(tag=tag).encode()
-    rows = [f"{name},sha256={_digest(data)},{len(data)}\n" for name, data in files.items()]
-    files[f"{folder}/RECORD"] = "".join([*rows, f"{folder}/RECORD,,\n"]).encode()
-    return files
-
-
-def _digest(data: bytes) -> str:
-    return base64.urlsafe_b64encode(hashlib.sha256(data).digest()).rstrip(b"=").decode()
+def _record(files: Dict[str, bytes], name: str) -> bytes:
+    """The list of a wheel's files with their sums, which goes into the wheel under a name."""
+    lines = []
+    for file, data in files.items():
+        digest = base64.urlsafe_b64encode(hashlib.sha256(data).digest()).rstrip(b"=").decode()
+        lines.append(f"{file},sha256={digest},{len(data)}\n")
+    return "".join([*lines, f"{name},,\n"]).encode()
 
 
 def build_wheel(wheel_directory: str, config_settings: Optional[Dict[str, Any]] = None,
                 metadata_directory: Optional[str] = None) -> str:
     """Writes the wheel into a folder, and returns the name of its file."""
-    version = _version()
     tag = "py3-none-" + re.sub(r"[-.]", "_", sysconfig.get_platform())
-    name = f"superio-{version}-{tag}.whl"
-    contents = _contents(version, tag)
+    name, folder = f"superio-{VERSION}-{tag}.whl", f"superio-{VERSION}.dist-info"
+    files = {f"superio/{path.name}": path.read_bytes() for path in sorted(PACKAGE.glob("*.py"))}
+    files["superio/py.typed"] = b""
+    files[f"superio/{LIBRARY}"] = _library().read_bytes()
+    files.update((f"{folder}/licenses/{path}", (ROOT / path).read_bytes()) for path in LICENSES)
+    files[f"{folder}/METADATA"] = METADATA.encode()
+    files[f"{folder}/WHEEL"] = f"{WHEEL}Tag: {tag}\n".encode()
+    files[f"{folder}/RECORD"] = _record(files, f"{folder}/RECORD")
     with zipfile.ZipFile(Path(wheel_directory) / name, "w", zipfile.ZIP_DEFLATED) as wheel:
-        for file, data in contents.items():
+        for file, data in files.items():
             wheel.writestr(zipfile.ZipInfo(file), data)
     return name
 
 
 def build_sdist(sdist_directory: str, config_settings: Optional[Dict[str, Any]] = None) -> str:
     """Writes the sources and the libraries of each machine into a folder, and returns the name of the file."""
-    folder = f"superio-{_version()}"
-    names = [HERE / name for name in ("README.md", "build_wheel.py", "pyproject.toml")]
-    files = {path.relative_to(HERE).as_posix(): path for path in [*names, *PACKAGE.glob("*.py"), PACKAGE / "py.typed"]}
-    libraries = (ROOT / "prebuilt").glob(f"*-linux/{LIBRARY}")
-    files.update((path.relative_to(ROOT).as_posix(), path) for path in [*libraries, *(ROOT / it for it in _licenses())])
-    contents = {name: path.read_bytes() for name, path in files.items()}
-    contents["PKG-INFO"] = METADATA.format(version=_version()).encode()
+    folder = f"superio-{VERSION}"
+    own = [*(HERE / name for name in ("README.md", "build_wheel.py", "pyproject.toml")), *PACKAGE.glob("*.py"),
+           PACKAGE / "py.typed"]
+    shared = [*(ROOT / "prebuilt").glob(f"*-linux/{LIBRARY}"), *(ROOT / name for name in LICENSES)]
+    files = {path.relative_to(top).as_posix(): path.read_bytes() for top, paths in ((HERE, own), (ROOT, shared))
+             for path in paths}
+    files["PKG-INFO"] = METADATA.encode()
     plain = io.BytesIO()
     with tarfile.open(fileobj=plain, mode="w", format=tarfile.PAX_FORMAT) as archive:
-        for name in sorted(contents):
+        for name, data in sorted(files.items()):
             member = tarfile.TarInfo(f"{folder}/{name}")
-            member.size, member.mode = len(contents[name]), 0o644
-            archive.addfile(member, io.BytesIO(contents[name]))
-    packed = gzip.compress(plain.getvalue(), mtime=0)
-    (Path(sdist_directory) / f"{folder}.tar.gz").write_bytes(packed)
+            member.size, member.mode = len(data), 0o644
+            archive.addfile(member, io.BytesIO(data))
+    (Path(sdist_directory) / f"{folder}.tar.gz").write_bytes(gzip.compress(plain.getvalue(), mtime=0))
     return f"{folder}.tar.gz"

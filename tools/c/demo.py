@@ -4,18 +4,14 @@ What a case expects was worked out from docs/DEVICES.md and from the duties of d
 What a random script expects is what a second monitor does, that of `twin.py`.
 """
 import random
-import shutil
 
 from header import read_header
+from planted import read_bugs
 from programs import DEMO, TESTS
-from tally import run
+from saved_bytes import CLOCK_SIZE
 from twin import COM1, Edges, Level, Monitor, different_scripts, random_cases, shown
 
-from planted import read_bugs  # noqa: E402, of the folder that tally adds
-from saved_bytes import CLOCK_SIZE  # noqa: E402
-
 WRAPPED = [f"-Wl,--wrap=superio_{name}" for name in ("abi", "serial_load", "rtc_load")]
-WRONG = TESTS / "wrong-demos.edits"
 CLOCK_IS_OFF = "clock: line down, no alarm"
 
 # How many random scripts there are of each monitor.
@@ -97,26 +93,22 @@ CASES_OF_LEVEL = [
     ("the line moves without being asked for", ["w 3f9 2", "w 3f9 0", "w 3f9 2"], [" 1 64", " 0 64", " 1 64"], 0),
 ]
 # Its own main, over a library of an older or a newer interface.
-OTHER_LIBRARY = (1, "the comparison of header and library failed\n")
+CASES_OF_OTHERS = [("a library of another interface", [], ["the comparison of header and library failed"], 1)]
+
+# Beside each monitor: its driver, the options of the linker, and how it is driven: the words of the command, the second monitor,
+# the cases, and how many random scripts.
+DRIVEN = {
+    "monitor.c": ("demo.c", WRAPPED, [([], Monitor, [*CASES, *cases_of_loads()], SCRIPTS)] + [
+        ([difference], Monitor, CASES_OF_OTHERS, 0) for difference in ("1", "-1", "256")]),
+    "lines.c": ("driven_lines.c", [], [([], Edges, [], SCRIPTS_OF_LINES),
+                                       (["level"], Level, CASES_OF_LEVEL, SCRIPTS_OF_LINES)]),
+}
 
 
-def differences(program, seed=0):
-    """The names of the cases in which the monitor does something else. `seed` is that of the random scripts."""
-    yield from different_scripts([program], (*CASES, *cases_of_loads(), *random_cases(Monitor, SCRIPTS, seed)))
-    for difference in ("1", "-1", "256"):
-        ran = run([program, difference])
-        if (ran.returncode, ran.stdout) != OTHER_LIBRARY:
-            yield f"a library of an interface that differs by {difference}: status {ran.returncode}\n{ran.stdout}"
-
-
-def differences_of_lines(program, seed=0):
-    """The same of lines.c, as edges and as a level."""
-    for words, monitor, fixed in (([], Edges, ()), (["level"], Level, CASES_OF_LEVEL)):
-        yield from different_scripts([program, *words], (*fixed, *random_cases(monitor, SCRIPTS_OF_LINES, seed)))
-
-
-# The driver of each, and what finds its differences.
-DRIVEN = {"monitor.c": ("demo.c", WRAPPED, differences), "lines.c": ("driven_lines.c", [], differences_of_lines)}
+def differences(file, program, seed=0):
+    """The names of the cases in which a monitor does something else. `seed` is that of the random scripts."""
+    for words, monitor, fixed, scripts in DRIVEN[file][2]:
+        yield from different_scripts([program, *words], (*fixed, *random_cases(monitor, scripts, seed)))
 
 
 def build(machine, compiler, place, program, file="monitor.c"):
@@ -136,20 +128,18 @@ def check_driven_demo(tally, machine, folder):
         tally.tried.leave_out("wrong demos")
         return
     program, place = folder / "driven", folder / "wrong-demo"
-    for file, cases, scripts in (("monitor.c", len(CASES) + len(cases_of_loads()) + 2, SCRIPTS),
-                                 ("lines.c", len(CASES_OF_LEVEL), 2 * SCRIPTS_OF_LINES)):
+    for file, (_, _, ways) in DRIVEN.items():
         if tally.run(f"the driven {file} is built", build(machine, compiler, DEMO, program, file), number=0):
-            found = list(DRIVEN[file][2](program, random.randrange(10**9)))
-            tally.check(not found, "\n".join(found[:3]), cases)
-            tally.tried.add("random scripts of the demo", scripts)
+            found = list(differences(file, program, random.randrange(10**9)))
+            tally.check(not found, "\n".join(found[:3]), sum(len(fixed) for _, _, fixed, _ in ways))
+            tally.tried.add("random scripts of the demo", sum(scripts for *_, scripts in ways))
     tally.of("wrong demos")
-    shutil.rmtree(place, ignore_errors=True)
-    place.mkdir()
-    for bug in read_bugs(WRONG, "monitor.c"):
-        source = (DEMO / bug.file).read_text(encoding="utf-8")
-        (place / bug.file).write_text(source.replace(bug.old, bug.new), encoding="utf-8")
+    for number, bug in enumerate(read_bugs(TESTS / "wrong-demos.edits", "monitor.c")):
+        source, wrong = (DEMO / bug.file).read_text(encoding="utf-8"), place / str(number)
+        wrong.mkdir(parents=True)
+        (wrong / bug.file).write_text(source.replace(bug.old, bug.new), encoding="utf-8")
         stands = source.count(bug.old)
         if tally.check(stands == 1, f"{bug.name}: its text stands {stands} times in {bug.file}", 0) \
-                and tally.run(f"the wrong demo {bug.name} is built", build(machine, compiler, place, program, bug.file),
+                and tally.run(f"the wrong demo is built: {bug.name}", build(machine, compiler, wrong, program, bug.file),
                               number=0):
-            tally.check(any(DRIVEN[bug.file][2](program)), f"the wrong demo {bug.name} is not refused")
+            tally.check(any(differences(bug.file, program)), f"the wrong demo is not refused: {bug.name}")

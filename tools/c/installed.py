@@ -9,6 +9,7 @@ from libraries import PREBUILT, SHARED, STATIC, TARGETS, BuildError, build, libr
 from programs import DEMO, TESTS
 from tally import run
 
+LIBRARIES = [PREBUILT / target / name for target in sorted(TARGETS) for name in (STATIC, SHARED)]
 # What the libraries may need: a compiler copies structs by it, so each C program has it.
 NEEDED = {"memcpy"}
 # The number that the header of an object file gives to a processor.
@@ -33,7 +34,6 @@ def has_same_bytes(path, other):
 
 def check_build(tally):
     """Counts whether a build from the proofs gives the same bytes."""
-    names = [f"{target}/{name}" for target in TARGETS for name in (STATIC, SHARED)]
     if not tally.has("rt", "a build of the libraries from the proofs"):
         return
     with tempfile.TemporaryDirectory() as name:
@@ -42,16 +42,23 @@ def check_build(tally):
         except BuildError as error:
             tally.check(False, str(error))
             return
-        for library in names:
-            tally.check(has_same_bytes(Path(name) / library, PREBUILT / library),
-                        f"prebuilt/{library} has other bytes than a build: run tools/c/prebuild")
+        for library in LIBRARIES:
+            tally.check(has_same_bytes(Path(name) / library.relative_to(PREBUILT), library),
+                        f"{library} has other bytes than a build: run tools/c/prebuild")
 
 
 def symbols(library):
-    """The functions that a library defines, and the names that it needs."""
-    words = ["nm", "--dynamic"] if library.name == SHARED else ["nm"]
+    """The functions that a library defines, and the names that it cannot do without."""
+    words = ["nm", "--dynamic"] if ".so" in library.name else ["nm"]
     pairs = [line.split()[-2:] for line in run([*words, library]).stdout.splitlines() if len(line.split()) > 1]
-    return {name for kind, name in pairs if kind == "T"}, {name for kind, name in pairs if kind == "U"}
+    return {name for kind, name in pairs if kind == "T"}, {name.split("@")[0] for kind, name in pairs if kind == "U"}
+
+
+def check_symbols_of(tally, library, may_need):
+    """Counts whether a library has the functions that the header declares, and needs no others than these."""
+    (defined, needed), declared = symbols(library), read_header().functions.keys()
+    tally.check(defined == declared, f"{library}: not as declared: {sorted(defined ^ declared)}")
+    tally.check(needed <= may_need, f"{library} needs {sorted(needed - may_need)}")
 
 
 def processors(library):
@@ -62,20 +69,16 @@ def processors(library):
 
 def check_processors(tally):
     """Counts whether each library is for the processor of its folder. Here one may be neither linked nor run."""
-    for library in (PREBUILT / target / name for target in sorted(TARGETS) for name in (STATIC, SHARED)):
+    for library in LIBRARIES:
         found = processors(library)
         tally.check(found == {PROCESSORS[library.parent.name]}, f"{library} is for the processors {found}")
 
 
 def check_symbols(tally):
     """Counts whether each library has the functions that the header declares, and needs no other library."""
-    if not tally.has("nm", "the symbols of the libraries"):
-        return
-    declared = read_header().functions.keys()
-    for library in (PREBUILT / target / name for target in sorted(TARGETS) for name in (STATIC, SHARED)):
-        defined, needed = symbols(library)
-        tally.check(defined == declared, f"{library}: not as declared: {sorted(defined ^ declared)}")
-        tally.check(needed <= NEEDED, f"{library} needs {sorted(needed - NEEDED)}")
+    if tally.has("nm", "the symbols of the libraries"):
+        for library in LIBRARIES:
+            check_symbols_of(tally, library, NEEDED)
 
 
 def check_declarations(tally):
@@ -83,10 +86,9 @@ def check_declarations(tally):
     for side in (PROVED, CALLER):
         found = list(differences(side))
         tally.check(not found, "\n".join(found))
-    for name in ("calls.c", "fuzz.c"):
-        called = re.findall(r"\b(superio_\w+)\(", (TESTS / name).read_text(encoding="utf-8"))
-        left = read_header().functions.keys() - {"superio_abi", *called}
-        tally.check(not left, f"{name} does not call {sorted(left)}")
+    called = re.findall(r"\b(superio_\w+)\(", (TESTS / "replay.c").read_text(encoding="utf-8"))
+    left = read_header().functions.keys() - set(called)
+    tally.check(not left, f"replay.c does not call {sorted(left)}")
 
 
 def check_versions(tally):

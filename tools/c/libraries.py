@@ -8,7 +8,9 @@ import tempfile
 import time
 from pathlib import Path
 
-ROOT = Path(__file__).resolve().parent.parent.parent
+ROOT = Path(__file__).resolve().parents[2]
+sys.path.append(str(ROOT / "tools" / "checks"))  # what all checks share
+
 CRATE = ROOT / "crates" / "superio_c"
 PREBUILT = ROOT / "prebuilt"
 HEADER = ROOT / "include" / "superio.h"

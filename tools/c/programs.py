@@ -1,11 +1,14 @@
-"""The programs that are built with the C library: tests, the comparison with a model, and the demo."""
+"""The programs that are built with the C library for a machine: tests of the header and of calls, pastes, and the demo."""
+import lzma
 import random
 import re
 import shutil
+from functools import lru_cache
 
 from declarations import assertions
 from libraries import ROOT
 from machines import C
+from random_calls import write_calls
 from tally import run
 
 TESTS = ROOT / "tools" / "c" / "tests"
@@ -23,8 +26,6 @@ OTHER_ABI = """#include <superio.h>
 uint32_t superio_abi(void) { return (uint32_t)(SUPERIO_ABI + DIFFERENCE); }
 int main(void) { return SUPERIO_ABI_MATCHES() == (DIFFERENCE == 0) ? 0 : 1; }
 """
-
-
 # The header, which may be read twice, and leaves none of the names that it uses for itself.
 ALONE = "#include <superio.h>\n#include <superio.h>\n" + "".join(
     f"#ifdef SUPERIO_{name}\n#error SUPERIO_{name}\n#endif\n"
@@ -33,12 +34,6 @@ ALONE = "#include <superio.h>\n#include <superio.h>\n" + "".join(
 AFTERWARDS = """#include <superio.h>
 void never(int it) __attribute__((diagnose_if(it, "", "warning")));
 """
-
-
-def build_and_run(tally, what, build, program, expected=None, runner=()):
-    """Counts whether a program is built, and then whether it does what it should."""
-    if tally.run(f"{what} is built", build):
-        tally.run(what, [*runner, program], expected)
 
 
 def check_header(tally, machine, folder):
@@ -58,14 +53,58 @@ def check_header(tally, machine, folder):
                 tally.check("[-Werror,-Wgcc-compat]" in said, f"the header silences {compiler.title}:\n{said}")
 
 
+def compilers_of(tally, machine, what, is_c_alone=True):
+    """The compilers of a machine whose programs can run here. Each of the others counts as skipped."""
+    return [it for it in machine.compilers if (it.language == C or not is_c_alone) and machine.can(tally, it, what)]
+
+
+def watched(machine):
+    """The options of a long test. What is emulated has no sanitizers."""
+    return SANITIZERS if machine.is_host else ["-O2"]
+
+
+@lru_cache(maxsize=None)
+def recorded(folder):
+    """A file of calls, and how many they are: those that are C's own, and then those of tests/calls. The first two begin with
+    new devices, or with such a clock."""
+    calls = ROOT / "tests" / "calls"
+    own, *others = [path.read_text(encoding="ascii") for path in (TESTS / "own.txt", *calls.glob("*.txt"))]
+    texts = [own, lzma.decompress((calls / "calls.txt.xz").read_bytes()).decode(), *others]
+    (folder / "recorded").write_text("".join(texts), encoding="ascii")
+    return folder / "recorded", sum(text.count(" = ") for text in texts)
+
+
+@lru_cache(maxsize=None)
+def drawn(folder):
+    """A file of random calls, with a message for each kind of them that is too rare."""
+    return folder / "drawn", write_calls(folder / "drawn", CALLS)
+
+
+def replay(tally, what, program, machine, calls, count, number=1):
+    """Counts whether the program that makes calls finds none that does something else."""
+    with open(calls, encoding="ascii") as given:
+        tally.run(what, [*machine.runner, program], f"{count} calls did the same, 0 did not\n", number, stdin=given)
+
+
 def check_calls(tally, machine, folder):
-    """Counts whether each function does what the data sheets say, called from C and from C++."""
-    for compiler in machine.compilers:
-        if machine.can(tally, compiler, "calls of each function"):
-            program = folder / "calls"
-            build = machine.program(compiler, [TESTS / "calls.c"], program, ["-O1"])
-            what = f"calls.c for {machine.target} under {compiler.title}"
-            build_and_run(tally, what, build, program, "", machine.runner)
+    """Counts whether each function does what was recorded and what the data sheets say, called from C and from C++."""
+    for compiler in compilers_of(tally, machine, "calls of each function", is_c_alone=False):
+        what = f"{machine.target} under {compiler.title}"
+        if tally.run(f"replay.c for {what} is built", machine.program(compiler, [TESTS / "replay.c"], folder / "calls",
+                                                                     ["-O1"])):
+            replay(tally, f"calls for {what}", folder / "calls", machine, *recorded(folder))
+
+
+def check_random_calls(tally, machine, folder):
+    """Counts whether a million random calls do what a search of the past says."""
+    compiler = next((it for it in machine.compilers if it.language == C and shutil.which(it.name)), machine.compilers[0])
+    if machine.can(tally, compiler, "random calls"):
+        build = machine.program(compiler, [TESTS / "replay.c"], folder / "random", watched(machine))
+        if tally.run("replay.c is built", build, number=0):
+            calls, rare = drawn(folder)
+            for message in rare:
+                tally.check(False, message, 0)
+            replay(tally, tally.kind, folder / "random", machine, calls, CALLS, CALLS)
 
 
 def check_other_abi(tally, machine, folder):
@@ -76,37 +115,14 @@ def check_other_abi(tally, machine, folder):
         for difference in (0, 1, -1, 256, 65536):
             if machine.can(tally, compiler, "a library of another binary interface"):
                 build = compiler.command([source], [*machine.options, f"-DDIFFERENCE={difference}", "-o", program])
-                build_and_run(tally, f"a library of interface {difference:+}", build, program, None, machine.runner)
-
-
-def watched(machine):
-    """The options of a long test. What is emulated has no sanitizers."""
-    return SANITIZERS if machine.is_host else ["-O2"]
-
-
-def fuzz_build(machine, compiler, program):
-    """The words that build the comparison with the model."""
-    return machine.program(compiler, [TESTS / "fuzz.c", TESTS / "model.c"], program, watched(machine))
-
-
-def check_fuzz(tally, machine, folder):
-    """Counts whether a million random calls do what the model does."""
-    compiler = next((it for it in machine.compilers if it.language == C and shutil.which(it.name)), machine.compilers[0])
-    tally.of(f"random calls for {machine.target}")
-    if machine.can(tally, compiler, "random calls"):
-        program = folder / "fuzz"
-        if tally.run("the comparison with the model is built", fuzz_build(machine, compiler, program), number=0):
-            command = [*machine.runner, program, str(CALLS), "1"]
-            tally.run(tally.kind, command, f"{CALLS} calls\n", CALLS)
+                if tally.run(f"a library of interface {difference:+} is built", build):
+                    tally.run(f"a library of interface {difference:+}", [*machine.runner, program])
 
 
 def check_pastes(tally, machine, folder):
     """Counts whether pastes reach the guests whole with the character timeout, and get stuck without it."""
     program, seed = folder / "pastes", str(random.randrange(10**9))
-    tally.of(f"pastes for {machine.target}")
-    for compiler in machine.compilers:
-        if compiler.language != C or not machine.can(tally, compiler, "pastes"):
-            continue
+    for compiler in compilers_of(tally, machine, "pastes"):
         build = machine.program(compiler, [TESTS / "pastes.c"], program, watched(machine))
         if tally.run(f"{tally.kind} under {compiler.name} are built", build, number=0):
             for options in ([], ["--without-timeout"]):
@@ -115,31 +131,30 @@ def check_pastes(tally, machine, folder):
                             sum(map(int, re.findall(r"(\d+) pastes", ran.stdout))))
 
 
-def check_examples(tally, compiler, machine, folder):
-    """Counts whether the examples of a paste, which is more than the FIFO holds, reach the guest whole: by polling, and by
-    interrupts of both kinds."""
-    for name, printed in EXAMPLES.items():
-        what = f"{name}.c for {machine.target} under {compiler.name}"
-        build = machine.program(compiler, [DEMO / f"{name}.c"], folder / name, ["-O1"])
-        build_and_run(tally, what, build, folder / name, printed, machine.runner)
-
-
-def check_demo(tally, what, make, machine, folder):
-    """Counts whether the demo builds by its Makefile, and prints what it should."""
-    place = folder / "demo"
-    shutil.rmtree(place, ignore_errors=True)
-    shutil.copytree(DEMO, place, ignore=shutil.ignore_patterns("monitor"))
-    expected = (DEMO / "expected").read_text(encoding="utf-8")
-    if tally.run(f"{what} is built", ["make", "-s", *make], cwd=place):
-        tally.run(what, [*machine.runner, "./monitor"], expected, cwd=place)
-
-
 def check_demos(tally, machine, folder):
-    """Counts what the demo does with the library of the repository."""
-    for compiler in machine.compilers:
-        if compiler.language != C or not machine.can(tally, compiler, "the demo"):
-            continue
-        check_examples(tally, compiler, machine, folder)
+    """Counts whether the examples of a paste, which is more than the FIFO holds, reach the guest whole, by polling and by
+    interrupts of both kinds; and whether the demo builds by its Makefile, and prints what it should."""
+    for compiler in compilers_of(tally, machine, "the demo"):
+        what, place = f"for {machine.target} under {compiler.name}", folder / "demo"
+        for name, printed in EXAMPLES.items():
+            build = machine.program(compiler, [DEMO / f"{name}.c"], folder / name, ["-O1"])
+            if tally.run(f"{name}.c {what} is built", build):
+                tally.run(f"{name}.c {what}", [*machine.runner, folder / name], printed)
         if tally.has("make", "the demo"):
+            shutil.rmtree(place, ignore_errors=True)
+            shutil.copytree(DEMO, place, ignore=shutil.ignore_patterns("monitor"))
             make = [f"CC={' '.join([compiler.name, *machine.options])}", f"ROOT={ROOT}", f"LIBRARY={machine.library}"]
-            check_demo(tally, f"the demo for {machine.target} under {compiler.name}", make, machine, folder)
+            if tally.run(f"the demo {what} is built", ["make", "-s", *make], cwd=place):
+                tally.run(f"the demo {what}", [*machine.runner, "./monitor"],
+                          (DEMO / "expected").read_text(encoding="utf-8"), cwd=place)
+
+
+# What is checked on each machine, with its kind. All but the header and the number are checked of a library from source too.
+CHECKS = {check_header: "checks of header", check_calls: "checks of calls", check_other_abi: "checks of other abi",
+          check_random_calls: "random calls", check_pastes: "pastes", check_demos: "checks of demos"}
+OF_SOURCE = {check: kind for check, kind in CHECKS.items() if check not in (check_header, check_other_abi)}
+
+
+def check_machine(tally, machine, folder, checks=None):
+    for check, kind in (checks or CHECKS).items():
+        tally.carry_out(f"{kind} for {machine.target}", check, machine, folder)

@@ -1,49 +1,134 @@
-"""The repository's documents: which there are, their fenced blocks, the text between, and how a check of them ends."""
+"""The repository's documents, as one reader of Markdown shows them to all checks, and how a check of them ends."""
 import re
+import sys
+from functools import cached_property
 from pathlib import Path
+from typing import NamedTuple
+
+from program import reason
+from tried import Tried
+from usage import takes_no_argument
 
 ROOT = Path(__file__).resolve().parents[2]
 # Folders of what is built.
 BUILT = {"out", "target", "build", "__pycache__"}
-FENCED = re.compile(r"^( *)```.*?^\1```$", re.M | re.S)
+BLOCK = re.compile(r"^( *)```(\w*)\n(.*?)^\1```$", re.M | re.S)
+CODE = re.compile(r"(?<!`)(`+)(?!`)(.+?)(?<!`)\1(?!`)")
+HEADING = re.compile(r"^#+ +(.*?) *$", re.M)
+LINK = re.compile(r"(?:\[([^][\n]*))?\]\(([^()\s]+)(?: \"[^\"\n]*\"| '[^'\n]*')?\)")
+
+
+class Block(NamedTuple):
+    """A fenced block: the number of its first line, its language, its lines without what it is indented by, the last
+    line of text since the block before, and whether a heading stands there."""
+    number: int
+    language: str
+    lines: list
+    before: str
+    is_after_heading: bool
+
+
+class Row(NamedTuple):
+    """A row of a table: the number of its line, the heading above, the table's head, and its own cells."""
+    number: int
+    heading: str
+    head: list
+    cells: list
+
+
+class Document:
+    """A document by its path from the top of the repository, or of another one."""
+
+    def __init__(self, path, root=ROOT):
+        self.path = Path(path)
+        self.text = (root / path).read_text(encoding="utf-8")
+
+    def __str__(self):
+        return str(self.path)
+
+    @cached_property
+    def blocks(self):
+        found, end = [], 0
+        for block in BLOCK.finditer(self.text):
+            between = self.text[end:block.start()]
+            lines = [line.removeprefix(block[1]) for line in block[3].splitlines()]
+            before = [line for line in between.splitlines() if line.strip()]
+            found.append(Block(self.text.count("\n", 0, block.start(3)) + 1, block[2], lines,
+                               before[-1] if before else "", bool(HEADING.search(between))))
+            end = block.end()
+        return found
+
+    @cached_property
+    def prose(self):
+        """The text without its fenced blocks, whose lines are left empty. Code in tags is in backticks."""
+        text = BLOCK.sub(lambda block: "\n" * block[0].count("\n"), self.text)
+        return re.sub(r"</?code>", "`", text)
+
+    @property
+    def lines(self):
+        """The lines of the prose, each with its number."""
+        return enumerate(self.prose.splitlines(), 1)
+
+    @property
+    def headings(self):
+        return HEADING.findall(self.prose)
+
+    @property
+    def links(self):
+        """The links outside code that have a text in brackets: the text, whose code has no brackets, and the target."""
+        return LINK.findall(CODE.sub(lambda code: re.sub(r"[][]", "", code[0]), self.prose))
+
+    @property
+    def rows(self):
+        heading, head = "", None
+        for number, line in self.lines:
+            heading = line if line.startswith("#") else heading
+            cells = [cell.strip() for cell in line.strip().strip("|").split(" | ")] if line.startswith("|") else None
+            if head and cells and set(line) - set("|- :"):
+                yield Row(number, heading, head, cells)
+            head = (head or cells) if cells else None
+
+
+def code_in(text):
+    """The code in a text: each with what follows it in its line."""
+    return [(code[2], text[code.end():].partition("\n")[0]) for code in CODE.finditer(text)]
 
 
 def documents():
-    """Each document, README.md first, by its path from the top of the repository."""
+    """Each document, README.md first."""
     found = [path.relative_to(ROOT) for path in ROOT.rglob("*.md")]
     kept = [path for path in found if not BUILT & set(path.parts) and not path.parts[0].startswith(".")]
-    return sorted(kept, key=lambda path: (len(path.parts), path))
+    return [Document(path) for path in sorted(kept, key=lambda path: (len(path.parts), path))]
 
 
-def text_of(document):
-    """The text of a document."""
-    return (ROOT / document).read_text(encoding="utf-8")
+def judged(kind, is_good, fault):
+    """A result of one thing that is good, or has this fault."""
+    return kind, [] if is_good else [fault]
 
 
-def prose(document):
-    """The text of a document without its fenced blocks, whose lines are left empty. Code in tags is in backticks."""
-    text = FENCED.sub(lambda block: "\n" * block[0].count("\n"), text_of(document))
-    return re.sub(r"</?code>", "`", text)
-
-
-def fenced_blocks(document):
-    """The fenced blocks that begin at the start of a line, each as its lines with their numbers."""
-    block = None
-    for number, line in enumerate(text_of(document).splitlines(), 1):
-        if line.startswith("```"):
-            if block:
-                yield block
-            block = [] if block is None else None
-        elif block is not None:
-            block.append((number, line))
-
-
-def finish(faults, tried, skipped=0):
-    """Prints what is wrong, how much of each kind was tried, and the sum. Returns the exit status: 1 if something is
-    wrong, or if nothing was tried."""
-    faults = faults if any(tried.values()) else [*faults, "nothing was checked"]
-    print("\n".join([*faults, *(f"tried: {number} {kind}" for kind, number in tried.items())]))
-    failed = len(faults)
-    passed = max(sum(tried.values()) - failed, 0)
+def finish(results):
+    """Prints what is wrong, how much of each kind was tried, and the sum. A result is a kind and its faults, which are
+    `None` if it cannot be tried here. Returns the exit status: 1 if something is wrong, or if nothing was tried."""
+    tried, faults = Tried(), []
+    try:
+        for kind, found in results:
+            if found is None:
+                tried.leave_out(kind)
+            else:
+                tried.add(kind)
+                faults += found
+    except OSError as error:
+        faults.append(reason(error))
+    if not tried.counts and not faults:
+        faults.append("nothing was checked")
+    failed, skipped = len(faults), len(tried.left_out)
+    passed = max(sum(tried.counts.values()) - failed, 0)
+    print(*faults, *tried.lines(), sep="\n")
     print(f"{passed} passed, {failed} failed" + (f", {skipped} skipped" if skipped else ""))
-    return 1 if failed else 0
+    return 1 if faults else 0
+
+
+def run(check, said):
+    """Runs a check of documents that takes no argument, and ends. `said` is what it says of itself."""
+    takes_no_argument(said)
+    sys.exit(finish(check()))

@@ -1,83 +1,21 @@
-"""Edits, files that turn one function of a crate into a wrong one: what each says, where it is, and which share a round."""
+"""Edits, which turn one function of a crate into a wrong one: what each says, where it is, and which share a round."""
 import re
 from collections import Counter
 from dataclasses import dataclass, field
 from pathlib import Path
 
-# What is no code: comments, strings, characters.
-NO_CODE = re.compile(r'//[^\n]*|/\*.*?\*/|r(#*)".*?"\1|"(?:\\.|[^"\\])*"|\'(?:\\.|[^\'\\\n])\'', re.S)
-HEAD = re.compile(r"\bfn\s+(\w+)")
-BLOCK = re.compile(r"^[ \t]*(?:unsafe\s+)?impl\b([^{;]*)\{", re.M)
-# What precedes the brace of a clause, and never that of a body.
-CLAUSE = re.compile(r"\b(?:requires|ensures|ghost)\b\*?\s*(?:\w+\s*:?)?\s*$")
-ENSURES = re.compile(r"\bensures\b(\*?)\s*(\w*)\s*\{")
-ABOVE = re.compile(r"(?:^[ \t]*(?:#\[|//).*\n)*\Z", re.M)
-NESTED = re.compile(r"<[^<>]*>")
+from contracts import functions_of, without_generics
 
 
-@dataclass(frozen=True)
-class Function:
-    """A function of a source: its name, the pattern of its `impl` in its path, its place, and its clauses, each as a star
-    or nothing and its name, which may be empty."""
-    name: str
-    owner: str
-    start: int
-    end: int
-    clauses: tuple = ()
-
-    @property
-    def main_clause(self):
-        """The clause that a goal is about which names none: the only one, or else the only one with a star."""
-        clauses = self.clauses if len(self.clauses) == 1 else [it for it in self.clauses if it[0]]
-        return clauses[0][1] if len(clauses) == 1 else ""
-
-    def lines(self, text):
-        """The first and last line, with the attributes and comments above the head."""
-        above = ABOVE.search(text[:text.rfind("\n", 0, self.start) + 1])
-        return text.count("\n", 0, above.start()) + 1, text.count("\n", 0, self.end) + 1
-
-
-def only_code(text):
-    """The text with blanks in place of all that is no code."""
-    return NO_CODE.sub(lambda found: re.sub(r"[^\n]", " ", found[0]), text)
-
-
-def end_of_braces(code, at):
-    """The place after the brace that closes the one at a place."""
-    depth = 0
-    for place in range(at, len(code)):
-        depth += (code[place] == "{") - (code[place] == "}")
-        if depth == 0:
-            return place + 1
-    return len(code)
-
-
-def body_of(code, at):
-    """The place of the body of the function whose head ends at a place, and the one after it, `None` if it has none."""
-    depth, last = 0, at
-    while at < len(code):
-        depth += (code[at] in "([") - (code[at] in ")]")
-        if code[at] == ";" and depth == 0:
-            return None
-        if code[at] == "{" and depth == 0:
-            end = end_of_braces(code, at)
-            if not CLAUSE.search(code[last:at]):
-                return at, end
-            at = last = end
-        else:
-            at += 1
-    return None
-
-
-def owner_of(header):
+def pattern_of(header):
     """The pattern of what an `impl` puts into the paths of its functions: `Serial`, or `LineTrigger` of a trait, whose
     arguments follow it. The types in place of its parameters may follow the type."""
     parameters, header = split_off_parameters(header.split(" where ")[0])
-    names = [[it for it in re.findall(r"\w+", part)] for part in without_nested(header).split(" for ")]
+    names = [re.findall(r"\w+", part) for part in without_generics(header).split(" for ")]
     if len(names) == 1:
         return rf"{names[0][-1]}(?:\+\S*)?"
     trait = re.search(r"(\w+)\s*(?:<(.*)>)?\s* for ", header, re.S)
-    arguments = [it for it in re.findall(r"\w+", without_nested(trait[2] or "")) if it not in parameters]
+    arguments = [it for it in re.findall(r"\w+", without_generics(trait[2] or "")) if it not in parameters]
     return rf"{names[1][-1]}\w*{trait[1]}{''.join(arguments)}"
 
 
@@ -92,31 +30,9 @@ def split_off_parameters(header):
     return [], header
 
 
-def without_nested(text):
-    """A text without what is in angle brackets."""
-    while NESTED.search(text):
-        text = NESTED.sub("", text)
-    return text
-
-
-def functions_of(text):
-    """The functions of a source that have a body, in the order of their heads."""
-    code = only_code(text)
-    blocks = [(found.start(), end_of_braces(code, found.end() - 1), owner_of(found[1]))
-              for found in BLOCK.finditer(code)]
-    functions = []
-    for head in HEAD.finditer(code):
-        body = body_of(code, head.end())
-        owner = [name for first, last, name in blocks if first <= head.start() < last]
-        if body:
-            clauses = ENSURES.findall(code[head.end():body[0]])
-            functions.append(Function(head[1], owner[-1] if owner else "", head.start(), body[1], tuple(clauses)))
-    return functions
-
-
 def function_at(text, place):
     """The innermost function around a place, `None` if there is none."""
-    around = [function for function in functions_of(text) if function.start <= place < function.end]
+    around = [it for it in functions_of(text) if it.has_body and it.start <= place < it.end]
     return around[-1] if around else None
 
 
@@ -125,7 +41,7 @@ def has_path(file, function, path):
     else its module."""
     *modules, name = path.split("::")
     stem = Path(file).stem
-    pattern = function.owner or (modules[0] if stem in ("lib", "main") else stem)
+    pattern = pattern_of(function.header) if function.header else modules[0] if stem in ("lib", "main") else stem
     return name == function.name and bool(re.fullmatch(pattern, modules[-1]))
 
 

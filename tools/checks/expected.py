@@ -85,13 +85,13 @@ def clock_text(lr, mr, imsc, ris, ahead, *others):
 
 
 class Monitor:
-    """The devices of recorded calls, as tests/calls/README.md describes them. The methods with the name of a call
-    return its reply, and the calls of objects in it."""
+    """The devices of recorded calls, as tests/calls/README.md describes them: those of the oracle, or others of their
+    interface. The methods with the name of a call return its reply, and the calls of objects in it."""
 
-    def __init__(self):
+    def __init__(self, port=Port, clock=Clock):
         self.words = []               # how the objects behave in a call
-        self.port = Port(lambda number: str(number) in self.words, lambda: self.words)
-        self.clock = Clock()
+        self.port = port(lambda number: str(number) in self.words, lambda: self.words)
+        self.clock = clock()
 
     def reply(self, line):
         """What stands after ` = ` in a line of a recording, of what stands before."""
@@ -99,28 +99,15 @@ class Monitor:
         self.words = []
         while fields and fields[-1] in ("1", "2", "n", "f", "i", "u"):
             self.words.append(fields.pop())
-        reply, did = getattr(self, name)(*fields)
+        port, before = self.port, len(self.port.past)
+        calls = {"sr": lambda: port.read(*numbers(fields)), "sw": lambda: port.write(*numbers(fields)),
+                 "sq": lambda: port.enqueue(bytes.fromhex(fields[0].strip("-"))),
+                 "si": port.character_timeout, "sp": port.retry}
+        if name in calls:
+            reply, did = calls[name](), port.did(before)
+        else:
+            reply, did = getattr(self, name)(*fields)
         return " ".join([reply, *did])
-
-    def called(self, call, *arguments):
-        """A call of the port that is no restore."""
-        before = len(self.port.past)
-        return call(*arguments), self.port.did(before)
-
-    def sr(self, *fields):
-        return self.called(self.port.read, *numbers(fields))
-
-    def sw(self, *fields):
-        return self.called(self.port.write, *numbers(fields))
-
-    def sq(self, digits):
-        return self.called(self.port.enqueue, bytes.fromhex(digits.strip("-")))
-
-    def si(self):
-        return self.called(self.port.character_timeout)
-
-    def sp(self):
-        return self.called(self.port.retry)
 
     def sc(self):
         return f"{self.port.room():02x}", ()

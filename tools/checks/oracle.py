@@ -11,10 +11,10 @@ from pathlib import Path
 from typing import NamedTuple
 
 sys.path.append(str(Path(__file__).resolve().parents[2] / "bindings" / "python"))
+from superio import SerialState  # noqa: E402
+from superio.library import FIFO_SIZE  # noqa: E402
 from superio.registers import (CLOCK, DLAB, FIFO_BITS, IDENTIFICATION, LOOPBACK, SERIAL,  # noqa: E402
                                bits_by_name, clock_register, serial_register)
-from superio.states import SerialState  # noqa: E402
-from superio.structs import FIFO_SIZE  # noqa: E402
 
 REGISTERS = ("DLL", "DLM", "IER", "IIR", "LCR", "LSR", "MCR", "MSR", "SCR")      # in the order of a saved state
 BY_OFFSET, WITH_LATCH = ([serial_register(offset, latch, False).name for offset in range(8)] for latch in (0, DLAB))

@@ -2,12 +2,12 @@
 import re
 from dataclasses import dataclass
 
-ENTRY = re.compile(r"edit: (\w+)\n# [^\n]+\n(?:file: (\S+)\n)?old:\n(.*)\nnew:\n(.*)", re.S)
+ENTRY = re.compile(r"(?:(\S+\.\w+): )?(\S.*)\n((?:-.*\n)+)((?:\+.*\n)*)")
 
 
 @dataclass(frozen=True)
 class Bug:
-    """A bug: its name, the file that it goes into, and the text that it takes the place of, which stands there once."""
+    """A bug: what it does, the file that it goes into, and the text that it takes the place of, which stands there once."""
     name: str
     file: str
     old: str
@@ -15,9 +15,11 @@ class Bug:
 
 
 def read_bugs(path, file=None):
-    """Reads a file of bugs, with an empty line between two. Those that name no file go into `file`."""
-    for entry in re.split(r"\n{2,}", path.read_text(encoding="utf-8").strip("\n")):
-        found = ENTRY.fullmatch(entry)
-        if not found or not (found[2] or file):
+    """Reads a file of bugs, with an empty line between two. The first line of each says what the bug does, perhaps after the
+    name of its file, which is `file` otherwise. As in a patch, `-` begins the lines that go, and `+` those that come."""
+    for entry in path.read_text(encoding="utf-8").strip("\n").split("\n\n"):
+        found = ENTRY.fullmatch(f"{entry}\n")
+        if not found or not (found[1] or file):
             raise ValueError(f"{path.name}: no bug begins as {entry[:60]!r} does")
-        yield Bug(found[1], found[2] or file, found[3], found[4])
+        old, new = ("\n".join(line[1:] for line in lines.splitlines()) for lines in found.groups()[2:])
+        yield Bug(found[2], found[1] or file, old, new)

@@ -2,7 +2,8 @@
 import re
 from dataclasses import dataclass, field
 
-from edits import functions_of, has_path
+from contracts import functions_of
+from edits import has_path
 
 PLACE = re.compile(r"(note: )?(?:\./)?((?:src|specs|proofs)/[^:\s]+):(\d+):\d+: (.*)")
 UNPROVED = re.compile(r"fn (\S+): (?:not proved|no proof)\b(.*)")
@@ -11,6 +12,8 @@ GOAL = re.compile(r"\((?:in )?`([^`]+)`\)|^error: `([^`]+)`: ")
 # An error of the compiler, and one of a text that the prover could not even read.
 NO_COMPILE = re.compile(r"error\[")
 NOT_READ = re.compile(r"is not in scope|has no field|is no name|operand is missing|expected the end|cannot continue")
+# The last line of a check of some functions.
+ONLY = re.compile(r"only=(\d+) proved=(\d+)")
 # A goal that joins clauses, with the statement of each.
 JOINED = re.compile(r"note: `([^`]+)` of (?:\./)?(proofs/\S+/)\w+\.antt must prove: record \{(.*)\}$")
 LINES_OF_TAIL = 5
@@ -86,11 +89,20 @@ class Said:
         return [error for error in self.errors if error.is_of_text and not error.file.startswith(folders)]
 
 
+def verdict_of(lines):
+    """Whether a check proved all that it was to prove, `None` if it reached no verdict."""
+    for line in reversed(lines):
+        if found := ONLY.fullmatch(line):
+            return found[1] == found[2]
+        if line.startswith("logic="):
+            return {"logic=proved": True, "logic=not-proved": False}.get(line.split()[0])
+    return None
+
+
 def read_said(lines, status):
     """Reads the lines and the exit status of a check."""
-    verdicts = [line for line in lines if line.startswith("logic=")]
-    said = Said(status == 1 and bool(verdicts) and verdicts[-1].startswith("logic=not-proved"))
-    said.is_proved = status == 0 and bool(verdicts) and verdicts[-1].startswith("logic=proved ")
+    verdict = verdict_of(lines)
+    said = Said(has_verdict=status == 1 and verdict is False, is_proved=status == 0 and verdict is True)
     for line in lines:
         if found := UNPROVED.match(line):
             said.unproved[found[1]] = found[2]
@@ -133,7 +145,7 @@ def functions_of_edit(edit, texts):
     with this path if it changes something outside any function."""
     found = []
     for file, text in texts.items():
-        for function in functions_of(text):
+        for function in filter(lambda it: it.has_body, functions_of(text)):
             place = Place(file, *function.lines(text), function)
             is_changed = any(it.file == file and place.first <= it.line <= place.last for it in edit.replacements)
             if (edit.is_outside or is_changed) and (not edit.function or has_path(file, function, edit.function)):

@@ -2,14 +2,16 @@
 import os
 import tarfile
 
-from declarations import versions
-from libraries import ROOT, SHARED
-from objects import check_archive, check_jumps, check_object
+from libraries import SHARED
+from objects import check_shared, check_static
+from releases import ARCHIVE
 from tally import run
+from texts import ABI
+from trees import run_example
 
+TESTS = ("c", "rust")
 # What every program of a build finds first, whatever else is installed.
 ENVIRONMENT = {**os.environ, "PATH": "/usr/sbin:/usr/bin:/sbin:/bin"}
-TOOLS = ("dpkg-buildpackage", "dh", "lintian")
 # A copy of this system without its sources of packages, in which what is installed leaves no trace: $1 is a folder.
 COPY = """set -e
 mount -t tmpfs none "$1"
@@ -26,26 +28,34 @@ exec "$@" -- chroot "$root/root"
 
 def build(tally, folder):
     """Builds the packages from the archive of the sources alone. Returns the folder of the sources, or `None`."""
-    archive = folder / "one" / f"fimolavand-{versions()[1]}.tar.gz"
+    archive = folder / "one" / ARCHIVE
     if not archive.exists():
-        tally.skip("a release", "the packages of Debian")
-        return None
+        return tally.skip("a release", "the packages of Debian")
     with tarfile.open(archive) as sources:
         sources.extractall(folder / "debian")
     tree = next((folder / "debian").iterdir())
     lacking = run(["dpkg-checkbuilddeps"], cwd=tree, env=ENVIRONMENT)
     if lacking.returncode:
-        tally.skip(lacking.stdout.strip().rpartition(": ")[2], "the packages of Debian")
-        return None
-    ran = run(["dpkg-buildpackage", "-us", "-uc", "-b"], cwd=tree, env=ENVIRONMENT)
-    return tree if tally.check(ran.returncode == 0, f"dpkg-buildpackage:\n{ran.stdout}") else None
+        return tally.skip(lacking.stdout.strip().rpartition(": ")[2], "the packages of Debian")
+    words = ["dpkg-buildpackage", "-us", "-uc", "-b"]
+    return tree if tally.run("the packages of Debian", words, cwd=tree, env=ENVIRONMENT) else None
 
 
-def check_installed(tally, folder, tree, packages):
+def check_unpacked(tally, root, packages):
+    """Counts what the libraries of the packages have, and whether programs build with what is unpacked."""
+    for package in packages:
+        tally.run(f"{package.name} is unpacked", ["dpkg", "-x", package, root])
+    shared = next(root.rglob(SHARED))
+    check_shared(tally, shared, is_prebuilt=False)
+    check_static(tally, shared.with_name("libsuperio.a"), is_prebuilt=False)
+    for name in TESTS:
+        run_example(tally, name, shared.parent, PATH=ENVIRONMENT["PATH"], CRATE=str(root / "usr/share/superio/rust"))
+
+
+def check_installed(tally, place, tree, packages):
     """Counts whether the packages are installed, and pass their own tests, in a copy of this system."""
     if not all(tally.has(tool, "the installed packages of Debian") for tool in ("autopkgtest", "unshare")):
         return
-    place = folder / "copy"
     place.mkdir()
     inside = ["unshare", "--mount", "sh", "-c", COPY, "sh", place]
     if run([*inside, "true"], env=ENVIRONMENT).returncode:
@@ -53,33 +63,21 @@ def check_installed(tally, folder, tree, packages):
         return
     ran = run([*inside, "autopkgtest", "--no-built-binaries", *packages, tree], env=ENVIRONMENT)
     summary = ran.stdout.rpartition("summary\n")[2]
-    for name in ("c", "rust"):
+    for name in TESTS:
         tally.check(f"{name:20} PASS\n" in summary, f"autopkgtest of {name}: status {ran.returncode}\n{ran.stdout}")
 
 
 def check_debian(tally, folder):
     """Counts whether the packages are built, lintian finds no error in them, and programs build and run with them."""
-    if not all(tally.has(tool, "the packages of Debian") for tool in TOOLS):
+    if not all(tally.has(tool, "the packages of Debian") for tool in ("dpkg-buildpackage", "dh", "lintian")):
         return
     tree = build(tally, folder)
     if tree is None:
         return
     made = {path.name.split("_")[0]: path for path in tree.parent.glob("*.deb")}
-    library = f"libsuperio{versions()[0]}"
+    library = f"libsuperio{ABI}"
     wanted = {library, f"{library}-dbgsym", "libsuperio-dev", "libsuperio-rust-dev"}
     tally.check(wanted == made.keys(), f"the packages are {sorted(made)}")
-    ran = run(["lintian", "--fail-on", "error", *tree.parent.glob("*.changes")], env=ENVIRONMENT)
-    tally.check(ran.returncode == 0, f"lintian:\n{ran.stdout}")
-    root = folder / "root"
-    for package in made.values():
-        tally.run(f"{package.name} is unpacked", ["dpkg", "-x", package, root])
-    shared = next(root.rglob(SHARED))
-    check_object(tally, shared, is_prebuilt=False)
-    check_archive(tally, shared.with_name("libsuperio.a"), is_prebuilt=False)
-    check_jumps(tally, shared)
-    environment = {**ENVIRONMENT, "PKG_CONFIG_PATH": str(shared.parent / "pkgconfig"),
-                   "LD_LIBRARY_PATH": str(shared.parent), "CRATE": str(root / "usr/share/superio/rust")}
-    for name in ("c", "rust"):
-        ran = run([tree / "debian" / "tests" / name], cwd=ROOT, env=environment)
-        tally.check(ran.returncode == 0, f"debian/tests/{name}:\n{ran.stdout}")
-    check_installed(tally, folder, tree, made.values())
+    tally.run("lintian", ["lintian", "--fail-on", "error", *tree.parent.glob("*.changes")], env=ENVIRONMENT)
+    check_unpacked(tally, folder / "root", made.values())
+    check_installed(tally, folder / "copy", tree, made.values())

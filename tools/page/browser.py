@@ -13,6 +13,8 @@ WORDS = ["--headless", "--disable-gpu", "--no-first-run", "--disable-background-
          "--remote-debugging-pipe", *(["--no-sandbox"] if os.geteuid() == 0 else [])]
 LIMIT = 60  # seconds for an answer
 KEYS = {"Tab": 9, "Enter": 13, " ": 32, "ArrowLeft": 37, "ArrowRight": 39, "End": 35, "Home": 36}
+# What a page that is silent does not do.
+COMPLAINTS = ("Runtime.exceptionThrown", "Runtime.consoleAPICalled", "Log.entryAdded")
 
 
 class BrowserError(Exception):
@@ -22,26 +24,23 @@ class BrowserError(Exception):
 class Browser:
     """A page of a browser. `events` has what it told since the page was opened, each as its name and its parameters."""
 
-    def __init__(self):
-        self.folder = tempfile.TemporaryDirectory()
+    def __enter__(self):
+        self.folder = tempfile.mkdtemp()
         to_browser, self.out = os.pipe()
-        source, from_browser = os.pipe()
+        self.source, from_browser = os.pipe()
         # The browser reads commands at 3, and answers at 4.
         shell = f'exec "$@" 3<&{to_browser} 4>&{from_browser}'
-        command = ["bash", "-c", shell, "bash", NAME, *WORDS, f"--user-data-dir={self.folder.name}"]
+        command = ["bash", "-c", shell, "bash", NAME, *WORDS, f"--user-data-dir={self.folder}"]
         self.process = subprocess.Popen(command, pass_fds=(to_browser, from_browser), stdin=subprocess.DEVNULL,
                                         stdout=subprocess.DEVNULL, stderr=subprocess.DEVNULL)
         os.close(to_browser)
         os.close(from_browser)
-        self.source, self.rest = source, b""
-        self.number, self.session, self.events = 0, None, []
+        self.rest, self.number, self.events, self.session = b"", 0, [], {}
         target = self.send("Target.createTarget", url="about:blank")["targetId"]
-        self.session = self.send("Target.attachToTarget", targetId=target, flatten=True)["sessionId"]
-        for domain in ("Page", "Runtime", "Log", "Network"):
+        self.session = {"sessionId": self.send("Target.attachToTarget", targetId=target, flatten=True)["sessionId"]}
+        for domain in ("Page", "Runtime", "Log", "Network", "Accessibility"):
             self.send(f"{domain}.enable")
         self.send("Performance.enable", timeDomain="threadTicks")
-
-    def __enter__(self):
         return self
 
     def __exit__(self, *_):
@@ -49,7 +48,7 @@ class Browser:
         self.process.wait()
         os.close(self.out)
         os.close(self.source)
-        shutil.rmtree(self.folder.name, ignore_errors=True)
+        shutil.rmtree(self.folder, ignore_errors=True)
 
     def message(self):
         """The next message of the browser."""
@@ -64,23 +63,17 @@ class Browser:
     def send(self, method, **parameters):
         """Sends a command, and returns its result."""
         self.number += 1
-        command = {"id": self.number, "method": method, "params": parameters}
-        if self.session:
-            command["sessionId"] = self.session
-        data = json.dumps(command).encode() + b"\0"
+        data = json.dumps({"id": self.number, "method": method, "params": parameters, **self.session}).encode() + b"\0"
         while data:
             data = data[os.write(self.out, data):]
-        while True:
-            message = self.message()
-            if message.get("id") == self.number:
-                if "error" in message:
-                    raise BrowserError(f"{method}: {message['error']['message']}")
-                return message["result"]
+        while (message := self.message()).get("id") != self.number:
             self.events.append((message.get("method"), message.get("params")))
+        if "error" in message:
+            raise BrowserError(f"{method}: {message['error']['message']}")
+        return message["result"]
 
     def open(self, address):
         """Opens an address, and waits until it is loaded."""
-        self.events.clear()
         self.send("Page.navigate", url="about:blank")
         self.events.clear()
         self.send("Page.navigate", url=address)
@@ -110,28 +103,20 @@ class Browser:
         self.send("Input.dispatchKeyEvent", type="keyDown" if text else "rawKeyDown", text=text, **key)
         self.send("Input.dispatchKeyEvent", type="keyUp", **key)
 
-    def look(self, width, height, is_dark=False):
+    def look(self, width, height, scheme="light"):
         """Gives the page a size in pixels and a scheme of colours."""
         self.send("Emulation.setDeviceMetricsOverride", width=width, height=height, deviceScaleFactor=1,
                   mobile=width < 500)
-        features = {"prefers-color-scheme": "dark" if is_dark else "light", "prefers-reduced-motion": "reduce"}
+        features = {"prefers-color-scheme": scheme, "prefers-reduced-motion": "reduce"}
         self.send("Emulation.setEmulatedMedia",
                   features=[{"name": name, "value": value} for name, value in features.items()])
 
-    def picture(self, form="png", **options):
-        """A picture of what is seen."""
-        return base64.b64decode(self.send("Page.captureScreenshot", format=form, **options)["data"])
+    def picture(self, **options):
+        """A picture of what is seen, as PNG."""
+        return base64.b64decode(self.send("Page.captureScreenshot", **options)["data"])
 
     def complaints(self):
         """What the page told on the console, or asked of the network."""
-        for name, told in self.events:
-            if name == "Runtime.exceptionThrown":
-                yield told["exceptionDetails"].get("exception", {}).get("description", "an exception")
-            elif name == "Runtime.consoleAPICalled":
-                yield f"console: {told['args']}"
-            elif name == "Log.entryAdded":
-                yield f"log: {told['entry']['text']}"
-            elif name == "Network.requestWillBeSent":
-                address = told["request"]["url"]
-                if not address.startswith(("file:", "data:", "about:")):
-                    yield f"a request of {address}"
+        asked = [told["request"]["url"] for name, told in self.events if name == "Network.requestWillBeSent"]
+        return [told for told in self.events if told[0] in COMPLAINTS] + [
+            f"a request of {address}" for address in asked if not address.startswith(("file:", "data:", "about:"))]

@@ -1,8 +1,15 @@
-"""The page docs/try.html, one file: bindings/js/page (the page, its styles and its modules), bindings/js (the package,
-with the module in base 64) and the recordings of examples/linux-boot, packed.
+#!/usr/bin/env python3
+"""Builds the page docs/try.html, one file that needs no network.
+
+    tools/page/build.py [FILE]
+
+Writes FILE, or else docs/try.html, of bindings/js/page (the page, its styles and its modules), bindings/js (the
+package, with the module in base 64) and the recordings of examples/linux-boot, packed. It is the same on every
+machine, save how zlib packs.
 """
 import base64
 import re
+import sys
 import textwrap
 import zlib
 from pathlib import Path
@@ -26,11 +33,9 @@ def one_script():
     for name in MODULES:
         text = (PACKAGE / name).read_text(encoding="utf-8")
         text = IMPORT.sub("", text).replace("export default ", "export const text = ")
-        names = re.findall(r"^export (?:async )?(?:const|class|function) (\w+)", text, flags=re.M)
+        names = ", ".join(re.findall(r"^export (?:async )?(?:const|class|function) (\w+)", text, flags=re.M))
         body = re.sub(r"^export ", "", text, flags=re.M)
-        head = f"const {{ {', '.join(names)} }} = " if names else ""
-        tail = f"return {{ {', '.join(names)} }};\n" if names else ""
-        parts.append(f"{head}await (async () => {{\n{body}{tail}}})();\n")
+        parts.append(f"const {{ {names} }} = await (async () => {{\n{body}return {{ {names} }};\n}})();\n")
     return "\n".join(parts)
 
 
@@ -41,7 +46,8 @@ def packed(recording):
 
 def unpacked(page):
     """A page with its recordings as they unpack, since zlib's versions do not pack alike."""
-    return re.sub('(?<=-recording">)[^<]*', lambda found: zlib.decompress(base64.b64decode(found[0])).decode("ascii"), page)
+    return re.sub('(?<=-recording">)[^<]*',
+                  lambda found: zlib.decompress(base64.b64decode(found[0])).decode("ascii"), page)
 
 
 def build():
@@ -55,3 +61,9 @@ def build():
     }
     page = (PAGE / "page.html").read_text(encoding="utf-8")
     return re.sub("@([A-Z]+)@", lambda found: parts[found[1]], page)
+
+
+if __name__ == "__main__":
+    if len(sys.argv) > 2:
+        sys.exit(__doc__)
+    (Path(sys.argv[1]) if sys.argv[1:] else BUILT).write_text(build(), encoding="utf-8")

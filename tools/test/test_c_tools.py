@@ -12,22 +12,13 @@ from unittest import mock
 from repository import ROOT, CopyTest
 
 sys.path.append(str(ROOT / "tools" / "c"))
+import random_calls  # noqa: E402
 import twin  # noqa: E402
 from libraries import SHARED, STATIC  # noqa: E402
 
 TARGETS = ("aarch64-linux", "x86_64-linux")
 LIBRARIES = (SHARED, STATIC)
 SOURCES = ("crates/superio_c/src", "crates/superio_core/src")
-# A change of the model, or of what is expected of the controller, and what is said to differ.
-CHANGES = [
-    ("model.c", "port->registers[SCR] = value;", "port->registers[SCR] = value & 0x7F;", "the port"),
-    ("model.c", "port->held > 0 ? raised(port, RDA) : 0", "port->held > 1 ? raised(port, RDA) : 0",
-     "the effects of superio_serial_character_timeout"),
-    ("model.c", "case 0x010: effects.value = clock->imsc;", "case 0x010: effects.value = clock->ris;",
-     "the effects of superio_rtc_read"),
-    ("fuzz.c", "value == 0xFE), \"superio_i8042_write\"", "value == 0xFF), \"superio_i8042_write\"",
-     "superio_i8042_write"),
-]
 HEADER, CALLER = "include/superio.h", "tools/compare/src/library.rs"
 # A change of a declaration, and what is said of it.
 DECLARATIONS = [
@@ -44,8 +35,7 @@ DECLARATIONS = [
     ("bindings/rust/src/core/serial/effects.rs", "    pub sends: bool,\n", "",
      "superio_serial_write_effects: the header has"),
     (CALLER, "    resets: bool,", "    resets: u16,", "superio_i8042_write_effects: the header has the size 1"),
-    ("tools/c/tests/calls.c", "CHECK(superio_i8042_read(0) == 0 && superio_i8042_read(4) == 0);", "",
-     "calls.c does not call ['superio_i8042_read']"),
+    ("tools/c/tests/replay.c", "superio_i8042_read((uint8_t)number(1))", "0", "replay.c does not call ['superio_i8042_read']"),
     (CALLER, "    safe fn superio_rtc_line(clock: &Clock) -> bool;\n", "", "tools/compare None"),
 ]
 # In place of the kit: `rt doc` names a page of the kit, `rt lib` writes a library that says what it is for, and the
@@ -85,54 +75,52 @@ class Declaring(CopyTest):
         self.assertNotIn("the header has", self.run_tool("tools/c/check", env={"PATH": ""})[1])
 
 
+def built(name, root):
+    """A program of tools/c/tests, built in a copy for this machine."""
+    library = ROOT / "prebuilt" / f"{platform.machine()}-linux" / "libsuperio_c.a"
+    subprocess.run(["gcc", "-std=c11", "-O2", "-I", ROOT / "include", root / "tools/c/tests" / f"{name}.c", library, "-o",
+                    root / name], check=True, timeout=120)
+    return root / name
+
+
 @unittest.skipUnless(shutil.which("gcc"), "gcc is not there")
-class Fuzzing(CopyTest):
+@unittest.skipUnless(f"{platform.machine()}-linux" in TARGETS, "there is no library for this machine")
+class Replaying(CopyTest):
     def setUp(self):
         super().setUp()
-        self.take("include", "prebuilt")
+        self.calls = self.root / "calls"
 
-    def test_the_same_replies_pass(self):
-        self.assertEqual(self.run_tool("tools/c/fuzz", "3000", "7"), (0, "3000 calls\n", ""))
+    def replay(self):
+        ran = subprocess.run([built("replay", self.root)], input=self.calls.read_bytes(), capture_output=True, timeout=120)
+        return ran.returncode, ran.stdout.decode().splitlines()[-1]
 
-    def test_each_device_is_compared(self):
-        for name, old, new, what in CHANGES:
-            with self.subTest(what):
-                self.change(f"tools/c/tests/{name}", old, new)
-                self.assertEqual(self.run_tool("tools/c/fuzz", "30000"), (1, f"{what} differs from the model\n", ""))
-                self.change(f"tools/c/tests/{name}", new, old)
+    def test_a_call_of_each_kind_that_differs_is_found(self):
+        self.assertEqual(random_calls.write_calls(self.calls, 20000), [])
+        self.assertEqual(self.replay(), (0, "20000 calls did the same, 0 did not"))
+        rows, kinds = self.calls.read_text(encoding="ascii").splitlines(), set(random_calls.KINDS)
+        for place, (call, _, reply) in enumerate(row.partition(" = ") for row in rows):
+            if (kind := random_calls.kind_of(call, reply)) in kinds:
+                kinds.remove(kind)
+                rows[place] += " T"
+        self.calls.write_text("".join(f"{row}\n" for row in rows), encoding="ascii")
+        number = len(random_calls.KINDS)
+        self.assertEqual((kinds, self.replay()), (set(), (1, f"{20000 - number} calls did the same, {number} did not")))
 
     def test_a_kind_of_call_that_is_not_made_is_noticed(self):
-        self.change("tools/c/tests/fuzz.c", "case 7: time_out();", "case 7: if (0) time_out();")
-        status, printed, said = self.run_tool("tools/c/fuzz", "30000")
-        self.assertEqual((status, printed, said), (1, "only 0 of the calls are a timeout that does nothing\n", ""))
+        with mock.patch.object(random_calls, "KINDS", ["sr ..", "sz .."]):
+            self.assertEqual(random_calls.write_calls(self.calls, 2000), ["only 0 of 2000 calls are 'sz ..'"])
 
-    def test_other_arguments_are_refused(self):
-        for arguments in (["all"], ["1", "2", "3"], ["-1"]):
-            status, printed, said = self.run_tool("tools/c/fuzz", *arguments)
-            self.assertEqual((status, printed), (1, ""))
-            self.assertIn("tools/c/fuzz [CALLS [SEED]]", said)
-
-    def test_a_missing_source_is_named(self):
-        (self.root / "tools/c/tests/model.c").unlink()
-        status, printed, said = self.run_tool("tools/c/fuzz")
-        self.assertEqual((status, printed), (1, ""))
-        self.assertIn("model.c", said)
+    def test_without_a_call_nothing_passes(self):
+        self.calls.write_text("# a comment\n\nsc\n", encoding="ascii")
+        self.assertEqual(self.replay(), (1, "0 calls did the same, 0 did not"))
 
 
 @unittest.skipUnless(shutil.which("gcc"), "gcc is not there")
 @unittest.skipUnless(f"{platform.machine()}-linux" in TARGETS, "there is no library for this machine")
 class Pasting(CopyTest):
-    def setUp(self):
-        super().setUp()
-        self.take("include", "prebuilt")
-
     def paste(self):
         """The status of the program, and how many pastes are stuck, for each guest."""
-        library = self.root / "prebuilt" / f"{platform.machine()}-linux" / "libsuperio_c.a"
-        source, program = self.root / "tools/c/tests/pastes.c", self.root / "pastes"
-        subprocess.run(["gcc", "-std=c11", "-O2", "-I", self.root / "include", source, library, "-o", program],
-                       check=True, timeout=120)
-        ran = subprocess.run([program, "1"], capture_output=True, text=True, timeout=120)
+        ran = subprocess.run([built("pastes", self.root), "1"], capture_output=True, text=True, timeout=120)
         return ran.returncode, [int(stuck) for stuck in re.findall(r"(\d+) stuck$", ran.stdout, re.M)]
 
     def test_no_paste_is_stuck(self):

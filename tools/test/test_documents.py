@@ -51,6 +51,8 @@ class Links(CopyTest):
                 ("docs/one.md", "# One\n", "# One\n\n<img src=two.png>\n", "docs/one.md: two.png is not there"),
                 ("docs/one.md", "# One\n", "# One\n\n[one][two]\n", "docs/one.md: ][two] is no link"),
                 ("docs/one.md", "# One\n", "# One\n\n[1](one.md 'a' b)\n", "docs/one.md: ](one.md 'a' b) is no link"),
+                ("README.md", "[one](docs/one.md)", "[two.md](docs/one.md)", "README.md: docs/one.md is not two.md"),
+                ("README.md", "[one](docs/one.md)", "[`other`](docs/one.md)", "README.md: docs/one.md has no other"),
                 ("docs/one.md", "#same-1", "#same-2", "docs/one.md: #same-2 is no heading"),
                 ("docs/one.md", "../README.md", "../../README.md", "docs/one.md: ../../README.md is not there")):
             with self.subTest(says):
@@ -69,10 +71,10 @@ class Names(CopyTest):
         self.take("README.md", "CHANGELOG.md", "CONTRIBUTING.md", "HANDLES", "SECURITY.md", "crates.txt", "docs", "crates",
                   "bindings", "examples", "include", "prebuilt", "tests", "tools/test", ".reuse")
 
-    def faults(self, version="the version"):
-        """What the tool says if `rt version` prints this, and README.md says 'the version'."""
+    def faults(self, version="rattle-kit-1a logic 12ab"):
+        """What the tool says if `rt version` prints this, and README.md has the version 1a of the kit."""
         readme = self.root / "README.md"
-        text = re.sub("`rattle-kit-[^`]*`", "`the version`", readme.read_text(encoding="utf-8"))
+        text = re.sub("`rattle-kit-[^`]*`", "`rattle-kit-1a logic 12ab`", readme.read_text(encoding="utf-8"))
         readme.write_text(text, encoding="utf-8")
         (self.root / "rt").write_text(f"#!/bin/sh\necho {version}\n", encoding="ascii")
         (self.root / "rt").chmod(0o755)
@@ -89,7 +91,8 @@ class Names(CopyTest):
                  [f"{proofs}: vm_superio::serial::Serial::read has no clause date",
                   f"{proofs}: vm_superio::serial::Serial::read: data is not named"]),
                 (proofs, "`laws::same_reads`", "`laws::same_read`",
-                 [f"{proofs}: laws::same_read is nowhere in the sources"]),
+                 [f"{proofs}: laws::same_read is nowhere in the sources",
+                  f"{proofs}: vm_superio::laws::same_reads: it is not named"]),
                 ("crates/vm_superio/src/i8042.rt", "ensures* lends {", "ensures* lent {",
                  ["docs/PROOFS.md: vm_superio::i8042::I8042Device::reset_evt_mut has no clause lends",
                   "docs/PROOFS.md: vm_superio::i8042::I8042Device::reset_evt_mut: lent is not named"]),
@@ -114,6 +117,29 @@ class Names(CopyTest):
                 self.change(name, old, new)
                 self.assertEqual(self.faults(), says)
                 self.change(name, new, old)
+
+    def test_names_in_sentences_columns_and_blocks(self):
+        readme, proofs, bodies, expected = "README.md", "docs/PROOFS.md", "docs/WRONG-BODIES.md", []
+        for name, old, new, says in (
+                (proofs, "(`link`) |", "(`links`) |", "events.rt has no links"),
+                (proofs, "'ensures step'", "'ensures steps'", "grep -rn 'ensures steps' crates finds nothing"),
+                (proofs, "and `from_bytes`, and", "and `as_bytes`, and", "load does not repeat the clauses of as_bytes"),
+                (proofs, "| `Serial::interrupt_enable` |", "| `Serial::interrupt_line` |",
+                 "vm_superio::serial::Serial::interrupt_enable: it is not named"),
+                (proofs, "`declared.M.T`", "`declares.M.T`", "declares. is nowhere in the sources"),
+                (proofs, "`A ⊎ B`", "`A ⊕ B`", "⊕ is nowhere in the sources"),
+                (readme, "`[patch.crates-io]`", "`[patch.crate-io]`", "crate-io is nowhere in the sources"),
+                (readme, "cd examples/rust;", "cd examples/rusty;", "examples/rusty is nowhere in the sources"),
+                (readme, "'write IER RDA", "'write IER RDB", "RDB is nowhere in the sources"),
+                (bodies, "from clause `run`", "from clause `record`", "there is no clause record of a function"),
+                (bodies, "fields, `bound`, `waiting`, `timeouts`,", "fields, `bound`, `counts`,",
+                 "no record has the fields `bound`, `counts`, `reads_alone` and `end_coherent`"),
+                (bodies, "`bound` of `IsComeIn`", "`counts` of `IsComeIn`", "IsComeIn has no field counts"),
+                (bodies, "`byte_is_not_flushed`", "`coherent`", "there is no edit coherent"),
+                (bodies, "| `test_devices` |", "| `device` |", "there are no tests device")):
+            self.change(name, old, new)
+            expected.append(f"{name}: {says}")
+        self.assertEqual(sorted(self.faults()), sorted(expected))
 
     def test_names_that_only_look_right(self):
         # The tool reads this file too, but for the place of a `~`.
@@ -141,6 +167,11 @@ class Names(CopyTest):
                 ("docs/USING.md", '`a = "../rust/bindings"`', "rust/bindings is nowhere in the sources"),
                 ("docs/USING.md", "`tools/check floors`", "tools/check has no floors"),
                 ("docs/USING.md", "`tools/run docs/one.script`", "tools/run has no docs/one.script"),
+                ("docs/USING.md", "on x86-~32", "x86-~32 is nowhere in the sources"),
+                ("docs/USING.md", "an LS~A read", "LS~A is nowhere in the sources"),
+                ("docs/USING.md", "`rt prove`", "rt prove is nowhere in the sources"),
+                ("docs/PROOFS.md", "`Port<O: Objec~s>`", "Objec~s is nowhere in the sources"),
+                ("docs/PROOFS.md", "`laws::main`", "laws::main is nowhere in the sources"),
                 ("docs/USING.md", "as tools/proofs says", "tools/proofs is nowhere in the sources"),
                 ("docs/DIFFERENCES.md", "`Serial::read_all`", "Serial::read_all is nowhere in the sources"),
                 ("CONTRIBUTING.md", "`--write~-floor`", "--write~-floor is nowhere in the sources"),
@@ -157,8 +188,13 @@ class Names(CopyTest):
         (self.root / "tests" / "forms.txt").unlink()
         self.assertIn("docs/PROOFS.md: tests/forms.txt is nowhere in the sources", self.faults())
 
-    def test_another_version(self):
-        self.assertEqual(self.faults("another"), ["README.md does not show another, which rt version prints"])
+    def test_another_build_of_the_same_logic_passes(self):
+        self.assertEqual(self.faults("rattle-kit-2b logic 12ab"), [])
+
+    def test_another_logic(self):
+        for version in ("rattle-kit-1a logic 12ac", "rattle-kit-1a logic 12a", "rattle-kit-1a"):
+            says = f"README.md does not show the logic of {version}, which rt version prints"
+            self.assertEqual(self.faults(version), [says])
 
 
 class Facts(CopyTest):
@@ -190,11 +226,10 @@ class Facts(CopyTest):
                 (proofs, "ends with status 3", "ends with status 4", "status is [(4,)], and [(3,)]"),
                 (proofs, "300 scripts with", "400 scripts with", "scripts is [(400,)], and [(300,)]"),
                 (bodies, "length above 300", "length above 400", "lists is [(400,)], and [(300,)]"),
-                ("docs/DEVICES.md", "| 0xFE0 to 0xFFF |", "| 0xFE0 to 0xFFB |", "is [4064, 4091], and [4064, 4095]"),
+                ("docs/DEVICES.md", "| 0xFE0 to 0xFFF |", "| 0xFE0 to 0xFFB |", "is [(4064, 4091)], and [(4064, 4095)]"),
                 ("docs/DEVICES.md", "0x0D 0xF0 0x05", "0x0D 0xF1 0x05", "5 is F1, and F0"),
                 ("bindings/js/superio.mjs", "FIFO_SIZE = 64", "FIFO_SIZE = 63", "bytes held is [(63,)], and [(64,)]"),
-                ("bindings/js/page/why.mjs", "0xFE at offset 4", "0xFE at offset 5", "reset is [5, 254], and [4, 254]"),
-                ("tools/c/tests/model.c", "{0x31, 0x10,", "{0x31, 0x11,", "1 is 11, and 10"),
+                ("bindings/js/page/why.mjs", "0xFE at offset 4", "0xFE at offset 5", "reset is [(5, 254)], and [(4, 254)]"),
                 ("include/superio.h", "0x01 is data ready", "0x01 is XX", "LSR XX is 1, and None"),
                 ("README.md", "read of offset 2 (IIR)", "read of offset 3 (IIR)", "IIR is [(3, 1)], and [(2, 1)]"),
                 ("README.md", "Rust 1.63+", "Rust 1.60+", "Rust is [(1, 60)], and [(1, 63)]"),
@@ -213,6 +248,10 @@ class Facts(CopyTest):
                 (proofs, "lists to 300", "lists to 400", "lists is [(400, 65536)], and [(300, 65536)]"),
                 (bodies, "first twelve", "first eleven", "allocations is [('eleven',)], and [(12,)]"),
                 (bodies, "At least 3 of", "At least 5 of", "cases is [(5, 500, 3, 500)], and [(3, 500, 3, 500)]"),
+                (proofs, "a million random", "a billion random", "calls is [('billion',)], and [(1000000,)]"),
+                ("README.md", "0xc1, with", "0xc2, with", "IIR is [(196, 194, 196)], and [(196, 193, 196)]"),
+                (bodies, "`vm_superio` and `superio_script` that", "`vm_superio` and `superio_core` that",
+                 "crates is [('vm_superio', 'superio_core')], and [('vm_superio', 'superio_script')]"),
                 (bodies, "621 turns", "612 turns", "turns is [(612,)], and [(621,)]"),
                 (bodies, "check` plants ten", "check` plants four", "monitors is [(4,)], and [(10,)]"),
                 ("docs/SCRIPT.md", "at most 65,536 bytes", "at most 65,535 bytes", "bytes is [(65535,), (65536,)]")):
@@ -232,6 +271,7 @@ class Facts(CopyTest):
                 ("docs/PROOFS.md", "65,536 writes", "65,535 writes", "65,535"),
                 ("docs/WRONG-BODIES.md", "from line 16,001 on", "from line 16,002 on", "16,002"),
                 ("docs/PROOFS.md", "no two states", "no three states", "three"),
+                ("docs/WRONG-BODIES.md", "at the second byte", "at the third byte", "third"),
                 ("README.md", "## Read on\n", "## Read on\n\nWe tried 10 guests.\n", "10")):
             with self.subTest(new):
                 self.change(name, old, new)

@@ -3,7 +3,8 @@ import tempfile
 import unittest
 
 import tiny
-from edits import function_at, functions_of, has_path, read_edits, rounds_of, texts_of
+from contracts import functions_of
+from edits import function_at, has_path, read_edits, rounds_of, texts_of
 
 NOTHING = ("smaller", "left", "first < second { first }", "first < second { 0 }")
 
@@ -89,18 +90,18 @@ fn last(bytes: [u8; 3]) -> u8 { bytes[2] }
 class Places(unittest.TestCase):
     def test_functions_are_found_with_their_impl(self):
         found = [(it.name, SOURCE.count("\n", 0, it.start) + 1, SOURCE.count("\n", 0, it.end) + 1)
-                 for it in functions_of(SOURCE)]
+                 for it in functions_of(SOURCE) if it.has_body]
         self.assertEqual(found, [("write", 3, 8), ("new", 12, 12), ("last", 19, 19)])
 
     def test_the_lines_of_a_function_begin_with_its_comment(self):
-        self.assertEqual(functions_of(SOURCE)[0].lines(SOURCE), (2, 8))
+        self.assertEqual(next(functions_of(SOURCE)).lines(SOURCE), (2, 8))
 
     def test_a_place_is_in_the_function_around_it(self):
         self.assertEqual(function_at(SOURCE, SOURCE.index("byte == ")).name, "write")
         self.assertIsNone(function_at(SOURCE, SOURCE.index("fn trigger")))
 
     def test_a_path_ends_in_the_impl_and_the_name(self):
-        write, new, last = functions_of(SOURCE)
+        write, new, last = (it for it in functions_of(SOURCE) if it.has_body)
         for function, path, expected in (
                 (write, "crate::port::PortWrite::write", True), (write, "crate::port::Port::write", False),
                 (new, "crate::port::Port+u8+NoWriter::new", True), (new, "crate::port::PortState::new", False),
@@ -115,7 +116,8 @@ class Places(unittest.TestCase):
         self.assertFalse(has_path("src/lib.rt", function, "crate::ErrorFromFault::from"))
 
     def test_the_clauses_of_a_function_have_their_names(self):
-        self.assertEqual(functions_of(SOURCE)[0].clauses, (("", "state"), ("", "")))
+        write = next(functions_of(SOURCE))
+        self.assertEqual([clause[:2] for clause in write.clauses], [("", "state"), ("", "")])
         for text, expected in (("ensures { a }", ""), ("ensures only { a }", "only"),
                                ("ensures* lends { a } ensures value { b }", "lends"),
                                ("ensures first { a } ensures second { b }", "")):

@@ -147,17 +147,14 @@ class Checking(CopyTest):
     def test_what_the_repository_has(self):
         self.assertEqual(self.run_tool("tools/erase", "--check"), (0, "", ""))
 
-    def test_a_file_changed_by_hand(self):
-        self.change(f"{MADE}/i8042.rs", "const CMD_RESET_CPU: u8 = 0xFE;", "const CMD_RESET_CPU: u8 = 0xFF;")
-        self.refused("i8042.rs is not what tools/erase makes of its source")
-
-    def test_a_blank_changed_by_hand(self):
-        self.change(f"{MADE}/i8042.rs", "const CMD_RESET_CPU: u8 = 0xFE;", "const CMD_RESET_CPU: u8 = 0xFE; ")
-        self.refused("i8042.rs is not what tools/erase makes of its source")
-
-    def test_a_source_that_changed(self):
-        self.change(f"{CRATE}/i8042.rt", "const CMD_RESET_CPU: u8 = 0xFE;", "const CMD_RESET_CPU: u8 = 0xFF;")
-        self.refused("i8042.rs is not what tools/erase makes of its source")
+    def test_a_file_changed_by_hand_and_a_source_that_changed(self):
+        line = "const CMD_RESET_CPU: u8 = 0xFE;"
+        for name, new in ((f"{MADE}/i8042.rs", line.replace("E", "F")), (f"{MADE}/i8042.rs", f"{line} "),
+                          (f"{CRATE}/i8042.rt", line.replace("0xFE", "0xFF"))):
+            with self.subTest(f"{name}: {new}"):
+                self.change(name, line, new)
+                self.refused("i8042.rs is not what tools/erase makes of its source")
+                self.change(name, new, line)
 
     def test_a_lost_file_and_one_too_many(self):
         (self.root / MADE / "fifo.rs").rename(self.root / "fifo.rs")
@@ -171,13 +168,19 @@ class Lines(unittest.TestCase):
     """Each line of the sources is kept or is one of a contract, judged otherwise than the eraser does."""
     BEGINS = re.compile(r"\s*(?:ensures\*?|requires|ghost|#!?\[tactic|#!?\[ruleset)\b")
 
-    def contract(self, lines, number):
-        """How many lines the contract that begins at a line has: as many as close its brackets."""
-        text, end = "", number
-        while end == number or any(text.count(opening) != text.count(closing) for opening, closing in BRACKETS):
-            text += lines[end]
-            end += 1
-        return end - number
+    def code(self, text):
+        """The lines of code and their documentation. A contract ends with the line that closes its brackets."""
+        kept, documentation, opened = [], [], 0
+        for line in text.split("\n"):
+            if opened or self.BEGINS.match(line):
+                opened += sum(line.count(opening) - line.count(closing) for opening, closing in BRACKETS)
+                documentation = [] if "ghost" in line else documentation
+            elif line.lstrip().startswith("///"):
+                documentation.append(line)
+            elif line.strip() and line != ERROR_TEXT:
+                kept += [*documentation, line]
+                documentation = []
+        return kept
 
     def test_every_line(self):
         kept_lines = 0
@@ -185,28 +188,15 @@ class Lines(unittest.TestCase):
             name = path.relative_to(ROOT / CRATE).as_posix()
             if name == "saved/error_text.rt":
                 continue
-            made = ROOT / MADE / ("mod.rs" if name == "lib.rt" else name[:-2] + "rs")
-            made = iter([line for line in made.read_text(encoding="utf-8").split("\n")[2:]
-                         if line.strip() and not line.lstrip().startswith("// Clauses in ")])
-            lines, number = path.read_text(encoding="utf-8").split("\n"), 0
-            documentation = []
-            while number < len(lines):
-                line = lines[number]
-                if self.BEGINS.match(line):
-                    documentation = [] if "ghost" in line else documentation
-                    number += self.contract(lines, number)
-                    continue
-                number += 1
-                if line.lstrip().startswith("///"):
-                    documentation.append(line)
-                elif line.strip() and line != ERROR_TEXT:
-                    for wanted in [*documentation, line]:
-                        found = next(made, None)
-                        # The header of a trait's function takes the `;` of its last clause.
-                        self.assertIn(found, (wanted, wanted + ";"), f"{name}:{number}")
-                        kept_lines += 1
-                    documentation = []
-            self.assertIsNone(next(made, None), name)
+            wanted = self.code(path.read_text(encoding="utf-8"))
+            made = (ROOT / MADE / ("mod.rs" if name == "lib.rt" else name[:-2] + "rs")).read_text(encoding="utf-8")
+            made = [line for line in made.split("\n")[2:]
+                    if line.strip() and not line.lstrip().startswith("// Clauses in ")]
+            self.assertEqual(len(made), len(wanted), name)
+            for found, line in zip(made, wanted):
+                # The header of a trait's function takes the `;` of its last clause.
+                self.assertIn(found, (line, line + ";"), name)
+            kept_lines += len(made)
         self.assertGreater(kept_lines, 900)
 
 

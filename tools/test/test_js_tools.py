@@ -1,12 +1,8 @@
 """Tests of tools/js and tools/page: faults of what is built and generated are found, without compiler and browser."""
-import re
 import sys
 import unittest
 
-from repository import ROOT, CopyTest
-
-sys.path.append(str(ROOT / "tools" / "page"))
-from picture import parts  # noqa: E402
+from repository import CopyTest
 
 # Of the tools, only Python: neither Node nor a browser.
 ALONE = {"PATH": ""}
@@ -30,8 +26,8 @@ class Package(Checked):
 
     def setUp(self):
         super().setUp()
-        self.take("bindings/js", "bindings/python/superio", "bindings/rust/src/core", "crates/superio_c/src", "prebuilt",
-                  "include", "tests/calls", "CHANGELOG.md")
+        self.take("bindings/js", "bindings/python/superio", "bindings/rust/src/core", "bindings/rust/capi/src",
+                  "crates/superio_c/src", "prebuilt", "include", "tests/calls", "CHANGELOG.md")
 
     def test_what_cannot_run_is_named(self):
         printed = self.check(0)
@@ -46,7 +42,7 @@ class Package(Checked):
                    "module.mjs has other bytes")
 
     def test_other_sources(self):
-        self.change("bindings/js/wasm/lib.rs", "const NONE: i64 = -1;", "const NONE: i64 = -2;")
+        self.change("bindings/rust/capi/src/clock.rs", "const NEVER: u64 = u64::MAX;", "const NEVER: u64 = 0;")
         self.check(1, "the module was built from other sources")
 
     def test_words_that_not_all_have(self):
@@ -62,9 +58,9 @@ class Package(Checked):
         self.check(1, "package.json has version 9", "superio.mjs is for the binary interface 9")
 
     def test_a_build_without_the_compiler(self):
-        status, printed, said = self.run_tool("tools/js/prebuild", env=ALONE)
+        status, printed, said = self.run_tool("tools/js/prebuild.py", env=ALONE)
         self.assertEqual((status, printed), (1, ""))
-        self.assertIn("tools/js/prebuild: the module needs Debian 12's rustc", said)
+        self.assertIn("tools/js/prebuild.py: the module needs Debian 12's rustc", said)
 
 
 class Page(Checked):
@@ -90,29 +86,13 @@ class Page(Checked):
     def test_a_page_that_asks_the_network(self):
         self.change("bindings/js/page/page.html", '<link rel="icon" href="data:,">',
                     '<link rel="icon" href="https://example.invalid/icon.png">')
-        self.assertEqual(self.run_tool("tools/page/build"), (0, "", ""))
+        self.assertEqual(self.run_tool("tools/page/build.py"), (0, "", ""))
         self.check(1, "asks the network for ['href=\"https://example.invalid/icon.png']")
 
     def test_a_page_into_a_file(self):
-        self.assertEqual(self.run_tool("tools/page/build"), (0, "", ""))
-        self.assertEqual(self.run_tool("tools/page/build", self.root / "page.html"), (0, "", ""))
+        self.assertEqual(self.run_tool("tools/page/build.py"), (0, "", ""))
+        self.assertEqual(self.run_tool("tools/page/build.py", self.root / "page.html"), (0, "", ""))
         self.assertEqual((self.root / "page.html").read_bytes(), (self.root / "docs/try.html").read_bytes())
-
-
-class Picture(unittest.TestCase):
-    def test_a_change_that_a_reader_sees_is_noticed(self):
-        drawn = (ROOT / "docs" / "try.svg").read_text(encoding="utf-8")
-        for old, new in (("THRE pending", "THRE"), ('<rect class="on"', '<rect class="shade"'), ("<path ", "<g "),
-                         ("{fill:#", "{fill:#1")):
-            changed = drawn.replace(old, new, 1)
-            self.assertNotEqual(changed, drawn)
-            self.assertNotEqual(parts(changed), parts(drawn))
-
-    def test_places_are_of_the_machine_that_took_the_picture(self):
-        drawn = (ROOT / "docs" / "try.svg").read_text(encoding="utf-8")
-        moved = re.sub(r' (x|y|width)="\d+', r' \1="9', drawn)
-        self.assertNotEqual(moved, drawn)
-        self.assertEqual(parts(moved), parts(drawn))
 
 
 if __name__ == "__main__":

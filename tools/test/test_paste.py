@@ -4,6 +4,7 @@ import io
 import shutil
 import subprocess
 import unittest
+from pathlib import Path
 from unittest import mock
 
 from repository import CopyTest
@@ -49,10 +50,9 @@ class Pasting(CopyTest):
     def count(self, text):
         """What the blocks of a document pass, fail and skip."""
         (self.root / "README.md").write_text(text, encoding="utf-8")
-        counts = dict.fromkeys(("passed", "failed", "skipped"), 0)
         with mock.patch.object(paste, "PLAIN_PATH", str(self.root / "bin")), contextlib.redirect_stdout(io.StringIO()) as said:
-            paste.paste(self.root, [self.root / "README.md"], None, counts, paste.Tried())
-        return tuple(counts.values()), said.getvalue()
+            counts = paste.paste(self.root, [Path("README.md")], None, paste.Tried())
+        return tuple(counts[outcome] for outcome in ("passed", "failed", "skipped")), said.getvalue()
 
     def test_what_each_document_passes_fails_and_skips(self):
         for text, wanted in DOCUMENTS:
@@ -67,6 +67,6 @@ class Pasting(CopyTest):
 
     def test_a_repository_without_its_blocks_fails(self):
         (self.root / "README.md").write_text("Nothing.\n", encoding="ascii")
-        status, printed, _ = self.run_tool("tools/checks/paste", "--root", self.root, env={"PATH": "/usr/bin:/bin"})
+        status, printed, _ = self.run_tool("tools/checks/paste", env={"PATH": "/usr/bin:/bin"})
         self.assertEqual(1, status)
         self.assertIn("no block was found", printed)

@@ -43,6 +43,10 @@ class Judging(unittest.TestCase):
         self.assertEqual(self.judge(UNPROVED, error, VERDICT).kind, "BAD")
         self.assertEqual(self.judge(UNPROVED, error, OF_LARGER, VERDICT).kind, "REFUSED")
 
+    def test_a_check_of_some_functions_is_one_too(self):
+        self.assertEqual(self.judge(UNPROVED, OF_LARGER, "only=2 proved=1", "rt: more").kind, "REFUSED")
+        self.assertEqual(self.judge("only=2 proved=2", status=0).kind, "NOT REFUSED")
+
     def test_without_a_verdict_it_is_bad(self):
         self.assertEqual(self.judge(UNPROVED, OF_LARGER).kind, "BAD")
         self.assertEqual(self.judge(UNPROVED, OF_LARGER, VERDICT, status=-9).kind, "BAD")

@@ -1,5 +1,4 @@
 """Tests of what `tools/checks/wrong_bodies` says of edits, by the prover, over a small crate."""
-import os
 import re
 import shutil
 import subprocess
@@ -9,8 +8,8 @@ from pathlib import Path
 from unittest import mock
 
 import tiny
-from edits import read_edits
-from passed import Passed
+from record import drawn, recorded, write_record
+from rooms import crates_of
 
 TOOL = Path(__file__).resolve().parent.parent / "checks" / "wrong_bodies"
 
@@ -20,8 +19,8 @@ def try_edits(*edits):
     with tempfile.TemporaryDirectory() as folder:
         tiny.make(folder, edits)
         ran = subprocess.run([TOOL, "--seen", "--root", folder], capture_output=True, text=True, timeout=3600)
-    *lines, tried, last = ran.stdout.splitlines()
-    assert tried == f"tried: {len(edits)} wrong bodies of tiny", tried
+    *lines, tried, in_all, last = ran.stdout.splitlines()
+    assert (tried, in_all) == (f"tried: {len(edits)} wrong bodies of tiny", f"tried: {len(edits)} tried or recorded wrong bodies of tiny")
     said = dict(re.match(r"tiny/(\w+): (.*)", line).groups() for line in lines)
     return said, last, ran.returncode
 
@@ -52,87 +51,54 @@ class Verdicts(unittest.TestCase):
         self.assertEqual((self.sums, self.status), ("1 passed, 3 failed", 1))
 
 
-class Kept(unittest.TestCase):
-    """What passed is not tried again, as long as nothing changed that decides it."""
-
-    EDIT = ("refused", "larger", "right", "{ second } else", "{ first } else")
+class Recorded(unittest.TestCase):
+    """A crate has its row of the record as long as nothing changed that decides it."""
 
     def setUp(self):
         room = tempfile.TemporaryDirectory()
         self.addCleanup(room.cleanup)
-        patched = mock.patch.dict(os.environ, XDG_CACHE_HOME=f"{room.name}/cache")
-        patched.start()
-        self.addCleanup(patched.stop)
         self.root = Path(room.name)
-        self.crate = tiny.make(self.root, [self.EDIT])
-        Passed(self.root).add(self.edit())
+        self.crate = tiny.make(self.root, [("refused", "larger", "right", "{ second } else", "{ first } else")])
+        (self.root / "tools").mkdir()
+        self.record()
 
-    def edit(self):
-        return read_edits(self.crate)[0]
+    def record(self):
+        write_record(self.root, {"tiny": 1})
+        self.assertEqual(recorded(self.root), {"tiny"})
 
-    def has(self):
-        return Passed(self.root).has(self.edit())
-
-    def write(self, place, text):
-        path = self.crate / place
+    def assert_change_is_noticed(self, path, text):
+        was = path.read_bytes() if path.is_file() else None
         path.parent.mkdir(parents=True, exist_ok=True)
         path.write_text(text, encoding="utf-8")
+        self.assertEqual(recorded(self.root), set())
+        path.write_bytes(was) if was else path.unlink()
+        self.assertEqual(recorded(self.root), {"tiny"})
 
-    def test_it_is_known_while_nothing_changes(self):
-        self.assertTrue(self.has())
-
-    def test_a_changed_source_is_noticed(self):
-        self.write("src/lib.rt", tiny.SOURCE.replace("    number\n", "    { number }\n"))
-        self.assertFalse(self.has())
-
-    def test_a_new_definition_or_proof_is_noticed(self):
+    def test_a_change_of_a_source_a_definition_a_proof_or_an_edit_is_noticed(self):
+        edits = self.crate / "wrong-bodies" / "lib.edits"
+        self.assert_change_is_noticed(edits, edits.read_text(encoding="utf-8").replace("right", "left"))
+        self.assert_change_is_noticed(self.crate / "src" / "lib.rt", tiny.SOURCE.replace("    number\n", "    { number }\n"))
         for part in ("specs", "proofs"):
-            with self.subTest(part):
-                self.write(f"{part}/Lib.antt", "mod More\n")
-                self.assertFalse(self.has())
-                (self.crate / part / "Lib.antt").unlink()
-                self.assertTrue(self.has())
+            self.assert_change_is_noticed(self.crate / part / "Lib.antt", "mod More\n")
 
-    def test_a_changed_library_is_noticed(self):
-        (self.root / "crates" / "low" / "src").mkdir(parents=True)
+    def test_a_change_of_a_library_below_is_noticed(self):
         (self.root / "crates.txt").write_text("low:\ntiny: low\n", encoding="utf-8")
-        Passed(self.root).add(self.edit())
-        self.assertTrue(self.has())
-        (self.root / "crates" / "low" / "src" / "lib.rt").write_text("//! More.\n", encoding="utf-8")
-        self.assertFalse(self.has())
+        self.record()
+        self.assert_change_is_noticed(self.root / "crates" / "low" / "src" / "lib.rt", "//! More.\n")
 
-    def test_a_changed_edit_is_noticed(self):
-        for old, new in (("right", "left"), ("{ first } else", "{ 1 } else"), ("larger", "smaller")):
-            with self.subTest(new):
-                path = self.crate / "wrong-bodies" / "lib.edits"
-                kept = path.read_text(encoding="utf-8")
-                path.write_text(kept.replace(old, new), encoding="utf-8")
-                self.assertFalse(self.has())
-                path.write_text(kept, encoding="utf-8")
+    def test_another_logic_is_noticed(self):
+        with mock.patch("record.logic", lambda: b"another"):
+            self.assertEqual(recorded(self.root), set())
 
-    def test_another_kit_is_noticed(self):
-        with mock.patch("passed.kit", lambda: b"another kit"):
-            self.assertFalse(self.has())
-
-    def test_another_checkout_has_it_too(self):
-        other = self.root / "other"
-        shutil.copytree(self.crate.parent, other / "crates")
-        shutil.copy2(self.root / "crates.txt", other)
-        self.assertTrue(Passed(other).has(read_edits(other / "crates" / self.crate.name)[0]))
-
-    def test_a_changed_tool_is_noticed(self):
-        with mock.patch("passed.TOOLS", ("wrong_bodies",)):
-            self.assertFalse(self.has())
+    def test_one_in_ten_is_drawn_and_never_none(self):
+        crate = crates_of(self.root)["tiny"]
+        self.assertEqual([len(drawn(crate, range(number))) for number in (1, 10, 11, 99)], [1, 1, 2, 10])
 
     @unittest.skipUnless(shutil.which("rt"), "rt is not there")
-    def test_the_tool_counts_it_and_tries_the_others(self):
-        def ran(*options):
-            return subprocess.run([TOOL, *options, "--root", self.root], capture_output=True, text=True, timeout=3600)
-        once, anew = ran(), ran("--anew")
-        for it in (once, anew):
-            self.assertEqual(it.stdout.splitlines()[-1], "1 passed, 0 failed")
-        self.assertNotIn("round", once.stderr)
-        self.assertIn("tiny round 1: 1 edits", anew.stderr)
+    def test_a_run_that_refuses_all_writes_the_row(self):
+        (self.root / "tools" / "refused").unlink()
+        ran = subprocess.run([TOOL, "--record", "--root", self.root], capture_output=True, text=True, timeout=3600)
+        self.assertEqual((ran.stdout.splitlines()[-1], recorded(self.root)), ("1 passed, 0 failed", {"tiny"}))
 
 
 @unittest.skipUnless(shutil.which("rt"), "rt is not there")

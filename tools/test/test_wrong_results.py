@@ -25,6 +25,7 @@ import demo  # noqa: E402
 import licenses  # noqa: E402
 import misuse  # noqa: E402
 import programs  # noqa: E402
+import twin  # noqa: E402
 from failing import Call, Ran  # noqa: E402
 from machines import machines  # noqa: E402
 from tally import Tally, run  # noqa: E402
@@ -33,7 +34,7 @@ from toolchains import Toolchain  # noqa: E402
 failing_io, first_crate, hostile, refused_memory, saved_forms = map(
     module_of, map("checks/{}".format, ("failing_io", "first_crate", "hostile", "refused_memory", "saved_forms")))
 rust_check, js_check, page_check = map(module_of, ("rust/check", "js/check", "page/check"))
-c_check, packages_check = map(module_of, ("c/check", "packages/check"))
+packages_check = module_of("packages/check")
 kvm_check = module_of("kvm/check")
 # A program that prints its script, and others that differ from it in one thing.
 RIGHT, STATUS = "cat", "cat; exit 1"
@@ -231,6 +232,11 @@ class Runs(unittest.TestCase):
             with mock.patch.object(saved_forms, "replies", return_value=[*right[:place], wrong, *right[place + 1:]]):
                 result = silently(saved_forms.through_library, "", tried[:1])
             self.assertEqual(result, (len(right) - failed, failed))
+        for printed, failed in ((f"{2 * len(right)} calls did the same, 0 did not\n", 0), ("", len(right)),
+                                (f"{2 * len(right) - 1} calls did the same, 1 did not\n", len(right))):
+            ran = subprocess.CompletedProcess("replay", 0, printed)
+            with mock.patch("subprocess.run", return_value=ran), mock.patch.object(saved_forms, "CHUNK", len(tried)):
+                self.assertEqual(silently(saved_forms.through_c, "", tried), (len(right) - failed, failed))
 
     def test_loads_through_scripts(self):
         """The runs of all scripts but the first are right."""
@@ -360,27 +366,33 @@ class Runs(unittest.TestCase):
     def test_warnings_of_misuse(self):
         """A compiler warns of a right call, or not of a mistake."""
         def failed(change):
-            def warned(compiler, number):
-                place = misuse.COMPILERS.index(compiler)
-                return change(place, number, misuse.WANTED[number][place] or "" if number else "")
+            def warned(compiler, statements):
+                place, number = misuse.COMPILERS.index(compiler), tried.index(statements)
+                return change(place, number, wanted[number][place] or "")
             tally = Tally()
             with mock.patch.object(misuse, "warned", warned), mock.patch.object(tally, "has", return_value=True):
                 silently(misuse.check_misuse, tally)
             return tally.failed
+        tried, wanted = [misuse.RIGHT], [[None] * len(misuse.COMPILERS)]
+        for _, statements, texts in misuse.MISTAKES:
+            tried.append(statements)
+            wanted.append(texts)
         self.assertEqual(failed(lambda place, number, text: text), 0)
         for at in range(len(misuse.COMPILERS)):
             self.assertEqual(failed(lambda place, number, text: text if (place, number) != (at, 0) else "a warning"), 1)
-            for it, texts in enumerate(misuse.WANTED):
-                if it and texts[at]:
+            for it, texts in enumerate(wanted):
+                if texts[at]:
                     self.assertEqual(failed(lambda place, number, text: text if (place, number) != (at, it) else ""), 1)
 
     def test_a_library_of_another_interface(self):
-        status, printed = demo.OTHER_LIBRARY
-        for ended, failed in ((demo.OTHER_LIBRARY, 0), ((status - 1, printed), 3), ((status + 1, printed), 3),
-                              ((status, ""), 3), ((status, f"{printed}more"), 3)):
-            ran = mock.Mock(return_value=subprocess.CompletedProcess("demo", *ended))
-            with mock.patch.multiple(demo, run=ran, different_scripts=lambda *_: [], random_cases=lambda *_: []):
-                self.assertEqual(len(list(demo.differences("demo"))), failed, ended)
+        (_, _, (printed,), status), = demo.CASES_OF_OTHERS
+        ended = status, f"{printed}\n".encode()
+        for got, failed in ((ended, 0), ((status - 1, ended[1]), 3), ((status + 1, ended[1]), 3), ((status, b""), 3),
+                            ((status, ended[1] + b"more"), 3)):
+            ways = [way for way in demo.DRIVEN["monitor.c"][2] if way[0]]
+            with mock.patch.dict(demo.DRIVEN, {"monitor.c": ("demo.c", [], ways)}), \
+                    mock.patch.object(twin, "run_bounded", return_value=got):
+                self.assertEqual(len(list(demo.differences("monitor.c", "demo"))), failed, got)
 
     def test_the_page(self):
         """A reply, an end, a feature, and the list as a script."""
@@ -413,7 +425,7 @@ class Failing(unittest.TestCase):
     def test_with_a_tally(self):
         with tempfile.TemporaryDirectory() as name:
             of_c = [(check, [machines()[0], Path(name)]) for check in (
-                programs.check_header, programs.check_calls, programs.check_other_abi, programs.check_fuzz,
+                programs.check_header, programs.check_calls, programs.check_other_abi, programs.check_random_calls,
                 programs.check_pastes, programs.check_demos)]
             others = [(check, []) for check in (licenses.check_reuse, js_check.check_calls, js_check.check_tests)]
             for check, arguments in of_c + others:
@@ -430,8 +442,9 @@ class Failing(unittest.TestCase):
             is_build = command[0] in ("gcc", "g++", "clang", "clang++", "make")
             built.extend([command] * is_build)
             return subprocess.CompletedProcess(command, 0 if is_build else 101, "", "")
-        with tempfile.TemporaryDirectory() as name, mock.patch("subprocess.run", builds):
-            for check in (programs.check_calls, programs.check_other_abi, programs.check_fuzz, programs.check_pastes,
+        with tempfile.TemporaryDirectory() as name, mock.patch("subprocess.run", builds), \
+                mock.patch.object(programs, "drawn", lambda _: ("/dev/null", [])):
+            for check in (programs.check_calls, programs.check_other_abi, programs.check_random_calls, programs.check_pastes,
                           programs.check_demos):
                 with self.subTest(check.__name__):
                     tally = Tally()
@@ -441,17 +454,16 @@ class Failing(unittest.TestCase):
                     self.assertGreaterEqual(tally.failed, len(built))
 
     def test_a_wrong_demo_that_differs_in_nothing(self):
-        driven = {file: (driver, options, lambda *_: []) for file, (driver, options, _) in demo.DRIVEN.items()}
         tally = Tally()
-        with tempfile.TemporaryDirectory() as name, mock.patch.object(demo, "DRIVEN", driven), \
+        with tempfile.TemporaryDirectory() as name, mock.patch.object(demo, "differences", lambda *_: []), \
                 mock.patch("subprocess.run", lambda command, **_: subprocess.CompletedProcess(command, 0, "", "")):
             silently(demo.check_driven_demo, tally, machines()[0], Path(name))
         self.assertEqual(tally.failed, tally.tried.counts["wrong demos"])
 
     def test_a_check_that_ends_by_an_error(self):
-        for module in (c_check, packages_check):
+        for run_check in (lambda check, tally: tally.carry_out("it", check), packages_check.run):
             tally, check = Tally(), mock.Mock(__name__="check_it", side_effect=OSError)
-            silently(module.run, check, tally)
+            silently(run_check, check, tally)
             self.assertEqual((tally.passed, tally.failed), (0, 1))
 
     def test_of_rust(self):

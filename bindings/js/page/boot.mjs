@@ -73,8 +73,8 @@ export const RECORDINGS = {
 };
 
 export class Boot {
-  lines = [];
-  replies = [];
+  /** The lines with their recorded replies. */
+  calls = [];
   /** Where each piece begins. A piece begins on a fresh board. */
   starts = [];
   /** What went out before each piece. */
@@ -89,32 +89,25 @@ export class Boot {
   constructor(text, recording) {
     let before = "";
     for (const piece of text.trim().split("\n\n")) {
-      this.starts.push(this.lines.length);
+      this.starts.push(this.calls.length);
       this.texts.push(before);
       const entries = piece.split("\n").flatMap(entriesOf);
       for (const entry of entries) this.add(...entry);
       const output = entries.find(([line]) => line === "so")?.[1] ?? "";
       before += textOf(output);
     }
-    const calls = this.lines.map((line, place) => `${line}  ${this.replies[place]}`);
-    this.stops = recording.stops.map(([start, told, heading]) =>
-      ({ at: calls.findIndex((call) => call.startsWith(start)) + 1, text: told, heading }));
+    this.stops = recording.stops.map(([start, told, heading]) => ({ text: told, heading,
+      at: this.calls.findIndex(({ line, reply }) => `${line}  ${reply}`.startsWith(start)) + 1 }));
     this.recording = recording;
     this.begin(0);
   }
 
   add(line, reply) {
-    this.lines.push(line);
-    this.replies.push(reply);
-    const at = this.lines.length;
+    const at = this.calls.push({ line, reply });
     const [, now] = /^c[rw] (\w+)/.exec(line) ?? [];
     if (now) this.moments.push({ at, now: parseInt(now, 16) });
-    const status = line === "sr 00" ? this.replies[this.lines.lastIndexOf("sr 05")] : "00";
+    const status = line === "sr 00" && this.calls.findLast((call) => call.line === "sr 05")?.reply;
     if (parseInt(status, 16) & 0x01) this.reads.push({ at, byte: reply });
-  }
-
-  get length() {
-    return this.lines.length;
   }
 
   /** What went out until now. */
@@ -141,17 +134,17 @@ export class Boot {
     this.piece = piece;
     this.board = new Board();
     this.at = this.starts[piece];
-    this.last = null;
+    this.last = undefined;
   }
 
   /** Makes the next call. */
   step() {
     if (this.at === this.starts[this.piece + 1]) this.begin(this.piece + 1);
-    const line = this.lines[this.at];
+    const { line, reply: recorded } = this.calls[this.at];
     const before = this.board.clone();
     const command = parse(line);
     const reply = this.board.reply(command);
-    if (reply !== this.replies[this.at]) this.differences += 1;
+    if (reply !== recorded) this.differences += 1;
     this.last = { line, command, reply, before, after: this.board };
     this.at += 1;
   }
@@ -165,7 +158,7 @@ export class Boot {
 
   /** Makes up to so many calls. Returns whether it stopped after one that has a caption. */
   play(count) {
-    for (let made = 0; made < count && this.at < this.length; made += 1) {
+    for (let made = 0; made < count && this.at < this.calls.length; made += 1) {
       this.step();
       if (this.stop?.at === this.at) return true;
     }

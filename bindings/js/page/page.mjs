@@ -1,8 +1,10 @@
 /** The page: what it shows of a board, and which call each control makes. */
-import { CLOCK, DLAB, SERIAL } from "../registers.mjs";
+import { CLOCK, DLAB, SERIAL, serialRegister } from "../registers.mjs";
 import { Board, formOf, hex, hexOf, parse, runScript } from "./board.mjs";
 import { Boot, RECORDINGS, unpacked } from "./boot.mjs";
-import { CONDITIONS, dateOf, lineFormat, plural, quoted, ruleOf, shownRegisters, storyOf, told } from "./why.mjs";
+import {
+  CONDITIONS, WITHOUT_EFFECT, dateOf, lineFormat, plural, quoted, ruleOf, shownRegisters, storyOf, told,
+} from "./why.mjs";
 
 const id = (name) => document.getElementById(name);
 
@@ -19,20 +21,26 @@ function say(name, text) {
   if (id(name).textContent !== text) id(name).textContent = text;
 }
 
-// The list of calls. A board is a value, so the board after each call is kept, and time goes both ways.
+/** The calls that a user made. A board is a value, so the board after each call is kept, and time goes both ways. */
+class List {
+  calls = [];
+  at = 0;
+  start = new Board();
 
-const state = { boot: null, isPlaying: false };
+  get last() { return this.calls[this.at - 1]; }
+  get board() { return this.last?.after ?? this.start; }
+  seek(at) { this.at = at; }
+}
+
+const state = { isPlaying: false };
 begin();
 
-const boardAt = (at) => at ? state.calls[at - 1].after : state.start;
-const isBoot = () => state.boot !== null;
-const board = () => isBoot() ? state.boot.board : boardAt(state.at);
-const lastCall = () => isBoot() ? state.boot.last : state.at ? state.calls[state.at - 1] : null;
+/** What is shown: the boot that is played, or the list. */
+const tape = () => state.boot ?? state.list;
 
 /** Begins a list on a fresh board. The queue has the input that waits, and the log what the terminal had before. */
 function begin() {
-  Object.assign(state, { calls: [], at: 0, start: new Board(), queue: new Uint8Array(), log: "", boot: null,
-    isPlaying: false });
+  Object.assign(state, { list: new List(), queue: new Uint8Array(), log: "", boot: null, isPlaying: false });
 }
 
 /**
@@ -40,25 +48,24 @@ function begin() {
  * that fails. Returns the call, or null if the line has no form.
  */
 function make(line) {
-  if (isBoot()) takeOver();
+  if (state.boot) takeOver();
+  const { list } = state;
   const plain = line.replace(/ f$/, "");
-  const isFirst = state.at === 0 && state.start.mask === 0n;
-  const command = parse(plain, isFirst);
+  const command = parse(plain, list.at === 0 && list.start.mask === 0n);
   if (!command) return null;
-  const before = boardAt(state.at);
   if (command.name === "refuse") {
-    state.calls = [];
-    state.start.reply(command);
+    list.calls = [];
+    list.start.reply(command);
     return { command };
   }
+  const before = list.board;
   const after = before.clone();
   Object.assign(after, { refuses: id("refuses").checked, fails: plain !== line || id("fails").checked });
   const reply = after.reply(command);
   const isLost = after.isLost && after.fails;
   const call = { line: isLost ? `${plain} f` : plain, command, reply, before, after, queue: state.queue };
-  state.calls.length = state.at;
-  state.calls.push(call);
-  state.at = state.calls.length;
+  list.calls.splice(list.at, Infinity, call);
+  list.at += 1;
   clearFaults();
   return call;
 }
@@ -67,15 +74,11 @@ function make(line) {
 function clearFaults() {
   say("said", "");
   say("fault", "");
-  for (const field of document.querySelectorAll(".wrong")) {
-    field.classList.remove("wrong");
-    field.removeAttribute("aria-invalid");
-  }
+  for (const field of document.querySelectorAll("[aria-invalid]")) field.removeAttribute("aria-invalid");
 }
 
 /** Says that a field has no value that can be used. */
 function refuseField(field, text) {
-  field.classList.add("wrong");
   field.setAttribute("aria-invalid", "true");
   field.setAttribute("aria-describedby", "fault");
   say("fault", text);
@@ -95,12 +98,19 @@ function act(line) {
   return call;
 }
 
+/** Makes a call, and shows what it did. */
+function perform(line) {
+  const call = act(line);
+  if (call) show();
+  return call;
+}
+
 /** How many bytes a line of a script takes. */
 const LONGEST_INPUT = 128;
 
 /** Offers the input that waits. */
 function offer() {
-  const room = board().serial.fifoCapacity();
+  const room = state.list.board.serial.fifoCapacity();
   const call = make(`sq ${hexOf(state.queue.subarray(0, LONGEST_INPUT))}`);
   call.waiting = state.queue.length;
   state.queue = state.queue.slice(room - call.after.serial.fifoCapacity());
@@ -108,15 +118,19 @@ function offer() {
 }
 
 function type(text) {
-  if (isBoot()) takeOver();
+  if (state.boot) takeOver();
   state.queue = Uint8Array.of(...state.queue, ...new TextEncoder().encode(text));
   offer();
   show();
 }
 
+/** Goes to where so many calls are made. */
 function go(at) {
-  state.at = Math.max(0, Math.min(at, state.calls.length));
-  state.queue = state.at ? state.calls[state.at - 1].queue : new Uint8Array();
+  const shown = tape();
+  state.isPlaying = false;
+  shown.seek(Math.max(0, Math.min(at, shown.calls.length)));
+  if (state.boot) caption();
+  else state.queue = shown.last?.queue ?? new Uint8Array();
   show();
 }
 
@@ -125,61 +139,93 @@ function go(at) {
  * pending, and RBR while LSR shows data ready. The character timeout after the last read may interrupt it again.
  */
 function serve() {
-  if (isBoot()) takeOver();
-  const { lineControl, interruptEnable } = board().serial.state;
+  if (state.boot) takeOver();
+  const { lineControl, interruptEnable } = state.list.board.serial.state;
   if (lineControl & DLAB) act(`sw 03 ${hex(lineControl & ~DLAB, 2)}`);
   if (!(interruptEnable & 1)) act(`sw 01 ${hex(interruptEnable | 1, 2)}`);
   for (let turns = 0; turns < 2_000; turns += 1) {
     const isNone = (parseInt(act("sr 02").reply, 16) & 0x01) !== 0;
-    if (isNone && !board().answers.includes(true)) return;
+    if (isNone && !state.list.board.answers.includes(true)) return;
     while (!isNone && parseInt(act("sr 05").reply, 16) & 0x01) act("sr 00");
   }
 }
 
+/** The first line of a script whose interrupts are refused. */
+const refusing = ({ mask }) => mask ? [`refuse ${hex(mask, 16)}`] : [];
+
 /** The script of the calls up to the present one. */
 function script() {
-  const { mask } = boardAt(state.at);
-  const lines = state.calls.slice(0, state.at).map(({ line }) => line);
-  return [...(mask ? [`refuse ${hex(mask, 16)}`] : []), ...lines];
+  const { calls, at, board } = state.list;
+  return [...refusing(board), ...calls.slice(0, at).map(({ line }) => line)];
 }
 
 /** Runs a script on fresh devices. A reply after two spaces is left out. Returns why it stopped, or an empty text. */
 function load(text) {
   begin();
   id("refuses").checked = id("fails").checked = false;
-  const rows = text.split("\n").map((row) => row.trim().split(/ {2,}/)[0]);
-  const lines = rows.filter((line) => line && !line.startsWith("#"));
-  const bad = lines.find((line) => make(line) === null);
+  const lines = text.split("\n").map((row) => row.trim().split(/ {2,}/)[0]);
+  const bad = lines.filter((line) => line && !line.startsWith("#")).find((line) => make(line) === null);
   show();
   return bad === undefined ? "" : `"${bad}": ${formOf(bad)}`;
 }
 
 // What is shown.
 
-/** Offsets of the registers that the page has rows for, each with the names at it, with and without the divisor. */
-const ROWS = [["RBR", "DLL"], ["IER", "DLM"], ["IIR"], ["LCR"], ["MCR"], ["LSR"], ["MSR"], ["SCR"]];
-const rows = ROWS.map((names, offset) => rowOf(offset));
-
-function rowOf(offset) {
-  const [name, value, bits] = [element("b"), element("code"), element("span", { class: "bits" })];
-  const read = element("button", { title: `sr ${hex(offset, 2)}` }, "Read");
-  const input = element("input", { placeholder: "value", autocomplete: "off" });
-  const write = element("button", { title: `sw ${hex(offset, 2)} ..` }, "Write");
-  read.onclick = () => { act(`sr ${hex(offset, 2)}`); show(); };
-  const put = () => {
-    const number = byteOf(input.value);
-    if (number === null) return refuseField(input, "A value is 0 to 255, as 0x41, 65 or 'A'.");
-    act(`sw ${hex(offset, 2)} ${hex(number, 2)}`);
-    return show();
+/** A row of a register, between the elements before and after. `turn` is called with a bit that is clicked. */
+function rowOf({ name, bits }, label, before, after, turn) {
+  const signs = [...bits].reverse().map(([bit, text]) => {
+    const kind = turn ? "button" : "span";
+    const sign = element(kind, { class: "bit", title: `0x${hex(bit, 2)}`, ...turn ? {} : { role: "img" } }, text);
+    if (turn) sign.onclick = () => turn(bit);
+    return [bit, sign];
+  });
+  const [value, note] = [element("code"), element("span", { class: "quiet" })];
+  const shownBits = element("span", { class: "bits" }, ...signs.map(([, sign]) => sign), note);
+  const row = element("div", { class: "register", role: "group", "aria-label": label }, ...before,
+    element("b", {}, label), value, shownBits, ...after);
+  const update = (now, old, digits, text = "") => {
+    value.textContent = `0x${hex(now, digits)}`;
+    note.textContent = text;
+    row.classList.toggle("changed", now !== old);
+    for (const [bit, sign] of signs) {
+      const isSet = (now & bit) !== 0;
+      sign.classList.toggle("set", isSet);
+      sign.classList.toggle("flipped", ((now ^ old) & bit) !== 0);
+      if (turn) sign.setAttribute("aria-pressed", String(isSet));
+      else sign.setAttribute("aria-label", `${sign.textContent} ${isSet ? "set" : "clear"}`);
+    }
   };
-  write.onclick = put;
-  input.onkeydown = (event) => { if (event.key === "Enter") put(); };
-  const controls = element("span", { class: "act" }, read, input, write);
-  const place = element("span", { class: "offset" }, String(offset));
-  const row = element("div", { class: "register", role: "group" }, place, name, value, bits, controls);
-  id("registers").append(row);
-  return { row, name, value, bits, read, input, write, shown: null };
+  return { name, row, update };
 }
+
+/** A row of the serial port, with what reads and writes the register. */
+function serialRow(register) {
+  const { name, offset, latched, access } = register;
+  const place = hex(offset, 2);
+  const written = serialRegister(offset, latched ? DLAB : 0, true).name;
+  const isIgnored = WITHOUT_EFFECT.includes(written);
+  const read = element("button", { type: "button", title: `sr ${place}`, "aria-label": `Read ${name}` }, "Read");
+  const input = element("input", { placeholder: "value", autocomplete: "off", "aria-label": `Value for ${written}` });
+  const write = element("button", isIgnored ?
+    { title: `sw ${place} ..: ignored`, "aria-label": `Write ${written}, which is ignored`, class: "ignored" } :
+    { title: `sw ${place} ..`, "aria-label": `Write ${written}` }, "Write");
+  const form = element("form", { class: "act" }, read, input, write);
+  read.onclick = () => perform(`sr ${place}`);
+  form.onsubmit = (event) => {
+    event.preventDefault();
+    const number = byteOf(input.value);
+    if (number === null) refuseField(input, "A value is 0 to 255, as 0x41, 65 or 'A'.");
+    else perform(`sw ${place} ${hex(number, 2)}`);
+  };
+  const turn = (bit) => perform(`sw ${place} ${hex(shownRegisters(tape().board)[name] ^ bit, 2)}`);
+  const label = written === name ? name : `${name}/${written}`;
+  const row = rowOf(register, label, [element("span", { class: "offset" }, String(offset))], [form],
+    access === "rw" && !isIgnored && turn);
+  return { ...row, input, latched };
+}
+
+const rows = Object.values(SERIAL).filter(({ access }) => access.includes("r")).map(serialRow);
+id("registers").append(...rows.map(({ row }) => row));
 
 /** The byte that a person typed: 0x41, 65 or 'A'. Null if it is none. */
 function byteOf(text) {
@@ -188,227 +234,144 @@ function byteOf(text) {
   return /^(0x[0-9a-f]{1,2}|\d{1,3})$/i.test(plain) && Number(plain) < 256 ? Number(plain) : null;
 }
 
-/** The bits of a register: buttons if a write sets them, and otherwise signs. */
-function bitsOf(register, offset) {
-  const isButton = register.access === "rw" && !["LSR", "MSR"].includes(register.name);
-  return [...register.bits].reverse().map(([bit, name]) => {
-    const kind = isButton ? {} : { role: "img" };
-    const sign = element(isButton ? "button" : "span", { class: "bit", title: `0x${hex(bit, 2)}`, ...kind }, name);
-    if (isButton) {
-      sign.onclick = () => {
-        act(`sw ${hex(offset, 2)} ${hex(shownRegisters(board())[register.name] ^ bit, 2)}`);
-        show();
-      };
-    }
-    return { sign, bit, isButton };
-  });
-}
-
-function showRow(offset, now, before, isLatched) {
-  const row = rows[offset];
-  const register = SERIAL[ROWS[offset].at(isLatched ? -1 : 0)];
-  const { name } = register;
-  if (row.shown !== name) {
-    row.signs = bitsOf(register, offset);
-    row.text = element("span", { class: "quiet" });
-    row.bits.replaceChildren(...row.signs.map(({ sign }) => sign), row.text);
-    row.shown = name;
-    const writes = { RBR: "THR", IIR: "FCR" }[name] ?? name;
-    const isIgnored = ["FCR", "LSR", "MSR"].includes(writes);
-    row.name.textContent = writes === name ? name : `${name}/${writes}`;
-    row.row.setAttribute("aria-label", row.name.textContent);
-    row.read.setAttribute("aria-label", `Read ${name}`);
-    row.write.setAttribute("aria-label", `Write ${writes}${isIgnored ? ", which is ignored" : ""}`);
-    row.write.setAttribute("title", `sw ${hex(offset, 2)} ..${isIgnored ? ": ignored" : ""}`);
-    row.write.classList.toggle("ignored", isIgnored);
-    row.input.setAttribute("aria-label", `Value for ${writes}`);
-  }
-  const [value, old] = [now[name], before[name]];
-  row.value.textContent = `0x${hex(value, 2)}`;
-  row.row.classList.toggle("changed", value !== old);
-  row.text.textContent = noteOf(name, value, now);
-  for (const { sign, bit, isButton } of row.signs) {
-    sign.classList.toggle("set", (value & bit) !== 0);
-    sign.classList.toggle("flipped", ((value ^ old) & bit) !== 0);
-    if (isButton) sign.setAttribute("aria-pressed", String((value & bit) !== 0));
-    else sign.setAttribute("aria-label", `${sign.textContent} ${value & bit ? "set" : "clear"}`);
-  }
-}
-
-function noteOf(name, value, now) {
-  if (name === "RBR") return board().serial.fifoCapacity() < 64 ? `oldest byte ${quoted(value)}` : "no byte held";
+function noteOf(name, value, now, isEmpty) {
+  if (name === "RBR") return isEmpty ? "no byte held" : `oldest byte ${quoted(value)}`;
   if (name === "LCR") return lineFormat(value);
   if (name === "DLL" || name === "DLM") return `divisor ${now.DLM << 8 | now.DLL}`;
   return name === "IIR" && value & 1 ? "none pending" : "";
 }
 
-const SVG = "http://www.w3.org/2000/svg";
-const places = drawRing();
-
-/** Draws the FIFO as a ring of 64 places. */
-function drawRing() {
-  const svg = document.createElementNS(SVG, "svg");
-  svg.setAttribute("viewBox", "-100 -100 200 200");
-  svg.setAttribute("role", "img");
-  const at = (radius, turn) => `${(radius * Math.sin(turn)).toFixed(2)} ${(-radius * Math.cos(turn)).toFixed(2)}`;
-  const drawn = Array.from({ length: 64 }, (_, place) => {
-    const [from, to] = [place, place + 0.78].map((edge) => (edge * Math.PI) / 32);
-    const path = document.createElementNS(SVG, "path");
-    const outer = `L${at(96, from)}A96 96 0 0 1 ${at(96, to)}`;
-    path.setAttribute("d", `M${at(70, from)}${outer}L${at(70, to)}A70 70 0 0 0 ${at(70, from)}z`);
-    svg.append(path);
-    return path;
-  });
-  const texts = [["", 2], ["small", 20], ["small", 36]].map(([kind, y]) => {
-    const text = document.createElementNS(SVG, "text");
-    text.setAttribute("y", y);
-    text.setAttribute("class", kind);
-    svg.append(text);
-    return text;
-  });
-  id("fifo").append(svg);
-  return { svg, drawn, texts };
+function showRegisters(board, before) {
+  const [now, old] = [board, before].map(shownRegisters);
+  const { lineControl, inBuffer } = board.serial.state;
+  for (const { name, row, latched, update } of rows) {
+    row.hidden = ![null, (lineControl & DLAB) !== 0].includes(latched);
+    update(now[name], old[name], 2, noteOf(name, now[name], now, !inBuffer.length));
+  }
 }
 
-function showRing(shown) {
-  const { inBuffer } = shown.serial.state;
-  places.drawn.forEach((path, place) => {
-    const distance = (place - shown.head + 64) % 64;
+/** The FIFO as a ring of 64 places. */
+const PLACE = "M0-96A96 96 0 0 1 7.35-95.72L5.36-69.8A70 70 0 0 0 0-70z";
+id("fifo").innerHTML = `<svg viewBox="-100 -100 200 200" role="img">${Array.from({ length: 64 }, (_, place) =>
+  `<path d="${PLACE}" transform="rotate(${place * 360 / 64})"/>`).join("")}<text y="2"></text>
+  <text class="small" y="20">of 64 bytes held</text><text class="small" y="36"></text></svg>`;
+
+function showRing({ serial, head }) {
+  const { inBuffer } = serial.state;
+  id("fifo").querySelectorAll("path").forEach((path, place) => {
+    const distance = (place - head + 64) % 64;
     path.setAttribute("class", distance >= inBuffer.length ? "" : distance ? "held" : "oldest");
   });
   const printed = (one) => one > 31 && one < 127 ? String.fromCharCode(one) : "·";
-  const start = Array.from(inBuffer.slice(0, 8), printed).join("");
-  places.texts[0].textContent = String(inBuffer.length);
-  places.texts[1].textContent = "of 64 bytes held";
-  places.texts[2].textContent = start + (inBuffer.length > 8 ? "…" : "");
-  places.svg.setAttribute("aria-label", `The receive FIFO holds ${plural(inBuffer.length, "byte")}`);
+  const [count, , start] = id("fifo").querySelectorAll("text");
+  count.textContent = String(inBuffer.length);
+  start.textContent = Array.from(inBuffer.slice(0, 8), printed).join("") + (inBuffer.length > 8 ? "…" : "");
+  id("fifo").firstChild.setAttribute("aria-label", `The receive FIFO holds ${plural(inBuffer.length, "byte")}`);
 }
 
-function showLine(shown) {
-  const pending = shown.serial.state.interruptIdentification;
-  const lamps = [["rda", pending & 0x04], ["thre", pending & 0x02], ["line", shown.serial.interruptLine()]];
+function showLine({ serial, answers, asked }) {
+  const pending = serial.state.interruptIdentification;
+  const lamps = [["rda", pending & 0x04], ["thre", pending & 0x02], ["line", serial.interruptLine()]];
   for (const [name, lit] of lamps) {
     id(name).classList.toggle("lit", Boolean(lit));
     id(name).setAttribute("aria-label", `${id(name).textContent}: ${lit ? "yes" : "no"}`);
   }
-  const refused = shown.answers.includes(false) ? ", and refused the last call" : "";
-  say("asked", `The line was called ${plural(shown.asked, "time")}${refused}.`);
+  const refused = answers.includes(false) ? ", and refused the last call" : "";
+  say("asked", `The line was called ${plural(asked, "time")}${refused}.`);
 }
 
-function showOutput(shown) {
-  const text = isBoot() ? state.boot.text : state.log + shown.output;
-  say("output", text || "Nothing was sent yet.");
-  const taken = isBoot() ? state.boot.taken : shown.taken;
+/** A text whose control characters are shown as ^[ and the like, but for the ends of lines and tabs. */
+const printable = (text) => text.replace(/[\0-\x08\x0b\x0c\x0e-\x1f]/g, (one) =>
+  `^${String.fromCharCode(0x40 + one.charCodeAt(0))}`);
+
+function showOutput({ output, counts, taken }) {
+  const [sent, read] = state.boot ? [state.boot.text, state.boot.taken] : [state.log + output, taken];
+  say("output", printable(sent) || "Nothing was sent yet.");
   const waits = state.queue.length ? `; ${plural(state.queue.length, "byte")} of input wait` : "";
-  say("counts", `${plural(text.length, "byte")} sent, ${shown.counts.txLostByte} lost${waits}`);
-  say("taken-heading", `What the guest read: ${plural(taken.length, "byte")}`);
-  say("taken", taken);
+  say("counts", `${plural(sent.length, "byte")} sent, ${counts.txLostByte} lost${waits}`);
+  say("taken-heading", `What the guest read: ${plural(read.length, "byte")}`);
+  say("taken", printable(read));
   for (const name of ["output", "taken"]) id(name).scrollTop = id(name).scrollHeight;
 }
 
-function showWhy() {
-  const call = lastCall();
+function showWhy({ calls, at, board, last }) {
   const begin = ["Write IER to enable an interrupt, then type to the guest.", "interrupts"];
-  const [sentence, heading] = call ? ruleOf(call) : begin;
-  say("told", call ? `${call.line.replace(/^(.{60}).*/, "$1..")} → ${told(call)}` : "Fresh devices.");
-  say("resets", call?.reply === "reset" ? "The monitor has to reset the machine." : "");
+  const [sentence, heading] = last ? ruleOf(last) : begin;
+  say("told", last ? `${last.line.replace(/^(.{60}).*/, "$1..")} → ${told(last)}` : "Fresh devices.");
+  say("resets", last?.reply === "reset" ? "The monitor has to reset the machine." : "");
   const link = element("a", { href: `DEVICES.md#${heading}` }, "The rule: DEVICES.md, a text file");
   id("rule").replaceChildren(`${sentence} `, link);
-  const stories = isBoot() ? [] : CONDITIONS.map((one) => storyOf(one, state.calls, state.at - 1, board()));
+  const stories = state.boot ? [] : CONDITIONS.map((one) => storyOf(one, calls, at - 1, board));
   id("stories").replaceChildren(...stories.map((text) => element("li", {}, text)));
 }
 
 /** How many calls the list shows around the present one. */
 const AROUND = 60;
 
-function showCalls() {
-  const first = Math.max(0, state.at - AROUND);
-  const { mask } = boardAt(state.at);
-  const head = mask ? [["", `refuse ${hex(mask, 16)}`, "", "", -1]] : [];
-  const some = state.calls.slice(first, state.at + AROUND).map(({ line, reply }, place) => {
+function showCalls({ calls, at, board }) {
+  const item = (number, line, reply, kind) => element("li", { class: kind },
+    element("span", { class: "number" }, number), element("span", {}, line), element("span", {}, reply));
+  const first = Math.max(0, at - AROUND);
+  const some = calls.slice(first, at + AROUND).map(({ line, reply }, place) => {
     const number = first + place + 1;
-    return [String(number), line, reply, number === state.at ? "now" : number > state.at ? "later" : "", number];
+    const made = item(String(number), line, reply, number === at ? "now" : number > at ? "later" : "");
+    if (number === at) made.setAttribute("aria-current", "true");
+    made.onclick = () => go(number);
+    return made;
   });
-  const list = isBoot() ? bootLines() : [...head, ...some];
-  id("list").replaceChildren(...list.map(([number, line, reply, kind, to]) => {
-    const item = element("li", { class: kind }, element("span", { class: "number" }, number), element("span", {}, line),
-      element("span", {}, reply));
-    if (kind === "now") item.setAttribute("aria-current", "true");
-    if (to >= 0) item.onclick = () => go(to);
-    return item;
-  }));
+  const head = state.boot ? [] : refusing(board).map((line) => item("", line, "", ""));
+  id("list").replaceChildren(...head, ...some);
   const now = id("list").querySelector(".now");
   if (now) id("list").scrollTop = now.offsetTop - id("list").offsetTop - id("list").clientHeight / 2;
-  Object.assign(id("at"), { max: state.calls.length, value: state.at });
-  say("place", isBoot() ? "the boot" : `${state.at} of ${state.calls.length}`);
+  Object.assign(id("at"), { max: calls.length, value: at });
+  say("place", `${at.toLocaleString("en")} of ${calls.length.toLocaleString("en")}`);
   id("at").setAttribute("aria-valuetext", `call ${id("place").textContent}`);
-  id("back").disabled = isBoot() || state.at === 0;
-  id("forward").disabled = isBoot() || state.at === state.calls.length;
-  id("at").disabled = isBoot();
-}
-
-function bootLines() {
-  const { at, lines, replies } = state.boot;
-  const first = Math.max(0, at - 30);
-  return lines.slice(first, at).map((line, place) => {
-    const number = first + place + 1;
-    return [String(number), line, replies[number - 1], number === at ? "now" : "", -1];
-  });
+  id("back").disabled = at === 0;
+  id("forward").disabled = at === calls.length;
 }
 
 const hostTime = () => Math.max(0, Math.floor(Date.now() / 1000));
+const kept = Object.keys(new Board().clock.state);
+const clockRows = Object.values(CLOCK).filter(({ name }) => name === "MIS" || kept.includes(name.toLowerCase()))
+  .map((register) => rowOf(register, register.name, [], []));
+id("clock-registers").append(...clockRows.map(({ row }) => row));
 
-function showClock(shown) {
+function showClock(board, before) {
   const now = state.boot?.moment ?? hostTime();
-  const clock = shown.clock.clone();
-  const kept = shown.clock.state;
+  const clock = board.clock.clone();
+  const valuesOf = ({ ris, imsc, ...others }) => ({ ris, imsc, mis: ris & imsc, ...others });
+  const [values, old] = [board, before].map((one) => valuesOf(one.clock.state));
   const due = clock.due(now);
-  const set = due === null ? `set for ${dateOf(kept.mr)}, never due` : `in ${plural(due, "second")}`;
+  const set = due === null ? `set for ${dateOf(values.mr)}, never due` : `in ${plural(due, "second")}`;
   const guestTime = clock.read("DR", now).value;
   const facts = [["Host", `${dateOf(now)} UTC`], ["Guest", `${dateOf(guestTime)} UTC`],
-    ["Alarm", kept.armed ? set : "none is set"], ["Interrupt line", shown.clock.line() ? "up" : "down"]];
+    ["Alarm", values.armed ? set : "none is set"], ["Interrupt line", board.clock.line() ? "up" : "down"]];
   id("times").replaceChildren(...facts.flatMap(([name, text]) => [element("dt", {}, name), element("dd", {}, text)]));
-  const before = lastCall()?.before.clock.state ?? kept;
-  const names = Object.keys(CLOCK).filter((name) => name.toLowerCase() in kept);
-  const values = [...names.map((name) => [name, kept[name.toLowerCase()], before[name.toLowerCase()]]),
-    ["MIS", kept.ris & kept.imsc, before.ris & before.imsc]];
-  id("clock-registers").replaceChildren(...values.map(([name, value, old]) => clockRow(CLOCK[name], value, old)));
+  for (const { name, update } of clockRows) update(values[name.toLowerCase()], old[name.toLowerCase()], 8);
 }
 
-/** A row of the clock, whose bit has a sign. */
-function clockRow({ name, bits }, value, old) {
-  const signs = bits.map(([bit, text]) => element("span", { class: `bit${value & bit ? " set" : ""}`, role: "img",
-    "aria-label": `${text} ${value & bit ? "set" : "clear"}` }, text));
-  const row = element("div", { class: "register" }, element("b", {}, name), element("code", {}, `0x${hex(value, 8)}`),
-    element("span", { class: "bits" }, ...signs));
-  row.classList.toggle("changed", value !== old);
-  return row;
-}
-
-function showBoot() {
-  const { boot } = state;
+function showBoot({ boot, isPlaying }) {
   id("take-over").hidden = !boot;
-  const begun = boot?.at === boot?.length ? "Play again" : "Play on";
-  id("play").textContent = state.isPlaying ? "Pause" : boot?.at ? begun : "Play the boot";
+  const begun = boot?.at === boot?.calls.length ? "Play again" : "Play on";
+  id("play").textContent = isPlaying ? "Pause" : boot?.at ? begun : "Play the boot";
   if (!boot) return;
-  Object.assign(id("boot-at"), { max: boot.length, value: boot.at });
-  say("boot-count", `${boot.at.toLocaleString("en")} of ${boot.length.toLocaleString("en")}`);
+  Object.assign(id("boot-at"), { max: boot.calls.length, value: boot.at });
+  say("boot-count", `${boot.at.toLocaleString("en")} of ${boot.calls.length.toLocaleString("en")}`);
 }
 
 function show() {
-  const shown = board();
+  const shown = tape();
+  const before = shown.last?.before ?? shown.board;
   // A screen reader is told where the playback stops, and not of each picture before.
   id("main").setAttribute("aria-busy", String(state.isPlaying));
-  const [now, before] = [shown, lastCall()?.before ?? shown].map(shownRegisters);
-  const isLatched = (shown.serial.state.lineControl & DLAB) !== 0;
-  rows.forEach((_, offset) => showRow(offset, now, before, isLatched));
-  showRing(shown);
-  showLine(shown);
-  showOutput(shown);
-  showWhy();
-  showCalls();
-  showClock(shown);
-  showBoot();
+  showRegisters(shown.board, before);
+  showRing(shown.board);
+  showLine(shown.board);
+  showOutput(shown.board);
+  showWhy(shown);
+  showCalls(shown);
+  showClock(shown.board, before);
+  showBoot(state);
 }
 
 // The boots.
@@ -423,12 +386,13 @@ const opened = {};
 function openBoot() {
   const name = id("choice").value;
   opened[name] ??= new Boot(texts[name], RECORDINGS[name]);
-  state.boot = opened[name];
+  state.boot ??= opened[name];
 }
 
 /** Shows the chosen recording, before its first call. */
 function introduce() {
   const { calls, introduction } = RECORDINGS[id("choice").value];
+  opened[id("choice").value]?.seek(0);
   Object.assign(id("boot-at"), { max: calls, value: 0 });
   say("boot-count", "");
   say("caption", introduction);
@@ -449,12 +413,12 @@ const LONGEST_FRAME = 1000;
 
 /** Makes the calls for the time since the last picture. Part of a call is left for the next one. */
 function turn(now) {
-  if (!state.isPlaying || !isBoot()) return;
+  if (!state.isPlaying || !state.boot) return;
   state.due += Number(id("speed").value) * Math.max(0, Math.min(now - state.turned, LONGEST_FRAME)) / 1000;
   state.turned = now;
   const isStop = state.boot.play(Math.floor(state.due));
   state.due %= 1;
-  if (isStop || state.boot.at === state.boot.length) {
+  if (isStop || state.boot.at === state.boot.calls.length) {
     state.isPlaying = false;
     caption();
   }
@@ -464,100 +428,38 @@ function turn(now) {
 
 /** Says what happens where the boot is. */
 function caption() {
-  const { differences, at, length, stop, recording } = state.boot;
-  const compared = `${differences} of ${length.toLocaleString("en")} replies differed`;
-  const end = at === length ? ` The boot is over: ${compared} from the recorded ones.` : "";
+  const { differences, at, calls, stop, recording } = state.boot;
+  const compared = `${differences} of ${calls.length.toLocaleString("en")} replies differed`;
+  const end = at === calls.length ? ` The boot is over: ${compared} from the recorded ones.` : "";
   id("caption").replaceChildren(stop ? `${stop.text} ` : recording.beginning, ...(stop ?
     [element("a", { href: `GUESTS.md#${stop.heading}` }, "More: GUESTS.md, a text file")] : []), end);
 }
 
-id("play").onclick = () => {
-  if (!isBoot()) openBoot();
-  if (state.boot.at === state.boot.length) state.boot.seek(0);
-  Object.assign(state, { isPlaying: !state.isPlaying, due: 0, turned: performance.now() });
-  if (state.isPlaying) caption();
-  show();
-  if (state.isPlaying) requestAnimationFrame(turn);
-};
-id("boot-at").oninput = () => {
-  if (!isBoot()) openBoot();
-  state.isPlaying = false;
-  state.boot.seek(Number(id("boot-at").value));
-  caption();
-  show();
-};
-id("choice").onchange = () => {
-  if (isBoot()) begin();
-  opened[id("choice").value]?.seek(0);
-  introduce();
-  show();
-};
-id("as-guest").onclick = () => { takeOver(); show(); rows[1].input.focus(); };
-id("as-host").onclick = () => { takeOver(); show(); id("input").focus(); };
+// What the controls do.
 
-// What the other controls do.
-
-const onClick = (name, line) => { id(name).onclick = () => { act(line()); show(); }; };
 const moment = () => hex(hostTime(), 16);
 const clockOffset = () => hex(CLOCK[id("clock-register").value].offset, 4);
+const inTenSeconds = () => hex((tape().board.clock.clone().read("DR", hostTime()).value + 10) % 2 ** 32, 8);
+for (const button of document.querySelectorAll("[data-line]")) {
+  button.onclick = () => perform(button.dataset.line.replace("NOW", moment).replace("REGISTER", clockOffset)
+    .replace("SOON", inTenSeconds));
+}
 
-onClick("timeout", () => "si");
-onClick("restore", () => "ss");
-onClick("status", () => "kr 04");
-onClick("machine", () => "kw 04 fe");
-onClick("clock-read", () => `cr ${moment()} ${clockOffset()}`);
-onClick("unmask", () => `cw ${moment()} 0010 00000001`);
-onClick("acknowledge", () => `cw ${moment()} 001c 00000001`);
-onClick("alarm", () => {
-  const match = (board().clock.clone().read("DR", hostTime()).value + 10) % 2 ** 32;
-  return `cw ${moment()} 0004 ${hex(match, 8)}`;
+const onSubmit = (name, call) => {
+  id(name).onsubmit = (event) => { event.preventDefault(); call(); };
+};
+onSubmit("typing", () => { type(`${id("input").value}\n`); id("input").value = ""; });
+onSubmit("adding", () => {
+  const line = id("one").value.trim();
+  if (perform(line)) id("one").value = "";
+  else refuseField(id("one"), formOf(line));
 });
-id("clock-write").onclick = () => {
+onSubmit("clock-form", () => {
   const text = id("clock-value").value.trim();
   const isGood = /^(0x[0-9a-f]{1,8}|\d{1,10})$/i.test(text) && Number(text) < 2 ** 32;
-  if (!isGood) return refuseField(id("clock-value"), "A value of the clock is 0 to 4,294,967,295, as 0x41 or 65.");
-  act(`cw ${moment()} ${clockOffset()} ${hex(Number(text), 8)}`);
-  return show();
-};
-id("save").onclick = () => { id("saved").value = act("sb").reply; show(); };
-id("load").onclick = () => {
-  const call = act(`sl ${id("saved").value.replace(/\s+/g, "")}`);
-  if (!call) return refuseField(id("saved"), "A saved port is 1 to 128 bytes, of two hexadecimal digits each.");
-  return show();
-};
-id("serve").onclick = () => { serve(); show(); };
-id("typing").onsubmit = (event) => {
-  event.preventDefault();
-  type(`${id("input").value}\n`);
-  id("input").value = "";
-};
-id("paste-many").onclick = () => type(Array.from({ length: 20 }, (_, line) =>
-  `${String(line + 1).padStart(2, "0")} ${"abcdefghijklmnopqrstuvwxyz0123456789ABCDEFGHIJ"}\n`).join(""));
-id("back").onclick = () => go(state.at - 1);
-id("forward").onclick = () => go(state.at + 1);
-id("at").oninput = () => go(Number(id("at").value));
-id("list").onkeydown = (event) => {
-  const { at, calls } = state;
-  const to = { ArrowUp: at - 1, ArrowLeft: at - 1, ArrowDown: at + 1, ArrowRight: at + 1, Home: 0, End: calls.length };
-  if (event.key in to && !isBoot()) { event.preventDefault(); go(to[event.key]); }
-};
-id("adding").onsubmit = (event) => {
-  event.preventDefault();
-  const line = id("one").value.trim();
-  if (!act(line)) return refuseField(id("one"), formOf(line));
-  id("one").value = "";
-  return show();
-};
-id("reset").onclick = () => {
-  begin();
-  opened[id("choice").value]?.seek(0);
-  introduce();
-  clearFaults();
-  say("said", "Fresh devices.");
-  history.replaceState(null, "", "#");
-  show();
-};
-id("run").onclick = () => say("said", load(id("script").value) || `${plural(state.calls.length, "call")} made.`);
+  if (isGood) perform(`cw ${moment()} ${clockOffset()} ${hex(Number(text), 8)}`);
+  else refuseField(id("clock-value"), "A value of the clock is 0 to 4,294,967,295, as 0x41 or 65.");
+});
 
 async function toClipboard(text, what) {
   try {
@@ -570,15 +472,62 @@ async function toClipboard(text, what) {
   }
 }
 
-id("copy").onclick = () => {
-  const lines = script();
-  const isOwn = lines.some((line) => line.endsWith(" f"));
-  return toClipboard(`${lines.join("\n")}\n`, isOwn ? "The script, whose lines that end in f are for this page alone," :
-    "The script");
+const CLICKS = {
+  play() {
+    openBoot();
+    if (state.boot.at === state.boot.calls.length) state.boot.seek(0);
+    Object.assign(state, { isPlaying: !state.isPlaying, due: 0, turned: performance.now() });
+    if (state.isPlaying) caption();
+    show();
+    if (state.isPlaying) requestAnimationFrame(turn);
+  },
+  "as-guest"() { takeOver(); show(); rows.find(({ name }) => name === "IER").input.focus(); },
+  "as-host"() { takeOver(); show(); id("input").focus(); },
+  save() { id("saved").value = perform("sb").reply; },
+  load() {
+    const isGood = perform(`sl ${id("saved").value.replace(/\s+/g, "")}`);
+    if (!isGood) refuseField(id("saved"), "A saved port is 1 to 128 bytes, of two hexadecimal digits each.");
+  },
+  serve() { serve(); show(); },
+  "paste-many"() {
+    type(Array.from({ length: 20 }, (_, line) =>
+      `${String(line + 1).padStart(2, "0")} ${"abcdefghijklmnopqrstuvwxyz0123456789ABCDEFGHIJ"}\n`).join(""));
+  },
+  back() { go(tape().at - 1); },
+  forward() { go(tape().at + 1); },
+  reset() {
+    begin();
+    introduce();
+    clearFaults();
+    say("said", "Fresh devices.");
+    history.replaceState(null, "", "#");
+    show();
+  },
+  run() { say("said", load(id("script").value) || `${plural(state.list.calls.length, "call")} made.`); },
+  copy() {
+    const lines = script();
+    const isOwn = lines.some((line) => line.endsWith(" f"));
+    const what = isOwn ? "The script, whose lines that end in f are for this page alone," : "The script";
+    return toClipboard(`${lines.join("\n")}\n`, what);
+  },
+  share() {
+    history.replaceState(null, "", `#${script().join(";").replaceAll(" ", "+")}`);
+    return toClipboard(location.href, "The link");
+  },
 };
-id("share").onclick = () => {
-  history.replaceState(null, "", `#${script().join(";").replaceAll(" ", "+")}`);
-  return toClipboard(location.href, "The link");
+for (const [name, call] of Object.entries(CLICKS)) id(name).onclick = call;
+
+id("at").oninput = () => go(Number(id("at").value));
+id("boot-at").oninput = () => { openBoot(); go(Number(id("boot-at").value)); };
+id("choice").onchange = () => {
+  if (state.boot) begin();
+  introduce();
+  show();
+};
+id("list").onkeydown = (event) => {
+  const { at, calls } = tape();
+  const to = { ArrowUp: at - 1, ArrowLeft: at - 1, ArrowDown: at + 1, ArrowRight: at + 1, Home: 0, End: calls.length };
+  if (event.key in to) { event.preventDefault(); go(to[event.key]); }
 };
 
 /** Runs the script that the address has. */
@@ -594,13 +543,10 @@ window.addEventListener("hashchange", followLink);
  * none.
  */
 setInterval(() => {
-  const { clock } = board();
-  if (!isBoot() && state.at === state.calls.length && clock.state.armed && clock.due(hostTime()) === 0) {
-    act(`cr ${moment()} 0018`);
-    show();
-  } else {
-    showClock(board());
-  }
+  const { board, last, at, calls } = tape();
+  const isDue = !state.boot && at === calls.length && board.clock.state.armed && board.clock.due(hostTime()) === 0;
+  if (isDue) perform(`cr ${moment()} 0018`);
+  else showClock(board, last?.before ?? board);
 }, 1000);
 
 for (const name of Object.keys(CLOCK)) id("clock-register").append(element("option", {}, name));

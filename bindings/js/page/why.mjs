@@ -2,6 +2,9 @@
 import { SERIAL, clockRegister, serialRegister } from "../registers.mjs";
 import { hex } from "./board.mjs";
 
+/** The registers to which a write changes nothing. */
+export const WITHOUT_EFFECT = ["FCR", "LSR", "MSR"];
+
 const bitOf = (register, name) => SERIAL[register].bits.find(([, one]) => one === name)[0];
 const LOOP = bitOf("MCR", "LOOP");
 // Each condition with its bit of IIR, its bit of IER, and what acknowledges it.
@@ -131,7 +134,7 @@ function toldOfWrite(call) {
   const [offset, value] = call.command.values;
   const name = serialRegister(offset, call.before.serial.state.lineControl, true)?.name;
   const to = `${name ?? `offset 0x${hex(offset, 2)}`} gets 0x${hex(value, 2)}`;
-  if (!name || ["FCR", "LSR", "MSR"].includes(name)) return `${to}: ignored`;
+  if (!name || WITHOUT_EFFECT.includes(name)) return `${to}: ignored`;
   const why = call.after.fails ? "the writer fails" : "the output is full";
   if (call.after.isLost) return `${quoted(value)} is lost: ${why}`;
   return call.after.output.length > call.before.output.length ? `sent ${quoted(value)}` : to;

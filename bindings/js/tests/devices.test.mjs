@@ -11,6 +11,10 @@ function within(array) {
   return larger.subarray(2, 2 + array.length);
 }
 
+/** Each choice of one thing of each list. */
+const choices = (...lists) =>
+  lists.reduce((chosen, list) => chosen.flatMap((some) => list.map((one) => [...some, one])), [[]]);
+
 const bytes = (text) => within(new TextEncoder().encode(text));
 const fromHex = (digits) => within(Uint8Array.from(digits.match(/../g) ?? [], (two) => parseInt(two, 16)));
 // Each field has a value of its own, so that two that are swapped are found.
@@ -18,21 +22,10 @@ const PORT = {
   baudDivisorLow: 0x11, baudDivisorHigh: 0x22, interruptEnable: 0x03, interruptIdentification: 0x06, lineControl: 0x44,
   lineStatus: 0x61, modemControl: 0x08, modemStatus: 0xb5, scratch: 0x77, inBuffer: Uint8Array.of(0xa1, 0xa2, 0xa3),
 };
+const REGISTERS = Object.keys(PORT).filter((name) => name !== "inBuffer");
 const PORT_SAVED = "53494f5301010c0011220306446108b577a1a2a3";
 const CLOCK = { lr: 0x01020304, mr: 0x05060708, imsc: 1, ris: 0x0a0b0c0d, offset: -2n, armed: true };
 const CLOCK_SAVED = "53494f53020119000403020108070605010000000d0c0b0afeffffffffffffff01";
-
-test("a guest reads what arrived, and is interrupted once", () => {
-  const port = new Serial();
-  assert.deepEqual(port.write("IER", 0x01), { sends: false, interrupts: 0 });
-  assert.deepEqual(port.enqueue(bytes("hi")), { taken: 2, full: false, interrupts: 1 });
-  assert.deepEqual(port.read("IIR"), { byte: 0xc4, bufferRead: false, inBufferEmpty: false });
-  assert.deepEqual(port.read("RBR"), { byte: 0x68, bufferRead: true, inBufferEmpty: false });
-  assert.equal(port.fifoCapacity(), 63);
-  assert.equal(port.characterTimeout(), 1);
-  assert.equal(port.characterTimeout(), 0);
-  assert.deepEqual(port.read(0), { byte: 0x69, bufferRead: true, inBufferEmpty: true });
-});
 
 test("a write's offset comes before its value", () => {
   const port = new Serial();
@@ -76,32 +69,16 @@ test("each field of a state has its place", () => {
 });
 
 test("a port is coherent if its registers fit its held bytes", () => {
-  const ofPort = Object.keys(PORT).filter((name) => name !== "inBuffer");
   const identifications = [1, 2, 4, 6];
-  for (const count of [0, 1, 64]) {
-    for (const interruptIdentification of identifications) {
-      const inBuffer = new Uint8Array(count);
-      const fitting = { ...PORT, interruptIdentification, lineStatus: count ? 0x61 : 0x60, inBuffer };
-      for (const name of ofPort) {
-        for (let value = 0; value < 256; value += 1) {
-          const state = { ...fitting, [name]: value };
-          const identification = state.interruptIdentification;
-          const fits = ((state.lineStatus & 1) !== 0) === (count > 0) && identifications.includes(identification)
-            && (count > 0 || (identification & 4) === 0);
-          assert.equal(Serial.fromState(state).isCoherent(), fits);
-        }
-      }
-    }
+  const values = Array.from({ length: 256 }, (_, value) => value);
+  for (const [count, fitting, name, value] of choices([0, 1, 64], identifications, REGISTERS, values)) {
+    const state = { ...PORT, interruptIdentification: fitting, lineStatus: count ? 0x61 : 0x60,
+      inBuffer: new Uint8Array(count), [name]: value };
+    const { interruptIdentification: identification, lineStatus } = state;
+    const fits = ((lineStatus & 1) !== 0) === (count > 0) && identifications.includes(identification)
+      && (count > 0 || (identification & 4) === 0);
+    assert.equal(Serial.fromState(state).isCoherent(), fits);
   }
-});
-
-test("held bytes go round the end of the ring", () => {
-  const port = new Serial();
-  port.enqueue(new Uint8Array(60));
-  for (let count = 0; count < 60; count += 1) port.read(0);
-  port.enqueue(bytes("0123456789"));
-  assert.deepEqual(port.state.inBuffer, bytes("0123456789"));
-  assert.deepEqual(port.toBytes().subarray(17), bytes("0123456789"));
 });
 
 test("a clock's alarm", () => {
@@ -126,24 +103,20 @@ const MOMENTS = [...EDGES, 2n ** 32n, 2n ** 53n + 1n, 2n ** 63n - 1n, 2n ** 63n,
 
 test("a clock's line is up while bit 0x01 is raised and let pass", () => {
   const values = [0, 1, 2, 3, 0x80, 0x100, 2 ** 31, 2 ** 32 - 2, 2 ** 32 - 1];
-  for (const [imsc, ris] of values.flatMap((mask) => values.map((raised) => [mask, raised]))) {
+  for (const [imsc, ris] of choices(values, values)) {
     assert.equal(Rtc.fromState({ ...CLOCK, imsc, ris }).line(), (imsc & ris & 1) !== 0, `${imsc} ${ris}`);
   }
 });
 
 test("an alarm is due when guest time reaches it", () => {
-  for (const match of EDGES) {
-    for (const time of EDGES) {
-      for (const now of MOMENTS) {
-        const offset = time - BigInt.asUintN(32, now);
-        const clock = Rtc.fromState({ ...new Rtc().state, mr: Number(match), offset, armed: true });
-        const seconds = match > time ? match - time : 0n;
-        // The host's seconds do not begin anew until then.
-        const isBefore = BigInt.asUintN(32, now) + seconds < 2n ** 32n;
-        if (isBefore) assert.equal(clock.due(now), Number(seconds), `${match} ${time} ${now}`);
-        assert.equal(clock.read("DR", now).value, Number(time));
-      }
-    }
+  for (const [match, time, now] of choices(EDGES, EDGES, MOMENTS)) {
+    const offset = time - BigInt.asUintN(32, now);
+    const clock = Rtc.fromState({ ...new Rtc().state, mr: Number(match), offset, armed: true });
+    const seconds = match > time ? match - time : 0n;
+    // The host's seconds do not begin anew until then.
+    const isBefore = BigInt.asUintN(32, now) + seconds < 2n ** 32n;
+    if (isBefore) assert.equal(clock.due(now), Number(seconds), `${match} ${time} ${now}`);
+    assert.equal(clock.read("DR", now).value, Number(time));
   }
 });
 
@@ -192,12 +165,14 @@ test("devices share nothing", () => {
   port.write("SCR", 1);
   const copy = port.clone();
   copy.write("SCR", 2);
-  assert.deepEqual([port, other, copy].map((one) => [one.read("SCR").byte, one.state.scratch]), [[1, 1], [0, 0], [2, 2]]);
+  assert.deepEqual([port, other, copy].map((one) => one.read("SCR").byte), [1, 0, 2]);
+  assert.deepEqual([port, other, copy].map((one) => one.state.scratch), [1, 0, 2]);
   const [clock, later] = [new Rtc(), new Rtc()];
   clock.write("LR", 5, 0);
   const twin = clock.clone();
   twin.write("LR", 6, 0);
-  assert.deepEqual([clock, later, twin].map((one) => [one.read("DR", 0).value, one.state.lr]), [[5, 5], [0, 0], [6, 6]]);
+  assert.deepEqual([clock, later, twin].map((one) => one.read("DR", 0).value), [5, 0, 6]);
+  assert.deepEqual([clock, later, twin].map((one) => one.state.lr), [5, 0, 6]);
 });
 
 /** Changes all that an object or an array has. */
@@ -308,37 +283,6 @@ function refused(call, name, text) {
   assert.throws(call, (error) => error.name === name && error.message.includes(text), `${call}: ${name}, ${text}`);
 }
 
-test("a wrong argument is named, with its value and the range", () => {
-  const [port, clock, controller] = [new Serial(), new Rtc(), new I8042()];
-  const before = [port.state, clock.state];
-  refused(() => port.read(256), "RangeError", "offset is 256, and a whole number from 0 to 255 is wanted");
-  refused(() => port.read(-1), "RangeError", "offset is -1");
-  refused(() => port.read(), "TypeError", "offset is undefined");
-  refused(() => port.write(7, 256), "RangeError", "value is 256");
-  refused(() => port.write(7, 1.5), "RangeError", "value is 1.5");
-  refused(() => port.write(7, NaN), "RangeError", "value is NaN");
-  refused(() => port.write(7, "A"), "TypeError", 'value is "A"');
-  refused(() => port.write(7, 65n), "TypeError", "value is 65n");
-  refused(() => port.write(7, true), "TypeError", "value is true");
-  refused(() => port.enqueue(65), "TypeError", "bytes is 65, and a Uint8Array is wanted");
-  refused(() => port.enqueue([65]), "TypeError", "bytes is of class Array, and a Uint8Array is wanted");
-  refused(() => Serial.fromBytes("53"), "TypeError", 'bytes is "53"');
-  refused(() => clock.read(0x10000, 0), "RangeError", "offset is 65536, and a whole number from 0 to 65535 is wanted");
-  refused(() => clock.write(8, 2 ** 32, 0), "RangeError", "value is 4294967296");
-  refused(() => clock.write(8, 0), "TypeError", "now is undefined");
-  refused(() => clock.read(0, -1), "RangeError", "now is -1");
-  refused(() => clock.read(0, 2n ** 64n), "RangeError", "now is 18446744073709551616n");
-  refused(() => clock.read(0, 2 ** 60), "RangeError", "as a BigInt");
-  refused(() => clock.due(0.5), "RangeError", "now is 0.5");
-  refused(() => controller.write(4, 256), "RangeError", "value is 256");
-  refused(() => controller.read(256), "RangeError", "offset is 256");
-  refused(() => Serial.fromState({ ...PORT, scratch: 256 }), "RangeError", "scratch is 256");
-  refused(() => Serial.fromState({ ...PORT, inBuffer: new Uint8Array(65) }), "RangeError", "inBuffer.length is 65");
-  refused(() => Rtc.fromState({ ...CLOCK, offset: 2n ** 63n }), "RangeError", "offset is 9223372036854775808n");
-  refused(() => Rtc.fromState({ ...CLOCK, armed: 1 }), "TypeError", "armed is 1, and true or false is wanted");
-  assert.deepEqual([port.state, clock.state], before);
-});
-
 // Objects that JavaScript would make a number or a text of, and what it cannot make a text of.
 const OF_OTHER_KINDS = [undefined, null, true, [7], {}, new Number(7), () => 7, Symbol("seven"), Object.create(null)];
 
@@ -351,6 +295,8 @@ test("any Uint8Array is taken as bytes, and nothing else is", () => {
   for (const call of calls) {
     for (const other of ["53", ...OF_OTHER_KINDS, ...others]) refused(() => call(other), "TypeError", "a Uint8Array");
   }
+  refused(() => new Serial().enqueue([65]), "TypeError", "bytes is of class Array, and a Uint8Array is wanted");
+  refused(() => Serial.fromBytes("53"), "TypeError", 'bytes is "53", and a Uint8Array is wanted');
   const shared = new Uint8Array(new SharedArrayBuffer(form.length));
   shared.set(form);
   for (const taken of [Buffer.from(form), class extends Uint8Array {}.from(form), shared]) {
@@ -363,24 +309,51 @@ test("any Uint8Array is taken as bytes, and nothing else is", () => {
   }
 });
 
-test("each argument is taken at its edges, and refused beyond them", () => {
-  const [port, clock, controller] = [new Serial(), new Rtc(), new I8042()];
-  const ofPort = Object.keys(PORT).filter((name) => name !== "inBuffer");
-  const arguments_ = [[(it) => port.read(it), 0, 0xff], [(it) => port.write(it, 0), 0, 0xff],
-    [(it) => port.write(7, it), 0, 0xff], [(it) => clock.read(it, 0), 0, 0xffff], [(it) => clock.write(it, 0, 0), 0, 0xffff],
-    [(it) => clock.write(8, it, 0), 0, 2 ** 32 - 1], [(it) => clock.read(0, it), 0, Number.MAX_SAFE_INTEGER],
-    ...[(it) => clock.read(0, it), (it) => clock.write(8, 0, it), (it) => clock.due(it)].map((it) => [it, 0n, 2n ** 64n - 1n]),
-    [(it) => controller.read(it), 0, 0xff], [(it) => controller.write(it, 0), 0, 0xff],
-    [(it) => controller.write(4, it), 0, 0xff], [(it) => Rtc.fromState({ ...CLOCK, offset: it }), -(2n ** 63n), 2n ** 63n - 1n],
-    ...ofPort.map((name) => [(it) => Serial.fromState({ ...PORT, [name]: it }), 0, 0xff]),
-    ...["lr", "mr", "imsc", "ris"].map((name) => [(it) => Rtc.fromState({ ...CLOCK, [name]: it }), 0, 2 ** 32 - 1])];
-  for (const [call, least, most] of arguments_) {
-    const one = typeof most === "bigint" ? 1n : 1;
-    for (const taken of [least, most]) call(taken);
-    for (const beyond of [least - one, most + one]) assert.throws(() => call(beyond), RangeError, `${call}: ${beyond}`);
-    for (const other of OF_OTHER_KINDS) refused(() => call(other), "TypeError", "a whole number from");
+// Each argument that is a number: its name, the range, and a call with it.
+const [OF_BYTE, OF_WORD, OF_MOMENT] = [[0, 0xff], [0, 2 ** 32 - 1], [0n, 2n ** 64n - 1n]];
+const NUMBERS = [
+  ["offset", OF_BYTE, (it) => new Serial().read(it)], ["offset", OF_BYTE, (it) => new Serial().write(it, 0)],
+  ["value", OF_BYTE, (it) => new Serial().write(7, it)],
+  ["offset", [0, 0xffff], (it) => new Rtc().read(it, 0)], ["offset", [0, 0xffff], (it) => new Rtc().write(it, 0, 0)],
+  ["value", OF_WORD, (it) => new Rtc().write(8, it, 0)],
+  ["now", OF_MOMENT, (it) => new Rtc().read(0, it)], ["now", OF_MOMENT, (it) => new Rtc().write(8, 0, it)],
+  ["now", OF_MOMENT, (it) => new Rtc().due(it)],
+  ["offset", OF_BYTE, (it) => new I8042().read(it)], ["offset", OF_BYTE, (it) => new I8042().write(it, 0)],
+  ["value", OF_BYTE, (it) => new I8042().write(4, it)],
+  ["offset", [-(2n ** 63n), 2n ** 63n - 1n], (it) => Rtc.fromState({ ...CLOCK, offset: it })],
+  ...REGISTERS.map((name) => [name, OF_BYTE, (it) => Serial.fromState({ ...PORT, [name]: it })]),
+  ...Object.keys(CLOCK).slice(0, 4).map((name) => [name, OF_WORD, (it) => Rtc.fromState({ ...CLOCK, [name]: it })]),
+];
+
+test("each number is taken at its edges, and refused beyond them by its name, its value and the range", () => {
+  for (const [name, [least, most], call] of NUMBERS) {
+    const isBig = typeof most === "bigint";
+    const [one, sign] = isBig ? [1n, "n"] : [1, ""];
+    const wanted = `a whole number from ${least} to ${most} is wanted`;
+    for (const taken of [least, most, ...(isBig ? [0, Number.MAX_SAFE_INTEGER] : [])]) call(taken);
+    for (const beyond of [least - one, most + one]) {
+      refused(() => call(beyond), "RangeError", `${name} is ${beyond}${sign}, and ${wanted}`);
+    }
+    for (const part of [0.5, NaN]) refused(() => call(part), "RangeError", `${name} is ${part}, and ${wanted}`);
+    if (isBig) refused(() => call(2 ** 60), "RangeError", `${wanted}, above 2 ** 53 as a BigInt`);
+    else refused(() => call(65n), "TypeError", `${name} is 65n, and ${wanted}`);
+    for (const other of OF_OTHER_KINDS) refused(() => call(other), "TypeError", `, and ${wanted}`);
+    refused(() => call(), "TypeError", `${name} is undefined`);
+    refused(() => call(true), "TypeError", `${name} is true`);
   }
-  for (const other of [0, "true", new Boolean(true), ...OF_OTHER_KINDS.filter((it) => it !== true)]) {
+  refused(() => new Serial().write(7, "A"), "TypeError", 'value is "A"');
+});
+
+test("a refused argument changes nothing", () => {
+  const [port, clock] = [Serial.fromState(PORT), Rtc.fromState(CLOCK)];
+  for (const call of [() => port.write(7, 256), () => port.read(-1), () => port.enqueue([65]), () => clock.read(0, -1),
+    () => clock.write(8, 2 ** 32, 0), () => clock.write(8, 0)]) assert.throws(call);
+  assert.deepEqual([port.state, clock.state], [PORT, CLOCK]);
+});
+
+test("a state is refused if it is none, or if one of its fields is", () => {
+  refused(() => Serial.fromState({ ...PORT, inBuffer: new Uint8Array(65) }), "RangeError", "inBuffer.length is 65");
+  for (const other of [0, 1, "true", new Boolean(true), ...OF_OTHER_KINDS.filter((it) => it !== true)]) {
     refused(() => Rtc.fromState({ ...CLOCK, armed: other }), "TypeError", "true or false is wanted");
   }
   for (const [device, state] of [[Serial, PORT], [Rtc, CLOCK]]) {
@@ -393,32 +366,25 @@ test("each argument is taken at its edges, and refused beyond them", () => {
   }
 });
 
-test("a name in any case is the register that the device has there", () => {
-  const cases = (name) => [name, name.toLowerCase(), name[0] + name.slice(1).toLowerCase()];
-  for (const lineControl of [0x03, 0x83]) {
-    for (const [name, one] of Object.entries(registers.SERIAL)) {
-      for (const [isWrite, letter] of [[false, "r"], [true, "w"]]) {
-        const isReached = one.access.includes(letter) && [null, lineControl === 0x83].includes(one.latched);
-        assert.equal(registers.serialRegister(one.offset, lineControl, isWrite)?.name === name, isReached);
-        for (const written of cases(name)) {
-          const [named, numbered] = [1, 2].map(() => Serial.fromState({ ...PORT, lineControl }));
-          const access = (port, offset) => (isWrite ? port.write(offset, 0x9a) : port.read(offset));
-          if (!isReached) refused(() => access(named, written), "RegisterError", name);
-          else assert.deepEqual([access(named, written), named.state], [access(numbered, one.offset), numbered.state]);
-        }
-      }
+const casesOf = (name) => [name, name.toLowerCase(), name[0] + name.slice(1).toLowerCase()];
+
+test("a name in any case is the register that the port has there, or none", () => {
+  const accesses = choices([0x03, 0x83], Object.values(registers.SERIAL), [false, true]);
+  for (const [lineControl, { name, offset, access, latched }, isWrite] of accesses) {
+    const isReached = access.includes(isWrite ? "w" : "r") && [null, lineControl === 0x83].includes(latched);
+    assert.equal(registers.serialRegister(offset, lineControl, isWrite)?.name === name, isReached);
+    for (const written of casesOf(name)) {
+      const [named, numbered] = [1, 2].map(() => Serial.fromState({ ...PORT, lineControl }));
+      const made = (port, place) => (isWrite ? port.write(place, 0x9a) : port.read(place));
+      if (!isReached) refused(() => made(named, written), "RegisterError", name);
+      else assert.deepEqual([made(named, written), named.state], [made(numbered, offset), numbered.state]);
     }
   }
-  for (const [table, access] of [[registers.SERIAL, (it) => new Serial().read(it)],
-    [registers.CLOCK, (it) => new Rtc().read(it, 0)]]) {
-    for (const name of Object.keys(table)) {
-      for (const other of [`RTCRTC${name}`, `${name}RTC`, ` ${name}`, `${name} `, `${name}0`, name.slice(0, -1), ""]) {
-        refused(() => access(other), "RegisterError", "no register has this name");
-      }
-    }
-  }
+});
+
+test("a name in any case is the register that the clock has there", () => {
   for (const [name, { offset }] of Object.entries(registers.CLOCK)) {
-    for (const written of [...cases(name), ...cases(`RTC${name}`)]) {
+    for (const written of [...casesOf(name), ...casesOf(`RTC${name}`)]) {
       assert.deepEqual(Rtc.fromState(CLOCK).read(written, 9), Rtc.fromState(CLOCK).read(offset, 9));
       assert.deepEqual(Rtc.fromState(CLOCK).write(written, 9, 9), Rtc.fromState(CLOCK).write(offset, 9, 9));
     }
@@ -427,6 +393,16 @@ test("a name in any case is the register that the device has there", () => {
     const access = registers.clockRegister(offset)?.access ?? "";
     assert.equal(new Rtc().read(offset, 0).invalidRead, !access.includes("r"), offset);
     assert.equal(new Rtc().write(offset, 0, 0).invalidWrite, !access.includes("w"), offset);
+  }
+});
+
+test("what is almost a name is none", () => {
+  const ofPort = Object.keys(registers.SERIAL).map((name) => [name, (it) => new Serial().read(it)]);
+  const ofClock = Object.keys(registers.CLOCK).map((name) => [name, (it) => new Rtc().read(it, 0)]);
+  for (const [name, access] of [...ofPort, ...ofClock]) {
+    for (const other of [`RTCRTC${name}`, `${name}RTC`, ` ${name}`, `${name} `, `${name}0`, name.slice(0, -1), ""]) {
+      refused(() => access(other), "RegisterError", "no register has this name");
+    }
   }
 });
 

@@ -10,9 +10,8 @@ from .devices import (EnqueueEffects, I8042, I8042WriteEffects, ReadEffects, Rtc
                       Serial, WriteEffects)
 from .library import LibraryError
 from .registers import RegisterError
-from .saved import LoadStatus, SavedStateError
+from .saved import AlarmIsSetError, LoadStatus, RtcState, SavedStateError, SerialState
 from .script import Command, ScriptError, parse
-from .states import AlarmIsSetError, RtcState, SerialState
 
 __all__ = ["AlarmIsSetError", "Board", "Call", "Command", "EnqueueEffects", "I8042", "I8042WriteEffects",
            "LibraryError", "LoadStatus", "ReadEffects", "RegisterError", "Rtc", "RtcReadEffects", "RtcState",

@@ -8,11 +8,8 @@ from typing import Callable, Dict, List, NamedTuple, Optional, Tuple, Union
 from .checks import check_kind
 from .devices import I8042, Rtc, Serial, clock_state, serial_state
 from .registers import DLAB, SERIAL, bits_by_name
-from .saved import SavedStateError, script_words
+from .saved import RtcState, SavedStateError, SerialState, script_words
 from .script import Command
-from .states import RtcState, SerialState
-
-__all__ = ["Board", "Call", "Counts", "InterruptLine", "OUTPUT_SIZE", "Snapshot"]
 
 OUTPUT_SIZE = 256
 """How many bytes the board's output takes. Each byte after them is lost."""
@@ -21,20 +18,6 @@ _THRE = bits_by_name(SERIAL["IIR"])["THRE"]
 """The bit of IIR by which THRE is pending."""
 
 _DATA_READY = bits_by_name(SERIAL["LSR"])["DR"]
-
-
-class InterruptLine:
-    """An interrupt line that numbers its calls from 0. It refuses call k, below 64, if bit k of its mask is set."""
-
-    def __init__(self, mask: int = 0) -> None:
-        self.mask = mask
-        self.calls = 0
-
-    def ask(self) -> bool:
-        """Calls the line. Returns whether it took the call."""
-        number = self.calls
-        self.calls += 1
-        return not self.mask >> number & 1
 
 
 class Counts(NamedTuple):
@@ -49,41 +32,31 @@ class Counts(NamedTuple):
 class Snapshot(NamedTuple):
     """What the board is at a moment. The states are decoded when they are asked for."""
 
-    port: bytes
-    """The serial port, as its struct of superio.h."""
-    rtc: bytes
-    """The clock, as its struct."""
-    sent: int
-    """How many bytes went out."""
-    calls: int
-    """How often the interrupt line was called."""
+    port: bytes  # the serial port, as its struct of superio.h
+    rtc: bytes   # the clock, as its struct
+    sent: int    # how many bytes went out
+    calls: int   # how often the interrupt line was called
     counts: Counts
 
     @property
     def serial(self) -> SerialState:
-        """The state of the serial port."""
         return serial_state(self.port)
 
     @property
     def clock(self) -> RtcState:
-        """The state of the clock."""
         return clock_state(self.rtc)
 
 
 class Call(NamedTuple):
     """A line that the board carried out."""
 
-    number: int
-    """How many lines the board had carried out, this one included."""
+    number: int                # how many lines the board had carried out, this one included
     command: Command
-    reply: Optional[str]
-    """What a script prints for it, without the LF; `None` if it prints nothing."""
+    reply: Optional[str]       # what a script prints for it, without the LF; `None` if it prints nothing
     before: Snapshot
     after: Snapshot
-    answers: Tuple[bool, ...]
-    """What the interrupt line answered: whether it took each call."""
-    is_lost: bool
-    """Whether the line wrote a byte for which the output had no room."""
+    answers: Tuple[bool, ...]  # what the interrupt line answered: whether it took each call
+    is_lost: bool              # whether the line wrote a byte for which the output had no room
 
 
 class Board:
@@ -100,8 +73,9 @@ class Board:
         self.serial = Serial()
         self.clock = Rtc()
         self.controller = I8042()
-        self.line = InterruptLine()
         self.output = bytearray()
+        self.mask = 0   # the line refuses call k, from 0 and below 64, if bit k is set
+        self.calls = 0  # of the line
         self.counts = Counts()
         self.number = 0
         self._answers: List[bool] = []
@@ -124,21 +98,19 @@ class Board:
 
     def snapshot(self) -> Snapshot:
         """What the board is now."""
-        return Snapshot(self.serial.raw, self.clock.raw, len(self.output), self.line.calls, self.counts)
+        return Snapshot(self.serial.raw, self.clock.raw, len(self.output), self.calls, self.counts)
 
     def _refuse(self, mask: int) -> None:
-        self.line = InterruptLine(mask)
+        self.mask, self.calls = mask, 0
 
     def _ask(self, times: int) -> bool:
         """Asks for the interrupt that often, up to a refusal. Returns whether there was none."""
         for _ in range(times):
-            self._answers.append(self.line.ask())
+            self._answers.append(not self.mask >> self.calls & 1)
+            self.calls += 1
             if not self._answers[-1]:
                 return False
         return True
-
-    def _serial_read(self, offset: int) -> str:
-        return f"{self._read(offset):02x}"
 
     def _read(self, offset: Union[int, str]) -> int:
         done = self.serial.read(offset)
@@ -180,12 +152,6 @@ class Board:
         is_taken = self._ask(done.interrupts)
         return "full" if done.full else f"{done.taken:02x}" if is_taken else "trigger"
 
-    def _character_timeout(self) -> str:
-        return "ok" if self._ask(self.serial.character_timeout()) else "trigger"
-
-    def _capacity(self) -> str:
-        return f"{self.serial.fifo_capacity():02x}"
-
     def _drain(self) -> str:
         """What the guest's driver reads: while LSR shows data ready, it reads RBR. With DLAB set it does not."""
         drained = bytearray()
@@ -194,30 +160,21 @@ class Board:
                 drained.append(self._read("RBR"))
         return drained.hex()
 
-    def _restore(self) -> str:
-        return self._replace_port(Serial.from_state(self.serial.state))
-
     def _replace_port(self, port: Serial) -> str:
         """Puts another port in the place of this one. It asks for what is pending and enabled. If that is refused, this
         one stays, and the calls do not count."""
-        calls = self.line.calls
+        calls = self.calls
         if self._ask(port.interrupts_due()):
             self.serial = port
             return "ok"
-        self.line.calls = calls
+        self.calls = calls
         return "trigger"
-
-    def _save(self) -> str:
-        return self.serial.to_bytes().hex()
 
     def _load(self, data: bytes = b"") -> str:
         try:
             return self._replace_port(Serial.from_bytes(data))
         except SavedStateError as error:
             return script_words(error.status, data)
-
-    def _clock_save(self) -> str:
-        return self.clock.to_bytes().hex()
 
     def _clock_load(self, data: bytes = b"") -> str:
         try:
@@ -226,33 +183,30 @@ class Board:
             return script_words(error.status, data)
         return "ok"
 
-    def _output(self) -> str:
-        return self.output.hex()
-
-    def _line_calls(self) -> str:
-        return f"{self.line.calls:016x}"
-
-    def _events(self) -> str:
-        return " ".join(f"{count:016x}" for count in self.counts)
-
     def _clock_read(self, now: int, offset: int) -> str:
         done = self.clock.read(offset, now)
         return "invalid" if done.invalid_read else f"{done.value:08x}"
 
-    def _clock_write(self, now: int, offset: int, value: int) -> str:
-        return "invalid" if self.clock.write(offset, value, now).invalid_write else "ok"
-
-    def _controller_read(self, offset: int) -> str:
-        return f"{self.controller.read(offset):02x}"
-
-    def _controller_write(self, offset: int, value: int) -> str:
-        return "reset" if self.controller.write(offset, value).resets else "ok"
-
 
 _REPLIES: Dict[str, Callable[..., Optional[str]]] = {
-    "refuse": Board._refuse, "sr": Board._serial_read, "sw": Board._serial_write, "sq": Board._enqueue,
-    "si": Board._character_timeout, "sc": Board._capacity, "sd": Board._drain, "ss": Board._restore,
-    "so": Board._output, "st": Board._line_calls, "se": Board._events, "sb": Board._save, "sl": Board._load,
-    "cr": Board._clock_read, "cw": Board._clock_write, "cb": Board._clock_save, "cl": Board._clock_load,
-    "kr": Board._controller_read, "kw": Board._controller_write,
+    "refuse": Board._refuse,
+    "sr": lambda board, offset: f"{board._read(offset):02x}",
+    "sw": Board._serial_write,
+    "sq": Board._enqueue,
+    "si": lambda board: "ok" if board._ask(board.serial.character_timeout()) else "trigger",
+    "sc": lambda board: f"{board.serial.fifo_capacity():02x}",
+    "sd": Board._drain,
+    "ss": lambda board: board._replace_port(Serial.from_state(board.serial.state)),
+    "sb": lambda board: board.serial.to_bytes().hex(),
+    "sl": Board._load,
+    "so": lambda board: board.output.hex(),
+    "st": lambda board: f"{board.calls:016x}",
+    "se": lambda board: " ".join(f"{count:016x}" for count in board.counts),
+    "cr": Board._clock_read,
+    "cw": lambda board, now, offset, value: "invalid" if board.clock.write(offset, value, now).invalid_write else "ok",
+    "cb": lambda board: board.clock.to_bytes().hex(),
+    "cl": Board._clock_load,
+    "kr": lambda board, offset: f"{board.controller.read(offset):02x}",
+    "kw": lambda board, offset, value: "reset" if board.controller.write(offset, value).resets else "ok",
 }
+"""How the board carries out each line of a script, and what it replies."""

@@ -3,8 +3,6 @@ import reprlib
 from operator import index
 from typing import Any
 
-__all__ = ["byte_string", "check_kind", "number"]
-
 
 def _refusal(name: str, value: Any, wanted: str) -> str:
     """Why an argument is refused. A long value is cut."""

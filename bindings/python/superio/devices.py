@@ -5,22 +5,16 @@ name of a register. A number out of range raises `ValueError`, and an argument o
 changes.
 """
 from functools import lru_cache
-from typing import Any, NamedTuple, Optional, Tuple, Type, Union
+from typing import NamedTuple, Optional, Union
 
 from .checks import byte_string, check_kind, number
-from .library import load
-from .registers import CLOCK, SERIAL, Register, bit_names, clock_offset, serial_offset
-from .saved import Saved, attributes_of
-from .states import RtcState, SerialState
-from .structs import FIFO_SIZE, RTC_SAVED_SIZE, SERIAL_SAVED_MAX, RtcStruct, SerialStruct
-
-__all__ = ["EnqueueEffects", "I8042", "I8042WriteEffects", "ReadEffects", "Rtc", "RtcReadEffects", "RtcWriteEffects",
-           "Serial", "WriteEffects", "clock_state", "serial_state"]
+from .library import FIFO_SIZE, RTC_SAVED_SIZE, SERIAL_SAVED_MAX, RtcStruct, SerialStruct, load
+from .registers import CLOCK, FIELDS, SERIAL, Register, bit_names, clock_offset, serial_offset
+from .saved import RtcState, Saved, SerialState
 
 _NEVER = 2 ** 64 - 1
 _STATES = 1024
 _HEAD, _LENGTH, _RING = SerialStruct.head.offset, SerialStruct.len.offset, SerialStruct.bytes.offset
-_REGISTERS = tuple(name for name, *_ in SerialStruct._fields_)[:_HEAD]  # each is a byte
 _CLOCK_FIELDS = tuple(name for name, *_ in RtcStruct._fields_)
 _CLOCK_REGISTERS = tuple(name for name in map(str.upper, _CLOCK_FIELDS) if name in CLOCK)
 
@@ -28,55 +22,43 @@ _CLOCK_REGISTERS = tuple(name for name in map(str.upper, _CLOCK_FIELDS) if name 
 class ReadEffects(NamedTuple):
     """What a read of the serial port did."""
 
-    byte: int
-    """What the guest reads."""
-    buffer_read: bool
-    """Event: the guest read the data register."""
-    in_buffer_empty: bool
-    """Event: it did, and no byte is held now."""
+    byte: int              # what the guest reads
+    buffer_read: bool      # event: the guest read the data register
+    in_buffer_empty: bool  # event: it did, and no byte is held now
 
 
 class WriteEffects(NamedTuple):
     """What a write to the serial port leaves to the caller."""
 
-    sends: bool
-    """The written value goes out."""
-    interrupts: int
-    """How often to ask for the interrupt: 0 to 2 times."""
+    sends: bool      # the written value goes out
+    interrupts: int  # how often to ask for the interrupt: 0 to 2 times
 
 
 class EnqueueEffects(NamedTuple):
     """What an enqueue did, and leaves to the caller."""
 
-    taken: int
-    """How many of the bytes were taken, first ones first."""
-    full: bool
-    """There were bytes, but room for none."""
-    interrupts: int
-    """How often to ask for the interrupt: 0 or 1 times."""
+    taken: int       # how many of the bytes were taken, first ones first
+    full: bool       # there were bytes, but room for none
+    interrupts: int  # how often to ask for the interrupt: 0 or 1 times
 
 
 class RtcReadEffects(NamedTuple):
     """What a read of the clock did."""
 
-    value: int
-    """The number whose bytes are read, lowest first."""
-    invalid_read: bool
-    """Event: there is nothing to read here; `value` is 0."""
+    value: int          # the number whose bytes are read, lowest first
+    invalid_read: bool  # event: there is nothing to read here; `value` is 0
 
 
 class RtcWriteEffects(NamedTuple):
     """What a write to the clock did."""
 
-    invalid_write: bool
-    """Event: this offset takes no write."""
+    invalid_write: bool  # event: this offset takes no write
 
 
 class I8042WriteEffects(NamedTuple):
     """What a write to the reset controller leaves to the caller."""
 
-    resets: bool
-    """The guest asks to reset the machine."""
+    resets: bool  # the guest asks to reset the machine
 
 
 class Serial(Saved):
@@ -172,7 +154,7 @@ class Serial(Saved):
         check_kind("state", state, SerialState)
         port = cls()
         device = port._struct
-        for name in _REGISTERS:
+        for name in FIELDS.values():
             setattr(device, name, getattr(state, name))
         device.head, device.len = 0, len(state.in_buffer)
         device.bytes[:] = state.in_buffer.ljust(FIFO_SIZE, b"\0")
@@ -180,8 +162,7 @@ class Serial(Saved):
 
     def __repr__(self) -> str:
         state = self.state
-        shown = [_decoded(SERIAL[name], getattr(state, field))
-                 for name, field in zip(("IER", "IIR", "LCR", "LSR", "MCR", "MSR", "SCR"), _REGISTERS[2:])]
+        shown = [_decoded(SERIAL[name], getattr(state, field)) for name, field in FIELDS.items() if name[:2] != "DL"]
         divisor = state.baud_divisor_high << 8 | state.baud_divisor_low
         return f"<Serial divisor={divisor} {' '.join(shown)} in_buffer={state.in_buffer!r}>"
 
@@ -260,7 +241,7 @@ def serial_state(raw: bytes) -> SerialState:
     ring = raw[_RING:] * 2
     head = raw[_HEAD] % FIFO_SIZE
     state = object.__new__(SerialState)
-    state.__dict__.update(zip(_REGISTERS, raw), in_buffer=ring[head:head + min(raw[_LENGTH], FIFO_SIZE)])
+    state.__dict__.update(zip(FIELDS.values(), raw), in_buffer=ring[head:head + min(raw[_LENGTH], FIFO_SIZE)])
     return state
 
 
@@ -278,33 +259,20 @@ class I8042:
     I8042WriteEffects(resets=True)
     """
 
-    __slots__ = ("_library",)
-
     def __init__(self) -> None:
-        self._library = load()
-
-    def __reduce__(self) -> Tuple[Any, ...]:
-        """Attributes of a subclass go along."""
-        return _controller, (type(self),), attributes_of(self, I8042)
+        load()  # as each device does, so that the first one says if there is no library
 
     def read(self, offset: int) -> int:
         """What the guest reads at an offset, 0 to 255: 0, at every one."""
-        return self._library.superio_i8042_read(number("offset", offset, 8))
+        return load().superio_i8042_read(number("offset", offset, 8))
 
     def write(self, offset: int, value: int) -> I8042WriteEffects:
         """The guest writes a value, 0 to 255, at an offset, 0 to 255."""
-        done = self._library.superio_i8042_write(number("offset", offset, 8), number("value", value, 8))
+        done = load().superio_i8042_write(number("offset", offset, 8), number("value", value, 8))
         return I8042WriteEffects(done.resets)
 
     def __repr__(self) -> str:
         return "<I8042>"
-
-
-def _controller(kind: Type[I8042]) -> I8042:
-    """A controller of this class, whose own constructor may want arguments."""
-    controller = kind.__new__(kind)
-    I8042.__init__(controller)
-    return controller
 
 
 def _clock_offset(offset: Union[int, str]) -> int:

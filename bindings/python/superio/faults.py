@@ -1,13 +1,9 @@
 """Why a line or a file is not carried out, and how files are opened and replaced."""
 import os
 from contextlib import contextmanager
-from typing import IO, Any, Iterator
+from typing import IO, Iterator
 
 from .script import shown
-
-__all__ = ["BadLine", "FileFault", "Leave", "open_file", "replaced", "write_text"]
-
-_SHOWN = 60
 
 
 class Leave(Exception):
@@ -25,14 +21,16 @@ class BadLine(Exception):
     """A line of a file was not carried out. The message says which line, and why."""
 
     def __init__(self, name: str, number: int, line: bytes, reason: str) -> None:
-        super().__init__(f'{name}:{number}: "{shown(line.decode("utf-8", "surrogateescape"), _SHOWN)}": {reason}')
+        super().__init__(f'{name}:{number}: "{shown(line.decode("utf-8", "surrogateescape"), 60)}": {reason}')
         self.number = number
 
 
-def open_file(path: str, mode: str) -> "IO[Any]":
-    """Opens a file. Raises `FileFault` if it cannot be."""
+@contextmanager
+def opened(path: str) -> Iterator["IO[bytes]"]:
+    """Opens a file to read. Raises `FileFault` if it cannot be opened or read."""
     try:
-        return open(path, mode)
+        with open(path, "rb") as file:
+            yield file
     except OSError as error:
         raise FileFault(path, error) from None
 

@@ -1,15 +1,12 @@
-"""Finds the shared library of the devices, checks it, and declares its functions."""
+"""Finds the shared library of the devices, checks it, and declares the structs and functions of superio.h."""
 import ctypes
 import os
-from ctypes import POINTER, c_bool, c_char_p, c_size_t, c_uint8, c_uint16, c_uint32, c_uint64
+from ctypes import POINTER, Structure, c_bool, c_char_p, c_int64, c_size_t, c_uint8, c_uint16, c_uint32, c_uint64
 from functools import lru_cache
 from pathlib import Path
-from typing import Any, Callable, Iterator, List, Tuple
+from typing import Any, Iterator, Tuple
 
-from .structs import (EnqueueEffectsStruct, I8042WriteEffectsStruct, ReadEffectsStruct, RtcReadEffectsStruct, RtcStruct,
-                      RtcWriteEffectsStruct, SerialStruct, WriteEffectsStruct)
-
-__all__ = ["ABI", "FILE_NAME", "VARIABLE", "LibraryError", "Library", "candidates", "load", "open_library"]
+from .registers import FIELDS
 
 ABI = 3
 """The binary interface of superio.h that this package is written for."""
@@ -19,16 +16,43 @@ FILE_NAME = f"libsuperio.so.{ABI}"
 VARIABLE = "SUPERIO_LIBRARY"
 """The environment variable that can name the library's file."""
 
-_SERIAL = POINTER(SerialStruct)
-_RTC = POINTER(RtcStruct)
-_BYTES_OUT = POINTER(c_uint8)
+FIFO_SIZE = 64
+"""How many received bytes a serial port holds at most."""
+
+SERIAL_SAVED_MAX = 81
+"""The length of the longest saved state of a serial port."""
+
+RTC_SAVED_SIZE = 33
+"""The length of the saved state of a clock."""
+
+
+def _struct(name: str, **fields: Any) -> Any:
+    return type(name, (Structure,), {"_fields_": list(fields.items())})
+
+
+SerialStruct = _struct("superio_serial", **dict.fromkeys(FIELDS.values(), c_uint8), head=c_uint8, len=c_uint8,
+                       bytes=c_uint8 * FIFO_SIZE)
+RtcStruct = _struct("superio_rtc", lr=c_uint32, mr=c_uint32, imsc=c_uint32, ris=c_uint32, offset=c_int64,
+                    armed=c_uint64)
+_Read = _struct("superio_serial_read_effects", byte=c_uint8, buffer_read=c_bool, in_buffer_empty=c_bool)
+_Write = _struct("superio_serial_write_effects", sends=c_bool, interrupts=c_uint8)
+_Enqueue = _struct("superio_serial_enqueue_effects", taken=c_size_t, full=c_bool, interrupts=c_uint8)
+_RtcRead = _struct("superio_rtc_read_effects", value=c_uint32, invalid_read=c_bool)
+_RtcWrite = _struct("superio_rtc_write_effects", invalid_write=c_bool)
+_I8042Write = _struct("superio_i8042_write_effects", resets=c_bool)
+
+STRUCTS = {struct.__name__: struct for struct in (SerialStruct, RtcStruct, _Read, _Write, _Enqueue, _RtcRead, _RtcWrite,
+                                                  _I8042Write)}
+"""The structs of superio.h by their names there."""
+
+_SERIAL, _RTC, _BYTES_OUT = POINTER(SerialStruct), POINTER(RtcStruct), POINTER(c_uint8)
 
 PROTOTYPES = {
     "superio_abi": (c_uint32, []),
     "superio_serial_new": (SerialStruct, []),
-    "superio_serial_read": (ReadEffectsStruct, [_SERIAL, c_uint8]),
-    "superio_serial_write": (WriteEffectsStruct, [_SERIAL, c_uint8, c_uint8]),
-    "superio_serial_enqueue": (EnqueueEffectsStruct, [_SERIAL, c_char_p, c_size_t]),
+    "superio_serial_read": (_Read, [_SERIAL, c_uint8]),
+    "superio_serial_write": (_Write, [_SERIAL, c_uint8, c_uint8]),
+    "superio_serial_enqueue": (_Enqueue, [_SERIAL, c_char_p, c_size_t]),
     "superio_serial_character_timeout": (c_uint8, [_SERIAL]),
     "superio_serial_fifo_capacity": (c_size_t, [_SERIAL]),
     "superio_serial_interrupts_due": (c_uint8, [_SERIAL]),
@@ -37,13 +61,13 @@ PROTOTYPES = {
     "superio_serial_save": (c_size_t, [_SERIAL, _BYTES_OUT]),
     "superio_serial_load": (c_uint32, [_SERIAL, c_char_p, c_size_t]),
     "superio_rtc_new": (RtcStruct, []),
-    "superio_rtc_read": (RtcReadEffectsStruct, [_RTC, c_uint16, c_uint64]),
-    "superio_rtc_write": (RtcWriteEffectsStruct, [_RTC, c_uint16, c_uint32, c_uint64]),
+    "superio_rtc_read": (_RtcRead, [_RTC, c_uint16, c_uint64]),
+    "superio_rtc_write": (_RtcWrite, [_RTC, c_uint16, c_uint32, c_uint64]),
     "superio_rtc_line": (c_bool, [_RTC]),
     "superio_rtc_due": (c_uint64, [_RTC, c_uint64]),
     "superio_rtc_save": (None, [_RTC, _BYTES_OUT]),
     "superio_rtc_load": (c_uint32, [_RTC, c_char_p, c_size_t]),
-    "superio_i8042_write": (I8042WriteEffectsStruct, [c_uint8, c_uint8]),
+    "superio_i8042_write": (_I8042Write, [c_uint8, c_uint8]),
     "superio_i8042_read": (c_uint8, [c_uint8]),
 }
 """The functions of superio.h: what each returns, and its parameters."""
@@ -70,37 +94,27 @@ class Library:
         except OSError as error:
             raise LibraryError(f"{path} cannot be loaded: {error}") from None
         for name, (result, parameters) in PROTOTYPES.items():
-            setattr(self, name, self._function(name, result, parameters))
+            function = getattr(self._file, name, None)
+            if function:
+                function.restype, function.argtypes = result, parameters
+                setattr(self, name, function)
         found = self.superio_abi()
         if found != ABI:
             raise LibraryError(f"{path} has the binary interface {found}, and this package needs {ABI}: "
                                "take package and library from the same version")
 
     def __getattr__(self, name: str) -> Any:
-        raise AttributeError(f"superio.h has no function {name}")
-
-    def _function(self, name: str, result: Any, parameters: List[Any]) -> Callable[..., Any]:
-        try:
-            function = self._file[name]
-        except AttributeError:
-            return self._missing(name)
-        function.restype = result
-        function.argtypes = parameters
-        return function
-
-    def _missing(self, name: str) -> Callable[..., Any]:
-        def call(*_: Any) -> Any:
-            raise LibraryError(f"{self.path} has no function {name}: take package and library from the same version")
-        return call
+        if name not in PROTOTYPES:
+            raise AttributeError(f"superio.h has no function {name}")
+        raise LibraryError(f"{self.path} has no function {name}: take package and library from the same version")
 
 
 def candidates() -> Iterator[Tuple[str, Path]]:
     """Where the library may be, in the order in which it is looked for: what each place is, and its file."""
-    machine = os.uname().machine
     package = Path(__file__).resolve().parent
     yield "in the package", package / FILE_NAME
     if len(package.parents) > 2:
-        yield "in the repository", package.parents[2] / "prebuilt" / f"{machine}-linux" / FILE_NAME
+        yield "in the repository", package.parents[2] / "prebuilt" / f"{os.uname().machine}-linux" / FILE_NAME
 
 
 def open_library() -> Library:

@@ -1,4 +1,4 @@
-"""Recorded traces: the calls of a script with their replies, as examples/linux-boot has them.
+"""Recorded traces: the calls of a script with their replies, as examples/linux-boot has them, and a picture of them.
 
 A row is a line of a script, with its reply after two spaces or more if it was recorded. A number before the line
 repeats it. `sent "TEXT"` stands for a write of each byte to THR, `polled "TEXT"` for the same after a read of LSR
@@ -7,13 +7,15 @@ output. An empty row ends a piece, and the next begins on a fresh board. A row t
 """
 import json
 import re
-from typing import Iterable, Iterator, List, NamedTuple, Optional, Tuple
+from html import escape
+from itertools import groupby
+from typing import Callable, Iterable, Iterator, List, NamedTuple, Optional, Sequence, Tuple
 
 from .board import Board, Call
 from .faults import BadLine
+from .library import FIFO_SIZE
 from .script import ScriptError, parse
-
-__all__ = ["Step", "entries_of", "replay"]
+from .tell import CONDITIONS
 
 _TEXT = re.compile(r'(polled|sent|received|so|sq) +(".*")(?: {2,}(\S+))?')
 _REPEATED = re.compile(r"(\d+) (.+)", re.DOTALL)
@@ -27,16 +29,22 @@ Entry = Tuple[str, Optional[str]]
 class Step(NamedTuple):
     """A call of a recording, as the board makes it again."""
 
-    piece: int
-    """The number of its piece, counted from 1."""
+    piece: int  # its number, counted from 1
     call: Call
-    recorded: Optional[str]
-    """The recorded reply, `None` if there is none."""
+    recorded: Optional[str]  # the recorded reply, `None` if there is none
 
     @property
     def differs(self) -> bool:
         """Whether the board replied otherwise than was recorded."""
         return self.recorded is not None and self.recorded != (self.call.reply or "")
+
+    @property
+    def is_refused(self) -> bool:
+        return False in self.call.answers
+
+    @property
+    def has_sent(self) -> bool:
+        return self.call.after.sent > self.call.before.sent
 
 
 def entries_of(row: str) -> List[Entry]:
@@ -87,3 +95,101 @@ def replay(name: str, rows: Iterable[bytes]) -> Iterator[Step]:
                 yield Step(piece, board.run(command), recorded)
         except ValueError as error:  # among them a number of more digits than Python converts
             raise BadLine(name, number, row.rstrip(b"\r\n"), str(error)) from error
+
+
+_LEFT, _RIGHT, _TOP, _WIDTH, _HEIGHT, _GAP = 140, 20, 46, 800, 34, 14
+_LEAST = 5.0
+_BLUE, _ORANGE, _GREEN, _RED, _GREY = "#0b6fb8", "#c25e00", "#2e7d32", "#c62828", "#667788"
+
+
+class _Lane(NamedTuple):
+    """A row of the picture: how high its bar is at each column, from 0 to 1."""
+
+    name: str
+    about: str
+    colour: str
+    heights: List[float]
+
+
+def _columns(steps: Sequence[Step]) -> List[Sequence[Step]]:
+    """The steps in as many groups as the picture has columns, or one for each step if they are fewer."""
+    count = min(len(steps), _WIDTH)
+    return [steps[len(steps) * place // count:len(steps) * (place + 1) // count] for place in range(count)]
+
+
+def _lanes(columns: List[Sequence[Step]]) -> List[_Lane]:
+    """The lanes of the conditions and of the FIFO, and those of the others in which there is something."""
+    def share(holds: Callable[[Step], bool]) -> List[float]:
+        return [sum(map(holds, column)) / len(column) for column in columns]
+
+    def some(holds: Callable[[Step], bool]) -> List[float]:
+        return [float(any(map(holds, column))) for column in columns]
+
+    held = [max(len(step.call.after.serial.in_buffer) for step in column) for column in columns]
+    shares = "share of the calls"
+    return [
+        *(_Lane(f"{name} pending", shares, colour,
+                share(lambda step, bit=bit: bool(step.call.after.serial.interrupt_identification & bit)))
+          for (name, bit), colour in zip(CONDITIONS.items(), (_BLUE, _ORANGE))),
+        _Lane("FIFO", f"bytes held, up to {FIFO_SIZE}", _GREEN, [count / FIFO_SIZE for count in held]),
+        *(lane for lane in (
+            _Lane("interrupts", "calls of the line", _BLUE, some(lambda step: any(step.call.answers))),
+            _Lane("refused", "calls of the line", _RED, some(lambda step: step.is_refused)),
+            _Lane("output", shares, _GREY, share(lambda step: step.has_sent)),
+            _Lane("clock", shares, _GREY, share(lambda step: step.call.command.name[0] == "c")),
+            _Lane("controller", shares, _GREY, share(lambda step: step.call.command.name[0] == "k")),
+        ) if any(lane.heights))]
+
+
+def _bars(heights: List[float], base: int, width: float) -> str:
+    """A path around the bars. A bar that is not 0 is high and wide enough to be seen."""
+    parts, place = [], 0
+    for height, group in groupby(heights):
+        left = _LEFT + place * width
+        place += len(list(group))
+        if height:
+            high = max(_LEAST, height * _HEIGHT)
+            parts.append(f"M{left:.4g} {base}v{-high:.3g}h{max(1.0, _LEFT + place * width - left):.4g}v{high:.3g}z")
+    return "".join(parts)
+
+
+def _lane(lane: _Lane, number: int, width: float) -> List[str]:
+    base = _TOP + number * (_HEIGHT + _GAP) + _HEIGHT
+    bars = _bars(lane.heights, base, width)
+    return [f'<text x="{_LEFT - 10}" y="{base - 18}" text-anchor="end">{escape(lane.name)}</text>',
+            f'<text x="{_LEFT - 10}" y="{base - 5}" text-anchor="end" class="s">{escape(lane.about)}</text>',
+            f'<path d="M{_LEFT} {base}.5h{_WIDTH}" stroke="#c8d0d8"/>',
+            *([f'<path d="{bars}" fill="{lane.colour}"/>'] if bars else [])]
+
+
+def _axis(count: int, base: int) -> List[str]:
+    """Numbers below the lanes, at five to ten places."""
+    step = next(size * factor for size in (10 ** power for power in range(20)) for factor in (1, 2, 5)
+                if count <= 10 * size * factor)
+    parts = []
+    for number in range(0, count + 1, step):
+        place = _LEFT + number * _WIDTH / max(1, count)
+        parts.append(f'<path d="M{place:.5g} {base}v5" stroke="#667788"/>')
+        parts.append(f'<text x="{place:.5g}" y="{base + 18}" text-anchor="middle" class="s">{number:,}</text>')
+    return parts
+
+
+def picture(steps: Sequence[Step], title: str) -> str:
+    """The picture of some steps as a text in SVG: a lane for each condition and for the FIFO, and one for whatever else
+    the steps have. From left to right are the calls, several in a column if they are many."""
+    columns = _columns(steps)
+    lanes = _lanes(columns) if columns else []
+    base = _TOP + len(lanes) * (_HEIGHT + _GAP)
+    total = _LEFT + _WIDTH + _RIGHT
+    calls = f"{len(steps):,} calls"
+    parts = [f'<svg xmlns="http://www.w3.org/2000/svg" width="{total}" height="{base + 30}" '
+             f'viewBox="0 0 {total} {base + 30}" font-family="sans-serif" font-size="13" fill="#223" role="img">',
+             f"<title>{escape(title)}</title>",
+             "<style>.s{font-size:10px;fill:#556}</style>",
+             f'<rect width="{total}" height="{base + 30}" fill="#fff"/>',
+             f'<text x="{_LEFT}" y="24" font-size="15">{escape(title)}</text>',
+             f'<text x="{_LEFT + _WIDTH}" y="24" text-anchor="end" class="s">{calls}, from left to right</text>']
+    for number, lane in enumerate(lanes):
+        parts.extend(_lane(lane, number, _WIDTH / len(columns)))
+    parts.extend(_axis(len(steps), base))
+    return "\n".join([*parts, "</svg>", ""])

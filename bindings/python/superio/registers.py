@@ -1,9 +1,6 @@
 """The registers of the serial port and of the clock: names, offsets and bits."""
 from typing import Dict, List, NamedTuple, Optional, Tuple
 
-__all__ = ["Register", "RegisterError", "SERIAL", "CLOCK", "DLAB", "LOOPBACK", "FIFO_BITS", "IDENTIFICATION",
-           "serial_offset", "clock_offset", "serial_register", "clock_register", "bits_by_name", "bit_names"]
-
 DLAB = 0x80
 """The bit of LCR that puts the divisor at the offsets 0 and 1."""
 
@@ -42,7 +39,7 @@ _LSR_BITS = ((0x01, "DR"), (0x02, "OE"), (0x04, "PE"), (0x08, "FE"), (0x10, "BI"
 _MSR_BITS = ((0x10, "CTS"), (0x20, "DSR"), (0x40, "RI"), (0x80, "DCD"))
 _ALARM = ((0x01, "ALARM"),)
 
-_SERIAL_REGISTERS = (
+SERIAL: Dict[str, Register] = {register.name: register for register in (
     Register("RBR", 0, "receiver buffer: takes the oldest received byte", (), False, "r"),
     Register("THR", 0, "transmitter holding: sends a byte", (), False, "w"),
     Register("DLL", 0, "divisor latch, low byte", (), True),
@@ -55,9 +52,10 @@ _SERIAL_REGISTERS = (
     Register("LSR", 5, "line status", _LSR_BITS),
     Register("MSR", 6, "modem status", _MSR_BITS),
     Register("SCR", 7, "scratch"),
-)
+)}
+"""The registers of the serial port by name."""
 
-_CLOCK_REGISTERS = (
+CLOCK: Dict[str, Register] = {register.name: register for register in (
     Register("DR", 0x000, "data: guest time", (), None, "r"),
     Register("MR", 0x004, "match: sets the alarm"),
     Register("LR", 0x008, "load: sets guest time"),
@@ -66,27 +64,21 @@ _CLOCK_REGISTERS = (
     Register("RIS", 0x014, "raw interrupt status", _ALARM, None, "r"),
     Register("MIS", 0x018, "masked interrupt status", _ALARM, None, "r"),
     Register("ICR", 0x01C, "interrupt clear", _ALARM, None, "w"),
-) + tuple(Register(f"ID{index}", 0xFE0 + 4 * index, "identification", (), None, "r") for index in range(len(IDENTIFICATION)))
-
-SERIAL: Dict[str, Register] = {register.name: register for register in _SERIAL_REGISTERS}
-"""The registers of the serial port by name."""
-
-CLOCK: Dict[str, Register] = {register.name: register for register in _CLOCK_REGISTERS}
+    *(Register(f"ID{index}", 0xFE0 + 4 * index, "identification", (), None, "r")
+      for index in range(len(IDENTIFICATION))),
+)}
 """The registers of the clock by name, each without the `RTC` that the data sheet begins it with."""
 
-
-def _named(registers: Dict[str, Register], name: str, prefix: str = "") -> Register:
-    plain = name.upper()
-    if prefix and plain.startswith(prefix):
-        plain = plain[len(prefix):]
-    try:
-        return registers[plain]
-    except KeyError:
-        raise RegisterError(f"no register is called {ascii(name)[1:-1]}: there are {' '.join(registers)}") from None
+FIELDS = {"DLL": "baud_divisor_low", "DLM": "baud_divisor_high", "IER": "interrupt_enable",
+          "IIR": "interrupt_identification", "LCR": "line_control", "LSR": "line_status", "MCR": "modem_control",
+          "MSR": "modem_status", "SCR": "scratch"}
+"""The registers that a serial port keeps, in the order of its saved state, each with its field there."""
 
 
-def _is_reached(register: Register, is_write: bool) -> bool:
-    return ("w" if is_write else "r") in register.access
+def _named(registers: Dict[str, Register], name: str, plain: str) -> Register:
+    if plain not in registers:
+        raise RegisterError(f"no register is called {ascii(name)[1:-1]}: there are {' '.join(registers)}")
+    return registers[plain]
 
 
 def serial_offset(name: str, line_control: int, is_write: bool) -> int:
@@ -95,12 +87,12 @@ def serial_offset(name: str, line_control: int, is_write: bool) -> int:
     Raises `RegisterError` if there is none, or if an access there would reach another register: because DLAB of the
     given line control puts that one at the offset, or because only the other of reads and writes reaches this one.
     """
-    register = _named(SERIAL, name)
+    register = _named(SERIAL, name, name.upper())
     is_latched = bool(line_control & DLAB)
     if register.latched not in (None, is_latched):
         state, change = ("set", "clear") if is_latched else ("clear", "set")
         raise RegisterError(f"{register.name} is out of reach while DLAB is {state}: {change} bit 0x80 of LCR first")
-    if not _is_reached(register, is_write):
+    if "rw"[is_write] not in register.access:
         done, tried = ("read", "write") if is_write else ("written", "read")
         other = serial_register(register.offset, line_control, is_write)
         reached = f": a {tried} at its offset reaches {other.name}" if other else ""
@@ -113,24 +105,21 @@ def clock_offset(name: str) -> int:
 
     Raises `RegisterError` if there is none.
     """
-    return _named(CLOCK, name, "RTC").offset
+    plain = name.upper()
+    return _named(CLOCK, name, plain[3:] if plain.startswith("RTC") else plain).offset
 
 
 def serial_register(offset: int, line_control: int, is_write: bool) -> Optional[Register]:
     """The register that an access of the serial port reaches, `None` if there is none at the offset."""
-    is_latched = bool(line_control & DLAB)
-    for register in _SERIAL_REGISTERS:
-        if register.offset == offset and register.latched in (None, is_latched) and _is_reached(register, is_write):
-            return register
-    return None
+    return next((register for register in SERIAL.values()
+                 if register.offset == offset and register.latched in (None, bool(line_control & DLAB))
+                 and "rw"[is_write] in register.access), None)
 
 
 def clock_register(offset: int) -> Optional[Register]:
     """The register at an offset of the clock, `None` if there is none."""
-    for register in _CLOCK_REGISTERS:
-        if register.offset == offset or (register.offset >= 0xFE0 and register.offset == offset & ~3):
-            return register
-    return None
+    return next((register for register in CLOCK.values()
+                 if register.offset == (offset & ~3 if register.offset >= 0xFE0 else offset)), None)
 
 
 def _line_format(value: int) -> str:

@@ -8,9 +8,6 @@ from typing import Dict, NamedTuple, Optional, Tuple, Union
 
 from .checks import byte_string
 
-__all__ = ["Command", "FORMS", "Field", "MASK", "MAXIMUM", "ScriptError", "TOO_MANY", "lines_of",
-           "missing", "parse", "shown", "text_of"]
-
 MAXIMUM = 65_536
 """A script has at most this many bytes."""
 
@@ -38,50 +35,34 @@ def shown(text: str, most: int = 24) -> str:
 
 
 class Field(NamedTuple):
-    """A field of a line."""
+    """A field of a line: its name, the article of that, and how many digits it has, 0 for bytes of two digits each."""
 
     name: str
     article: str
     digits: int
-    """How many hexadecimal digits it has; 0 for bytes of two digits each."""
-    words: str
-    """How many, in words."""
 
 
-OFFSET = Field("offset", "an", 2, "two digits")
-VALUE = Field("value", "a", 2, "two digits")
-MOMENT = Field("moment", "a", 16, "sixteen digits")
-CLOCK_OFFSET = Field("offset of the clock", "an", 4, "four digits")
-CLOCK_VALUE = Field("value of the clock", "a", 8, "eight digits")
-MASK_FIELD = Field("mask", "a", 16, "sixteen digits")
-BYTES = Field("bytes", "the", 0, "two digits each")
-SAVED = Field("saved state", "the", 0, "two digits each")
+OFFSET = Field("offset", "an", 2)
+VALUE = Field("value", "a", 2)
+MOMENT = Field("moment", "a", 16)
+CLOCK_OFFSET = Field("offset of the clock", "an", 4)
+CLOCK_VALUE = Field("value of the clock", "a", 8)
+MASK_FIELD = Field("mask", "a", 16)
+BYTES = Field("bytes", "the", 0)
+
+_NUMBERS = {2: "two", 4: "four", 8: "eight", 16: "sixteen"}
 
 MASK = "refuse"
 """The name of the line that a script can only begin with."""
 
 FORMS: Dict[str, Tuple[Field, ...]] = {
     MASK: (MASK_FIELD,),
-    "sr": (OFFSET,),
-    "sw": (OFFSET, VALUE),
-    "sq": (BYTES,),
-    "si": (),
-    "sc": (),
-    "sd": (),
-    "ss": (),
-    "sb": (),
-    "sl": (SAVED,),
-    "so": (),
-    "st": (),
-    "se": (),
-    "cr": (MOMENT, CLOCK_OFFSET),
-    "cw": (MOMENT, CLOCK_OFFSET, CLOCK_VALUE),
-    "cb": (),
-    "cl": (SAVED,),
-    "kr": (OFFSET,),
-    "kw": (OFFSET, VALUE),
+    "sr": (OFFSET,), "sw": (OFFSET, VALUE), "sq": (BYTES,),
+    "si": (), "sc": (), "sd": (), "ss": (), "sb": (), "sl": (BYTES,), "so": (), "st": (), "se": (),
+    "cr": (MOMENT, CLOCK_OFFSET), "cw": (MOMENT, CLOCK_OFFSET, CLOCK_VALUE), "cb": (), "cl": (BYTES,),
+    "kr": (OFFSET,), "kw": (OFFSET, VALUE),
 }
-"""The fields of each line, by its name. Those of `sq`, `sl` and `cl` may be left out."""
+"""The fields of each line, by its name. Bytes may be left out."""
 
 
 class Command(NamedTuple):
@@ -103,13 +84,13 @@ def _value(field: Field, text: bytes) -> Optional[Value]:
 
 def _malformed(field: Field) -> str:
     if not field.digits:
-        return f"1 to {_MANY_BYTES} bytes have {field.words}"
-    return f"{field.article} {field.name} has {field.words}"
+        return f"1 to {_MANY_BYTES} bytes have two digits each"
+    return f"{field.article} {field.name} has {_NUMBERS[field.digits]} digits"
 
 
 def missing(field: Field) -> str:
     """Why a line without this field has no form."""
-    return f"{field.article} {field.name} {'is' if field.digits else 'are'} missing"
+    return f"{field.article} {field.name} is missing"
 
 
 def _values(fields: Tuple[Field, ...], texts: Tuple[bytes, ...]) -> Tuple[Value, ...]:
@@ -143,7 +124,7 @@ def _parse(line: bytes, is_first: bool) -> Command:
         if known not in FORMS:
             raise ScriptError("no line has this name" if name else "a line begins with a name")
         fields = FORMS[known]
-        if not texts and fields in ((BYTES,), (SAVED,)):
+        if not texts and fields == (BYTES,):
             fields = ()
         command = Command(known, _values(fields, tuple(texts)))
         if known == MASK and not is_first:

@@ -1,26 +1,16 @@
-"""A session: a board, and what a line can make of it."""
+"""A session: a board, what a line can make of it, and the calls that it made, as lines of a script."""
 import signal
 import time
 from contextlib import contextmanager, nullcontext
 from typing import IO, Callable, ContextManager, Iterable, Iterator, List, Optional
 
 from .board import Board, Call
-from .commands import VERBS
-from .faults import BadLine, FileFault
+from .commands import HELP, VERBS
+from .faults import BadLine, FileFault, replaced
+from .prompt import Style
 from .script import FORMS, Command, ScriptError, parse, shown, text_of
-from .style import Style
-from .tell import told
-from .trace import Trace
-from .why import Story
-from .words import WORDS, Speaker
-
-__all__ = ["Session", "plain_text"]
-
-
-def plain_text(line: bytes) -> str:
-    """A line without blanks around it; empty if it is a comment."""
-    text = line.decode("utf-8", "surrogateescape").strip()
-    return "" if text.startswith("#") else text
+from .tell import Story, told
+from .words import Speaker
 
 
 @contextmanager
@@ -33,6 +23,54 @@ def _undisturbed() -> Iterator[None]:
         signal.pthread_sigmask(signal.SIG_SETMASK, before)
 
 
+class Trace:
+    """The lines of the calls since the last reset. `keeps_lines` says whether they are kept, or only counted."""
+
+    def __init__(self, keeps_lines: bool) -> None:
+        self.keeps_lines = keeps_lines
+        self.is_shown = False
+        self._file: Optional[IO[str]] = None
+        self.restart()
+
+    def restart(self) -> None:
+        """Forgets all lines, as a reset of the board does."""
+        self.end_file()
+        self.lines: List[str] = []
+        self._count = 0
+
+    def note(self, command: Command) -> None:
+        """Notes the line of a call."""
+        self._count += 1
+        if self.keeps_lines:
+            self.lines.append(text_of(command))
+        if self._file:
+            try:
+                self._file.write(text_of(command) + "\n")
+                self._file.flush()
+            except OSError as error:
+                raise FileFault(str(self.end_file()), error) from None
+
+    def is_whole(self) -> bool:
+        """Whether the kept lines are all that there were."""
+        return self._count == len(self.lines)
+
+    def begin_file(self, path: str) -> None:
+        """Writes the kept lines, and from now on each further one, into a file."""
+        self.end_file()
+        with replaced(path) as name:
+            file = open(name, "w", encoding="ascii")
+            file.writelines(line + "\n" for line in self.lines)
+            file.flush()
+        self._file, self._path = file, path
+
+    def end_file(self) -> Optional[str]:
+        """Closes the file. Returns its name, or `None` if there is none."""
+        if self._file is None:
+            return None
+        self._file = None
+        return self._path
+
+
 class Session:
     """Carries out lines on a board, and writes the replies to a stream.
 
@@ -40,10 +78,10 @@ class Session:
     program `superio` takes.
     """
 
-    def __init__(self, out: IO[str], style: Optional[Style] = None, keeps_lines: bool = False, is_strict: bool = False,
+    def __init__(self, out: IO[str], style: Style = Style(False), keeps_lines: bool = False, is_strict: bool = False,
                  host_time: Callable[[], float] = time.time) -> None:
         self.out = out
-        self.style = style or Style(False)
+        self.style = style
         self.is_strict = is_strict
         self.depth = 0
         self.trace = Trace(keeps_lines)
@@ -64,15 +102,14 @@ class Session:
         """The host's time, in seconds since 1970, or 0 if its clock is before that."""
         return max(0, int(self._host_time()))
 
-    def say(self, text: str) -> None:
-        """Writes a line."""
-        self.out.write(text + "\n")
+    def say(self, *lines: str) -> None:
+        """Writes lines."""
+        for line in lines:
+            self.out.write(line + "\n")
 
     def show(self, rows: List[str]) -> None:
         """Writes a heading and the rows below it."""
-        self.say(self.style.strong(rows[0]))
-        for row in rows[1:]:
-            self.say(row)
+        self.say(self.style.strong(rows[0]), *rows[1:])
 
     def carry_out(self, line: bytes) -> None:
         """Carries out a line, without its LF.
@@ -88,16 +125,18 @@ class Session:
         else:
             self.run(command, is_short=True)
             return
-        text = plain_text(line)
-        if not text:
-            return
+        text = line.decode("utf-8", "surrogateescape").strip()
         name, _, rest = text.partition(" ")
-        if name in FORMS or name in WORDS:
-            self.run(self.speaker.command(text), is_short=name in FORMS)
-        elif name in VERBS:
-            VERBS[name].function(self, rest.strip())
-        else:
+        if not text or text.startswith("#"):
+            return
+        if name not in HELP:
             raise ScriptError(f"no command is called {shown(name)}: help lists them")
+        if rest.strip() and HELP[name].usage == name and name not in FORMS:
+            raise ScriptError(f"{name} takes no arguments")
+        if name in VERBS:
+            VERBS[name](self, rest.strip())
+        else:
+            self.run(self.speaker.command(text), is_short=name in FORMS)
 
     def run(self, command: Command, is_short: bool) -> None:
         """Carries out a command, and writes what it replied: what a script prints if `is_short`, otherwise in words."""

@@ -2,16 +2,13 @@
 import cmd
 import glob
 import os
-from typing import IO, List, Optional
+from typing import IO, List
 
 from .commands import HELP
 from .faults import FileFault, Leave
-from .prompt import use_history
+from .prompt import Style, use_history
 from .registers import CLOCK, SERIAL
 from .session import Session
-from .style import Style
-
-__all__ = ["Shell", "completions"]
 
 INTRO = """\
 A serial port, a clock and a reset controller, as a guest sees them.
@@ -21,24 +18,13 @@ Try:  write IER RDA    the guest asks for interrupts
       read RBR         and reads a byte
 help lists all commands, Tab completes, Ctrl-D ends."""
 
-_FIELDS = {"read": ["serial"], "sr": ["serial"], "write": ["serial"], "sw": ["serial"], "cr": ["now", "clock"],
-           "cw": ["now", "clock"], "save": ["file"], "load": ["file"], "source": ["file"], "help": ["command"],
-           "regs": ["serial clock"], "trace": ["on off", "file"], "i8042": ["read write"],
-           "clock": ["read write", "clock"], "alarm": ["+"]}
-"""What the fields of each command can be."""
-
-
-def _bits_of(word: str) -> List[str]:
-    register = SERIAL.get(word.upper())
-    return [name for _, name in register.bits] if register else []
-
 
 def _files(text: str) -> List[str]:
     found = glob.glob(glob.escape(os.path.expanduser(text)) + "*")
     home = os.path.expanduser("~")
     if text.startswith("~"):
         found = ["~" + path[len(home):] if path.startswith(home) else path for path in found]
-    return [path + "/" if os.path.isdir(os.path.expanduser(path)) else path for path in found]
+    return sorted(path + "/" if os.path.isdir(os.path.expanduser(path)) else path for path in found)
 
 
 def completions(before: str, text: str) -> List[str]:
@@ -46,22 +32,20 @@ def completions(before: str, text: str) -> List[str]:
     words = before.split()
     if not words:
         return sorted(name + " " for name in HELP if name.startswith(text))
-    fields = _FIELDS.get(words[0], [])
-    place = len(words) - 1
-    if words[0] in ("write", "sw") and place == 1:
-        before_bar, _, last = text.rpartition("|")
-        prefix = before_bar + "|" if before_bar else ""
-        return [prefix + name for name in _bits_of(words[1]) if name.startswith(last.upper())]
-    if place >= len(fields):
-        return []
-    if fields[place] == "file":
-        return sorted(_files(text))
-    if fields[place] == "command":
+    fields = HELP[words[0]].fields if words[0] in HELP else ()
+    field = fields[len(words) - 1] if len(words) <= len(fields) else ""
+    if field == "file":
+        return _files(text)
+    if field == "command":
         return sorted(name for name in HELP if name.startswith(text))
-    if words[0] != "regs" and fields[place] in ("serial", "clock"):
-        names = SERIAL if fields[place] == "serial" else CLOCK
+    if field in ("serial", "clock"):
+        names = SERIAL if field == "serial" else CLOCK
         return [name + " " for name in names if name.startswith(text.upper())]
-    return [word for word in fields[place].split() if word.startswith(text)]
+    if field == "bits":
+        begun, bar, last = text.rpartition("|")
+        bits = SERIAL[words[1].upper()].bits if words[1].upper() in SERIAL else ()
+        return [begun + bar + name for _, name in bits if name.startswith(last.upper())]
+    return [word for word in field.split() if word.startswith(text)]
 
 
 class Shell(cmd.Cmd):
@@ -69,7 +53,6 @@ class Shell(cmd.Cmd):
 
     prompt = "superio> "
     intro = INTRO
-    use_rawinput = True
 
     def __init__(self, session: Session, errors: IO[str], style: Style) -> None:
         super().__init__()
@@ -86,11 +69,6 @@ class Shell(cmd.Cmd):
     def completedefault(self, *ignored: object) -> List[str]:
         text, line, begin, _ = ignored
         return completions(str(line)[:int(str(begin))], str(text))
-
-    def parseline(self, line: str) -> "tuple[Optional[str], Optional[str], str]":
-        """The line as it is: the session takes it apart."""
-        name = line.strip().partition(" ")[0]
-        return name or None, line.strip()[len(name):].strip(), line
 
     def onecmd(self, line: str) -> bool:
         if line == "EOF":

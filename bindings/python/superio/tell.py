@@ -1,16 +1,15 @@
-"""What a call did, and what a board is, in words."""
+"""What a call did, what a board is, and why an interrupt is pending or not, in words."""
 from copy import copy
 from datetime import datetime, timedelta
-from typing import List, Optional
+from typing import Dict, List, NamedTuple, Optional
 
-from .board import OUTPUT_SIZE, Call, Snapshot
+from .board import OUTPUT_SIZE, Board, Call, Snapshot
 from .devices import Rtc, Serial
-from .registers import (CLOCK, FIFO_BITS, LOOPBACK, SERIAL, Register, bit_names, bits_by_name, clock_register,
+from .library import FIFO_SIZE, SerialStruct
+from .registers import (CLOCK, FIELDS, FIFO_BITS, LOOPBACK, SERIAL, Register, bit_names, bits_by_name, clock_register,
                         serial_register)
-from .states import RtcState, SerialState
-from .structs import FIFO_SIZE
-
-__all__ = ["CONDITIONS", "changes", "pending", "plural", "quoted", "registers", "clock_registers", "told"]
+from .saved import RtcState, SerialState
+from .script import Command, text_of
 
 CONDITIONS = bits_by_name(SERIAL["IIR"])
 """The interrupt conditions, each with its bit of IIR."""
@@ -18,10 +17,12 @@ CONDITIONS = bits_by_name(SERIAL["IIR"])
 ENABLES = bits_by_name(SERIAL["IER"])
 """The bit of IER that enables each condition."""
 
-_REGISTERS = {"interrupt_enable": "IER", "line_control": "LCR", "modem_control": "MCR", "line_status": "LSR",
-              "modem_status": "MSR", "scratch": "SCR", "baud_divisor_low": "DLL", "baud_divisor_high": "DLM"}
-# The registers of the clock that are fields of its state.
+# The registers in the order in which a call changes them, and those of the clock that are fields of its state.
+_CHANGED = ("IER", "LCR", "MCR", "LSR", "MSR", "SCR", "DLL", "DLM", "IIR")
 _KEPT = tuple(name for name in CLOCK if hasattr(RtcState, name.lower()))
+_IIR = SerialStruct.interrupt_identification.offset
+
+_ACKNOWLEDGED_BY = {"RDA": "A read of IIR or of RBR acknowledges it.", "THRE": "A read of IIR acknowledges it."}
 
 
 def plural(count: int, noun: str) -> str:
@@ -36,9 +37,10 @@ def quoted(data: bytes, most: int = FIFO_SIZE) -> str:
     return f'"{shown}"' + (".." if len(data) > most else "")
 
 
-def _decoded(register: Optional[Register], name: str, value: int, width: int) -> str:
+def _decoded(register: Optional[Register], value: int, width: int = 4) -> str:
+    """A value in as many characters, and the names of the register's bits in it."""
     names = " ".join(bit_names(register, value)) if register else ""
-    return f"{register.name if register else name} = {value:#0{width}x}" + (f"  {names}" if names else "")
+    return f"{value:#0{width}x}" + (f"  {names}" if names else "")
 
 
 def pending(state: SerialState) -> List[str]:
@@ -46,7 +48,8 @@ def pending(state: SerialState) -> List[str]:
     return [name for name, bit in CONDITIONS.items() if state.interrupt_identification & bit]
 
 
-def _raised(call: Call) -> List[str]:
+def raised(call: Call) -> List[str]:
+    """The conditions that a call raised."""
     return [name for name in pending(call.after.serial) if name not in pending(call.before.serial)]
 
 
@@ -54,9 +57,9 @@ def _interrupts(call: Call) -> str:
     """What the interrupt line was asked, empty if it was not called."""
     if not call.answers:
         return ""
-    raised = _raised(call) or pending(call.after.serial)
+    names = raised(call) or pending(call.after.serial)
     return "; interrupt for " + ", ".join(name + ("" if taken else " refused")
-                                          for name, taken in zip(raised, call.answers))
+                                          for name, taken in zip(names, call.answers))
 
 
 def told(call: Call) -> str:
@@ -69,7 +72,7 @@ def _serial_read(call: Call) -> str:
     (offset,) = call.command.values
     register = serial_register(offset, call.before.serial.line_control, False)
     value = int(call.reply or "0", 16)
-    text = _decoded(register, f"offset {offset:#04x}", value, 4)
+    text = f"{register.name if register else f'offset {offset:#04x}'} = {_decoded(register, value)}"
     if register and register.name == "RBR":
         return f"{text}  {quoted(bytes([value]))}" if call.before.serial.in_buffer else f"{text}  no byte was held"
     return text
@@ -126,7 +129,8 @@ def _clock_read(call: Call) -> str:
     if call.reply == "invalid":
         return f"invalid: nothing can be read at {offset:#06x}" + (f", {register.name}" if register else "")
     value = int(call.reply or "0", 16)
-    return _decoded(register, f"offset {offset:#06x}", value, 10) + (f"  {date_of(value)} UTC" if offset == 0 else "")
+    text = f"{register.name if register else f'offset {offset:#06x}'} = {_decoded(register, value, 10)}"
+    return f"{text}  {date_of(value)} UTC" if offset == 0 else text
 
 
 def _clock_write(call: Call) -> str:
@@ -162,15 +166,15 @@ _TELLERS = {
 }
 
 
-def _row(name: str, value: int, register: Register, width: int = 4) -> str:
-    return f"  {name:<4} {value:#0{width}x}  {' '.join(bit_names(register, value))}".rstrip()
+def _row(register: Register, value: int, width: int = 4) -> str:
+    return f"  {register.name:<4} {_decoded(register, value, width)}"
 
 
 def registers(board: Snapshot) -> List[str]:
     """The registers of the serial port as a guest reads them, the FIFO, and what is pending, below a heading."""
     state, port = board.serial, Serial.from_state(board.serial)
-    rows = ["serial port", _row("IER", state.interrupt_enable, SERIAL["IER"])]
-    rows.extend(_row(name, port.read(name).byte, SERIAL[name]) for name in ("IIR", "LCR", "MCR", "LSR", "MSR", "SCR"))
+    rows = ["serial port", _row(SERIAL["IER"], state.interrupt_enable)]
+    rows.extend(_row(SERIAL[name], port.read(name).byte) for name in ("IIR", "LCR", "MCR", "LSR", "MSR", "SCR"))
     divisor = state.baud_divisor_high << 8 | state.baud_divisor_low
     rows.append(f"  divisor {divisor}, FIFO {len(state.in_buffer)} of {FIFO_SIZE}")
     if state.in_buffer:
@@ -187,7 +191,7 @@ def clock_registers(state: RtcState, now: Optional[int] = None) -> List[str]:
     if now is not None:
         guest_time = copy(clock).read("DR", now).value
         rows.append(f"  DR   {guest_time:#010x}  {date_of(guest_time)}")
-    rows.extend(_row(name, getattr(state, name.lower()), CLOCK[name], 10) for name in _KEPT)
+    rows.extend(_row(CLOCK[name], getattr(state, name.lower()), 10) for name in _KEPT)
     rows.append(f"  {_alarm(clock, now)}")
     rows.append(f"  interrupt line {'up' if clock.line() else 'down'}")
     return rows
@@ -203,24 +207,12 @@ def _alarm(clock: Rtc, now: Optional[int]) -> str:
 def changes(call: Call) -> List[str]:
     """What a call changed, a row for each register, the FIFO, the output and the line; empty if nothing."""
     before, after = call.before, call.after
-    rows = [_change(name, getattr(before.serial, field), getattr(after.serial, field), SERIAL[name], 4)
-            for field, name in _REGISTERS.items() if getattr(before.serial, field) != getattr(after.serial, field)]
-    identification = [state.interrupt_identification | FIFO_BITS for state in (before.serial, after.serial)]
-    if identification[0] != identification[1]:
-        rows.append(_change("IIR", *identification, SERIAL["IIR"], 4))
-    rows.extend(_change(name, getattr(before.clock, name.lower()), getattr(after.clock, name.lower()), CLOCK[name], 10)
-                for name in _KEPT
-                if getattr(before.clock, name.lower()) != getattr(after.clock, name.lower()))
-    return rows + _other_changes(before, after) + _answers(call)
-
-
-def _change(name: str, before: int, after: int, register: Register, width: int) -> str:
-    names = " ".join(bit_names(register, after))
-    return f"{name} {before:#0{width}x} -> {after:#0{width}x}" + (f"  {names}" if names else "")
-
-
-def _other_changes(before: Snapshot, after: Snapshot) -> List[str]:
-    rows = []
+    values = [(SERIAL[name], 4, *(getattr(state, FIELDS[name]) | (FIFO_BITS if name == "IIR" else 0)
+                                  for state in (before.serial, after.serial))) for name in _CHANGED]
+    values += [(CLOCK[name], 10, *(getattr(state, name.lower()) for state in (before.clock, after.clock)))
+               for name in _KEPT]
+    rows = [f"{register.name} {old:#0{width}x} -> {_decoded(register, new, width)}"
+            for register, width, old, new in values if old != new]
     if before.serial.in_buffer != after.serial.in_buffer:
         rows.append(f"FIFO {len(before.serial.in_buffer)} -> {plural(len(after.serial.in_buffer), 'byte')}")
     if before.sent != after.sent:
@@ -229,8 +221,76 @@ def _other_changes(before: Snapshot, after: Snapshot) -> List[str]:
         rows.append(f"clock offset {before.clock.offset} -> {after.clock.offset} s")
     if before.clock.armed != after.clock.armed:
         rows.append("alarm set" if after.clock.armed else "alarm over")
-    return rows
+    return rows + [f"interrupt {'taken' if taken else 'refused'}" for taken in call.answers]
 
 
-def _answers(call: Call) -> List[str]:
-    return [f"interrupt {'taken' if taken else 'refused'}" for taken in call.answers]
+class _Turn(NamedTuple):
+    """A call that turned a condition on or off."""
+
+    number: int
+    command: Command
+    is_taken: Optional[bool] = None  # what the interrupt line answered; `None` if it was not called
+
+    def __str__(self) -> str:
+        line = text_of(self.command)
+        return f"call {self.number}, {line if len(line) <= 24 else line[:22] + '..'}"
+
+
+class Story:
+    """Remembers, for each condition, the call that raised it last and the one that acknowledged it last."""
+
+    def __init__(self) -> None:
+        self._raised: Dict[str, _Turn] = {}
+        self._acknowledged: Dict[str, _Turn] = {}
+
+    def note(self, call: Call) -> None:
+        """Remembers what a call raised and acknowledged. Calls are noted in their order."""
+        if call.before.port[_IIR] == call.after.port[_IIR] and not call.answers:
+            return
+        before, after = pending(call.before.serial), pending(call.after.serial)
+        answers = list(call.answers)
+        for name in CONDITIONS:
+            asked = name in after and (name not in before or call.command.name in ("ss", "sl"))
+            if asked and (name not in before or answers):
+                self._raised[name] = _Turn(call.number, call.command, answers.pop(0) if answers else None)
+            elif name in before and name not in after:
+                self._acknowledged[name] = _Turn(call.number, call.command)
+
+    def lines(self, board: Board) -> List[str]:
+        """A sentence or two about each condition."""
+        return [self._about(name, board) for name in CONDITIONS]
+
+    def _about(self, name: str, board: Board) -> str:
+        state = board.serial.state
+        is_enabled = bool(state.interrupt_enable & ENABLES[name])
+        if name in pending(state):
+            return f"{name} is pending: {self._why_pending(name, is_enabled)}"
+        return f"{name} is not pending: {self._why_not(name, is_enabled, len(state.in_buffer))}"
+
+    def _why_pending(self, name: str, is_enabled: bool) -> str:
+        raise_ = self._raised.get(name)
+        if raise_ is None:
+            return "it was when the board was loaded."
+        answer = {True: ", and the line took the interrupt", False: ", and the line refused the interrupt", None: ""}
+        reason = f"{raise_}, raised it{answer[raise_.is_taken]}"
+        if not is_enabled:
+            return f"{reason}. IER does not enable it now."
+        return f"{reason}. {_ACKNOWLEDGED_BY[name]}"
+
+    def _why_not(self, name: str, is_enabled: bool, held: int) -> str:
+        acknowledged = self._acknowledged.get(name)
+        reason = f"{acknowledged}, acknowledged it" if acknowledged else "no call has raised it"
+        if name == "RDA":
+            return f"{reason}. {self._next_rda(is_enabled, held)}"
+        if not is_enabled:
+            return f"{reason}. IER does not enable it."
+        return f"{reason}. The next byte that goes out raises it, or a write to IER."
+
+    @staticmethod
+    def _next_rda(is_enabled: bool, held: int) -> str:
+        bytes_held = f"{plural(held, 'byte')} {'is' if held == 1 else 'are'} held"
+        if not is_enabled:
+            return "IER does not enable it" + (f", and {bytes_held}." if held else ".")
+        if not held:
+            return "The next byte raises it."
+        return f"{bytes_held}: a timeout, the next byte or a write to IER raises it."

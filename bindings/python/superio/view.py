@@ -3,21 +3,15 @@ import cmd
 import os
 import pydoc
 import sys
-from typing import IO, Callable, List, Optional, Sequence
+from itertools import groupby
+from typing import IO, Callable, Dict, Optional, Sequence
 
-from .arguments import BAD_LINE, OK, Parser
-from .faults import BadLine, FileFault, open_file, write_text
-from .prompt import run_prompt
-from .recording import Step, replay
+from .faults import FileFault, opened, write_text
+from .prompt import Style, run_prompt
+from .recording import Step, picture, replay
 from .registers import CLOCK, SERIAL, clock_register, serial_register
 from .script import ScriptError, shown, text_of
-from .style import Style, is_wanted
-from .svg import picture
-from .tell import CONDITIONS, changes, clock_registers, plural, registers, told
-
-__all__ = ["Viewer", "main", "table"]
-
-Wanted = Callable[[Step], bool]
+from .tell import CONDITIONS, changes, clock_registers, plural, raised, registers, told
 
 
 def row_of(number: int, step: Step) -> str:
@@ -29,49 +23,38 @@ def row_of(number: int, step: Step) -> str:
 
 def table(steps: Sequence[Step]) -> str:
     """All calls, one in a row."""
-    rows, piece = [], 0
-    for number, step in enumerate(steps, 1):
-        if step.piece != piece:
-            piece = step.piece
-            rows.append(f"piece {piece}")
-        rows.append(row_of(number, step))
+    rows = []
+    for piece, numbered in groupby(enumerate(steps, 1), key=lambda it: it[1].piece):
+        rows.extend([f"piece {piece}", *(row_of(number, step) for number, step in numbered)])
     return "\n".join([*rows, ""])
 
 
 def register_of(step: Step) -> str:
     """The name of the register that a call reaches, empty if it is no access of one."""
     name, values = step.call.command
+    register = None
     if name in ("sr", "sw"):
         register = serial_register(int(values[0]), step.call.before.serial.line_control, name == "sw")
     elif name in ("cr", "cw"):
         register = clock_register(int(values[1]))
-    else:
-        register = None
     return register.name if register else ""
 
 
-def _raises(bit: int) -> Wanted:
-    def wanted(step: Step) -> bool:
-        before, after = (state.serial.interrupt_identification & bit for state in (step.call.before, step.call.after))
-        return bool(after) and not before
-    return wanted
-
-
-_PLACES = {
+_PLACES: Dict[str, Callable[[Step], bool]] = {
     "interrupt": lambda step: bool(step.call.answers),
-    "refused": lambda step: False in step.call.answers,
+    "refused": lambda step: step.is_refused,
     "change": lambda step: bool(changes(step.call)),
-    "sent": lambda step: step.call.after.sent > step.call.before.sent,
+    "sent": lambda step: step.has_sent,
     "input": lambda step: len(step.call.after.serial.in_buffer) > len(step.call.before.serial.in_buffer),
     "timeout": lambda step: step.call.command.name == "si",
     "reset": lambda step: step.call.reply == "reset",
     "difference": lambda step: step.differs,
-    **{name.lower(): _raises(bit) for name, bit in CONDITIONS.items()},
+    **{name.lower(): lambda step, name=name: name in raised(step.call) for name in CONDITIONS},
 }
 """What a step can be looked for by, beside the registers."""
 
 
-def wanted_of(word: str) -> Wanted:
+def wanted_of(word: str) -> Callable[[Step], bool]:
     """What `next WORD` looks for. Raises `ScriptError` if nothing is called so."""
     if word.lower() in _PLACES:
         return _PLACES[word.lower()]
@@ -163,8 +146,7 @@ class Viewer(cmd.Cmd):
     def do_regs(self, _: str) -> None:
         """regs: every register after this call"""
         after = self._steps[self._place].call.after
-        for row in [*registers(after), *clock_registers(after.clock)]:
-            self._say(row)
+        self._say("\n".join([*registers(after), *clock_registers(after.clock)]))
 
     def do_table(self, rest: str) -> None:
         """table [FILE]: all calls, to a pager or a file"""
@@ -217,44 +199,20 @@ def write_table(steps: Sequence[Step], path: Optional[str]) -> None:
         sys.stdout.write(table(steps))
 
 
-def _parser() -> Parser:
-    parser = Parser("python3 -m superio view", description="Steps through a recorded trace, call by call.")
-    parser.add_argument("trace", metavar="TRACE",
-                        help="a script, or a recording as in examples/linux-boot; - is standard input")
-    parser.add_argument("--table", nargs="?", const="", metavar="FILE",
-                        help="all calls as a table, to a pager or a file")
-    parser.add_argument("--svg", metavar="FILE",
-                        help="a picture of the whole: what was pending when, how full the FIFO was")
-    parser.add_argument("--no-color", action="store_true", help="no colours")
-    return parser
-
-
-def _steps_of(path: str) -> List[Step]:
+def view(path: str, table_path: Optional[str], svg_path: Optional[str], has_colours: bool) -> None:
+    """Steps through the trace in a file, or writes its table, to a file of this name or else to standard output, or its
+    picture. Raises `BadLine` at a row that stands for no calls, and `ScriptError` if there is none."""
     if path == "-":
-        return list(replay("<stdin>", sys.stdin.buffer))
-    with open_file(path, "rb") as file:
-        try:
-            return list(replay(path, file))
-        except OSError as error:
-            raise FileFault(path, error) from None
-
-
-def main(arguments: List[str]) -> int:
-    """Runs the command line of the viewer. Returns the exit status."""
-    options = _parser().parse_args(arguments)
-    try:
-        steps = _steps_of(options.trace)
-    except BadLine as error:
-        print(error, file=sys.stderr)
-        return BAD_LINE
+        steps = list(replay("<stdin>", sys.stdin.buffer))
+    else:
+        with opened(path) as file:
+            steps = list(replay(path, file))
     if not steps:
-        print(f"{options.trace} has no call", file=sys.stderr)
-        return BAD_LINE
-    name = os.path.basename(options.trace)
-    if options.svg:
-        write_text(options.svg, picture(steps, name))
-    if options.table is not None:
-        write_table(steps, options.table or None)
-    if not options.svg and options.table is None:
-        run_prompt(Viewer(steps, name, sys.stdout, Style(not options.no_color and is_wanted(sys.stdout))))
-    return OK
+        raise ScriptError(f"{path} has no call")
+    name = os.path.basename(path)
+    if svg_path:
+        write_text(svg_path, picture(steps, name))
+    if table_path is not None:
+        write_table(steps, table_path or None)
+    if not svg_path and table_path is None:
+        run_prompt(Viewer(steps, name, sys.stdout, Style.of(sys.stdout, has_colours)))

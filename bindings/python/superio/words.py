@@ -1,14 +1,16 @@
 """The lines that people type, as commands of a script: `read LSR` as `sr 05`, `alarm +5` as a write to the clock."""
 import re
 from copy import copy
-from typing import Callable, Dict, List, Tuple
+from typing import Callable, List, Optional
 
 from .board import Board
-from .registers import CLOCK, SERIAL, Register, clock_offset, serial_offset, serial_register
-from .script import (BYTES, CLOCK_OFFSET, FORMS, MASK, MOMENT, OFFSET, SAVED, TOO_MANY, VALUE, Command, Field,
+from .registers import (CLOCK, SERIAL, Register, bits_by_name, clock_offset, clock_register, serial_offset,
+                        serial_register)
+from .script import (BYTES, CLOCK_OFFSET, FORMS, MASK, MOMENT, OFFSET, TOO_MANY, VALUE, Command, Field,
                      ScriptError, missing, parse, shown)
 
-__all__ = ["Speaker", "WORDS", "characters"]
+ALONE = {"timeout": "si", "drain": "sd", "room": "sc", "output": "so", "calls": "st", "events": "se", "restore": "ss"}
+"""The words that are a line by themselves, and the line of a script that each means."""
 
 _QUOTED = {quote: re.compile(quote + rb"((?:\\.|[^\\" + quote + rb"])*)" + quote, re.DOTALL) for quote in (b'"', b"'")}
 _ESCAPE = re.compile(rb'\\(x[0-9A-Fa-f]{2}|.)', re.DOTALL)
@@ -65,43 +67,40 @@ class Speaker:
 
         Raises `ScriptError` or `RegisterError`, which say why, if it is none of them.
         """
-        data = line.encode("utf-8", "surrogateescape")
         name, _, rest = line.partition(" ")
+        if name in ALONE:
+            return Command(ALONE[name])
+        if name in _PHRASES:
+            return _PHRASES[name](self, rest)
         try:
-            return parse(data, is_first=self.board.number == 0)
+            return parse(line.encode("utf-8", "surrogateescape"), is_first=self.board.number == 0)
         except ScriptError as error:
             if name == MASK and self.board.number:
                 raise ScriptError("a mask comes before every other line; reset begins anew") from None
-            if name in FORMS:
-                return self._short(name, rest, error)
-            if name not in _PHRASES:
-                raise
-        return _PHRASES[name](self, rest)
+            return self._short(name, rest, error)
 
     def _short(self, name: str, rest: str, error: ScriptError) -> Command:
         """A form of a script whose fields are not written out: `sr LSR`, `sw 3 0x83`, `cr now DR`."""
-        texts = rest.split()
-        fields = FORMS[name]
-        if fields == (BYTES,) and rest[:1] in ("'", '"') and rest:
+        texts, fields = rest.split(), FORMS[name]
+        if name == "sq" and rest[:1] in ("'", '"'):
             return Command(name, (self._bytes(rest),))
-        if fields in ((BYTES,), (SAVED,)):
+        if fields == (BYTES,):
             raise error
         if len(texts) != len(fields):
             raise ScriptError(TOO_MANY if len(texts) > len(fields) else missing(fields[len(texts)]))
-        is_write = name.endswith("w")
-        values = []
+        values: List[int] = []
         for field, text in zip(fields, texts):
-            values.append(self._field(field, text, name[0], is_write, values))
+            values.append(self._field(field, text, name, values))
         return Command(name, tuple(values))
 
-    def _field(self, field: Field, text: str, device: str, is_write: bool, before: List[int]) -> int:
-        if field is OFFSET and device == "s":
-            return self.offset(text, is_write, 16)
+    def _field(self, field: Field, text: str, name: str, before: List[int]) -> int:
+        if field is OFFSET and name[0] == "s":
+            return self.offset(text, name == "sw", 16)
         if field is CLOCK_OFFSET:
             return self.clock_offset(text, 16)
         if field is MOMENT:
             return self.moment(text, 16)
-        if field is VALUE and device == "s":
+        if field is VALUE and name[0] == "s":
             return self.value(text, serial_register(before[0], self._line_control(), True), 8, 16)
         return _integer(text, field.name, 4 * field.digits, 16)
 
@@ -121,7 +120,7 @@ class Speaker:
             return clock_offset(text)
         return _integer(text, f"offset, and no register: those are {' '.join(CLOCK)}", 16, base)
 
-    def value(self, text: str, register: "Register | None", bits: int, base: int = 0) -> int:
+    def value(self, text: str, register: Optional[Register], bits: int, base: int = 0) -> int:
         """A value: a number, a character in quotes, or bits of the register by name, as RDA|THRE."""
         if text[:1] in ("'", '"'):
             data = characters(text)
@@ -129,9 +128,9 @@ class Speaker:
                 raise ScriptError(f"{shown(text)} is not one byte")
             return data[0]
         total = 0
-        named = dict((name, bit) for bit, name in register.bits) if register else {}
+        named = bits_by_name(register) if register else {}
+        hint = f", and {register.name} has the bits {' '.join(named)}" if register and named else ""
         for part in text.split("|"):
-            hint = f", and {register.name} has the bits {' '.join(named)}" if register and named else ""
             total |= named[part.upper()] if part.upper() in named else _integer(part, "value" + hint, bits, base)
         return total
 
@@ -182,9 +181,8 @@ class Speaker:
             return Command("cr", (self.moment(words[2] if len(words) > 2 else "now"), self.clock_offset(words[1])))
         if words[0] == "write" and len(words) >= 3:
             offset = self.clock_offset(words[1])
-            register = next((register for register in CLOCK.values() if register.offset == offset), None)
             moment = self.moment(words[3] if len(words) > 3 else "now")
-            return Command("cw", (moment, offset, self.value(words[2], register, 32)))
+            return Command("cw", (moment, offset, self.value(words[2], clock_register(offset), 32)))
         raise ScriptError("the form is: clock read REGISTER [MOMENT], or clock write REGISTER VALUE [MOMENT]")
 
     def alarm(self, rest: str) -> Command:
@@ -209,20 +207,5 @@ class Speaker:
         raise ScriptError("the form is: i8042 read OFFSET, or i8042 write OFFSET VALUE")
 
 
-def _alone(name: str, script_name: str) -> "Callable[[Speaker, str], Command]":
-    def phrase(speaker: Speaker, rest: str) -> Command:
-        if rest.strip():
-            raise ScriptError(f"{name} takes no arguments")
-        return Command(script_name)
-    return phrase
-
-
-_PHRASES: "Dict[str, Callable[[Speaker, str], Command]]" = {
-    "read": Speaker.read, "write": Speaker.write, "type": Speaker.type, "clock": Speaker.clock, "alarm": Speaker.alarm,
-    "i8042": Speaker.controller, "timeout": _alone("timeout", "si"), "drain": _alone("drain", "sd"),
-    "room": _alone("room", "sc"), "output": _alone("output", "so"), "calls": _alone("calls", "st"),
-    "events": _alone("events", "se"), "restore": _alone("restore", "ss"),
-}
-
-WORDS: Tuple[str, ...] = tuple(_PHRASES)
-"""What a line of words can begin with."""
+_PHRASES = {"read": Speaker.read, "write": Speaker.write, "type": Speaker.type, "clock": Speaker.clock,
+            "alarm": Speaker.alarm, "i8042": Speaker.controller}

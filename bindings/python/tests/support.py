@@ -2,6 +2,8 @@
 import os
 import subprocess
 import sys
+import tempfile
+import unittest
 from pathlib import Path
 
 PACKAGE = Path(__file__).resolve().parent.parent
@@ -14,8 +16,23 @@ for name in ("NO_COLOR", "PYTHONDONTWRITEBYTECODE", "PYTHONUNBUFFERED"):
     ENVIRONMENT.pop(name, None)
 
 
+class FolderTest(unittest.TestCase):
+    """A test with a folder of its own, and the name of a file in it."""
+
+    def setUp(self):
+        folder = tempfile.TemporaryDirectory()
+        self.addCleanup(folder.cleanup)
+        self.folder = Path(folder.name)
+        self.path = self.folder / "a file"
+
+
+def ended(command, script=b"", **options):
+    """The status, output and errors of a command."""
+    done = subprocess.run(list(map(str, command)), input=script,
+                          **{"capture_output": True, "timeout": TIMEOUT, "env": ENVIRONMENT, **options})
+    return done.returncode, done.stdout.decode(), (done.stderr or b"").decode()
+
+
 def run(*arguments, script=b"", **options):
-    """The status, output and errors of `python3 -m superio`."""
-    done = subprocess.run([sys.executable, "-m", "superio", *map(str, arguments)], input=script, capture_output=True,
-                          timeout=TIMEOUT, **{"env": ENVIRONMENT, **options})
-    return done.returncode, done.stdout.decode(), done.stderr.decode()
+    """Those of `python3 -m superio`."""
+    return ended([sys.executable, "-m", "superio", *arguments], script, **options)

@@ -24,12 +24,9 @@ class Terminal:
             # What runs in the background ignores Ctrl-C, and so would the program.
             signal.signal(signal.SIGINT, signal.SIG_DFL)
             os.execve(command[0], command, environment)
-        self.resize(columns)
+        fcntl.ioctl(self._end, termios.TIOCSWINSZ, struct.pack("HHHH", 24, columns, 0, 0))
         self.raw = ""
         self.log = ""
-
-    def resize(self, columns):
-        fcntl.ioctl(self._end, termios.TIOCSWINSZ, struct.pack("HHHH", 24, columns, 0, 0))
 
     def type(self, text):
         os.write(self._end, text.encode())
@@ -50,38 +47,30 @@ class Terminal:
         """Takes what the terminal shows next, and returns whether it showed anything before the deadline."""
         took = False
         wait = deadline - time.monotonic()
-        while wait > 0 and select.select([self._end], [], [], wait)[0]:
-            try:
-                piece = os.read(self._end, 4096)
-            except OSError:  # the program closed the terminal
-                break
-            if not piece:
-                break
-            self._take(piece)
+        while wait > 0 and select.select([self._end], [], [], wait)[0] and self._take():
             took = True
             # What is there already is taken at once, up to a part of what is kept.
             wait = 0.01 if len(self.raw) < _KEPT // 4 else 0
         self.raw = self.raw[-_KEPT:]
         return took
 
-    def _take(self, piece):
-        text = piece.decode(errors="replace")
-        self.raw += text
-        self.log += text
+    def _take(self):
+        """The next piece that the program shows, empty once it has closed the terminal."""
+        try:
+            piece = os.read(self._end, 4096).decode(errors="replace")
+        except OSError:
+            return ""
+        self.raw += piece
+        self.log += piece
+        return piece
 
     def shown(self):
         return _CONTROL.sub("", self.raw).replace("\r\n", "\n")
 
     def status(self):
         """The exit status, once the program has ended and the terminal shows no more."""
-        while True:
-            try:
-                piece = os.read(self._end, 4096)
-            except OSError:
-                piece = b""
-            if not piece:
-                break
-            self._take(piece)
+        while self._take():
+            pass
         _, status = os.waitpid(self._pid, 0)
         os.close(self._end)
         return os.WEXITSTATUS(status) if os.WIFEXITED(status) else -os.WTERMSIG(status)

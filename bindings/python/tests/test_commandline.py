@@ -7,17 +7,15 @@ import shutil
 import signal
 import subprocess
 import sys
-import tempfile
 import threading
 import time
 import unittest
-from pathlib import Path
 from unittest import mock
 
-from support import ENVIRONMENT, ROOT, TIMEOUT, run
+from support import ENVIRONMENT, ROOT, TIMEOUT, FolderTest, ended, run
 
 import superio
-from superio import main
+from superio import __main__ as main
 from superio.faults import FileFault, write_text
 from superio.library import FILE_NAME
 from superio.session import Session
@@ -25,158 +23,118 @@ from superio.session import Session
 EXAMPLE = ROOT / "examples" / "three_devices.script"
 BOOT = ROOT / "examples" / "linux-boot" / "boot.recording"
 
+LONGEST = b"cr 0000000000000000 0000\n" + b"sc\n" * 21837
+NOWHERE = "/nowhere/at/all: No such file or directory\n"
 
-class Files(unittest.TestCase):
-    def setUp(self):
-        self.folder = tempfile.TemporaryDirectory()
-        self.addCleanup(self.folder.cleanup)
-        self.path = Path(self.folder.name) / "a file"
+# Arguments and standard input, and the status, the output and the errors.
+RUNS = [
+    ([], b"# comment\nkr 04\nread XYZ\nkr 04\n",
+     (1, "00\n", '<stdin>:3: "read XYZ": XYZ is no offset, and no register: '
+                 "those are RBR THR DLL IER DLM IIR FCR LCR MCR LSR MSR SCR\n")),
+    ([], b"kr 04\nsr\nkr 04\n", (1, "00\n", '<stdin>:2: "sr": an offset is missing\n')),
+    ([], b"\xff\x1b\n", (1, "", '<stdin>:1: "\\xff\\x1b": no command is called \\xff\\x1b: help lists them\n')),
+    ([], b"\n   # indented\n  kr 04  \t\r\nread LSR\r\n\r\nkr 04", (0, "00\nLSR = 0x60  THRE TEMT\n00\n", "")),
+    ([], b"kr 04\n" * 99999 + b"kr\n", (1, "00\n" * 99999, '<stdin>:100000: "kr": an offset is missing\n')),
+    ([], b"# " + b"x" * 200_000 + b"\nkr 04\nkr", (1, "00\n", '<stdin>:3: "kr": an offset is missing\n')),
+    ([], b"kr " + b"1" * 100, (1, "", f'<stdin>:1: "kr {"1" * 57}..": {"1" * 24}.. is no offset: it has 8 bits\n')),
+    ([], b"kr 04\nquit\nkr 04\n", (0, "00\n", "")),
+    ([], b"write SCR 7\nreset\nread SCR\n", (0, "ok\na fresh board\nSCR = 0x00\n", "")),
+    ([], b"sr 05\ndiff\n", (0, "60\nsr 05\n  nothing changed\n", "")),
+    ([], b"foo\n", (1, "", '<stdin>:1: "foo": no command is called foo: help lists them\n')),
+    ([], b"kr 04\nload /nowhere/at/all\nkr 04\n", (2, "00\n", '<stdin>:2: "load /nowhere/at/all": ' + NOWHERE)),
+    (["--strict"], b"kr 04\r\n", (1, "", '<stdin>:1: "kr 04\\x0d": it ends with a carriage return\n')),
+    (["--strict"], b"kr 04\n\n", (1, "00\n", '<stdin>:2: "": a line begins with a name\n')),
+    (["--strict"], b"kr 04\nread LSR\n", (1, "00\n", '<stdin>:2: "read LSR": no line has this name\n')),
+    (["--strict"], LONGEST, (0, "00000000\n" + "40\n" * 21837, "")),
+    (["--strict"], LONGEST + b"\n", (4, "", "script too long\n")),
+    (["/"], b"", (2, "", "python3 -m superio: /: Is a directory\n")),
+    (["/nowhere/at/all"], b"", (2, "", "python3 -m superio: " + NOWHERE)),
+    (["view", "/nowhere/at/all"], b"", (2, "", "python3 -m superio: " + NOWHERE)),
+    (["view", "-"], b"sr\n", (1, "", '<stdin>:1: "sr": an offset is missing\n')),
+    (["view", "-"], b"# nothing\n", (1, "", "- has no call\n")),
+    (["--version"], b"", (0, f"superio {superio.__version__}\n", "")),
+]
+
+
+class Runs(FolderTest):
+    def test_runs(self):
+        for arguments, script, expected in RUNS:
+            with self.subTest((arguments, script[:50])):
+                self.assertEqual(expected, run(*arguments, script=script))
 
     def test_file_pipe_and_dash_are_the_same(self):
         expected = run(script=EXAMPLE.read_bytes())
-        self.assertEqual(0, expected[0])
-        self.assertEqual(15, len(expected[1].splitlines()))
+        self.assertEqual((0, 15, ""), (expected[0], expected[1].count("\n"), expected[2]))
         self.assertEqual(expected, run(EXAMPLE))
         self.assertEqual(expected, run("-", script=EXAMPLE.read_bytes()))
         self.assertEqual(expected, run("--strict", EXAMPLE))
 
-    def test_first_bad_line_ends_a_file(self):
-        self.path.write_bytes(b"# comment\nkr 04\nread XYZ\nkr 04\n")
-        self.assertEqual((1, "00\n", f"{self.path}:3: \"read XYZ\": XYZ is no offset, and no register: those are "
-                          "RBR THR DLL IER DLM IIR FCR LCR MCR LSR MSR SCR\n"), run(self.path))
-
-    def test_first_bad_line_ends_a_pipe(self):
-        self.assertEqual((1, "00\n", '<stdin>:2: "sr": an offset is missing\n'), run(script=b"kr 04\nsr\nkr 04\n"))
-        self.assertEqual((1, "", '<stdin>:1: "\\xff\\x1b": no command is called \\xff\\x1b: help lists them\n'),
-                         run(script=b"\xff\x1b\n"))
-
-    def test_what_people_write_in_files(self):
-        self.path.write_bytes(b"\n   # indented\n  kr 04  \t\r\nread LSR\r\n\r\nkr 04")
-        self.assertEqual((0, "00\nLSR = 0x60  THRE TEMT\n00\n", ""), run(self.path))
-
-    def test_strict_takes_what_the_program_takes(self):
-        for script, number, reason in ((b"kr 04\r\n", 1, "it ends with a carriage return"),
-                                       (b"kr 04\n\n", 2, "a line begins with a name"),
-                                       (b"kr 04\nread LSR\n", 2, "no line has this name")):
-            status, output, errors = run("--strict", script=script)
-            self.assertEqual((1, "00\n" * (number - 1)), (status, output))
-            self.assertTrue(errors.startswith(f"<stdin>:{number}: ") and errors.endswith(f": {reason}\n"), errors)
-        longest = b"cr 0000000000000000 0000\n" + b"sc\n" * 21837
-        self.assertEqual(65536, len(longest))
-        self.assertEqual((0, "00000000\n" + "40\n" * 21837, ""), run("--strict", script=longest))
-        self.assertEqual((4, "", "script too long\n"), run("--strict", script=longest + b"\n"))
-
-    def test_a_file_has_no_limit(self):
-        status, output, _ = run(script=b"kr 04\n" * 20000)
-        self.assertEqual((0, "00\n" * 20000), (status, output))
-
     def test_lines_that_come_in_pieces(self):
         for script in (b"read LSR", b"read LSR\n", b"\nread LSR\n\n", b"kr 04\nread LSR"):
+            _, expected, _ = run(script=script)
             for cut in range(len(script)):
-                with self.subTest(script[:cut]):
-                    self.assertEqual(run(script=script), self.run_in_pieces(script[:cut], script[cut:]))
-        long = b"# " + b"x" * 200_000 + b"\nkr 04\nkr"
-        self.assertEqual((1, "00\n", '<stdin>:3: "kr": an offset is missing\n'), run(script=long))
-
-    @staticmethod
-    def run_in_pieces(*pieces):
-        """The same as `run`, in this process, of a script that a pipe gives in pieces."""
-        source = mock.Mock(read1=mock.Mock(side_effect=[*filter(None, pieces), b""]))
-        out = io.StringIO()
-        main._run_file(Session(out), "<stdin>", source)
-        return 0, out.getvalue(), ""
-
-    def test_line_numbers_of_many_lines(self):
-        status, _, errors = run(script=b"kr 04\n" * 99999 + b"kr\n")
-        self.assertEqual((1, '<stdin>:100000: "kr": an offset is missing\n'), (status, errors))
-
-    def test_long_line_is_cut(self):
-        self.assertEqual(f'<stdin>:1: "kr {"1" * 57}..": {"1" * 24}.. is no offset: it has 8 bits\n',
-                         run(script=b"kr " + b"1" * 100)[2])
-
-    def test_quit_ends_a_file(self):
-        self.assertEqual((0, "00\n", ""), run(script=b"kr 04\nquit\nkr 04\n"))
+                pieces = filter(None, (script[:cut], script[cut:]))
+                out, source = io.StringIO(), mock.Mock(read1=mock.Mock(side_effect=[*pieces, b""]))
+                main._run_file(Session(out), "<stdin>", source)
+                self.assertEqual(expected, out.getvalue(), script[:cut])
 
     def test_the_program_at_the_top_needs_no_installation(self):
-        done = subprocess.run([ROOT / "superio", EXAMPLE], cwd="/", env={"PATH": os.environ["PATH"]}, capture_output=True,
-                              text=True, timeout=TIMEOUT)
-        self.assertEqual(run(EXAMPLE), (done.returncode, done.stdout, done.stderr))
-
-    def test_the_program_at_the_top_through_a_link(self):
-        link = Path(self.folder.name, "link")
-        link.symlink_to(ROOT / "superio")
-        done = subprocess.run([link, EXAMPLE], cwd=self.folder.name, env={"PATH": os.environ["PATH"]}, capture_output=True,
-                              text=True, timeout=TIMEOUT)
-        self.assertEqual(run(EXAMPLE), (done.returncode, done.stdout, done.stderr))
-
-    def test_the_program_at_the_top_without_a_library_for_the_machine(self):
-        """As on a processor that `prebuilt` has no folder for: it says where it looked, and what to do."""
-        top = Path(self.folder.name, "top")
+        """Also through a link. Without a library for the machine it says where it looked, and what to do."""
+        self.path.symlink_to(ROOT / "superio")
+        top = self.folder / "top"
         shutil.copytree(ROOT / "bindings" / "python" / "superio", top / "bindings" / "python" / "superio")
         shutil.copy(ROOT / "superio", top)
-        done = subprocess.run([top / "superio"], input="", env={"PATH": os.environ["PATH"]}, capture_output=True, text=True,
-                              timeout=TIMEOUT)
-        self.assertEqual((2, ""), (done.returncode, done.stdout))
+        plain = {"cwd": self.folder, "env": {"PATH": os.environ["PATH"]}}
+        for program in (ROOT / "superio", self.path):
+            self.assertEqual(run(EXAMPLE), ended([program, EXAMPLE], **plain))
+        status, output, errors = ended([top / "superio"], **plain)
+        self.assertEqual((2, ""), (status, output))
         name = re.escape(FILE_NAME)
-        self.assertRegex(done.stderr, rf"^python3 -m superio: {name} was not found .*top/prebuilt/\w+-linux/{name}.*: "
-                                      r"set SUPERIO_LIBRARY to its path\n$")
-
-    def test_folder_and_missing_file(self):
-        self.assertEqual((2, "", "python3 -m superio: /: Is a directory\n"), run("/"))
-        self.assertEqual((2, "", f"python3 -m superio: {self.path}: No such file or directory\n"), run(self.path))
-
-    def test_a_fault_of_a_file_that_a_line_names(self):
-        said = '<stdin>:2: "load /nowhere/at/all": /nowhere/at/all: No such file or directory\n'
-        self.assertEqual((2, "00\n", said), run(script=b"kr 04\nload /nowhere/at/all\nkr 04\n"))
-        self.path.write_bytes(b"load /nowhere/at/all\n")
-        self.assertEqual((2, ""), run(script=f"source '{self.path}'\n".encode())[:2])
+        self.assertRegex(errors, rf"^python3 -m superio: {name} was not found .*top/prebuilt/\w+-linux/{name}.*: "
+                                 r"set SUPERIO_LIBRARY to its path\n$")
 
     def test_replies_come_before_the_message(self):
-        self.path.write_bytes(b"kr 04\nkr 4 4\n")
-        done = subprocess.run([sys.executable, "-m", "superio", str(self.path)], stdout=subprocess.PIPE,
-                              stderr=subprocess.STDOUT, env=ENVIRONMENT, timeout=TIMEOUT, text=True)
-        self.assertEqual(("00", 2), (done.stdout.splitlines()[0], len(done.stdout.splitlines())))
+        together = {"capture_output": False, "stdout": subprocess.PIPE, "stderr": subprocess.STDOUT}
+        _, output, _ = run(script=b"kr 04\nkr 4 4\n", **together)
+        self.assertEqual(("00", 2), (output.splitlines()[0], output.count("\n")))
 
     def test_save_and_load(self):
         held = f"{'hi':*<64}"  # the longest form
         saving = f"write SCR 7\ntype {held}\nclock write LR 100 1000\nsave '{self.path}'\n"
         self.assertEqual(0, run(script=saving.encode())[0])
-        lines = self.path.read_text().splitlines()
-        self.assertEqual(["sl 53494f53", "cl 53494f53"], [line[:11] for line in lines])
-        loading = f"load '{self.path}'\nread SCR\nsd\ncr 00000000000003ef 0000\n"
+        port, clock = self.path.read_text().splitlines()
+        self.assertEqual(["sl 53494f53", "cl 53494f53"], [port[:11], clock[:11]])
+        loading = f"load '{self.path}'\n".encode()
         replies = f"ok\nok\nSCR = 0x07\n{held.encode().hex()}\n0000006b\n"
-        self.assertEqual((0, replies, ""), run(script=loading.encode()))
-        port, clock = lines
+        self.assertEqual((0, replies, ""), run(script=loading + b"read SCR\nsd\ncr 00000000000003ef 0000\n"))
         for wrong in (b"", b"kr 04\n", b"sl 00\ncl zz\n", b"sl\ncl\n", b"\xff", f"{clock}\n{port}\n".encode(),
                       f"{port} more\n{clock}\n".encode(), f"{port}\n{clock}\n{clock}\n".encode()):
             self.path.write_bytes(wrong)
-            status, _, errors = run(script=f"load '{self.path}'\n".encode())
+            status, _, errors = run(script=loading)
             self.assertEqual((1, True), (status, "is no file that save wrote" in errors), wrong)
 
     def test_a_name_that_the_output_cannot_have_is_escaped(self):
         for name, said, encoding in ((b"\xff", "\\udcff", "utf-8"), ("\xe9".encode(), "\\xe9", "ascii")):
             environment = {**ENVIRONMENT, "PYTHONIOENCODING": encoding}
-            done = run(script=b"save " + name + b"\n", cwd=self.folder.name, env=environment)
+            done = run(script=b"save " + name + b"\n", cwd=self.folder, env=environment)
             self.assertEqual((0, f"port and clock saved to {said}\n", ""), done)
 
     def test_source(self):
-        self.path.write_bytes(b"write SCR 7\nread SCR\n")
-        self.assertEqual((0, "ok\nSCR = 0x07\n", ""), run(script=f"source '{self.path}'\n".encode()))
-        self.path.write_bytes(b"kr 04\nkr 4 4\n")
-        status, output, errors = run(script=f"source '{self.path}'\n".encode())
-        self.assertEqual((1, "00\n"), (status, output))
-        self.assertIn(f'{self.path}:2: "kr 4 4": it goes on after its last field', errors)
-        self.path.write_bytes(f"source '{self.path}'\n".encode())
-        self.assertIn("at most 10 deep", run(self.path)[2])
-
-    def test_sources_follow_each_other_and_go_ten_deep(self):
-        folder = Path(self.folder.name)
-        (folder / "0").write_text("kr 04\n")
-        for number in range(1, 11):
-            (folder / str(number)).write_text(f"source '{folder / str(number - 1)}'\n")
-        self.assertEqual((0, "00\n" * 12, ""), run(script=f"source '{folder / '0'}'\n".encode() * 12))
-        self.assertEqual((0, "00\n", ""), run(script=f"source '{folder / '9'}'\n".encode()))
-        self.assertEqual(1, run(script=f"source '{folder / '10'}'\n".encode())[0])
+        """Files follow each other, and go ten deep. What a line of one says is said with both places."""
+        for number in range(12):
+            text = f"source '{self.folder / str(number - 1)}'\n" if number else "write SCR 7\nread SCR\n"
+            (self.folder / str(number)).write_text(text)
+        told = "ok\nSCR = 0x07\n"
+        self.assertEqual((0, told * 12, ""), run(script=f"source '{self.folder / '0'}'\n".encode() * 12))
+        self.assertEqual((0, told, ""), run(script=f"source '{self.folder / '9'}'\n".encode()))
+        status, _, errors = run(script=f"source '{self.folder / '10'}'\n".encode())
+        self.assertEqual((1, True), (status, "at most 10 deep" in errors))
+        for text, expected, said in (("kr 04\nkr 4 4\n", (1, "00\n"), ':2: "kr 4 4": it goes on after its last field'),
+                                     ("load /nowhere/at/all\n", (2, ""), NOWHERE)):
+            self.path.write_text(text)
+            *done, errors = run(script=f"source '{self.path}'\n".encode())
+            self.assertEqual(expected, tuple(done))
+            self.assertIn(said, errors)
 
     def test_trace_file_is_a_script(self):
         session = f"trace on '{self.path}'\nwrite IER RDA\ntype hi\nread RBR\nclock read DR 5\ntrace off\nread LSR\n"
@@ -185,44 +143,38 @@ class Files(unittest.TestCase):
         self.assertEqual((0, "ok\n02\n68\n00000005\n", ""), run("--strict", self.path))
 
     def test_a_trace_file_in_a_pipe_comes_before_every_call(self):
-        said = f'<stdin>:2: "trace on {self.path}": trace on FILE has to come before every call here\n'
-        status, output, errors = run(script=f"kr 04\ntrace on {self.path}\n".encode(), cwd=self.folder.name)
-        self.assertEqual((1, "00\n", said), (status, output, errors))
-        self.assertFalse(self.path.exists())
-
-    def test_reset(self):
-        self.assertEqual((0, "ok\na fresh board\nSCR = 0x00\n", ""), run(script=b"write SCR 7\nreset\nread SCR\n"))
+        status, output, errors = run(script=b"kr 04\ntrace on new\n", cwd=self.folder)
+        said = '<stdin>:2: "trace on new": trace on FILE has to come before every call here\n'
+        self.assertEqual((1, "00\n", said, []), (status, output, errors, list(self.folder.iterdir())))
 
 
-class FullDisk(unittest.TestCase):
+class FullDisk(FolderTest):
     """A limit on the size of files stands for a full disk: the first bytes are written, and the next are refused."""
 
     LIMIT = 10
     TRACE = b"sw 01 03  ok\nsr 02  c2\n"
 
     def setUp(self):
-        folder = tempfile.TemporaryDirectory()
-        self.addCleanup(folder.cleanup)
-        self.path = Path(folder.name, "file")
+        super().setUp()
+        self.path = self.folder / "file"
 
     def run_limited(self, *arguments, script=b"", limit=LIMIT):
         return run(*arguments, script=script,
                    preexec_fn=lambda: resource.setrlimit(resource.RLIMIT_FSIZE, (limit, limit)))
 
     def test_the_file_that_was_there_stays(self):
-        told = f"{self.path}: File too large"
-        for arguments, script, status in ((["-"], f"save {self.path}\n", 2),
-                                          (["-"], f"sr 05\nsave {self.path}\n", 2),
-                                          (["view", "-", "--svg", self.path], self.TRACE.decode(), 2),
-                                          (["view", "-", "--table", self.path], self.TRACE.decode(), 2)):
+        saving = f"save {self.path}\n".encode()
+        for arguments, script in ((["-"], saving), (["-"], b"sr 05\n" + saving),
+                                  (["view", "-", "--svg", self.path], self.TRACE),
+                                  (["view", "-", "--table", self.path], self.TRACE)):
             with self.subTest(arguments):
                 self.path.write_text("what was there\n")
                 self.path.chmod(0o640)
-                got = self.run_limited(*arguments, script=script.encode())
-                self.assertEqual((status, True), (got[0], told in got[2]), got)
-                self.assertNotIn("Traceback", got[2])
+                status, _, errors = self.run_limited(*arguments, script=script)
+                self.assertEqual((2, True), (status, f"{self.path}: File too large" in errors), errors)
+                self.assertNotIn("Traceback", errors)
                 self.assertEqual("what was there\n", self.path.read_text())
-                self.assertEqual([self.path], list(self.path.parent.iterdir()))
+                self.assertEqual([self.path], list(self.folder.iterdir()))
 
     def test_a_trace_that_cannot_begin(self):
         """The shell keeps the calls, so it has to write them when `trace on FILE` comes."""
@@ -238,23 +190,22 @@ class FullDisk(unittest.TestCase):
         finally:
             resource.setrlimit(resource.RLIMIT_FSIZE, before)
         self.assertEqual("what was there\n", self.path.read_text())
-        self.assertEqual([self.path], list(self.path.parent.iterdir()))
+        self.assertEqual([self.path], list(self.folder.iterdir()))
 
     def test_a_new_file_is_whole_or_not_there(self):
-        self.assertEqual(2, self.run_limited(script=f"save {self.path}\n".encode())[0])
-        self.assertEqual([], list(self.path.parent.iterdir()))
-        self.assertEqual(0, self.run_limited(script=f"save {self.path}\n".encode(), limit=10_000)[0])
+        saving = f"save {self.path}\n".encode()
+        self.assertEqual((2, []), (self.run_limited(script=saving)[0], list(self.folder.iterdir())))
+        self.assertEqual(0, self.run_limited(script=saving, limit=10_000)[0])
         self.assertEqual(2, self.path.read_text().count("\n"))
 
     def test_a_file_keeps_its_mode_and_a_link_its_target(self):
-        link = self.path.parent / "link"
+        link, new = self.folder / "link", self.folder / "new"
         link.symlink_to(self.path.name)
         self.path.write_text("")
         self.path.chmod(0o640)
         self.assertEqual(0, run(script=f"save {link}\n".encode())[0])
         self.assertEqual((0o640, True), (self.path.stat().st_mode & 0o777, link.is_symlink()))
         self.assertTrue(self.path.read_text().startswith("sl "))
-        new = self.path.parent / "new"
         self.assertEqual(0, run(script=f"save {new}\n".encode(), preexec_fn=lambda: os.umask(0o027))[0])
         self.assertEqual(0o640, new.stat().st_mode & 0o777)
 
@@ -270,40 +221,47 @@ class FullDisk(unittest.TestCase):
         self.assertEqual((0, ["sl", "cl", "po"]), (status, [line[:2] for line in output.splitlines()]))
 
 
+def seconds(*arguments, script=b""):
+    """The processor seconds of Python, in the best of three runs, so that a busy machine is no reason to fail."""
+    times = []
+    for _ in range(3):
+        before = resource.getrusage(resource.RUSAGE_CHILDREN)
+        subprocess.run([sys.executable, *arguments], input=script, stdout=subprocess.DEVNULL, env=ENVIRONMENT,
+                       timeout=TIMEOUT, check=True)
+        after = resource.getrusage(resource.RUSAGE_CHILDREN)
+        times.append(after.ru_utime + after.ru_stime - before.ru_utime - before.ru_stime)
+    return min(times)
+
+
 class Speed(unittest.TestCase):
     def test_a_line_of_a_pipe_takes_little_more_than_its_call(self):
-        """Against calls of a device in a loop, in processor seconds, in the best of some tries, so that a busy machine is
-        no reason to fail. A line took some 30 calls when each one was decoded, and takes about 6."""
+        """Against calls of a device in a loop. A line took some 30 calls when each was decoded, and takes about 6."""
         script = b"sw 01 01\n" + b"sq 61\nsr 02\nsr 00\nsr 05\n" * 5000
         loop = "from superio import Serial\nport = Serial()\nfor _ in range(20001): port.read(5)"
 
         def calls_of_a_line():
-            plain = self.seconds("-c", "from superio import Serial")
-            lines = self.seconds("-m", "superio", script=script) - plain
-            return lines / (self.seconds("-c", loop) - plain)
+            plain = seconds("-c", "from superio import Serial")
+            return (seconds("-m", "superio", script=script) - plain) / (seconds("-c", loop) - plain)
 
         self.assertTrue(any(calls_of_a_line() < 15 for _ in range(5)))
 
-    @staticmethod
-    def seconds(*arguments, script=b""):
-        """The least of three runs."""
-        times = []
-        for _ in range(3):
-            before = resource.getrusage(resource.RUSAGE_CHILDREN).ru_utime
-            subprocess.run([sys.executable, *arguments], input=script, stdout=subprocess.PIPE, env=ENVIRONMENT,
-                           timeout=TIMEOUT, check=True)
-            times.append(resource.getrusage(resource.RUSAGE_CHILDREN).ru_utime - before)
-        return min(times)
+    def test_it_starts_quickly(self):
+        self.assertLess(seconds("-m", "superio") - seconds("-c", "pass"), 0.2)
+
+
+def listening(command):
+    """A program between pipes, which Ctrl-C ends also if a shell that starts this in the background ignores it."""
+    pipes = dict.fromkeys(("stdin", "stdout", "stderr"), subprocess.PIPE)
+    return subprocess.Popen(command, env=ENVIRONMENT, **pipes,
+                            preexec_fn=lambda: signal.signal(signal.SIGINT, signal.SIG_DFL))
 
 
 class Interrupted(unittest.TestCase):
-    """Ctrl-C at many moments, once and again, ends in silence. A shell that starts this in the background lets its
-    children ignore the signal."""
+    """Ctrl-C at many moments, once and again, ends in silence."""
 
     def interrupt(self, arguments, script, seconds, times):
         command = [ROOT / "superio", *map(str, arguments)]
-        with subprocess.Popen(command, stdin=subprocess.PIPE, stdout=subprocess.PIPE, stderr=subprocess.PIPE, env=ENVIRONMENT,
-                              preexec_fn=lambda: signal.signal(signal.SIGINT, signal.SIG_DFL)) as process:
+        with listening(command) as process:
             reader = threading.Thread(target=process.stdout.read)
             reader.start()
             try:
@@ -333,73 +291,46 @@ class Interrupted(unittest.TestCase):
         self.assertGreater(sum(status in (128 + signal.SIGINT, -signal.SIGINT) for status in ended), len(ended) // 2)
 
 
+SUPERIO = f"{sys.executable} -m superio"
+
+# Commands for bash, and the status, the output and the errors, `None` for those of EXAMPLE. Their input is a bad line.
+COMMANDS = [
+    (f"yes 'kr 04' | {SUPERIO} | head -n 1; exit ${{PIPESTATUS[1]}}", (128 + signal.SIGPIPE, "00\n", "")),
+    (f"{SUPERIO} view {BOOT} --table | head -n 1; exit ${{PIPESTATUS[0]}}", (128 + signal.SIGPIPE, "piece 1\n", "")),
+    (f"echo 'kr 04' | {SUPERIO} > /dev/full", (2, "", "python3 -m superio: No space left on device\n")),
+    *((f"{SUPERIO} {closed}", (2, "", f"python3 -m superio: standard {what} is closed\n"))
+      for closed, what in (("<&-", "input"), ("- <&-", "input"), (">&-", "output"))),
+    (f"{SUPERIO} {EXAMPLE} <&-", None),
+    # No message comes among the replies, neither to a closed standard error nor elsewhere.
+    *((f"{SUPERIO} {arguments} 2>&-", (status, "", "")) for arguments, status in (
+        ("", 1), ("--strict", 1), ("view -", 1), ("--unknown", 5), ("view --unknown", 5), ("/nowhere", 2),
+        ("view /nowhere", 2))),
+]
+
+
 class Streams(unittest.TestCase):
-    def test_closed_pipe_ends_in_silence(self):
-        command = f"yes 'kr 04' | {sys.executable} -m superio | head -n 1; echo ${{PIPESTATUS[1]}}"
-        done = subprocess.run(["bash", "-c", command], capture_output=True, env=ENVIRONMENT, timeout=TIMEOUT)
-        self.assertEqual((b"00\n%d\n" % (128 + signal.SIGPIPE), b""), (done.stdout, done.stderr))
+    def test_closed_and_full_streams(self):
+        for command, expected in COMMANDS:
+            with self.subTest(command):
+                self.assertEqual(expected or run(EXAMPLE), ended(["bash", "-c", command], b"kr\n"))
 
-        command = f"{sys.executable} -m superio view {BOOT} --table | head -n 1; echo ${{PIPESTATUS[0]}}"
-        done = subprocess.run(["bash", "-c", command], capture_output=True, env=ENVIRONMENT, timeout=TIMEOUT)
-        self.assertEqual((b"piece 1\n%d\n" % (128 + signal.SIGPIPE), b""), (done.stdout, done.stderr))
-
-    def test_full_device(self):
-        done = subprocess.run(["bash", "-c", f"echo 'kr 04' | {sys.executable} -m superio > /dev/full"],
-                              capture_output=True, env=ENVIRONMENT, timeout=TIMEOUT)
-        self.assertEqual((2, b"python3 -m superio: No space left on device\n"), (done.returncode, done.stderr))
-
-    def test_closed_streams(self):
-        for closed, what in (("<&-", "input"), ("- <&-", "input"), (">&-", "output")):
-            done = subprocess.run(["bash", "-c", f"{sys.executable} -m superio {closed}"], input=b"kr 04\n",
-                                  stderr=subprocess.PIPE, env=ENVIRONMENT, timeout=TIMEOUT)
-            self.assertEqual((2, b"python3 -m superio: standard %s is closed\n" % what.encode()),
-                             (done.returncode, done.stderr))
-        done = subprocess.run(["bash", "-c", f"{sys.executable} -m superio {EXAMPLE} <&-"], stdout=subprocess.PIPE,
-                              env=ENVIRONMENT, timeout=TIMEOUT)
-        self.assertEqual((0, 15), (done.returncode, done.stdout.count(b"\n")))
-
-    def test_no_message_comes_among_the_replies(self):
-        """Neither to a closed standard error nor elsewhere."""
-        for arguments, status in (("", 1), ("--strict", 1), ("view -", 1), ("--unknown", 5), ("view --unknown", 5),
-                                  ("/nowhere", 2), ("view /nowhere", 2)):
-            done = subprocess.run(["bash", "-c", f"{sys.executable} -m superio {arguments} 2>&-"], input=b"kr\n",
-                                  stdout=subprocess.PIPE, env=ENVIRONMENT, timeout=TIMEOUT)
-            self.assertEqual((status, b""), (done.returncode, done.stdout), arguments)
-
-    def test_each_reply_goes_out_at_once(self):
-        with subprocess.Popen([sys.executable, "-m", "superio"], stdin=subprocess.PIPE, stdout=subprocess.PIPE,
-                              env=ENVIRONMENT) as process:
+    def test_each_reply_goes_out_at_once_and_ctrl_c_ends_a_pipe(self):
+        with listening([sys.executable, "-m", "superio"]) as process:
             for line, reply in ((b"kr 04\n", b"00\n"), (b"read LSR\n", b"LSR = 0x60  THRE TEMT\n")):
                 process.stdin.write(line)
                 process.stdin.flush()
                 self.assertEqual(reply, process.stdout.readline())
-            process.stdin.close()
-
-    def test_ctrl_c_ends_a_pipe(self):
-        # A shell that starts this in the background lets it ignore the signal.
-        with subprocess.Popen([sys.executable, "-m", "superio"], stdin=subprocess.PIPE, stdout=subprocess.PIPE,
-                              stderr=subprocess.PIPE, env=ENVIRONMENT,
-                              preexec_fn=lambda: signal.signal(signal.SIGINT, signal.SIG_DFL)) as process:
-            process.stdin.write(b"kr 04\n")
-            process.stdin.flush()
-            self.assertEqual(b"00\n", process.stdout.readline())
             process.send_signal(signal.SIGINT)
             self.assertEqual((128 + signal.SIGINT, b""), (process.wait(TIMEOUT), process.stderr.read()))
 
     def test_out_of_memory(self):
-        code = ("import sys; from unittest import mock; from superio import main\n"
+        code = ("import sys; from unittest import mock; from superio import __main__ as main\n"
                 "with mock.patch.object(main, 'load', side_effect=MemoryError): sys.exit(main.main([]))")
-        done = subprocess.run([sys.executable, "-c", code], input=b"", capture_output=True, env=ENVIRONMENT,
-                              timeout=TIMEOUT)
-        self.assertEqual((3, b"", b"out of memory\n"), (done.returncode, done.stdout, done.stderr))
-
-    def test_no_colours_in_a_pipe(self):
-        self.assertNotIn("\x1b", "".join(map(str, run(script=b"regs\nfoo\n"))))
+        self.assertEqual((3, "", "out of memory\n"), ended([sys.executable, "-c", code]))
 
 
 class Arguments(unittest.TestCase):
-    def test_version_and_help(self):
-        self.assertEqual((0, f"superio {superio.__version__}\n", ""), run("--version"))
+    def test_help(self):
         status, output, _ = run("--help")
         self.assertEqual(0, status)
         for word in ("FILE", "--strict", "--no-color", "exit status", "view"):
@@ -416,19 +347,3 @@ class Arguments(unittest.TestCase):
         self.assertEqual((2, ""), (status, output))
         self.assertTrue(errors.startswith("python3 -m superio: /nowhere/lib.so cannot be loaded"), errors)
         self.assertEqual(1, errors.count("\n"))
-
-    def test_it_starts_quickly(self):
-        """In processor seconds, and beyond what Python itself takes, so that a busy machine is no reason to fail."""
-        plain = min(self._seconds("-c", "pass") for _ in range(3))
-        self.assertLess(min(self._seconds("-m", "superio") for _ in range(3)) - plain, 0.2)
-
-    @staticmethod
-    def _seconds(*arguments):
-        before = resource.getrusage(resource.RUSAGE_CHILDREN)
-        subprocess.run([sys.executable, *arguments], input=b"", env=ENVIRONMENT, timeout=TIMEOUT, check=True)
-        after = resource.getrusage(resource.RUSAGE_CHILDREN)
-        return after.ru_utime + after.ru_stime - before.ru_utime - before.ru_stime
-
-
-if __name__ == "__main__":
-    unittest.main()

@@ -5,315 +5,124 @@ import doctest
 import inspect
 import itertools
 import json
-import os
 import pickle
 import random
 import re
 import struct
 import typing
 import unittest
-from unittest import mock
 
 from support import ROOT
 
 import superio
-from superio import (AlarmIsSetError, Board, Command, EnqueueEffects, I8042, LibraryError, LoadStatus, ReadEffects,
-                     RegisterError, Rtc, RtcState, SavedStateError, ScriptError, Serial, SerialState, WriteEffects,
-                     board, devices, library, parse, registers)
+from superio import (AlarmIsSetError, Board, Command, I8042, LibraryError, LoadStatus, RegisterError, Rtc, RtcState,
+                     SavedStateError, ScriptError, Serial, SerialState, board, devices, parse, registers)
 
-SAVED_STATES = ROOT / "docs" / "SAVED-STATES.md"
 # What programs over vm-superio 0.8.2 saved: the device, the format, and the contents.
 RECORDED = ROOT / "tools" / "rust" / "moved" / "recorded.txt"
 
-# The registers of a 16550 by name, with a value that the guest writes and the field of the state that keeps it.
-KEPT = [("IER", 0x0A, "interrupt_enable"), ("LCR", 0x1B, "line_control"), ("MCR", 0x0B, "modem_control"),
-        ("SCR", 0x5A, "scratch")]
-
-
-# The offsets and bits of the data sheets of the 16550A and the PL031, each bit from the lowest on.
-SERIAL_OFFSETS = {"RBR": 0, "THR": 0, "DLL": 0, "IER": 1, "DLM": 1, "IIR": 2, "FCR": 2, "LCR": 3, "MCR": 4, "LSR": 5,
-                  "MSR": 6, "SCR": 7}
-CLOCK_OFFSETS = {"DR": 0x00, "MR": 0x04, "LR": 0x08, "CR": 0x0C, "IMSC": 0x10, "RIS": 0x14, "MIS": 0x18, "ICR": 0x1C,
-                 "ID0": 0xFE0, "ID1": 0xFE4, "ID2": 0xFE8, "ID3": 0xFEC, "ID4": 0xFF0, "ID5": 0xFF4, "ID6": 0xFF8,
-                 "ID7": 0xFFC}
+# The bits of the data sheets of the 16550A and the PL031, from the lowest on.
 BITS = {"IER": "RDA THRE RLS MS - - - -", "IIR": "- THRE RDA - - - - -", "LCR": "- - - - - - BREAK DLAB",
         "MCR": "DTR RTS OUT1 OUT2 LOOP - - -", "LSR": "DR OE PE FE BI THRE TEMT -", "MSR": "- - - - CTS DSR RI DCD",
         **dict.fromkeys(("IMSC", "RIS", "MIS", "ICR"), "ALARM - - - - - - -")}
-FORMATS = [(0x00, "5N1"), (0x01, "6N1"), (0x02, "7N1"), (0x03, "8N1"), (0x06, "7N2"), (0x07, "8N2"), (0x0B, "8O1"), (0x1B, "8E1"),
-           (0x2B, "8M1"), (0x3B, "8S1"), (0x33, "8N1")]
-
-
-# Numbers where one of fewer bits, or with a sign, would be another.
-EDGES_OF_32 = [0, 1, 2 ** 16, 2 ** 31 - 1, 2 ** 31, 2 ** 32 - 2, 2 ** 32 - 1]
-EDGES_OF_64 = [*EDGES_OF_32, 2 ** 32, 2 ** 32 + 7, 2 ** 53 + 1, 2 ** 63 - 1, 2 ** 63, 2 ** 64 - 1]
-LENGTHS = [count for power in (8, 16, 20) for count in (2 ** power - 1, 2 ** power, 2 ** power + 1)]
+FORMATS = {0x00: "5N1", 0x01: "6N1", 0x02: "7N1", 0x03: "8N1", 0x06: "7N2", 0x07: "8N2", 0x0B: "8O1", 0x1B: "8E1",
+           0x2B: "8M1", 0x3B: "8S1", 0x33: "8N1"}
 
 
 class Registers(unittest.TestCase):
-    def test_offsets(self):
-        for table, wanted in ((registers.SERIAL, SERIAL_OFFSETS), (registers.CLOCK, CLOCK_OFFSETS)):
-            self.assertEqual(wanted, {name: register.offset for name, register in table.items()})
-
     def test_bits(self):
         for name, register in {**registers.SERIAL, **registers.CLOCK}.items():
             found = {name: bit for bit, name in register.bits}
             wanted = {bit: 1 << place for place, bit in enumerate(BITS.get(name, "").split()) if bit != "-"}
             self.assertEqual(wanted, found, name)
-
-    def test_formats(self):
-        for value, name in FORMATS:
+        for value, name in FORMATS.items():
             self.assertEqual([name], registers.bit_names(registers.SERIAL["LCR"], value), hex(value))
 
-
-class SerialPort(unittest.TestCase):
-    def setUp(self):
-        self.port = Serial()
-
-    def test_new_port_is_the_default_state(self):
-        self.assertEqual(SerialState(), self.port.state)
-
-    def test_each_register_is_kept_in_its_field_and_read_by_its_name(self):
-        for name, value, field in KEPT:
-            with self.subTest(name):
-                self.port.write(name, value)
-                self.assertEqual(value, getattr(self.port.state, field))
-                self.assertEqual(value, self.port.read(name).byte)
-
-    def test_each_field_is_read_in_its_register(self):
+    def test_each_field_of_a_port_is_read_in_its_register(self):
         state = SerialState(1, 2, 3, 4, 5, 6, 7, 8, 9, b"\x0a")
         port = Serial.from_state(state)
         self.assertEqual(state, port.state)
-        self.assertEqual([3, 5, 6, 7, 8, 9, 0xC4], [port.read(name).byte for name in
-                                                   ("IER", "LCR", "LSR", "MCR", "MSR", "SCR", "IIR")])
-        self.assertEqual(10, port.read("RBR").byte)
+        names = ("IER", "LCR", "LSR", "MCR", "MSR", "SCR", "IIR", "RBR")
+        self.assertEqual([3, 5, 6, 7, 8, 9, 0xC4, 10], [port.read(name).byte for name in names])
         port.write("LCR", 0x80)
         self.assertEqual([1, 2], [port.read("DLL").byte, port.read("DLM").byte])
 
-    def test_divisor_latch_is_reached_while_dlab_is_set(self):
-        self.port.write("LCR", 0x83)
-        self.port.write("DLL", 0x34)
-        self.port.write("DLM", 0x12)
-        self.assertEqual((0x34, 0x12), (self.port.state.baud_divisor_low, self.port.state.baud_divisor_high))
-        for name in ("RBR", "THR", "IER"):
-            with self.subTest(name), self.assertRaisesRegex(RegisterError, "while DLAB is set"):
-                self.port.write(name, 0)
-        self.port.write("LCR", 0x03)
-        with self.assertRaisesRegex(RegisterError, "while DLAB is clear"):
-            self.port.read("DLM")
-
-    def test_names_of_one_direction(self):
-        for name, other in (("THR", "RBR"), ("FCR", "IIR")):
-            with self.assertRaisesRegex(RegisterError, f"{name} can only be written: a read at its offset reaches {other}"):
-                self.port.read(name)
-            with self.assertRaisesRegex(RegisterError, f"{other} can only be read: a write at its offset reaches {name}"):
-                self.port.write(other, 0)
-        with self.assertRaisesRegex(RegisterError, "no register is called XYZ"):
-            self.port.read("XYZ")
-        self.assertEqual(0x60, self.port.read("lsr").byte)
-
-    def test_effects_of_reads(self):
-        self.port.enqueue(b"ab")
-        self.assertEqual(ReadEffects(0x61, True, False), self.port.read(0))
-        self.assertEqual(ReadEffects(0x62, True, True), self.port.read(0))
-        self.assertEqual(ReadEffects(0x60, False, False), self.port.read(5))
-
-    def test_effects_of_writes(self):
-        self.assertEqual(WriteEffects(True, 0), self.port.write("THR", 0x41))
-        self.port.enqueue(b"a")
-        self.assertEqual(WriteEffects(False, 2), self.port.write("IER", 0x03))
-        self.assertEqual(2, self.port.interrupts_due())
-
-    def test_effects_of_an_enqueue(self):
-        self.port.write("IER", 0x01)
-        self.assertEqual(EnqueueEffects(60, False, 1), self.port.enqueue(bytes(range(60))))
-        self.assertEqual(EnqueueEffects(4, False, 0), self.port.enqueue(bytes(10)))
-        self.assertEqual(EnqueueEffects(0, True, 0), self.port.enqueue(b"a"))
-        self.assertEqual(EnqueueEffects(0, False, 0), self.port.enqueue(b""))
-        self.assertEqual(0, self.port.fifo_capacity())
-        self.assertEqual(bytes(range(60)) + bytes(4), self.port.state.in_buffer)
-
-    def test_an_enqueue_of_any_length_takes_the_first_that_fit(self):
-        for length in LENGTHS:
-            port = Serial()
-            self.assertEqual(EnqueueEffects(64, False, 0), port.enqueue(bytes(range(255)) + bytes(length - 255)))
-            self.assertEqual(bytes(range(64)), port.state.in_buffer)
-            self.assertEqual(EnqueueEffects(0, True, 0), port.enqueue(bytes(length)))
-
-    def test_character_timeout_raises_rda_again_while_bytes_are_held(self):
-        self.port.write("IER", 0x01)
-        self.port.enqueue(b"ab")
-        self.assertEqual(0, self.port.character_timeout())  # it is pending already
-        for access, after in (("IIR", 1), ("RBR", 1), ("RBR", 0)):
-            self.port.read(access)
-            self.assertEqual(after, self.port.character_timeout())
-            self.assertEqual(0xC4 if after else 0xC1, self.port.read("IIR").byte)
-            self.assertEqual(after, self.port.character_timeout())
-            self.assertEqual(0, self.port.character_timeout())
-
-    def test_character_timeout_in_every_setting(self):
-        """It raises RDA exactly if a byte is held, IER enables RDA and RDA is not pending, and changes nothing else."""
-        raised = 0
-        for held, enabled, identification, line_control, modem_control in itertools.product(
-                (0, 1, 64), range(16), range(8), (0x03, 0x83), (0x08, 0x18)):
-            state = SerialState(interrupt_enable=enabled, interrupt_identification=identification, scratch=0x5A,
-                                line_control=line_control, modem_control=modem_control, in_buffer=b"x" * held)
-            port = Serial.from_state(state)
-            is_raised = bool(held and enabled & 0x01 and not identification & 0x04)
-            self.assertEqual(int(is_raised), port.character_timeout())
-            after = identification & ~0x01 | 0x04 if is_raised else identification
-            self.assertEqual(dataclasses.replace(state, interrupt_identification=after), port.state)
-            raised += is_raised
-        self.assertEqual(2 * 8 * 4 * 4, raised)
-
-    def test_two_interrupts_stay_due_until_the_guest_takes_them(self):
-        self.port.enqueue(b"a")
-        self.assertEqual(2, self.port.write("IER", 0x03).interrupts)
-        self.assertEqual((0x06, 2), (self.port.state.interrupt_identification, self.port.interrupts_due()))
-        self.port.read("IIR")
-        self.assertEqual(0, self.port.interrupts_due())
-
-    def test_line_is_up_while_an_enabled_condition_is_pending(self):
-        ups = 0
-        for enabled, identification in itertools.product(range(256), range(256)):
-            port = Serial.from_state(SerialState(interrupt_enable=enabled, interrupt_identification=identification))
-            is_up = bool(enabled & 0x02 and identification & 0x02 or enabled & 0x01 and identification & 0x04)
-            self.assertIs(is_up, port.interrupt_line())
-            ups += is_up
-        self.assertEqual(256 * 256 * 7 // 16, ups)
-
-    def test_line_goes_up_again_for_a_condition_that_is_unmasked(self):
-        levels = []
-        for value in (0x02, 0x00, 0x02):
-            levels.append((self.port.write("IER", value).interrupts, self.port.interrupt_line()))
-        self.assertEqual([(1, True), (0, False), (0, True)], levels)
-        self.port.read("IIR")
-        self.assertFalse(self.port.interrupt_line())
-
-    def test_coherence(self):
-        self.assertTrue(self.port.is_coherent())
-        self.assertFalse(Serial.from_state(SerialState(interrupt_identification=0x04)).is_coherent())
-
-    def test_numbers_out_of_range_change_nothing(self):
-        for offset, value in ((256, 0), (-1, 0), (7, 256), (7, -1)):
-            with self.subTest((offset, value)), self.assertRaises(ValueError):
-                self.port.write(offset, value)
-        with self.assertRaises(TypeError):
-            self.port.write(7, 1.5)
-        self.assertEqual(SerialState(), self.port.state)
-        for wrong in ({"scratch": 256}, {"scratch": -1}, {"in_buffer": bytes(65)}):
-            with self.subTest(wrong), self.assertRaises(ValueError):
-                SerialState(**wrong)
-        self.assertIs(True, RtcState(armed=256).armed)
-
-    def test_copy_goes_its_own_way(self):
-        other = copy.copy(self.port)
-        other.write("SCR", 1)
-        self.assertEqual((0, 1), (self.port.state.scratch, other.state.scratch))
-
-    def test_repr_names_bits(self):
-        self.port.write("IER", 0x03)
-        self.port.enqueue(b"hi")
-        self.assertEqual("<Serial divisor=12 IER=0x03(RDA|THRE) IIR=0x06(RDA|THRE) LCR=0x03(8N1) LSR=0x61(DR|THRE|TEMT) "
-                         "MCR=0x08(OUT2) MSR=0xb0(CTS|DSR|DCD) SCR=0x00 in_buffer=b'hi'>", repr(self.port))
-
-
-class Clock(unittest.TestCase):
-    def test_each_register(self):
+    def test_each_register_of_a_clock(self):
         clock = Rtc()
         for name, value in (("LR", 0x12345678), ("MR", 0x9ABCDEF0), ("IMSC", 1)):
             self.assertFalse(clock.write(name, value, 1 << 40).invalid_write)
             self.assertEqual(value, clock.read(name, 1 << 40).value)
-        state = clock.state
-        self.assertEqual((0x12345678, 0x9ABCDEF0, 1), (state.lr, state.mr, state.imsc))
-        self.assertEqual(0x12345678, state.offset)
-        self.assertEqual([0x31, 0x10, 0x04, 0x00, 0x0D, 0xF0, 0x05, 0xB1],
-                         [clock.read(f"ID{index}", 0).value for index in range(8)])
+        self.assertEqual(RtcState(lr=0x12345678, mr=0x9ABCDEF0, imsc=1, offset=0x12345678, armed=True), clock.state)
+        self.assertEqual("<Rtc LR=0x12345678 MR=0x9abcdef0 IMSC=0x00000001(ALARM) RIS=0x00000000 offset=305419896 "
+                         "armed=True>", repr(clock))
+        self.assertEqual("311004000df005b1", bytes(clock.read(f"ID{index}", 0).value for index in range(8)).hex())
 
-    def test_moments_have_64_bits_of_which_32_count(self):
-        self.assertEqual(7, Rtc().read("DR", (1 << 63) + 7).value)
-        for now in (1 << 64, -1):
-            with self.assertRaises(ValueError):
-                Rtc().read("DR", now)
+    def test_names_reach_their_register_alone(self):
+        port = Serial()
+        for name, other in (("THR", "RBR"), ("FCR", "IIR")):
+            said = f"{name} can only be written: a read at its offset reaches {other}"
+            self.assertRaisesRegex(RegisterError, said, port.read, name)
+            said = f"{other} can only be read: a write at its offset reaches {name}"
+            self.assertRaisesRegex(RegisterError, said, port.write, other, 0)
+        self.assertEqual(0x60, port.read("lsr").byte)
+        port.write("LCR", 0x83)
+        port.write("DLL", 0x34)
+        port.write("DLM", 0x12)
+        self.assertEqual((0x34, 0x12), (port.state.baud_divisor_low, port.state.baud_divisor_high))
+        for name in ("RBR", "THR", "IER"):
+            self.assertRaisesRegex(RegisterError, "while DLAB is set", port.write, name, 0)
+        port.write("LCR", 0x03)
+        self.assertRaisesRegex(RegisterError, "while DLAB is clear", port.read, "DLM")
 
-    def test_invalid_accesses(self):
-        self.assertEqual((0, True), Rtc().read("ICR", 0))
-        self.assertTrue(Rtc().write("RTCDR", 1, 0).invalid_write)
-        with self.assertRaises(RegisterError):
-            Rtc().read("LSR", 0)
+    def test_the_line_of_a_port_and_its_coherence(self):
+        port, levels = Serial(), []
+        for value in (0x02, 0x00, 0x02):
+            levels.append((port.write("IER", value).interrupts, port.interrupt_line()))
+        port.read("IIR")
+        self.assertEqual([(1, True), (0, False), (0, True), False], [*levels, port.interrupt_line()])
+        self.assertTrue(port.is_coherent())
+        self.assertFalse(Serial.from_state(SerialState(interrupt_identification=0x04)).is_coherent())
 
-    def test_alarm(self):
-        clock = Rtc()
-        self.assertIsNone(clock.due(100))
-        clock.write("IMSC", 1, 100)
-        clock.write("MR", 105, 100)
-        self.assertEqual((5, 1, False), (clock.due(100), clock.due(104), clock.line()))
-        self.assertEqual(0, clock.read("MIS", 104).value)
-        self.assertEqual(1, clock.read("MIS", 105).value)
-        self.assertTrue(clock.line())
-        self.assertIsNone(clock.due(106))
 
-    def test_an_alarm_is_due_when_guest_time_reaches_it(self):
-        for match, time, now in itertools.product(EDGES_OF_32, EDGES_OF_32, EDGES_OF_64):
-            clock = Rtc.from_state(RtcState(mr=match, offset=time - now % 2 ** 32, armed=True))
-            if now % 2 ** 32 + match - time < 2 ** 32:  # the host's seconds do not begin anew until then
-                self.assertEqual(max(match - time, 0), clock.due(now), (match, time, now))
-
-    def test_moments_with_the_same_low_32_bits_are_the_same(self):
-        for now in EDGES_OF_64:
-            clocks = []
-            for moment in (now, now % 2 ** 32):
-                clock = Rtc()
-                clock.write("LR", 7, moment)
-                clock.write("MR", 9, moment)
-                clocks.append((clock.read("DR", moment), clock.due(moment), clock.state))
-            self.assertEqual(*clocks, now)
-
-    def test_states(self):
-        state = RtcState(1, 2, 3, 4, -5, True)
-        clock = Rtc.from_state(state)
-        self.assertEqual(state, clock.state)
-        self.assertEqual(state, copy.copy(clock).state)
-        self.assertEqual(state, Rtc.from_bytes(clock.to_bytes()).state)
-        self.assertEqual("<Rtc LR=0x00000001 MR=0x00000002 IMSC=0x00000003(ALARM) RIS=0x00000004 offset=-5 armed=True>",
-                         repr(clock))
-        for wrong in ({"lr": 1 << 32}, {"offset": 1 << 63}, {"offset": -(1 << 63) - 1}):
-            with self.subTest(wrong), self.assertRaises(ValueError):
-                RtcState(**wrong)
-
+BYTE, WORD, MOMENT = (f"an int from 0 to {most} is wanted" for most in ("255", "2**32 - 1", "2**64 - 1"))
+OFFSET, CLOCK_OFFSET = (f"an int from 0 to {most}, or the name of a register, is wanted" for most in (255, 65535))
+BYTES, SIGNED = "a bytes-like object is wanted", "an int from -2**63 to 2**63 - 1 is wanted"
 
 # Calls with a wrong argument, and what is said of each.
 REFUSED = [
-    (lambda: Serial().enqueue(0x41), TypeError, "data is 65, of type int: a bytes-like object is wanted"),
-    (lambda: Serial().enqueue("A"), TypeError, "data is 'A', of type str: a bytes-like object is wanted"),
-    (lambda: Serial().enqueue([65]), TypeError, "data is [65], of type list: a bytes-like object is wanted"),
-    (lambda: Serial().write(7, 256), ValueError, "value is 256, of type int: an int from 0 to 255 is wanted"),
-    (lambda: Serial().write(7, -1), ValueError, "value is -1, of type int: an int from 0 to 255 is wanted"),
-    (lambda: Serial().write(7, 10 ** 5000), ValueError, "value is .*: an int from 0 to 255 is wanted"),
-    (lambda: Serial().write(7, "A"), TypeError, "value is 'A', of type str: an int from 0 to 255 is wanted"),
-    (lambda: Serial().read(256), ValueError,
-     "offset is 256, of type int: an int from 0 to 255, or the name of a register, is wanted"),
-    (lambda: Serial().read(None), TypeError,
-     "offset is None, of type NoneType: an int from 0 to 255, or the name of a register, is wanted"),
-    (lambda: Serial.from_bytes(8), TypeError, "data is 8, of type int: a bytes-like object is wanted"),
-    (lambda: Serial.from_state(RtcState()), TypeError, "state is RtcState(.*), of type RtcState: SerialState is wanted"),
-    (lambda: SerialState(scratch=256), ValueError, "scratch is 256, of type int: an int from 0 to 255 is wanted"),
-    (lambda: SerialState(in_buffer=3), TypeError, "in_buffer is 3, of type int: a bytes-like object is wanted"),
+    (lambda: Serial().enqueue(0x41), TypeError, f"data is 65, of type int: {BYTES}"),
+    (lambda: Serial().enqueue("A"), TypeError, f"data is 'A', of type str: {BYTES}"),
+    (lambda: Serial().enqueue([65]), TypeError, f"data is [65], of type list: {BYTES}"),
+    (lambda: Serial().write(7, 256), ValueError, f"value is 256, of type int: {BYTE}"),
+    (lambda: Serial().write(7, -1), ValueError, f"value is -1, of type int: {BYTE}"),
+    (lambda: Serial().write(7, 10 ** 5000), ValueError, f"value is .*: {BYTE}"),
+    (lambda: Serial().write(7, "A"), TypeError, f"value is 'A', of type str: {BYTE}"),
+    (lambda: Serial().read(256), ValueError, f"offset is 256, of type int: {OFFSET}"),
+    (lambda: Serial().write(-1, 0), ValueError, f"offset is -1, of type int: {OFFSET}"),
+    (lambda: Serial().read(None), TypeError, f"offset is None, of type NoneType: {OFFSET}"),
+    (lambda: Serial().read("XYZ"), RegisterError, f"no register is called XYZ: there are {' '.join(registers.SERIAL)}"),
+    (lambda: Serial.from_bytes(8), TypeError, f"data is 8, of type int: {BYTES}"),
+    (lambda: Serial.from_state(RtcState()), TypeError, "state is .*, of type RtcState: SerialState is wanted"),
+    (lambda: SerialState(scratch=256), ValueError, f"scratch is 256, of type int: {BYTE}"),
+    (lambda: SerialState(scratch=-1), ValueError, f"scratch is -1, of type int: {BYTE}"),
+    (lambda: SerialState(in_buffer=3), TypeError, f"in_buffer is 3, of type int: {BYTES}"),
     (lambda: SerialState(in_buffer=bytes(65)), ValueError, "in_buffer has 65 bytes, and a port holds at most 64"),
-    (lambda: Rtc().read("DR", 1.5), TypeError, "now is 1.5, of type float: an int from 0 to 2**64 - 1 is wanted"),
-    (lambda: Rtc().write("LR", 1, "now"), TypeError, "now is 'now', of type str: an int from 0 to 2**64 - 1 is wanted"),
-    (lambda: Rtc().due(-1), ValueError, "now is -1, of type int: an int from 0 to 2**64 - 1 is wanted"),
-    (lambda: Rtc().write("LR", 1 << 32, 0), ValueError,
-     "value is 4294967296, of type int: an int from 0 to 2**32 - 1 is wanted"),
-    (lambda: Rtc().read(1 << 16, 0), ValueError,
-     "offset is 65536, of type int: an int from 0 to 65535, or the name of a register, is wanted"),
-    (lambda: Rtc.from_bytes("SIOS"), TypeError, "data is 'SIOS', of type str: a bytes-like object is wanted"),
+    (lambda: Rtc().read("DR", 1.5), TypeError, f"now is 1.5, of type float: {MOMENT}"),
+    (lambda: Rtc().read("DR", 1 << 64), ValueError, f"now is 18446744073709551616, of type int: {MOMENT}"),
+    (lambda: Rtc().read("LSR", 0), RegisterError, f"no register is called LSR: there are {' '.join(registers.CLOCK)}"),
+    (lambda: Rtc().write("LR", 1, "now"), TypeError, f"now is 'now', of type str: {MOMENT}"),
+    (lambda: Rtc().due(-1), ValueError, f"now is -1, of type int: {MOMENT}"),
+    (lambda: Rtc().write("LR", 1 << 32, 0), ValueError, f"value is 4294967296, of type int: {WORD}"),
+    (lambda: Rtc().read(1 << 16, 0), ValueError, f"offset is 65536, of type int: {CLOCK_OFFSET}"),
+    (lambda: Rtc.from_bytes("SIOS"), TypeError, f"data is 'SIOS', of type str: {BYTES}"),
     (lambda: Rtc.from_state(None), TypeError, "state is None, of type NoneType: RtcState is wanted"),
-    (lambda: RtcState(lr=-1), ValueError, "lr is -1, of type int: an int from 0 to 2**32 - 1 is wanted"),
-    (lambda: RtcState(offset=1 << 63), ValueError,
-     "offset is 9223372036854775808, of type int: an int from -2**63 to 2**63 - 1 is wanted"),
-    (lambda: I8042().read("LSR"), TypeError, "offset is 'LSR', of type str: an int from 0 to 255 is wanted"),
-    (lambda: I8042().write(4, 0x1FE), ValueError, "value is 510, of type int: an int from 0 to 255 is wanted"),
-    (lambda: parse("sr 05"), TypeError, "line is 'sr 05', of type str: a bytes-like object is wanted"),
+    (lambda: RtcState(lr=-1), ValueError, f"lr is -1, of type int: {WORD}"),
+    (lambda: RtcState(lr=1 << 32), ValueError, f"lr is 4294967296, of type int: {WORD}"),
+    (lambda: RtcState(offset=1 << 63), ValueError, f"offset is 9223372036854775808, of type int: {SIGNED}"),
+    (lambda: RtcState(offset=-1 - (1 << 63)), ValueError, f"offset is -9223372036854775809, of type int: {SIGNED}"),
+    (lambda: I8042().read("LSR"), TypeError, f"offset is 'LSR', of type str: {BYTE}"),
+    (lambda: I8042().write(4, 0x1FE), ValueError, f"value is 510, of type int: {BYTE}"),
+    (lambda: parse("sr 05"), TypeError, f"line is 'sr 05', of type str: {BYTES}"),
     (lambda: Board().run("sr 05"), TypeError, "command is 'sr 05', of type str: Command is wanted"),
 ]
 
@@ -331,6 +140,13 @@ class Arguments(unittest.TestCase):
                      lambda: port.write(1.5, 1), lambda: clock.write("LR", 1, 1.5), lambda: clock.write("LR", -1, 1)):
             self.assertRaises((TypeError, ValueError), call)
         self.assertEqual((SerialState(), RtcState()), (port.state, clock.state))
+        board = Board()
+        board.reply(parse(b"sq 61"))
+        before = board.number, board.snapshot()
+        for command in (Command("sr", (256,)), Command("sw", (7, -1)), Command("sq", ("a",)),
+                        Command("cr", (1 << 64, 0))):
+            self.assertRaises((TypeError, ValueError), board.reply, command)
+            self.assertEqual(before, (board.number, board.snapshot()))
 
     def test_what_has_bytes_in_memory_is_taken(self):
         port = Serial()
@@ -377,14 +193,6 @@ class Copies(unittest.TestCase):
                   b"\\u0000\\u0007" + 24 * b"\\u0000" + b"\nVlatin1\ntRtR.")
         self.assertEqual(RtcState(lr=7), pickle.loads(stored).state)
 
-    def test_a_board_goes_its_own_way(self):
-        for way in self.WAYS[1:]:
-            board = Board()
-            board.reply(parse(b"sq 6162"))
-            other = way(board)
-            self.assertEqual(("61", "62"), (other.reply(parse(b"sr 00")), other.reply(parse(b"sr 00"))))
-            self.assertEqual(("3e", "40"), (board.reply(parse(b"sc")), other.reply(parse(b"sc"))))
-
     def test_a_copied_board_goes_on_as_its_original(self):
         """Every part of it, among them what its line has still to refuse."""
         lines = [b"sw 01 03", b"sq 6162", b"sw 00 41", b"sr 02", b"si", b"sw 00 42", b"st", b"se", b"so", b"sb", b"cb"]
@@ -405,15 +213,14 @@ class Copies(unittest.TestCase):
                 other = way(device)
                 self.assertEqual((kind, "COM1"), (type(other), other.name))
 
-    def test_an_error_keeps_its_status(self):
-        for way in self.WAYS:
-            error = way(SavedStateError(LoadStatus.OTHER_DEVICE))
-            self.assertEqual((LoadStatus.OTHER_DEVICE, "the saved state of another device"), (error.status, str(error)))
-
     def test_each_error_can_be_copied(self):
         """As a pool of processes does that passes one on."""
-        errors = [AlarmIsSetError(), LibraryError("a"), RegisterError("a"), ScriptError("a"),
-                  *(SavedStateError(LoadStatus(number)) for number in range(1, 8))]
+        refusals = [SavedStateError(LoadStatus(number)) for number in range(1, 8)]
+        self.assertEqual(["too short for a saved state", "not a saved state", "the saved state of another device",
+                          "a saved state of an unknown version", "a saved state of the wrong length",
+                          "more than 64 received bytes", "an alarm that is neither set nor clear"],
+                         [*map(str, refusals)])
+        errors = [AlarmIsSetError(), LibraryError("a"), RegisterError("a"), ScriptError("a"), *refusals]
         public = {kind for kind in vars(superio).values() if isinstance(kind, type) and issubclass(kind, Exception)}
         self.assertEqual(public, set(map(type, errors)))
         for error in errors:
@@ -512,10 +319,11 @@ class Types(unittest.TestCase):
 
     def test_a_state_has_the_types_that_it_is_annotated_with(self):
         """Also one that was made of other numbers, such as Booleans, which JSON has as other values."""
-        one = [SerialState(*[True] * 9, in_buffer=bytearray(b"a")), RtcState(*[True] * 5, armed=1)]
+        one = [SerialState(*[True] * 9, in_buffer=bytearray(b"a")), RtcState(*[True] * 5, armed=256)]
         for state in (SerialState(), RtcState(), Serial().state, Rtc().state, *one):
             types = {name: type(value) for name, value in vars(state).items()}
             self.assertEqual(typing.get_type_hints(type(state)), types)
+        self.assertTrue(one[1].armed)
 
 
 class Walks(unittest.TestCase):
@@ -532,6 +340,7 @@ class Walks(unittest.TestCase):
             form = port.to_bytes()
             self.assertEqual(SerialState(*form[8:17], in_buffer=form[17:]), port.state)
             self.assertEqual(form, Serial.from_state(port.state).to_bytes())
+            self.assertEqual(port.state, Serial.from_bytes(form).state)
             heads.add(port._struct.head)
         self.assertEqual(set(range(64)), heads)
 
@@ -550,90 +359,16 @@ class Walks(unittest.TestCase):
         self.assertGreater(sum(len(armed) == 2 for armed in seen.values()), 50)
 
 
-class BoardCalls(unittest.TestCase):
-    def test_a_refused_command_is_no_call(self):
-        board = Board()
-        board.reply(parse(b"sq 61"))
-        before = board.number, board.snapshot()
-        for command in (Command("sr", (256,)), Command("sw", (7, -1)), Command("sq", ("a",)),
-                        Command("cr", (1 << 64, 0))):
-            self.assertRaises((TypeError, ValueError), board.reply, command)
-            self.assertEqual(before, (board.number, board.snapshot()))
-
-
-class Controller(unittest.TestCase):
-    def test_reset(self):
-        controller = I8042()
-        self.assertTrue(controller.write(4, 0xFE).resets)
-        self.assertFalse(controller.write(0xFE, 4).resets)
-        self.assertEqual(0, controller.read(4))
-
-
 class SavedStates(unittest.TestCase):
-    def test_round_trips(self):
-        randomness = random.Random(1)
-        for held in range(65):
-            registers = [randomness.randrange(256) for _ in range(9)]
-            state = SerialState(*registers, randomness.randbytes(held) if hasattr(randomness, "randbytes")
-                                else bytes(randomness.randrange(256) for _ in range(held)))
-            saved = Serial.from_state(state).to_bytes()
-            self.assertEqual(state, Serial.from_bytes(saved).state)
-            self.assertEqual(saved, Serial.from_bytes(saved).to_bytes())
-
-    def test_what_the_guest_has_read_is_not_saved(self):
-        port = Serial()
-        for byte in b"password":
-            port.enqueue(bytes([byte]))
-            port.read("RBR")
-        port.enqueue(b"ab")
-        self.assertNotIn(b"p", port.to_bytes()[8:])
-        self.assertTrue(port.to_bytes().endswith(b"ab"))
-
-    def test_bytes_that_are_refused(self):
-        saved, clock = Serial().to_bytes(), Rtc().to_bytes()
-        full = Serial.from_state(SerialState(in_buffer=bytes(64))).to_bytes()
-        cases = [(b"", LoadStatus.TOO_SHORT), (saved[:7], LoadStatus.TOO_SHORT), (b"X" + saved[1:], LoadStatus.NOT_A_SAVED_STATE),
-                 (clock, LoadStatus.OTHER_DEVICE), (saved[:5] + b"\2" + saved[6:], LoadStatus.UNKNOWN_VERSION),
-                 (saved[:-1], LoadStatus.WRONG_LENGTH), (saved + b"\0", LoadStatus.WRONG_LENGTH),
-                 (saved + bytes(256), LoadStatus.WRONG_LENGTH), (saved + bytes(65536), LoadStatus.WRONG_LENGTH),
-                 (full[:6] + b"\x4a" + full[7:] + b"\0", LoadStatus.TOO_MANY_BYTES)]
-        for data, status in cases:
-            with self.subTest(data), self.assertRaises(SavedStateError) as caught:
-                Serial.from_bytes(data)
-            self.assertIs(status, caught.exception.status)
-        with self.assertRaises(SavedStateError) as caught:
-            Rtc.from_bytes(clock[:-1] + b"\2")
-        self.assertIs(LoadStatus.INVALID_ARMED, caught.exception.status)
-
-    def test_each_refusal_says_why(self):
-        reasons = ["too short for a saved state", "not a saved state", "the saved state of another device",
-                   "a saved state of an unknown version", "a saved state of the wrong length", "more than 64 received bytes",
-                   "an alarm that is neither set nor clear"]
-        for number, reason in enumerate(reasons, 1):
-            self.assertEqual(reason, str(SavedStateError(LoadStatus(number))))
-
-    def test_worked_examples(self):
-        """Those of docs/SAVED-STATES.md, made by what the document says that the guest did."""
-        port, clock = re.findall(r"^53494f53[0-9a-f]+$", SAVED_STATES.read_text(encoding="utf-8"), re.MULTILINE)
-        made = Serial()
-        made.write("IER", 0x01)
-        made.write("SCR", 0x5A)
-        made.enqueue(b"ab")
-        self.assertEqual(port, made.to_bytes().hex())
-        made = Rtc()
-        moment = 0x65920080 + 3600
-        made.write("LR", 0x65920080, moment)
-        made.write("IMSC", 1, moment)
-        made.write("MR", 0x65920080 + 60, moment)
-        self.assertEqual(clock, made.to_bytes().hex())
-
     def test_hostile_bytes(self):
-        """Every prefix of a good state, and every change of one byte."""
+        """Every prefix of a good state, every change of one byte, longer ones, and those of the other device."""
         port = Serial.from_state(SerialState(1, 2, 3, 4, 5, 6, 7, 8, 9, b"abc")).to_bytes()
         clock = Rtc.from_state(RtcState(1, 2, 3, 4, -5, True)).to_bytes()
         for device, kind, good in ((Serial, 1, port), (Rtc, 2, clock)):
-            changed = [good[:place] + bytes([byte]) + good[place + 1:] for place in range(len(good)) for byte in range(256)]
-            for data in changed + [good[:length] for length in range(len(good))]:
+            changed = [good[:place] + bytes([byte]) + good[place + 1:]
+                       for place in range(len(good)) for byte in range(256)]
+            others = [good[:6] + b"\x4a\0" + bytes(74), port, clock, *(good + bytes(more) for more in (1, 256, 65536))]
+            for data in [*changed, *others, *(good[:length] for length in range(len(good)))]:
                 self.assertEqual(self.status_of(kind, data), self.load(device, data), data.hex())
 
     @staticmethod
@@ -641,7 +376,8 @@ class SavedStates(unittest.TestCase):
         """What docs/SAVED-STATES.md says of bytes that are loaded."""
         contents = data[8:]
         checks = [(len(data) < 8, LoadStatus.TOO_SHORT), (data[:4] != b"SIOS", LoadStatus.NOT_A_SAVED_STATE),
-                  (data[4:5] != bytes([kind]), LoadStatus.OTHER_DEVICE), (data[5:6] != b"\1", LoadStatus.UNKNOWN_VERSION),
+                  (data[4:5] != bytes([kind]), LoadStatus.OTHER_DEVICE),
+                  (data[5:6] != b"\1", LoadStatus.UNKNOWN_VERSION),
                   (int.from_bytes(data[6:8], "little") != len(contents), LoadStatus.WRONG_LENGTH),
                   (len(contents) < 9 if kind == 1 else len(contents) != 25, LoadStatus.WRONG_LENGTH),
                   (kind == 1 and len(contents) > 73, LoadStatus.TOO_MANY_BYTES),
@@ -654,10 +390,6 @@ class SavedStates(unittest.TestCase):
         except SavedStateError as error:
             return error.status
         return LoadStatus.OK
-
-    def test_a_state_can_be_replaced_in_parts(self):
-        state = dataclasses.replace(SerialState(), scratch=7)
-        self.assertEqual(7, Serial.from_state(state).read("SCR").byte)
 
 
 class MovedStates(unittest.TestCase):
@@ -706,43 +438,7 @@ class MovedStates(unittest.TestCase):
             self.assertRaises(error, kind.from_vm_superio, named)
 
 
-class Finding(unittest.TestCase):
-    def test_another_interface_is_refused(self):
-        own = library.ABI
-        for other in (own - 1, own + 1, own + 256):  # the library is newer than the package, or older
-            with self.subTest(needs=other), mock.patch.object(library, "ABI", other), \
-                    self.assertRaisesRegex(LibraryError, f"interface {own}, .* needs {other}:"):
-                library.open_library()
-
-    def test_a_named_library_that_is_not_there(self):
-        with mock.patch.dict(os.environ, {library.VARIABLE: "/nowhere/lib.so"}), \
-                self.assertRaisesRegex(LibraryError, "/nowhere/lib.so cannot be loaded"):
-            library.open_library()
-
-    def test_an_empty_name_names_none(self):
-        with mock.patch.dict(os.environ, {library.VARIABLE: ""}):
-            self.assertTrue(os.path.isfile(library.open_library().path))
-
-    def test_the_packages_own_library_comes_first(self):
-        self.assertEqual(["in the package", "in the repository"], [place for place, _ in library.candidates()])
-
-    def test_no_library(self):
-        environment = {name: value for name, value in os.environ.items() if name != library.VARIABLE}
-        with mock.patch.dict(os.environ, environment, clear=True), mock.patch.object(library, "FILE_NAME", "none.so"), \
-                self.assertRaisesRegex(LibraryError, "none.so was not found .* set SUPERIO_LIBRARY"):
-            library.open_library()
-
-    def test_a_missing_function_says_so_when_it_is_called(self):
-        found = library.open_library()
-        with self.assertRaisesRegex(LibraryError, "has no function superio_nothing"):
-            found._missing("superio_nothing")()
-
-
 def load_tests(loader, tests, ignored):
     tests.addTests(doctest.DocTestSuite(devices))
     tests.addTests(doctest.DocTestSuite(board, extraglobs={"Board": Board, "parse": parse}))
     return tests
-
-
-if __name__ == "__main__":
-    unittest.main()

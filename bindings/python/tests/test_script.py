@@ -1,10 +1,26 @@
-"""The lines of a script: what they mean, and why other lines have no form."""
+"""The lines of a script: what they mean, why others have no form, and what the package replies, as the program does.
+
+The program `superio` is the one that the environment variable SUPERIO_PROGRAM names, or else the built one. Without it
+the tests beside it are skipped.
+"""
+import os
+import random
+import re
 import unittest
+from pathlib import Path
 
-import support  # noqa: F401
+from support import ROOT, run
 
-from superio import Command, ScriptError, parse
-from superio.script import FORMS, lines_of, text_of
+from program import run_all
+from script_tests import scripts_of
+
+from superio import Board, Command, ScriptError, parse
+from superio.script import FORMS, MAXIMUM, lines_of, text_of
+
+PROGRAM = Path(os.environ.get("SUPERIO_PROGRAM", ROOT / "crates" / "superio" / "out" / "superio"))
+EXAMPLES = sorted((ROOT / "examples").glob("*.script"))
+SCRIPTS = [test for path in sorted((ROOT / "tests").glob("*.txt")) for test in scripts_of(path)]
+SEED, BROKEN = 35, 10_000
 
 GOOD = [
     (b"sr 05", Command("sr", (5,))),
@@ -23,72 +39,108 @@ GOOD = [
     (b"kw 04 fe", Command("kw", (4, 0xFE))),
 ]
 
-BAD = [
-    (b"", "a line begins with a name"),
-    (b" sr 05", "a line begins with a name"),
-    (b"sx 05", "no line has this name"),
-    (b"SR 05", "no line has this name"),
-    (b"\xff", "no line has this name"),
-    (b"sr", "an offset is missing"),
-    (b"sw 01", "a value is missing"),
-    (b"cr", "a moment is missing"),
-    (b"cr 0000000000000000", "an offset of the clock is missing"),
-    (b"cw 0000000000000000 0000", "a value of the clock is missing"),
-    (b"refuse", "a mask is missing"),
-    (b"sr 5", "an offset has two digits"),
-    (b"sr 005", "an offset has two digits"),
-    (b"sr 0x", "an offset has two digits"),
-    (b"sr +5", "an offset has two digits"),
-    (b"sr _5", "an offset has two digits"),
-    (b"sr \xd9\xa1", "an offset has two digits"),
-    (b"sw 01 1", "a value has two digits"),
-    (b"sq 4", "1 to 128 bytes have two digits each"),
-    (b"sq " + b"00" * 129, "1 to 128 bytes have two digits each"),
-    (b"sl 4", "1 to 128 bytes have two digits each"),
-    (b"cl " + b"00" * 129, "1 to 128 bytes have two digits each"),
-    (b"cr 0 0000", "a moment has sixteen digits"),
-    (b"cr 0000000000000000 00", "an offset of the clock has four digits"),
-    (b"cw 0000000000000000 0000 00", "a value of the clock has eight digits"),
-    (b"refuse 1", "a mask has sixteen digits"),
-    (b"refuse 0000000000000001", "a mask comes before every other line"),
-    (b"sr  05", "one space separates two fields, and none follows the last"),
-    (b"sr 05 ", "one space separates two fields, and none follows the last"),
-    (b"sq ", "one space separates two fields, and none follows the last"),
-    (b"sc ", "one space separates two fields, and none follows the last"),
-    (b"sr 05 06", "it goes on after its last field"),
-    (b"sb 00", "it goes on after its last field"),
-    (b"sl 53 49", "it goes on after its last field"),
-    (b"sc 00", "it goes on after its last field"),
-    (b"si 00", "it goes on after its last field"),
-    (b"si ", "one space separates two fields, and none follows the last"),
-    (b"sr 05\r", "it ends with a carriage return"),
-    (b"\r", "it ends with a carriage return"),
-]
+# Why lines have no form.
+BAD = {
+    "a line begins with a name": [b"", b" sr 05"],
+    "no line has this name": [b"sx 05", b"SR 05", b"\xff"],
+    "an offset is missing": [b"sr"],
+    "a value is missing": [b"sw 01"],
+    "a moment is missing": [b"cr"],
+    "an offset of the clock is missing": [b"cr 0000000000000000"],
+    "a value of the clock is missing": [b"cw 0000000000000000 0000"],
+    "a mask is missing": [b"refuse"],
+    "an offset has two digits": [b"sr 5", b"sr 005", b"sr 0x", b"sr +5", b"sr _5", b"sr \xd9\xa1"],
+    "a value has two digits": [b"sw 01 1"],
+    "1 to 128 bytes have two digits each": [b"sq 4", b"sq " + b"00" * 129, b"sl 4", b"cl " + b"00" * 129],
+    "a moment has sixteen digits": [b"cr 0 0000"],
+    "an offset of the clock has four digits": [b"cr 0000000000000000 00"],
+    "a value of the clock has eight digits": [b"cw 0000000000000000 0000 00"],
+    "a mask has sixteen digits": [b"refuse 1"],
+    "a mask comes before every other line": [b"refuse 0000000000000001"],
+    "one space separates two fields, and none follows the last": [b"sr  05", b"sr 05 ", b"sq ", b"sc ", b"si "],
+    "it goes on after its last field": [b"sr 05 06", b"sb 00", b"sl 53 49", b"sc 00", b"si 00"],
+    "it ends with a carriage return": [b"sr 05\r", b"\r"],
+}
 
 
 class Lines(unittest.TestCase):
     def test_commands_and_their_text(self):
         for line, command in GOOD:
-            with self.subTest(line):
-                self.assertEqual(command, parse(line))
-                self.assertEqual(line.decode().lower(), text_of(command))
-
-    def test_every_form_has_a_line(self):
+            self.assertEqual(command, parse(line))
+            self.assertEqual(line.decode().lower(), text_of(command))
         self.assertEqual(set(FORMS) - {"refuse"}, {command.name for _, command in GOOD})
+        self.assertEqual(Command("refuse", (2,)), parse(b"refuse 0000000000000002", is_first=True))
 
     def test_reasons(self):
-        for line, reason in BAD:
-            with self.subTest(line), self.assertRaises(ScriptError) as caught:
-                parse(line)
-            self.assertEqual(reason, str(caught.exception))
-
-    def test_a_mask_is_the_first_line(self):
-        self.assertEqual(Command("refuse", (2,)), parse(b"refuse 0000000000000002", is_first=True))
+        for reason, lines in BAD.items():
+            for line in lines:
+                with self.subTest(line), self.assertRaises(ScriptError) as caught:
+                    parse(line)
+                self.assertEqual(reason, str(caught.exception))
 
     def test_lines(self):
         for script, lines in ((b"", ()), (b"\n", (b"",)), (b"a", (b"a",)), (b"a\n", (b"a",)), (b"a\n\n", (b"a", b""))):
             self.assertEqual(lines, lines_of(script))
 
 
-if __name__ == "__main__":
-    unittest.main()
+def run_board(script):
+    """What the package makes of a script, as the program does: the status, the replies, and what is wrong."""
+    if len(script) > MAXIMUM:
+        return 4, b"", b"script too long\n"
+    board, replies = Board(), []
+    for number, line in enumerate(lines_of(script), 1):
+        try:
+            reply = board.reply(parse(line, is_first=number == 1))
+        except ScriptError:
+            return 1, "".join(replies).encode(), b"bad line %d\n" % number
+        replies += [] if reply is None else [reply + "\n"]
+    return 0, "".join(replies).encode(), b""
+
+
+def broken(script, randomness):
+    """A script with one byte changed, taken out, put in or doubled, or cut off."""
+    place = randomness.randrange(len(script))
+    byte = bytes([randomness.choice([*b" \n\r0f\xff", randomness.randrange(256)])])
+    return randomness.choice([script[:place] + byte + script[place + 1:], script[:place] + script[place + 1:],
+                              script[:place] + byte + script[place:], script[:place],
+                              script[:place] + script[place:place + 1] + script[place:]])
+
+
+class Replies(unittest.TestCase):
+    def test_replies_are_those_of_the_tests(self):
+        for test in SCRIPTS:
+            self.assertEqual(test.expected, run_board(test.script), test.place)
+
+    def test_scripts_have_their_replies_in_the_shell_too(self):
+        """A good script has the same replies without --strict."""
+        for path in EXAMPLES:
+            self.assertEqual(run("--strict", path), run(path))
+        good = [test for test in SCRIPTS if test.expected[0] == 0 and test.script]
+        for test in good[::25]:
+            self.assertEqual((0, test.expected[1].decode(), ""), run(script=test.script), test.place)
+
+
+@unittest.skipUnless(PROGRAM.exists(), f"{PROGRAM} is not built")
+class Program(unittest.TestCase):
+    def compare(self, scripts):
+        """Runs scripts through the program and through the package."""
+        for script, expected in zip(scripts, run_all(PROGRAM, scripts)):
+            if run_board(script) != expected:
+                self.assertEqual(expected, run_board(script), script)
+        self.assertTrue(scripts)
+
+    def test_scripts_of_the_examples_and_the_tests(self):
+        self.compare([path.read_bytes() for path in EXAMPLES] + [test.script for test in SCRIPTS])
+
+    def test_broken_scripts(self):
+        randomness = random.Random(SEED)
+        whole = [test.script for test in SCRIPTS if 0 < len(test.script) < 3000]
+        self.compare([broken(randomness.choice(whole), randomness) for _ in range(BROKEN)])
+
+    def test_strict_command_line(self):
+        bad = [test.script for test in SCRIPTS if test.expected[0] == 1][::40]
+        for script, (status, output, errors) in zip(bad, run_all(PROGRAM, bad)):
+            number = int(re.fullmatch(rb"bad line (\d+)\n", errors)[1])
+            got = run("--strict", script=script)
+            self.assertEqual((status, output.decode()), got[:2])
+            self.assertTrue(got[2].startswith(f"<stdin>:{number}: "), got[2])

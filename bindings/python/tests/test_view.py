@@ -1,16 +1,13 @@
 """Recorded traces: how they are read, made again, searched, listed and drawn."""
 import io
-import tempfile
 import unittest
 import xml.etree.ElementTree
-from pathlib import Path
 
-from support import ROOT, run
+from support import ROOT, FolderTest, run
 
 from superio.faults import BadLine
-from superio.recording import entries_of, replay
-from superio.style import Style
-from superio.svg import picture
+from superio.recording import entries_of, picture, replay
+from superio.prompt import Style
 from superio.view import Viewer, table
 
 RECORDING = ROOT / "examples" / "linux-boot" / "boot.recording"
@@ -82,70 +79,91 @@ class Recordings(unittest.TestCase):
         self.assertTrue(table(steps).endswith("     11  kw 04 fe                  reset  recorded: ok\n"))
 
 
-class Stepping(unittest.TestCase):
-    def setUp(self):
-        self.out = io.StringIO()
-        self.viewer = Viewer(steps_of(TRACE), "trace", self.out, Style(False))
+# The calls that commands lead to, one after the other in TRACE, or what is said where none is.
+PLACES = [("next", 2), ("next 3", 5), ("back 2", 3), ("next thre", 8), ("back rda", 6), ("back rda", 3),
+          ("next input", "no input further on"), ("first", 1), ("next interrupt", 3), ("next refused", 6),
+          ("next sent", 8), ("next reset", 11), ("back IIR", 7), ("back lsr", 4), ("first", 1),
+          ("next difference", 11), ("goto 4", 4), ("next change", 5), ("back input", 3), ("last", 11),
+          ("next", "there is no call further on"), ("next thre", "no thre further on"),
+          ("goto 12", "there is no call further on"), ("goto 0", "there is no call before"),
+          ("goto x", "the form is: goto N"), ("first", 1), ("back", "there is no call before"), ("", 2),
+          ("foo", "no command is called foo: help lists them")]
 
-    def place_after(self, line):
-        """The call that is shown after a command, or what is said where none is."""
+
+class Stepping(FolderTest):
+    def setUp(self):
+        super().setUp()
+        self.begin(TRACE)
+
+    def begin(self, trace):
+        self.out = io.StringIO()
+        self.viewer = Viewer(steps_of(trace), "trace", self.out, Style(False))
+
+    def said(self, line):
         self.out.seek(0)
         self.out.truncate()
         self.viewer.onecmd(line)
-        said = self.out.getvalue()
+        return self.out.getvalue()
+
+    def place_after(self, line):
+        """The call that is shown after a command, or what is said where none is."""
+        said = self.said(line)
         return int(said.split()[1]) if said.startswith("call ") else said.strip()
 
     def test_places(self):
-        for line, place in [("next", 2), ("next 3", 5), ("back 2", 3), ("next thre", 8), ("back rda", 6), ("back rda", 3),
-                            ("next input", "no input further on"), ("first", 1),
-                            ("next interrupt", 3), ("next refused", 6), ("next sent", 8), ("next reset", 11),
-                            ("back IIR", 7), ("back lsr", 4), ("first", 1), ("next difference", 11), ("goto 4", 4),
-                            ("next change", 5), ("back input", 3), ("last", 11), ("next", "there is no call further on"),
-                            ("next thre", "no thre further on"), ("goto 12", "there is no call further on"),
-                            ("goto 0", "there is no call before"), ("goto x", "the form is: goto N"), ("first", 1),
-                            ("back", "there is no call before"), ("", 2)]:
+        for line, place in PLACES:
             with self.subTest(line):
                 self.assertEqual(place, self.place_after(line))
+        self.assertIn("nothing is called foo", self.place_after("next foo"))
 
     def test_what_is_shown(self):
-        self.viewer.onecmd("goto 6")
         self.assertEqual("call 6 of 11, piece 1: sw 01 03  trigger\n  IER: ok; interrupt for RDA refused\n"
-                         "  IER 0x01 -> 0x03  RDA THRE\n  IIR 0xc1 -> 0xc4  RDA\n  interrupt refused\n", self.out.getvalue())
+                         "  IER 0x01 -> 0x03  RDA THRE\n  IIR 0xc1 -> 0xc4  RDA\n  interrupt refused\n",
+                         self.said("goto 6"))
+        self.assertIn(">       6  sw 01 03", self.said("list"))
+        self.said("goto 3")
+        self.assertIn("  pending: RDA\n", self.said("regs"))
+        self.said("goto 7")
+        self.assertEqual([*range(2, 12)], [int(row.lstrip("> ").split()[0]) for row in self.said("list").splitlines()])
 
     def test_character_timeouts(self):
-        self.viewer = Viewer(steps_of(b"sw 01 01\nsq 6162\nsr 02\nsi  ok\nsr 00\nsi  trigger\n"), "trace", self.out, Style(False))
-        self.assertEqual(4, self.place_after("next timeout"))
+        self.begin(b"sw 01 01\nsq 6162\nsr 02\nsi  ok\nsr 00\nsi  trigger\n")
         self.assertEqual("call 4 of 6, piece 1: si  ok\n  2 bytes held; interrupt for RDA\n  IIR 0xc1 -> 0xc4  RDA\n"
-                         "  interrupt taken\n", self.out.getvalue())
-        self.assertEqual(6, self.place_after("next difference"))
-        self.assertIn("call 6 of 6, piece 1: si  ok\n  1 byte held; interrupt for RDA\n", self.out.getvalue())
-        self.assertIn("  recorded: trigger\n", self.out.getvalue())
+                         "  interrupt taken\n", self.said("next timeout"))
+        said = self.said("next difference")
+        self.assertIn("call 6 of 6, piece 1: si  ok\n  1 byte held; interrupt for RDA\n", said)
+        self.assertIn("  recorded: trigger\n", said)
         self.assertEqual("no timeout further on", self.place_after("next timeout"))
 
-    def test_registers_and_list(self):
-        self.viewer.onecmd("goto 3")
-        self.assertNotIsInstance(self.place_after("regs"), int)
-        self.assertIn("  pending: RDA\n", self.out.getvalue())
-        self.place_after("list")
-        self.assertIn(">       3  sq 6162", self.out.getvalue())
-        self.viewer.onecmd("goto 7")
-        listed = self.place_after("list").splitlines()
-        self.assertEqual([*range(2, 12)], [int(row.lstrip("> ").split()[0]) for row in listed])
-
-    def test_unknown_words(self):
-        self.assertIn("nothing is called foo", self.place_after("next foo"))
-        self.assertIn("no command is called foo", self.place_after("foo"))
+    def test_numbers_that_are_none(self):
+        for word in ("\u00b2", "-1", "1.5", "9" * 5000):
+            for line in (f"next {word}", f"back {word}", f"goto {word}"):
+                self.assertFalse(self.viewer.onecmd(line))
+        self.assertTrue(self.viewer.onecmd("quit"))
+        for row in (b"9" * 5000 + b" kr 04\n", b"\xb2 kr 04\n"):
+            self.assertRaises(BadLine, steps_of, row)
 
     def test_files(self):
-        with tempfile.TemporaryDirectory() as folder:
-            for command in ("table", "svg"):
-                path = Path(folder, command)
-                self.place_after(f"{command} {path}")
-                self.assertGreater(path.stat().st_size, 500)
-            self.assertIn("No such file", self.place_after(f"svg {folder}/none/x"))
+        for command in ("table", "svg"):
+            self.said(f"{command} {self.folder / command}")
+            self.assertGreater((self.folder / command).stat().st_size, 500)
+        self.assertIn("No such file", self.said(f"svg {self.folder}/none/x"))
 
 
-class Pictures(unittest.TestCase):
+# Traces, and the bars of their lanes: whole, or parts of them.
+PICTURES = [
+    (b"sw 01 01\nsq 61\nsr 02\nsr 05\n",
+     {"RDA pending": "M340 80v-34h200v34z", "FIFO": "M340 176v-5h600v5z", "interrupts": "M340 224v-34h200v34z"}),
+    # A refused call is no interrupt.
+    (b"refuse 0000000000000001\nsw 01 01\nsq 61\nsr 05\n",
+     {"RDA pending": "M540 80v-34h400v34z", "FIFO": "M540 176v-5h400v5z", "refused": "M540 224v-34h200v34z"}),
+    # A column of many calls has the most bytes that were held.
+    (b"sq 61\nsr 00\n" * 800, {"FIFO": "M140 176v-5h800v5z"}),
+    (b"sr 05\n", {}),
+]
+
+
+class Pictures(FolderTest):
     @staticmethod
     def lanes(svg):
         """The paths that have bars, by the name of their lane."""
@@ -157,39 +175,23 @@ class Pictures(unittest.TestCase):
                 found[name] = element.get("d")
         return found
 
-    def test_bars_stand_where_something_was(self):
-        lanes = self.lanes(picture(steps_of(b"sw 01 01\nsq 61\nsr 02\nsr 05\n"), "a <title> & more"))
-        self.assertEqual({"RDA pending": "M340 80v-34h200v34z", "FIFO": "M340 176v-5h600v5z", "interrupts":
-                          "M340 224v-34h200v34z"}, lanes)
+    def test_bars(self):
+        for trace, lanes in PICTURES:
+            with self.subTest(trace[:30]):
+                self.assertEqual(lanes, self.lanes(picture(steps_of(trace), "a <title> & more")))
 
     def test_heights_of_the_fifo(self):
         lanes = self.lanes(picture(steps_of(b"sq " + b"00" * 64 + b"\n" + b"sr 00\n" * 32), "fifo"))
         bars = lanes["FIFO"].split("M")[1:]
-        self.assertEqual(33, len(bars))
-        self.assertIn("v-34h", bars[0])
-        self.assertIn("v-17h", bars[-1])
-
-    def test_a_refused_call_is_no_interrupt(self):
-        lanes = self.lanes(picture(steps_of(b"refuse 0000000000000001\nsw 01 01\nsq 61\nsr 05\n"), "refused"))
-        self.assertEqual({"RDA pending", "FIFO", "refused"}, set(lanes))
-
-    def test_a_column_of_many_calls_has_the_most_bytes_held(self):
-        lanes = self.lanes(picture(steps_of(b"sq 61\nsr 00\n" * 800), "many"))
-        self.assertEqual("M140 176v-5h800v5z", lanes["FIFO"])
-
-    def test_empty_lanes(self):
-        self.assertEqual({}, self.lanes(picture(steps_of(b"sr 05\n"), "nothing")))
+        self.assertEqual((33, True, True), (len(bars), "v-34h" in bars[0], "v-17h" in bars[-1]))
 
     def test_figure_of_the_recorded_boot(self):
-        with tempfile.TemporaryDirectory() as folder:
-            path = Path(folder, "boot.svg")
-            self.assertEqual((0, "", ""), run("view", RECORDING, "--svg", path))
-            self.assertEqual(FIGURE.read_text(), path.read_text())
-        lanes = self.lanes(FIGURE.read_text())
-        self.assertEqual({"THRE pending", "interrupts", "output", "controller"}, set(lanes))
+        self.assertEqual((0, "", ""), run("view", RECORDING, "--svg", self.path))
+        self.assertEqual(FIGURE.read_text(), self.path.read_text())
+        self.assertEqual({"THRE pending", "interrupts", "output", "controller"}, set(self.lanes(FIGURE.read_text())))
 
 
-class CommandLine(unittest.TestCase):
+class CommandLine(FolderTest):
     def test_table_of_the_recorded_boot(self):
         status, output, errors = run("view", RECORDING, "--table")
         self.assertEqual((0, ""), (status, errors))
@@ -204,42 +206,21 @@ class CommandLine(unittest.TestCase):
         self.assertEqual((0, ""), (status, errors))
         self.assertNotIn("recorded:", output)
         _, output, _ = run("view", WITH_INPUT, script=b"next input\nnext timeout\nnext reset\n")
-        for row in ("none with another reply than recorded", ": sq 756e616d65202d73720a  0a\n", "  FIFO 0 -> 10 bytes\n", ": si  ok\n", ": kw 04 fe  reset\n"):
+        for row in ("none with another reply than recorded", ": sq 756e616d65202d73720a  0a\n",
+                    "  FIFO 0 -> 10 bytes\n", ": si  ok\n", ": kw 04 fe  reset\n"):
             self.assertIn(row, output)
 
-    def test_standard_input_and_commands(self):
-        with tempfile.TemporaryDirectory() as folder:
-            path = Path(folder, "trace")
-            path.write_bytes(TRACE)
-            status, output, _ = run("view", path, script=b"next thre\nquit\n")
+    def test_commands_come_by_a_pipe(self):
+        self.path.write_bytes(TRACE)
+        status, output, _ = run("view", self.path, script=b"next thre\nquit\n")
         self.assertEqual(0, status)
         self.assertIn("11 calls in 2 pieces, 1 with another reply than recorded", output)
         self.assertIn("call 8 of 11, piece 1: sw 00 41  ok", output)
         self.assertNotIn("\x1b", output)
-        self.assertEqual(0, run("view", "-", "--table", script=TRACE)[0])
 
     def test_a_table_and_a_picture(self):
-        with tempfile.TemporaryDirectory() as folder:
-            both, alone = ([Path(folder, f"{kind}{name}") for name in ("table", "svg")] for kind in ("both-", ""))
-            self.assertEqual((0, "", ""), run("view", "-", "--table", both[0], "--svg", both[1], script=TRACE))
-            for option, path in zip(("--table", "--svg"), alone):
-                self.assertEqual((0, "", ""), run("view", "-", option, path, script=TRACE))
-            self.assertEqual(*([path.read_text() for path in paths] for paths in (both, alone)))
-
-    def test_numbers_that_are_none(self):
-        viewer = Viewer(steps_of(TRACE), "trace", io.StringIO(), Style(False))
-        for word in ("\u00b2", "-1", "1.5", "9" * 5000):
-            for line in (f"next {word}", f"back {word}", f"goto {word}"):
-                self.assertFalse(viewer.onecmd(line))
-        self.assertTrue(viewer.onecmd("quit"))
-        for row in (b"9" * 5000 + b" kr 04\n", b"\xb2 kr 04\n"):
-            self.assertRaises(BadLine, steps_of, row)
-
-    def test_faults(self):
-        self.assertEqual((1, "", '<stdin>:1: "sr": an offset is missing\n'), run("view", "-", script=b"sr\n"))
-        self.assertEqual((1, "", "- has no call\n"), run("view", "-", script=b"# nothing\n"))
-        self.assertEqual((2, "", "python3 -m superio: /nowhere: No such file or directory\n"), run("view", "/nowhere"))
-
-
-if __name__ == "__main__":
-    unittest.main()
+        both, alone = ([self.folder / f"{kind}{name}" for name in ("table", "svg")] for kind in ("both-", ""))
+        self.assertEqual((0, "", ""), run("view", "-", "--table", both[0], "--svg", both[1], script=TRACE))
+        for option, path in zip(("--table", "--svg"), alone):
+            self.assertEqual((0, "", ""), run("view", "-", option, path, script=TRACE))
+        self.assertEqual(*([path.read_text() for path in paths] for paths in (both, alone)))

@@ -2,7 +2,7 @@
 //!
 //! `tests/calls/README.md` describes the lines. It ends at a line of another form.
 mod devices;
-mod objects;
+pub mod objects;
 
 use anyhow::{Context, Result};
 use devices::Devices;

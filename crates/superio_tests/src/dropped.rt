@@ -18,7 +18,7 @@ fn a_port_is_dropped_and_taken_apart_in_silence(rt: HostRuntime) -> Result<(), F
             state.interrupt_enable = enable;
             for way in 0..3u8 {
                 let log = Log::new();
-                let object = Object::new(&log);
+                let object = Object(&log);
                 let port = Serial::from_state(rt.alloc(), &state, object, object, object).ok();
                 let mut port = port.expect(&rt, "a port");
                 assert!(rt; port.write(0, b'A').is_ok());
@@ -28,7 +28,11 @@ fn a_port_is_dropped_and_taken_apart_in_silence(rt: HostRuntime) -> Result<(), F
                     1 => drop(port.into_writer()),
                     _ => drop(port.into_parts()),
                 }
-                assert!(rt; calls >= 3 && log.calls() == calls, "{state:?}");
+                let [_, events, writes, flushes] = calls;
+                assert!(rt;
+                    log.calls() == calls && [events, writes, flushes] == [1; 3],
+                    "{state:?}"
+                );
             }
         }
     }
@@ -36,16 +40,15 @@ fn a_port_is_dropped_and_taken_apart_in_silence(rt: HostRuntime) -> Result<(), F
 }
 
 #[test]
-fn a_clock_and_a_controller_are_dropped_and_taken_apart_in_silence(rt: HostRuntime) {
+fn other_holders_of_objects_are_dropped_and_taken_apart_in_silence(rt: HostRuntime) {
+    let log = Log::new();
+    let object = Object(&log);
     for is_taken_apart in [true, false] {
-        let log = Log::new();
-        let object = Object::new(&log);
         let mut clock = Rtc::with_events(object);
         let mut controller = I8042Device::new(object);
         // An invalid write, and the reset command.
         clock.write(0x000, &[0; 4], 1_000);
         assert!(rt; controller.write(0x04, 0xFE).is_ok());
-        assert!(rt; log.calls() == 2);
         if is_taken_apart {
             drop(clock.into_parts());
             drop(controller.into_reset_evt());
@@ -53,33 +56,20 @@ fn a_clock_and_a_controller_are_dropped_and_taken_apart_in_silence(rt: HostRunti
             drop(clock);
             drop(controller);
         }
-        assert!(rt; log.calls() == 2);
     }
-}
-
-/// How many calls of objects `into_error` makes.
-fn calls_of_refusal(error: Error<LineRefused>) -> u64 {
-    let log = Log::new();
-    let object = Object::new(&log);
-    let refused = Refused {
-        error,
-        trigger: object,
-        events: object,
-        out: object,
-    };
-    let _ = refused.into_error();
-    log.calls()
-}
-
-#[test]
-fn a_refusal_is_taken_apart_in_silence(rt: HostRuntime) {
-    let fault = io::Error::from(ErrorKind::Other);
-    for calls in [
-        calls_of_refusal(Error::Trigger(LineRefused)),
-        calls_of_refusal(Error::IOError(fault)),
-        calls_of_refusal(Error::FullFifo),
-        calls_of_refusal(Error::Memory),
+    for error in [
+        Error::Trigger(LineRefused),
+        Error::IOError(io::Error::from(ErrorKind::Other)),
+        Error::FullFifo,
+        Error::Memory,
     ] {
-        assert!(rt; calls == 0);
+        let refused = Refused {
+            error,
+            trigger: object,
+            events: object,
+            out: object,
+        };
+        let _ = refused.into_error();
     }
+    assert!(rt; log.calls() == [2, 2, 0, 0]);
 }

@@ -1,5 +1,4 @@
 //! A whole monitor, and one that moves.
-use std::alloc::Global;
 use std::test::Fail;
 use superio_examples::monitor::Answer::{Done, Full, Reset, Shows};
 use superio_examples::monitor::Event::{
@@ -66,14 +65,6 @@ const SESSION: [(Event, Answer, u8, bool); 42] = [
     (PortRead(0x3FC), Shows(0x08), 0, false),
 ];
 
-fn events(alloc: Global) -> Result<Vec<Event>, Fail> {
-    let mut events = Vec::new(alloc);
-    for (event, _, _, _) in SESSION.iter() {
-        events.push(*event)?;
-    }
-    Ok(events)
-}
-
 /// The place of the first reply that is not as in the session.
 fn first_wrong(before: &[Reply], after: &[Reply]) -> Option<usize> {
     let replies = before.iter().chain(after.iter());
@@ -83,11 +74,26 @@ fn first_wrong(before: &[Reply], after: &[Reply]) -> Option<usize> {
 }
 
 #[test]
-fn a_monitor_replies_to_each_event(rt: HostRuntime) -> Result<(), Fail> {
-    let mut monitor = Monitor::new(rt.alloc(), 1, 100)?;
-    let replies = monitor.run(rt.alloc(), &events(rt.alloc())?)?;
-    assert!(rt; replies.len() == SESSION.len() && first_wrong(&replies, &[]).is_none());
-    assert!(rt; monitor.output.waiting(rt.alloc())?.as_slice() == b"xy".as_slice());
+fn a_monitor_replies_to_each_event_also_if_it_moves(rt: HostRuntime) -> Result<(), Fail> {
+    let alloc = rt.alloc();
+    let mut events = Vec::new(alloc);
+    for (event, _, _, _) in SESSION.iter() {
+        events.push(*event)?;
+    }
+    for place in 0..=events.len() {
+        let mut monitor = Monitor::new(alloc, 1, 100)?;
+        let (first, others) = events.split_at(place);
+        let moved = run_on_two(alloc, &mut monitor, first, others)?;
+        assert!(rt; (moved.before.len(), moved.after.len()) == (place, SESSION.len() - place));
+        assert!(rt;
+            first_wrong(&moved.before, &moved.after).is_none(),
+            "{place}"
+        );
+        assert!(rt;
+            moved.monitor.output.waiting(alloc)?.as_slice() == b"xy".as_slice(),
+            "{place}"
+        );
+    }
     Ok(())
 }
 
@@ -98,33 +104,7 @@ fn a_guest_that_polls_gets_its_input_at_once(rt: HostRuntime) -> Result<(), Fail
     monitor.step(Typed(b'a'));
     assert!(rt; matches!(monitor.step(PortRead(0x3FD)).answer, Shows(0x61)));
     assert!(rt; matches!(monitor.step(PortRead(0x3F8)).answer, Shows(0x61)));
-    Ok(())
-}
-
-#[test]
-fn a_monitor_goes_on_elsewhere(rt: HostRuntime) -> Result<(), Fail> {
-    let events = events(rt.alloc())?;
-    for place in 0..=SESSION.len() {
-        let mut monitor = Monitor::new(rt.alloc(), 1, 100)?;
-        let (first, others) = events.split_at(place.min(events.len()));
-        let moved = run_on_two(rt.alloc(), &mut monitor, first, others)
-            .ok()
-            .expect(&rt, "memory");
-        assert!(rt; moved.before.len() == place, "{place}");
-        assert!(rt; moved.after.len() == SESSION.len() - place, "{place}");
-        assert!(rt;
-            first_wrong(&moved.before, &moved.after).is_none(),
-            "{place}"
-        );
-        let sent = moved.monitor.output.waiting(rt.alloc())?;
-        assert!(rt; sent.as_slice() == b"xy".as_slice(), "{place}");
-    }
-    Ok(())
-}
-
-#[test]
-fn a_monitor_is_not_restored_from_other_bytes(rt: HostRuntime) -> Result<(), Fail> {
-    let monitor = Monitor::new(rt.alloc(), 1, 100)?;
+    // Bytes of another device are no monitor.
     let mut saved = save_monitor(rt.alloc(), &monitor)?;
     assert!(rt; restore_monitor(rt.alloc(), &saved).is_ok());
     saved.devices.serial = saved.devices.clock.clone()?;

@@ -1,8 +1,9 @@
-//! What neither a script nor `tools/checks/failing_io` shows of a run: when its writer is flushed, reads of no byte, and
-//! faults of kinds that no operating system reports.
+//! What neither a script nor `tools/checks/failing_io` shows of a run: when its writer is flushed, reads of no byte,
+//! and faults of kinds that no operating system reports.
+use crate::objects::{Log, Object, Writing};
 use std::alloc::Global;
 use std::io;
-use std::io::{ErrorKind, Read, Write};
+use std::io::{ErrorKind, Read};
 use std::process::Abort;
 use std::test::Fail;
 use superio_script::{ScriptFault, run_script};
@@ -12,17 +13,7 @@ use superio_script::{ScriptFault, run_script};
 struct Input<'a> {
     bytes: &'a [u8],
     fault: Option<ErrorKind>,
-    reads: u32,
-}
-
-impl Input<'_> {
-    fn new(bytes: &[u8]) -> Input<'_> {
-        Input {
-            bytes,
-            fault: None,
-            reads: 0,
-        }
-    }
+    reads: u64,
 }
 
 impl Read for Input<'_> {
@@ -35,129 +26,75 @@ impl Read for Input<'_> {
     }
 }
 
-/// Keeps what is written to it, and a dot for each flush.
-#[derive(Drop)]
-struct Log {
-    calls: Vec<u8>,
-    /// The fault of the first `write`.
-    write_fault: Option<ErrorKind>,
-    /// The fault of each flush.
-    flush_fault: Option<ErrorKind>,
-}
+/// How a script ends, and how often it calls `read`, `write` and `flush`.
+type Run = (Result<(), ScriptFault>, [u64; 3]);
 
-impl Log {
-    fn new(alloc: Global) -> Log {
-        Log {
-            calls: Vec::new(alloc),
-            write_fault: None,
-            flush_fault: None,
-        }
-    }
-}
-
-impl Write for Log {
-    fn write(&mut self, buf: &[u8]) -> io::Result<usize> {
-        if let Some(kind) = self.write_fault.take() {
-            return Err(io::Error::from(kind));
-        }
-        self.calls.extend_from_slice(buf)?;
-        Ok(buf.len())
-    }
-
-    fn flush(&mut self) -> io::Result<()> {
-        self.calls.push(b'.')?;
-        match self.flush_fault {
-            Some(kind) => Err(io::Error::from(kind)),
-            None => Ok(()),
-        }
-    }
-}
-
-/// Runs a script. Asserts how it ends, how often its reader was called, and what its writer was called for.
+/// Runs a script over streams with faults.
 fn expect_run(
     rt: &impl Abort,
     alloc: Global,
-    mut reader: Input<'_>,
-    mut writer: Log,
-    end: Result<(), ScriptFault>,
-    reads: u32,
-    calls: &[u8],
+    bytes: &[u8],
+    read_fault: Option<ErrorKind>,
+    writing: Writing,
+    expected: Run,
 ) {
-    let got = run_script(alloc, &mut reader, &mut writer);
-    assert_eq!(rt; got, end);
-    assert_eq!(rt; reader.reads, reads);
-    assert_eq!(rt; writer.calls.as_slice(), calls);
+    let log = Log::new();
+    log.start(writing);
+    let mut reader = Input {
+        bytes,
+        fault: read_fault,
+        reads: 0,
+    };
+    let end = run_script(alloc, &mut reader, &mut Object(&log));
+    let [_, _, writes, flushes] = log.calls();
+    assert_eq!(rt; (end, [reader.reads, writes, flushes]), expected);
 }
 
 #[test]
 fn a_script_calls_its_streams_no_more_than_it_has_to(rt: HostRuntime) -> Result<(), Fail> {
-    let alloc = rt.alloc();
-    let too_long = vec![in alloc; b'\n'; 70_000]?;
-    let rows: [(&[u8], Result<(), ScriptFault>, u32, &[u8]); 5] = [
-        (b"kw 04 fe\nkr 04\n", Ok(()), 2, b"reset\n00\n."),
-        (b"", Ok(()), 1, b"."),
-        (b"refuse 0000000000000001\n", Ok(()), 2, b"."),
-        (b"kr 04\nkr 5\n", Err(ScriptFault::Bad(2)), 2, b"00\n"),
-        (&too_long, Err(ScriptFault::TooLong), 1, b""),
+    let too_long = vec![in rt.alloc(); b'\n'; 70_000]?;
+    let runs: [(&[u8], Run); 5] = [
+        (b"kw 04 fe\nkr 04\n", (Ok(()), [2, 2, 1])),
+        (b"", (Ok(()), [1, 0, 1])),
+        (b"refuse 0000000000000001\n", (Ok(()), [2, 0, 1])),
+        (b"kr 04\nkr 5\n", (Err(ScriptFault::Bad(2)), [2, 1, 0])),
+        (&too_long, (Err(ScriptFault::TooLong), [1, 0, 0])),
     ];
-    for (bytes, end, reads, calls) in rows {
-        expect_run(
-            &rt,
-            alloc,
-            Input::new(bytes),
-            Log::new(alloc),
-            end,
-            reads,
-            calls,
-        );
+    for (bytes, expected) in runs {
+        expect_run(&rt, rt.alloc(), bytes, None, Writing::Takes, expected);
     }
     Ok(())
 }
 
-/// Lets the first read of a script fail, then its last one, then its write, then its flush.
-fn expect_faults(rt: &impl Abort, alloc: Global, kind: ErrorKind) {
-    let fault = Err(ScriptFault::Io);
-    // `write_all` retries the write.
-    let (end, calls): (Result<(), ScriptFault>, &[u8]) = match kind {
-        ErrorKind::Interrupted => (Ok(()), b"00\n."),
-        _ => (fault, b""),
-    };
-    let first = Input {
-        fault: Some(kind),
-        ..Input::new(b"")
-    };
-    expect_run(rt, alloc, first, Log::new(alloc), fault, 1, b"");
-    let rows: [([Option<ErrorKind>; 3], Result<(), ScriptFault>, &[u8]); 3] = [
-        ([Some(kind), None, None], fault, b""),
-        ([None, Some(kind), None], end, calls),
-        ([None, None, Some(kind)], fault, b"00\n."),
-    ];
-    for ([read_fault, write_fault, flush_fault], end, calls) in rows {
-        let reader = Input {
-            fault: read_fault,
-            ..Input::new(b"kr 04\n")
-        };
-        let writer = Log {
-            write_fault,
-            flush_fault,
-            ..Log::new(alloc)
-        };
-        expect_run(rt, alloc, reader, writer, end, 2, calls);
-    }
-}
-
+/// The first read of a script fails, then its last one, then its write, then its flush.
 #[test]
 fn a_fault_of_any_kind_is_io(rt: HostRuntime) {
-    // Every error of the operating system, and other kinds.
-    for number in 1..=133 {
-        expect_faults(&rt, rt.alloc(), io::Error::from_raw_os_error(number).kind());
-    }
-    for kind in [
+    let numbers = (1..=133).map(|number| io::Error::from_raw_os_error(number).kind());
+    let others = [
         ErrorKind::InvalidData,
         ErrorKind::WriteZero,
         ErrorKind::UnexpectedEof,
         ErrorKind::Other,
-    ] {
-        expect_faults(&rt, rt.alloc(), kind);
+    ];
+    for kind in numbers.chain(others) {
+        let (fault, end) = (io::Error::from(kind), Err(ScriptFault::Io));
+        // `write_all` retries an interrupted write.
+        let (writing, written) = match kind {
+            ErrorKind::Interrupted => (Writing::IsInterrupted(1, fault), (Ok(()), [2, 2, 1])),
+            _ => (Writing::Fails(0, fault), (end, [2, 1, 0])),
+        };
+        for (bytes, read_fault, writing, expected) in [
+            (b"".as_slice(), Some(kind), Writing::Takes, (end, [1, 0, 0])),
+            (b"kr 04\n", Some(kind), Writing::Takes, (end, [2, 0, 0])),
+            (b"kr 04\n", None, writing, written),
+            (
+                b"kr 04\n",
+                None,
+                Writing::FailsToFlush(fault),
+                (end, [2, 1, 1]),
+            ),
+        ] {
+            expect_run(&rt, rt.alloc(), bytes, read_fault, writing, expected);
+        }
     }
 }

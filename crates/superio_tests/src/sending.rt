@@ -1,21 +1,139 @@
 //! What a data write asks of the writer: one `write`, and one `flush` if that succeeded. Its fault is returned as it is,
-//! whatever the port's state is, and whichever call makes the write. No contract says how often the writer is called, and
-//! of which text its fault is. tests/calls/sending.txt has one fault, over each number of held bytes and what is pending.
-use crate::faults::{faults, is_same};
-use crate::objects::{Log, Object, Port, TestBus, TestConsole, bus_at, console, port};
-use std::alloc::Global;
+//! in whatever state the port is, and whichever call makes the write. No contract says how often the writer is called,
+//! and of which text its fault is. tests/calls/sending.txt has one fault, over each number of held bytes and what is
+//! pending.
+use crate::objects::{Log, Object, Port, PortObjects, Writing, port};
+use std::alloc::{AllocError, Global};
 use std::io;
 use std::io::{ErrorKind, Write};
 use std::test::Fail;
-use superio_examples::bus::{BusError, COM1, COM2, COM3, COM4};
+use superio_examples::bus::{Bus, BusError, COM1, COM2, COM3, COM4, Keyboard};
+use superio_examples::console::Console;
+use superio_examples::event_fd::EventFd;
 use superio_examples::first_claims::send_byte;
+use superio_examples::input::Input;
+use superio_examples::output::Output;
 use superio_script::LineRefused;
 use vm_superio::run::{Call, Reply};
 use vm_superio::serial::{Error, Refused, Three};
-use vm_superio::{Serial, SerialState};
+use vm_superio::{I8042Device, Serial, SerialState, Trigger};
 
-/// The error number of an interrupted call.
-const INTERRUPTED: i32 = 4;
+// ---- faults
+
+/// The largest error number of the operating system, and numbers that it does not have.
+const LARGEST: i32 = 133;
+
+const OTHER_NUMBERS: [i32; 6] = [0, -1, LARGEST + 1, 4_095, i32::MIN, i32::MAX];
+
+/// The kinds that no number has.
+const OTHER_KINDS: [ErrorKind; 6] = [
+    ErrorKind::InvalidData,
+    ErrorKind::WriteZero,
+    ErrorKind::UnexpectedEof,
+    ErrorKind::Unsupported,
+    ErrorKind::OutOfMemory,
+    ErrorKind::Other,
+];
+
+/// Texts: none, a byte, characters of several bytes, and as many bytes as an error keeps, or more.
+const TEXTS: [&str; 6] = [
+    "",
+    "x",
+    "it has a text of its own",
+    "l'hôte a fermé la connexion: 接続が切れました",
+    "the line of the terminal that takes what the guest sends has been hung up by now",
+    "the line of the terminal that takes what the guest sends has been hung up by now, it seems",
+];
+
+/// Adds the errors of a kind without a number, with each text, unless they are there.
+fn push_kind(faults: &mut Vec<io::Error>, kind: ErrorKind) -> Result<(), Fail> {
+    let mut known = faults.iter().filter(|fault| fault.raw_os_error().is_none());
+    if known.any(|fault| fault.kind() == kind) {
+        return Ok(());
+    }
+    faults.push(io::Error::from(kind))?;
+    for text in TEXTS {
+        faults.push(io::Error::new(kind, text))?;
+    }
+    Ok(())
+}
+
+/// Errors in each way that std can make one: of each number, and of each kind by its kind alone, and with a text.
+fn faults(alloc: Global) -> Result<Vec<io::Error>, Fail> {
+    let mut faults = Vec::new(alloc);
+    for number in 1..=LARGEST {
+        let fault = io::Error::from_raw_os_error(number);
+        faults.push(fault)?;
+        push_kind(&mut faults, fault.kind())?;
+    }
+    for number in OTHER_NUMBERS {
+        faults.push(io::Error::from_raw_os_error(number))?;
+    }
+    for kind in OTHER_KINDS {
+        push_kind(&mut faults, kind)?;
+    }
+    Ok(faults)
+}
+
+/// All that a caller sees of a fault: its number, its kind, its text, and how it is printed for debugging.
+fn shown(alloc: Global, fault: &io::Error) -> Result<String, Fail> {
+    let (number, kind) = (fault.raw_os_error(), fault.kind());
+    Ok(format!(in alloc; "{number:?} {kind:?} {fault} {fault:?}")?)
+}
+
+/// What a call returned that sent a byte.
+type Sent = Result<(), Error<LineRefused>>;
+
+/// The fault that a call has to return, if any, and how often it has to call `write` and `flush`.
+type Expected = (Option<io::Error>, [u64; 2]);
+
+/// Whether a call did this, and its error prints the fault's text.
+fn is_as_expected(
+    alloc: Global,
+    log: &Log,
+    found: &Sent,
+    (fault, calls): Expected,
+) -> Result<bool, Fail> {
+    let is_same = match (found, fault) {
+        (Ok(()), None) => true,
+        (Err(lost @ Error::IOError(found)), Some(fault)) => {
+            let text = format!(in alloc; "Couldn't write/flush to the given destination: {fault}")?;
+            lost.to_string(alloc)? == text && shown(alloc, found)? == shown(alloc, &fault)?
+        }
+        _ => false,
+    };
+    Ok(is_same && [log.writes.get(), log.flushes.get()] == calls)
+}
+
+/// Where a byte is lost: its `write` fails or takes nothing, or its `flush` fails.
+#[derive(Clone, Copy)]
+enum Place {
+    Write,
+    FullWrite,
+    Flush,
+}
+
+const PLACES: [Place; 3] = [Place::Write, Place::FullWrite, Place::Flush];
+
+/// Makes the next byte fail with this fault. After interruptions it is written again.
+fn fail(log: &Log, fault: io::Error, place: Place) -> Expected {
+    let (writing, expected) = match place {
+        Place::Write if fault.kind() == ErrorKind::Interrupted => {
+            (Writing::IsInterrupted(300, fault), (None, [301, 1]))
+        }
+        Place::Write => (Writing::Fails(0, fault), (Some(fault), [1, 0])),
+        Place::FullWrite => {
+            let mut room = [0; 0];
+            let fault_of_std = room.as_mut_slice().write_all(b"x").err();
+            (Writing::TakesNone, (fault_of_std, [1, 0]))
+        }
+        Place::Flush => (Writing::FailsToFlush(fault), (Some(fault), [1, 1])),
+    };
+    log.start(writing);
+    expected
+}
+
+// ---- calls that send a byte
 
 /// Numbers that look random, the same in each run.
 fn next(numbers: &mut u64) -> u64 {
@@ -37,10 +155,9 @@ fn any_byte(numbers: &mut u64) -> u8 {
     }
 }
 
-/// Any state of a port that sends what is written to THR.
-fn any_state(alloc: Global, numbers: &mut u64) -> Result<SerialState, Fail> {
-    let held = (next(numbers) % 65) as u8;
-    let length = held.saturating_add(9);
+/// A port in any state in which it sends what is written to THR.
+fn any_port<'a>(alloc: Global, log: &'a Log, numbers: &mut u64) -> Result<Port<'a>, Fail> {
+    let length = 9 + (next(numbers) % 65) as u8;
     let mut form = b"SIOS\x01\x01".to_vec(alloc)?;
     form.extend_from_slice(&[length, 0])?;
     for _ in 0..length {
@@ -49,99 +166,9 @@ fn any_state(alloc: Global, numbers: &mut u64) -> Result<SerialState, Fail> {
     let mut state = SerialState::from_bytes(alloc, &form)?;
     state.line_control &= 0x7F;
     state.modem_control &= 0xEF;
-    Ok(state)
-}
-
-/// A port in this state.
-fn port_in<'a>(alloc: Global, log: &'a Log, state: &SerialState) -> Result<Port<'a>, Fail> {
-    let object = Object::new(log);
-    let port = Serial::from_state(alloc, state, object, object, object);
+    let object = Object(log);
+    let port = Serial::from_state(alloc, &state, object, object, object);
     Ok(port.map_err(Refused::into_error)?)
-}
-
-/// What a write returned: nothing, its writer's fault, or another error.
-type Returned = Result<(), Option<io::Error>>;
-
-fn returned(written: &Result<(), Error<LineRefused>>) -> Returned {
-    match written {
-        Ok(()) => Ok(()),
-        Err(Error::IOError(fault)) => Err(Some(*fault)),
-        Err(_) => Err(None),
-    }
-}
-
-fn returned_by_bus(written: Result<(), BusError<LineRefused, LineRefused>>) -> Returned {
-    match written {
-        Ok(()) => Ok(()),
-        Err(BusError::Serial(error)) => returned(&Err(error)),
-        Err(BusError::Reset(_)) => Err(None),
-    }
-}
-
-/// Where the next byte is lost: its `write` fails or takes nothing, or its `flush` fails.
-#[derive(Clone, Copy)]
-enum Place {
-    Write,
-    FullWrite,
-    Flush,
-}
-
-const PLACES: [Place; 3] = [Place::Write, Place::FullWrite, Place::Flush];
-
-/// What the next call is to return, and how often it is to call `write` and `flush`.
-type Expected = (Returned, (u64, u64));
-
-/// The error of std's `write_all` if a writer takes nothing.
-fn error_of_full_writer() -> Returned {
-    let mut room = [0; 0];
-    match room.as_mut_slice().write_all(b"x") {
-        Ok(()) => Ok(()),
-        Err(fault) => Err(Some(fault)),
-    }
-}
-
-/// Makes the next byte fail with this fault. After an interruption it is written again.
-fn fail(log: &Log, fault: io::Error, place: Place) -> Expected {
-    log.writes.set(0);
-    log.flushes.set(0);
-    log.interruptions.set(0);
-    log.write_fault.set(None);
-    log.is_full.set(false);
-    log.flush_fault.set(None);
-    match place {
-        Place::Write if fault.kind() == ErrorKind::Interrupted => {
-            log.interruption.set(fault);
-            log.interruptions.set(1);
-            (Ok(()), (2, 1))
-        }
-        Place::Write => {
-            log.write_fault.set(Some(fault));
-            (Err(Some(fault)), (1, 0))
-        }
-        Place::FullWrite => {
-            log.is_full.set(true);
-            (error_of_full_writer(), (1, 0))
-        }
-        Place::Flush => {
-            log.flush_fault.set(Some(fault));
-            (Err(Some(fault)), (1, 1))
-        }
-    }
-}
-
-/// Whether a call returned this, and called its writer so often.
-fn is_as_expected(
-    alloc: Global,
-    log: &Log,
-    found: Returned,
-    expected: Expected,
-) -> Result<bool, Fail> {
-    let is_returned = match (found, expected.0) {
-        (Ok(()), Ok(())) => true,
-        (Err(Some(found)), Err(Some(fault))) => is_same(alloc, &found, &fault)?,
-        _ => false,
-    };
-    Ok(is_returned && (log.writes.get(), log.flushes.get()) == expected.1)
 }
 
 /// The calls that can send a byte.
@@ -155,63 +182,62 @@ enum Way {
     NewPort,
 }
 
-const WAYS: [Way; 6] = [
-    Way::Write,
-    Way::Bus,
-    Way::PortOut,
-    Way::Forward,
-    Way::Console,
-    Way::NewPort,
-];
-
 /// What those calls are made on.
 #[derive(Drop)]
 struct Machine<'a> {
-    bus: TestBus<'a>,
-    console: TestConsole<'a>,
+    bus: Bus<Object<'a>, Object<'a>, Object<'a>, Object<'a>>,
+    console: Console<Object<'a>, Object<'a>, Object<'a>>,
 }
 
 /// A machine with ports in any state.
 fn any_machine<'a>(alloc: Global, log: &'a Log, numbers: &mut u64) -> Result<Machine<'a>, Fail> {
-    let base = match next(numbers) % 4 {
-        0 => COM1,
-        1 => COM2,
-        2 => COM3,
-        _ => COM4,
-    };
-    let mut bus = bus_at(alloc, log, base)?;
-    bus.serial = port_in(alloc, log, &any_state(alloc, numbers)?)?;
-    let mut console = console(alloc, log, 0, (next(numbers) % 4) as usize)?;
-    console.serial = port_in(alloc, log, &any_state(alloc, numbers)?)?;
-    Ok(Machine { bus, console })
-}
-
-/// Writes a byte to THR by an access of any width, at any of its places.
-fn sent_by_an_access(bus: &mut TestBus, numbers: &mut u64, value: u8) -> Returned {
-    let at = bus.base;
-    returned_by_bus(match next(numbers) % 7 {
-        0 => bus.port_out(at, &[value]),
-        1 => bus.port_out(at, &[value, 0x03]),
-        2 => bus.port_out(at.wrapping_sub(1), &[0x03, value]),
-        3 => bus.port_out(at, &[value, 0x03, 0x03, 0x03]),
-        4 => bus.port_out(at.wrapping_sub(1), &[0x03, value, 0x03, 0x03]),
-        5 => bus.port_out(at.wrapping_sub(2), &[0x03, 0x03, value, 0x03]),
-        _ => bus.port_out(at.wrapping_sub(3), &[0x03, 0x03, 0x03, value]),
+    Ok(Machine {
+        bus: Bus {
+            base: [COM1, COM2, COM3, COM4][(next(numbers) % 4) as usize],
+            keyboard: Keyboard::Silent,
+            serial: any_port(alloc, log, numbers)?,
+            controller: I8042Device::new(Object(log)),
+        },
+        console: Console {
+            serial: any_port(alloc, log, numbers)?,
+            input: Input::new(alloc, 0)?,
+            output: Output::new(alloc, (next(numbers) % 4) as usize)?,
+            is_refused: false,
+            is_early: false,
+            is_ready: false,
+        },
     })
 }
 
+/// The accesses of several widths that reach THR: how far before it they begin, and their width.
+const ACCESSES: [(u8, usize); 7] = [(0, 1), (0, 2), (1, 2), (0, 4), (1, 4), (2, 4), (3, 4)];
+
+/// The error of a bus as one of its port.
+fn of_port(error: BusError<LineRefused, LineRefused>) -> Error<LineRefused> {
+    match error {
+        BusError::Serial(error) => error,
+        BusError::Reset(refusal) => Error::Trigger(refusal),
+    }
+}
+
 /// Sends any byte.
-fn sent(alloc: Global, log: &Log, machine: &mut Machine, way: Way, numbers: &mut u64) -> Returned {
+fn sent(alloc: Global, log: &Log, machine: &mut Machine, way: Way, numbers: &mut u64) -> Sent {
     let value = any_byte(numbers);
-    let object = Object::new(log);
+    let object = Object(log);
     let Machine { bus, console } = machine;
     match way {
-        Way::Write => returned(&bus.serial.write(0, value)),
-        Way::Bus => returned_by_bus(bus.write(bus.base, value)),
-        Way::PortOut => sent_by_an_access(bus, numbers, value),
-        Way::Forward => returned(&console.output.forward(&mut bus.serial, 0, value)),
-        Way::Console => returned(&console.write(0, value)),
-        Way::NewPort => returned(&send_byte(alloc, object, object, value).map(|_| ())),
+        Way::Write => bus.serial.write(0, value),
+        Way::Bus => bus.write(bus.base, value).map_err(of_port),
+        Way::PortOut => {
+            let (before, width) = ACCESSES[(next(numbers) % 7) as usize];
+            let mut bytes = [0x03; 4];
+            bytes[usize::from(before)] = value;
+            let at = bus.base.wrapping_sub(u16::from(before));
+            bus.port_out(at, &bytes[..width]).map_err(of_port)
+        }
+        Way::Forward => console.output.forward(&mut bus.serial, 0, value),
+        Way::Console => console.write(0, value),
+        Way::NewPort => send_byte(alloc, object, object, value).map(|_| ()),
     }
 }
 
@@ -235,12 +261,19 @@ fn a_fault_of_the_writer_is_returned_as_it_is(rt: HostRuntime) -> Result<(), Fai
     for fault in faults(rt.alloc())?.iter() {
         let log = Log::new();
         let mut machine = any_machine(rt.alloc(), &log, &mut numbers)?;
-        for way in WAYS {
+        for way in [
+            Way::Write,
+            Way::Bus,
+            Way::PortOut,
+            Way::Forward,
+            Way::Console,
+            Way::NewPort,
+        ] {
             for place in PLACES {
                 let expected = fail(&log, *fault, place);
                 let found = sent(rt.alloc(), &log, &mut machine, way, &mut numbers);
                 assert!(rt;
-                    is_as_expected(rt.alloc(), &log, found, expected)?,
+                    is_as_expected(rt.alloc(), &log, &found, expected)?,
                     "{fault:?}"
                 );
                 go_on(&mut machine.bus.serial, &mut numbers);
@@ -251,66 +284,108 @@ fn a_fault_of_the_writer_is_returned_as_it_is(rt: HostRuntime) -> Result<(), Fai
     Ok(())
 }
 
-/// Sends a byte to each of two writers, in a run with a restore between, from any state.
-fn sent_by_a_run<'a>(
-    alloc: Global,
-    first: &'a Log,
-    second: &'a Log,
-    numbers: &mut u64,
-) -> Result<(Returned, Returned), Fail> {
-    let mut serial = port_in(alloc, first, &any_state(alloc, numbers)?)?;
-    let object = Object::new(second);
-    let calls = vec![in alloc;
-        Call::Write(0, any_byte(numbers)),
-        Call::Restore(Three::with_writer(object, object, object)),
-        Call::Read(5),
-        Call::Write(0, any_byte(numbers)),
-    ]?;
-    let done = serial.run(alloc, calls)?;
-    match done.as_slice() {
-        [before, _, _, after] => match (&before.reply, &after.reply) {
-            (Reply::Wrote(before), Reply::Wrote(after)) => Ok((returned(before), returned(after))),
-            _ => Ok((Err(None), Err(None))),
-        },
-        _ => Ok((Err(None), Err(None))),
-    }
-}
-
+/// In a run a byte goes to each of two writers, with a restore between.
 #[test]
 fn a_run_returns_the_fault_of_each_writer(rt: HostRuntime) -> Result<(), Fail> {
+    let alloc = rt.alloc();
     let mut numbers = 1;
-    let faults = faults(rt.alloc())?;
+    let faults = faults(alloc)?;
     for (fault, other) in faults.iter().zip(faults.iter().skip(1)) {
         for place in PLACES {
             let (first, second) = (Log::new(), Log::new());
-            let (before, after) = (fail(&first, *fault, place), fail(&second, *other, place));
-            let found = sent_by_a_run(rt.alloc(), &first, &second, &mut numbers)?;
-            assert!(rt;
-                is_as_expected(rt.alloc(), &first, found.0, before)?,
-                "{fault:?}"
-            );
-            assert!(rt;
-                is_as_expected(rt.alloc(), &second, found.1, after)?,
-                "{other:?}"
-            );
+            let before_restore = fail(&first, *fault, place);
+            let after_restore = fail(&second, *other, place);
+            let object = Object(&second);
+            let calls: Vec<Call<PortObjects>> = vec![in alloc;
+                Call::Write(0, any_byte(&mut numbers)),
+                Call::Restore(Three::with_writer(object, object, object)),
+                Call::Write(0, any_byte(&mut numbers)),
+            ]?;
+            let done = any_port(alloc, &first, &mut numbers)?.run(alloc, calls)?;
+            let [before, _, after] = done.as_slice() else {
+                return Err(Fail::from(AllocError));
+            };
+            for (done, log, expected) in [
+                (before, &first, before_restore),
+                (after, &second, after_restore),
+            ] {
+                let is_expected = match &done.reply {
+                    Reply::Wrote(found) => is_as_expected(alloc, log, found, expected)?,
+                    _ => false,
+                };
+                assert!(rt; is_expected, "{fault:?} {other:?}");
+            }
+        }
+    }
+    Ok(())
+}
+
+/// Of its eight bytes some were taken before. After an interruption they are written again.
+#[test]
+fn an_event_is_one_write_and_returns_its_fault(rt: HostRuntime) -> Result<(), Fail> {
+    let log = Log::new();
+    let mut event = EventFd { file: Object(&log) };
+    for fault in faults(rt.alloc())?.iter() {
+        for taken in 0..8usize {
+            if fault.kind() != ErrorKind::Interrupted {
+                log.start(Writing::Fails(taken, *fault));
+                let found = event.trigger().map_err(Error::IOError);
+                let expected = (Some(*fault), [1 + u64::from(taken > 0), 0]);
+                assert!(rt;
+                    is_as_expected(rt.alloc(), &log, &found, expected)?,
+                    "{fault:?}"
+                );
+            }
+        }
+        log.start(Writing::Takes);
+        assert!(rt; event.trigger().is_ok() && log.calls() == [0, 0, 1, 0]);
+    }
+    Ok(())
+}
+
+/// Any number of bytes waits, at any place of the ring.
+#[test]
+fn a_drained_output_is_one_write_and_returns_its_fault(rt: HostRuntime) -> Result<(), Fail> {
+    let alloc = rt.alloc();
+    let log = Log::new();
+    let mut output = Output::new(alloc, 320)?;
+    let bytes = b"waiting ".repeat(alloc, 40)?;
+    for (number, fault) in faults(alloc)?.iter().enumerate() {
+        for step in 0..4usize {
+            let waiting = &bytes[..(number + 80 * step) % 321];
+            assert!(rt; output.write(waiting).ok() == Some(waiting.len()));
+            log.start(Writing::Fails(0, *fault));
+            let drained = output.drain_into(&mut Object(&log));
+            let found = drained.map(|_| ()).map_err(Error::IOError);
+            let expected = (Some(*fault), [1, 0]);
+            assert!(rt; is_as_expected(alloc, &log, &found, expected)?, "{fault:?}");
+            assert!(rt; output.waiting(alloc)?.as_slice() == waiting && output.dropped() == 0);
+            log.start(Writing::Takes);
+            assert!(rt; output.drain_into(&mut Object(&log)).ok() == Some(waiting.len()));
+            assert!(rt; log.calls() == [0, 0, 1, 0]);
         }
     }
     Ok(())
 }
 
 #[test]
-fn an_interrupted_byte_is_taken_and_flushed_once(rt: HostRuntime) -> Result<(), Fail> {
-    for interruption in [
-        io::Error::from(ErrorKind::Interrupted),
-        io::Error::new(ErrorKind::Interrupted, "later"),
-        io::Error::from_raw_os_error(INTERRUPTED),
+fn the_writer_is_asked_once_for_each_byte(rt: HostRuntime) -> Result<(), Fail> {
+    let fault = io::Error::from_raw_os_error(5);
+    for (writing, is_taken, flushes) in [
+        (Writing::Takes, true, 100_000),
+        (Writing::Fails(0, fault), false, 0),
+        (Writing::FailsToFlush(fault), false, 100_000),
     ] {
         let log = Log::new();
-        log.interruption.set(interruption);
-        log.interruptions.set(300);
+        log.start(writing);
         let mut serial = port(rt.alloc(), &log)?;
-        assert!(rt; serial.write(0, b'A').is_ok());
-        assert!(rt; (log.writes.get(), log.flushes.get()) == (301, 1));
+        for number in 0..100_000u32 {
+            assert!(rt;
+                serial.write(0, (number % 251) as u8).is_ok() == is_taken,
+                "{number}"
+            );
+        }
+        assert!(rt; [log.writes.get(), log.flushes.get()] == [100_000, flushes]);
     }
     Ok(())
 }

@@ -16,8 +16,6 @@
  * Prints the seed and what was tried. Exits with 1 if a paste goes wrong, or if
  * too little was tried.
  */
-#include "chance.h"
-
 #include <superio.h>
 
 #include <stdio.h>
@@ -58,6 +56,20 @@ struct machine {
     size_t taken;           /* how much of that the port took, */
     size_t received;        /* and how much of that the guest received */
 };
+
+static uint64_t state; /* of random numbers, and not 0 */
+
+/* A random number of 64 bits: xorshift64*. */
+static uint64_t draw(void) {
+    state ^= state >> 12;
+    state ^= state << 25;
+    state ^= state >> 27;
+    return state * 0x2545F4914F6CDD1D;
+}
+
+static uint64_t below(uint64_t bound) { return (draw() >> 11) % bound; }
+
+static bool one_in(uint64_t count) { return below(count) == 0; }
 
 /* A power of two. Each exponent from 0 to `most` is equally likely, so that small and large sizes both occur. */
 static uint64_t power(unsigned most) { return (uint64_t)1 << below(most + 1); }

@@ -1,7 +1,9 @@
 //! Reads saved forms, and writes what became of each. tools/checks/saved_forms runs it.
 //!
-//! The records of standard input and the replies are those of tools/c/saved_forms.c. A reply has no bytes after a refusal,
-//! since nothing is changed. 255 in place of its first byte says that an error names a version that the bytes do not have.
+//! Standard input has records: the device's kind, the number of bytes as four bytes, lowest first, and the bytes. For each,
+//! standard output has the status of the load, the number of bytes of the form that the device then has, and that form. A
+//! reply has no bytes after a refusal, since nothing is changed. 255 in place of its first byte says that an error names a
+//! version that the bytes do not have.
 use std::io::{self, BufWriter, Read, Write};
 
 use ours::SerialState;

@@ -2,29 +2,40 @@
 //! that is given.
 use super::any_lines::{any_line, any_script};
 use super::source::Source;
-use super::{Port, PortObjects};
+use crate::calls::objects::{Log, Object};
 use crate::fields::port_state;
 use std::alloc::{AllocError, Global};
 use std::io;
 use superio_script::{Board, Counts, Line, LineFault, Output, ScriptFault, run_script};
 use vm_superio::run::{Call, Done, Reply};
-use vm_superio::serial::{Error, Port as PortOverOne, SerialPort, Three};
+use vm_superio::serial::{Error, Objects, Port as PortOverOne, SerialPort, Three, WriterOut};
 use vm_superio::{Serial, SerialState, laws, saved};
+
+type Port = Serial<Line, Counts, Output>;
+
+type PortObjects = Three<Line, Counts, WriterOut<Output>>;
 
 /// A port over one object.
 type OnePort = PortOverOne<PortObjects>;
 
+/// A port whose objects note their calls.
+type NotedPort<'a> = Serial<Object<'a>, Object<'a>, Object<'a>>;
+
+type NotedObjects<'a> = Three<Object<'a>, Object<'a>, WriterOut<Object<'a>>>;
+
 /// The calls.
-pub const CALLS: [&str; 21] = [
+pub const CALLS: [&str; 23] = [
     "Serial::new",
     "Serial::with_events",
     "Serial::from_state",
     "Serial::state",
     "Serial::run",
+    "Serial::run, restores",
     "Port::new",
     "Port::from_state",
     "Port::state",
     "Port::run",
+    "SerialState::default",
     "SerialState::clone",
     "SerialState::from_bytes",
     "SerialState::from_port",
@@ -41,16 +52,18 @@ pub const CALLS: [&str; 21] = [
 
 /// What a call is made of.
 #[derive(Drop)]
-pub enum Prepared {
+pub enum Prepared<'a> {
     New(Line),
     WithEvents(Line),
     FromState(SerialState, Line),
     State(Port),
     Run(Port, Vec<Call<PortObjects>>),
+    RunOfRestores(NotedPort<'a>, Vec<Call<NotedObjects<'a>>>, &'a Log),
     NewOne(PortObjects),
     OneFromState(SerialState, PortObjects),
     StateOfOne(OnePort),
     RunOne(OnePort, Vec<Call<PortObjects>>),
+    Default,
     Copy(SerialState),
     FromBytes(Vec<u8>),
     FromPort(SerialPort),
@@ -211,13 +224,31 @@ fn text(alloc: Global, text: &str) -> Result<String, AllocError> {
     String::from_str(alloc, text)
 }
 
+/// A run of restores, at most 64. If memory is refused for its records, it may call no object.
+fn any_restores<'a>(
+    alloc: Global,
+    log: &'a Log,
+    length: usize,
+) -> Result<Prepared<'a>, AllocError> {
+    let object = Object(log);
+    let Ok(port) = Serial::with_events(alloc, object, object, object) else {
+        return Err(AllocError);
+    };
+    let mut calls = Vec::new(alloc);
+    for _ in 0..length.min(64) {
+        calls.push(Call::Restore(Three::with_writer(object, object, object)))?;
+    }
+    Ok(Prepared::RunOfRestores(port, calls, log))
+}
+
 /// Prepares a call of a port by its place in `CALLS`.
-fn prepare_port(
+fn prepare_port<'a>(
     alloc: Global,
     call: usize,
+    log: &'a Log,
     source: &mut Source,
     length: usize,
-) -> Result<Prepared, AllocError> {
+) -> Result<Prepared<'a>, AllocError> {
     let line = Line::new(source.number());
     Ok(match call {
         0 => Prepared::New(line),
@@ -228,9 +259,10 @@ fn prepare_port(
             any_port(alloc, source, length)?,
             any_calls(alloc, source, length)?,
         ),
-        5 => Prepared::NewOne(any_objects(source)),
-        6 => Prepared::OneFromState(any_saved(alloc, source, length)?, any_objects(source)),
-        7 => Prepared::StateOfOne(any_one_port(alloc, source, length)?),
+        5 => any_restores(alloc, log, length)?,
+        6 => Prepared::NewOne(any_objects(source)),
+        7 => Prepared::OneFromState(any_saved(alloc, source, length)?, any_objects(source)),
+        8 => Prepared::StateOfOne(any_one_port(alloc, source, length)?),
         _ => Prepared::RunOne(
             any_one_port(alloc, source, length)?,
             any_calls(alloc, source, length)?,
@@ -238,26 +270,28 @@ fn prepare_port(
     })
 }
 
-/// Prepares a call by its place in `CALLS`.
-pub fn prepare(
+/// Prepares a call by its place in `CALLS`. `log` is for the objects that note their calls.
+pub fn prepare<'a>(
     alloc: Global,
     call: usize,
+    log: &'a Log,
     source: &mut Source,
     length: usize,
-) -> Result<Prepared, AllocError> {
+) -> Result<Prepared<'a>, AllocError> {
     Ok(match call {
-        0..=8 => prepare_port(alloc, call, source, length)?,
-        9 => Prepared::Copy(any_state(alloc, source, length)?),
-        10 => Prepared::FromBytes(any_bytes(alloc, source, length)?),
-        11 => Prepared::FromPort(any_value(alloc, source, length)?),
-        12 => Prepared::WrittenThenRead(any_state(alloc, source, length % 65)?),
-        13 => Prepared::ReadThenWritten(any_bytes(alloc, source, length)?),
-        14 => Prepared::ToPortAndBack(any_state(alloc, source, length % 65)?),
-        15 => Prepared::ToStateAndBack(any_value(alloc, source, length)?),
-        16 => Prepared::NewBoard(source.number()),
-        17 => Prepared::Board(any_board(alloc, source, length)?, text(alloc, "sb")?),
-        18 => Prepared::Board(any_board(alloc, source, length)?, text(alloc, "ss")?),
-        19 => {
+        0..=9 => prepare_port(alloc, call, log, source, length)?,
+        10 => Prepared::Default,
+        11 => Prepared::Copy(any_state(alloc, source, length)?),
+        12 => Prepared::FromBytes(any_bytes(alloc, source, length)?),
+        13 => Prepared::FromPort(any_value(alloc, source, length)?),
+        14 => Prepared::WrittenThenRead(any_state(alloc, source, length % 65)?),
+        15 => Prepared::ReadThenWritten(any_bytes(alloc, source, length)?),
+        16 => Prepared::ToPortAndBack(any_state(alloc, source, length % 65)?),
+        17 => Prepared::ToStateAndBack(any_value(alloc, source, length)?),
+        18 => Prepared::NewBoard(source.number()),
+        19 => Prepared::Board(any_board(alloc, source, length)?, text(alloc, "sb")?),
+        20 => Prepared::Board(any_board(alloc, source, length)?, text(alloc, "ss")?),
+        21 => {
             let line = any_load(alloc, source, length)?;
             Prepared::Board(any_board(alloc, source, length)?, line)
         }
@@ -282,6 +316,10 @@ pub fn is_refused(alloc: Global, call: Prepared) -> bool {
         }
         Prepared::State(port) => port.state(alloc).is_err(),
         Prepared::Run(mut port, calls) => is_refused_run(&port.run(alloc, calls)),
+        Prepared::RunOfRestores(mut port, calls, log) => {
+            let run = port.run(alloc, calls);
+            is_refused_run(&run) && (run.is_ok() || log.take().is_empty())
+        }
         Prepared::NewOne(objects) => PortOverOne::new(alloc, objects).is_err(),
         Prepared::OneFromState(state, objects) => {
             let made = PortOverOne::from_state(alloc, &state, objects);
@@ -296,6 +334,7 @@ pub fn is_refused(alloc: Global, call: Prepared) -> bool {
 /// Whether a call that is not of a port returned that memory was refused.
 fn is_refused_elsewhere(alloc: Global, call: Prepared) -> bool {
     match call {
+        Prepared::Default => !SerialState::default(alloc).is_coherent(),
         Prepared::Copy(state) => state.clone(alloc).is_err(),
         Prepared::FromBytes(bytes) => is_memory(&SerialState::from_bytes(alloc, &bytes)),
         Prepared::FromPort(port) => SerialState::from_port(alloc, &port).is_err(),
@@ -328,13 +367,13 @@ fn is_memory<T>(made: &Result<T, saved::Error>) -> bool {
 }
 
 /// Whether a run, or a restore of it, was refused memory.
-fn is_refused_run(run: &Result<Vec<Done<PortObjects>>, AllocError>) -> bool {
+fn is_refused_run<O: Objects>(run: &Result<Vec<Done<O>>, AllocError>) -> bool {
     match run {
         Ok(done) => done.iter().any(is_refused_restore),
         Err(AllocError) => true,
     }
 }
 
-fn is_refused_restore(done: &Done<PortObjects>) -> bool {
+fn is_refused_restore<O: Objects>(done: &Done<O>) -> bool {
     matches!(&done.reply, Reply::NotRestored(refused) if matches!(refused.error, Error::Memory))
 }

@@ -1,0 +1,291 @@
+//! The programs to copy at work, with values from data sheets, from PCs and from guests.
+#![tactic(auto, unfolding(superio_core::specs::Bits::has_bits))]
+
+use crate::objects::{Log, Object, port};
+use std::test::Fail;
+use superio_examples::alarm::{Alarm, alarm_at, find_alarm};
+use superio_examples::bus::{Bus, BusError, COM1, COM2, COM3, COM4, Keyboard};
+use superio_examples::console::Console;
+use superio_examples::input::Input;
+use superio_examples::interrupt_driver::{Feed, handle_repeatedly};
+use superio_examples::interrupts::TimedPort;
+use superio_examples::mmio::ClockWindow;
+use superio_examples::output::Output;
+use vm_superio::serial::SerialPort;
+use vm_superio::{I8042Device, Rtc};
+
+// ---- buses
+
+/// Writes of one, two or four bytes, or of none that a guest has. At the first bus the keyboard is silent, and at the
+/// second there is none.
+const WRITES: [(u16, &[u8]); 16] = [
+    // The first guest enables RDA, and the second THRE.
+    (0x3F9, b"\x01"),
+    (0x2F9, b"\x02"),
+    // The scratch registers.
+    (0x3FF, b"\x11"),
+    (0x2FF, b"\x22"),
+    // LCR to LSR, which cannot be written.
+    (0x3FB, b"\x1B\x02\xFF\xFF"),
+    // Bytes to send, one with IER.
+    (0x3F8, b"a\x01"),
+    (0x2F8, b"b"),
+    (0x2F8, b"c"),
+    // A length that no guest has, and ports of no device.
+    (0x3FF, b"abc"),
+    (0x3F7, b"\xFE"),
+    (0x400, b"\xFE"),
+    (0x5F, b"\xFE"),
+    (0x61, b"\xFE"),
+    (0x63, b"\xFE"),
+    (0x65, b"\xFE"),
+    (0xFFFF, b"\xFE"),
+];
+
+/// What reads then give at the first bus and at the second.
+const READS: [(u16, &[u8], &[u8]); 16] = [
+    // IIR to LSR, RBR, IER and the scratch register.
+    (0x3FA, b"\xC4\x1B\x02\x61", b"\xFF\xFF\xFF\xFF"),
+    (0x2FA, b"\xFF\xFF\xFF\xFF", b"\xC2\x03\x08\x60"),
+    (0x3F8, b"x\x01", b"\xFF\xFF"),
+    (0x2F8, b"\xFF\xFF", b"\x00\x02"),
+    (0x3FF, b"\x11", b"\xFF"),
+    (0x2FF, b"\xFF", b"\x22"),
+    // The controller, and ports beside it.
+    (0x60, b"\x00", b"\xFD"),
+    (0x64, b"\x00", b"\xFD"),
+    (0x5F, b"\xFF\x00", b"\xFF\xFD"),
+    (0x61, b"\xFF\xFF", b"\xFF\xFF"),
+    (0x63, b"\xFF\x00", b"\xFF\xFD"),
+    (0x65, b"\xFF", b"\xFF"),
+    // The ends of the first device, and of all ports.
+    (0x3F7, b"\xFF\x00", b"\xFF\xFF"),
+    (0x3FE, b"\xB0\x11\xFF\xFF", b"\xFF\xFF\xFF\xFF"),
+    (0xFFFF, b"\xFF\xFF", b"\xFF\xFF"),
+    // A length that no guest has.
+    (0x3FD, b"\xFF\xFF\xFF", b"\xFF\xFF\xFF"),
+];
+
+#[test]
+fn buses_reach_their_devices_by_port(rt: HostRuntime) -> Result<(), Fail> {
+    assert!(rt; [COM1, COM2, COM3, COM4] == [0x3F8, 0x2F8, 0x3E8, 0x2E8]);
+    let logs = [Log::new(), Log::new()];
+    let mut first = Bus {
+        base: COM1,
+        keyboard: Keyboard::Silent,
+        serial: port(rt.alloc(), &logs[0])?,
+        controller: I8042Device::new(Object(&logs[0])),
+    };
+    let mut second = Bus {
+        base: COM2,
+        keyboard: Keyboard::Absent,
+        serial: port(rt.alloc(), &logs[1])?,
+        controller: I8042Device::new(Object(&logs[1])),
+    };
+    // Both are offered every access.
+    for (at, bytes) in WRITES {
+        assert!(rt; first.port_out(at, bytes).is_ok(), "{at:#x}");
+        assert!(rt; second.port_out(at, bytes).is_ok(), "{at:#x}");
+    }
+    assert!(rt; first.serial.enqueue_raw_bytes(b"x").ok() == Some(1));
+    assert!(rt; [logs[0].calls(), logs[1].calls()] == [[1, 1, 1, 1], [1, 2, 2, 2]]);
+    for (at, of_first, of_second) in READS {
+        let mut bytes = [0xAA; 4];
+        for (bus, expected) in [(&mut first, of_first), (&mut second, of_second)] {
+            let read = &mut bytes[..expected.len()];
+            bus.port_in(at, read);
+            assert!(rt; *read == *expected, "{at:#x}");
+        }
+    }
+    // The first reset is refused, and then an interrupt. The second byte of that write reaches IER all the same.
+    let log = &logs[0];
+    log.refused.set(2);
+    assert!(rt; matches!(first.write(0x64, 0xFE), Err(BusError::Reset(_))));
+    assert!(rt; first.write(0x64, 0xFE).is_ok() && log.triggers.get() == 3);
+    assert!(rt; first.write(0x3F9, 0x02).is_ok() && first.read(0x3FA) == 0xC2);
+    log.refused.set(5);
+    assert!(rt; matches!(first.port_out(0x3F8, b"d\x00"), Err(BusError::Serial(_))));
+    assert!(rt; first.read(0x3F9) == 0x00);
+    Ok(())
+}
+
+// ---- clocks
+
+/// Where a clock's window begins.
+const BASE: u64 = 0x10_0000_0000;
+
+/// Reads of so many bytes, seven seconds after the guest has set 1,000, and what they leave of bytes 0xAA.
+const CLOCK_READS: [(u64, usize, [u8; 4]); 15] = [
+    (BASE, 4, [0xEF, 0x03, 0, 0]),
+    // Parts of a register, of two, and of none.
+    (BASE, 2, [0xEF, 0x03, 0xAA, 0xAA]),
+    (BASE + 1, 1, [0x03, 0xAA, 0xAA, 0xAA]),
+    (BASE + 3, 2, [0, 0, 0xAA, 0xAA]),
+    (BASE, 3, [0, 0, 0, 0xAA]),
+    (BASE + 0xFDC, 4, [0; 4]),
+    // The identification, as EDK II reads it.
+    (BASE + 0xFE0, 1, [0x31, 0xAA, 0xAA, 0xAA]),
+    (BASE + 0xFE4, 1, [0x10, 0xAA, 0xAA, 0xAA]),
+    (BASE + 0xFE8, 1, [0x04, 0xAA, 0xAA, 0xAA]),
+    (BASE + 0xFF0, 1, [0x0D, 0xAA, 0xAA, 0xAA]),
+    (BASE + 0xFFC, 1, [0xB1, 0xAA, 0xAA, 0xAA]),
+    (BASE + 0xFE0, 4, [0x31, 0, 0, 0]),
+    // Outside.
+    (BASE - 4, 4, [0; 4]),
+    (BASE + 0x1000, 4, [0; 4]),
+    (0, 4, [0; 4]),
+];
+
+#[test]
+fn a_clock_is_reached_in_its_window(rt: HostRuntime) {
+    let log = Log::new();
+    let mut window = ClockWindow {
+        base: BASE,
+        clock: Rtc::with_events(Object(&log)),
+    };
+    window.write(BASE + 8, &1_000u32.to_le_bytes(), 1_700_000_000);
+    for (address, length, left) in CLOCK_READS {
+        let mut bytes = [0xAA; 4];
+        window.read(address, &mut bytes[..length.min(4)], 1_700_000_007);
+        assert!(rt; bytes == left, "{address:#x}");
+    }
+    for length in [1, 2, 3, 8] {
+        window.write(BASE + 4, &[0xFF; 8][..length], 1_700_000_007);
+    }
+    // Three reads and four writes in the window reached no register.
+    assert!(rt; window.clock.state().mr == 0 && log.calls() == [0, 7, 0, 0]);
+}
+
+#[test]
+fn an_alarm_is_found_when_the_timer_goes_off(rt: HostRuntime) {
+    let log = Log::new();
+    let mut clock = Rtc::with_events(Object(&log));
+    let alarm = |line, next| Alarm { line, next };
+    assert!(rt; alarm_at(&clock, 1_000) == alarm(false, None));
+    // The guest unmasks the interrupt and sets an alarm in a minute.
+    clock.write(0x010, &1u32.to_le_bytes(), 1_000);
+    clock.write(0x004, &1_060u32.to_le_bytes(), 1_000);
+    assert!(rt; alarm_at(&clock, 1_000) == alarm(false, Some(1_060)));
+    assert!(rt; find_alarm(&mut clock, 1_059) == alarm(false, Some(1_060)));
+    assert!(rt; find_alarm(&mut clock, 1_060) == alarm(true, None));
+    // It is cleared.
+    clock.write(0x01C, &1u32.to_le_bytes(), 1_061);
+    assert!(rt; alarm_at(&clock, 1_061) == alarm(false, None));
+}
+
+// ---- consoles
+
+/// Eighty bytes.
+const INPUT: [u8; 80] = *b"\
+0123456789abcdefghijABCDEFGHIJ)!@#$%^&*(9876543210\
+jihgfedcbaJIHGFEDCBA(*&^%$#@!)";
+
+/// An event loop without poll, over 80 bytes of input, for a guest that reads when it is interrupted. The trigger
+/// refuses its calls in the first eight turns, and the source has no more bytes from the sixth turn on. A loop that
+/// stops there ends with its source, or waits for more bytes in a blocking read.
+#[test]
+fn a_loop_without_poll_serves_what_its_source_left(rt: HostRuntime) -> Result<(), Fail> {
+    for (stops, expected, held, room) in [(true, 0, 64, 0), (false, 80, 0, 16)] {
+        let log = Log::new();
+        let mut console = Console {
+            serial: port(rt.alloc(), &log)?,
+            input: Input::new(rt.alloc(), 16)?,
+            output: Output::new(rt.alloc(), 0)?,
+            is_refused: false,
+            is_early: false,
+            is_ready: false,
+        };
+        console.write(1, 0x01)?;
+        let (mut rest, mut served) = (&INPUT[..], 0usize);
+        for turn in 0..20 {
+            let next = log.triggers.get().wrapping_add(1);
+            log.refused.set(if turn < 8 { next } else { 0 });
+            console.retry();
+            let count = console.receive(rest);
+            rest = &rest[count..];
+            if rest.is_empty() && (stops || !console.is_refused && console.input.room() == 16) {
+                break;
+            }
+            if !console.is_refused {
+                for byte in INPUT.iter().skip(served) {
+                    if console.read(5) & 0x01 == 0 {
+                        break;
+                    }
+                    served = served.wrapping_add(usize::from(console.read(0) == *byte));
+                }
+            }
+            console.character_timeout();
+        }
+        assert!(rt; served == expected, "{stops}");
+        // After a reset input waits until the next guest is ready: it has enabled RDA, and not THRE, as a test of the
+        // port does. SeaBIOS finds a port if IIR shows THRE alone.
+        log.refused.set(0);
+        let old = console.reset(port(rt.alloc(), &log)?);
+        assert!(rt; (old.fifo_capacity(), console.receive(&INPUT)) == (64 - held, room));
+        console.write(1, 0x0F)?;
+        assert!(rt; console.read(5) == 0x60 && console.read(2) == 0xC2);
+        console.write(1, 0x05)?;
+        assert!(rt; console.read(5) == 0x61 && console.input.room() == 16);
+    }
+    Ok(())
+}
+
+// ---- handlers of interrupts
+
+/// The most bytes that a handler takes between two reads of IIR, how often it runs, the sizes of the arrivals before
+/// its reads, and which bytes the guest got, by hand: `ab` is held at first, and `cdef` arrives.
+type Runs = (usize, usize, &'static [usize], &'static [u8]);
+
+const RUNS: [Runs; 20] = [
+    // A run reads IIR, LSR, RBR and IIR, so each fourth arrival is between two runs.
+    (1, 0, &[1], b""),
+    (1, 1, &[], b"a"),
+    // The timeout after the first run asks for the second.
+    (1, 2, &[], b"ab"),
+    (1, 3, &[], b"ab"),
+    // Before LSR and before RBR, whose read ends RDA: the byte waits for the third run.
+    (1, 2, &[0, 1, 1], b"ab"),
+    (1, 3, &[0, 1, 1], b"abc"),
+    // Before the last read of IIR, which finds RDA: the run goes on.
+    (1, 1, &[0, 0, 0, 4], b"ab"),
+    (1, 3, &[0, 0, 0, 4], b"abcd"),
+    // Between the first two runs.
+    (1, 2, &[0, 0, 0, 0, 2], b"ab"),
+    (1, 4, &[0, 0, 0, 0, 2], b"abcd"),
+    // Between the second run, which leaves no byte, and the third.
+    (1, 3, &[0, 0, 0, 0, 0, 0, 0, 0, 2], b"abc"),
+    (1, 4, &[0, 0, 0, 0, 0, 0, 0, 0, 2], b"abcd"),
+    // A run of Linux's handler reads IIR, LSR and RBR for each byte, LSR, and IIR.
+    (256, 0, &[1], b""),
+    (256, 1, &[], b"ab"),
+    // Before the last read of LSR, which shows it, and before that of IIR, which finds RDA.
+    (256, 1, &[0, 0, 0, 0, 0, 2], b"abcd"),
+    (256, 1, &[0, 0, 0, 0, 0, 0, 2], b"abcd"),
+    // Between the first two runs.
+    (256, 1, &[0, 0, 0, 0, 0, 0, 0, 2], b"ab"),
+    (256, 2, &[0, 0, 0, 0, 0, 0, 0, 2], b"abcd"),
+    // Before the last read of IIR, and between the two runs.
+    (256, 1, &[0, 0, 0, 0, 0, 0, 1, 0, 0, 0, 0, 3], b"abc"),
+    (256, 2, &[0, 0, 0, 0, 0, 0, 1, 0, 0, 0, 0, 3], b"abcdef"),
+];
+
+#[test]
+fn a_handler_that_runs_again_gets_what_waited(rt: HostRuntime) -> Result<(), Fail> {
+    for (bound, runs, sizes, expected) in RUNS {
+        let mut port = SerialPort::new();
+        port.write(1, 0x01);
+        port.enqueue_raw_bytes(b"ab");
+        let mut timed = TimedPort::new(port);
+        let registers = timed.port.registers;
+        assert!(rt; registers.interrupt_enable & 0x01 == 0x01 && registers.line_control == 0x03);
+        assert!(rt; bound >= 1);
+        let mut got = Vec::new(rt.alloc());
+        let mut feed = Feed {
+            rest: b"cdef",
+            sizes,
+        };
+        handle_repeatedly(&mut timed, bound, runs, &mut feed, &mut got)?;
+        assert!(rt; got.as_slice() == expected, "{bound}: {runs}, {sizes:?}");
+    }
+    Ok(())
+}

@@ -1,0 +1,114 @@
+//! The programs to copy succeed at any size. A body that gives up above one, as without memory, meets each contract.
+use crate::objects::{Log, Object, PortObjects, port};
+use std::io::Write;
+use std::test::Fail;
+use superio_examples::driver::{receive_all, run_polled};
+use superio_examples::first_claims::read_back;
+use superio_examples::input::Input;
+use superio_examples::interrupt_driver::{receive_all_by_interrupts, receive_all_in_pieces};
+use superio_examples::migration::{restore, restore_input, save};
+use superio_examples::monitor::{Event, Monitor};
+use superio_examples::output::Output;
+use superio_examples::saved_monitor::run_on_two;
+use vm_superio::Rtc;
+use vm_superio::rtc_pl031::saved_form::SAVED_SIZE;
+use vm_superio::run::Call;
+
+/// Sizes about the FIFO's, and above any that a body could have in mind.
+const SIZES: [usize; 7] = [0, 1, 63, 64, 65, 1_000, 100_000];
+
+/// The bytes that a handler takes between two reads of IIR: Xen's, one between, and Linux's.
+const BOUNDS: [usize; 3] = [1, 5, 256];
+
+/// Arrivals in turns and between a handler's reads: none, and some.
+const ARRIVALS: [&[usize]; 3] = [
+    &[],
+    &[1, 0, 64, 3, 200, 0, 7],
+    &[
+        0, 1, 1, 1, 1, 1, 1, 1, 1, 1, 1, 1, 2, 0, 0, 5, 1, 1, 64, 0, 64,
+    ],
+];
+
+#[test]
+fn guests_get_all_input(rt: HostRuntime) -> Result<(), Fail> {
+    let alloc = rt.alloc();
+    let log = Log::new();
+    let object = Object(&log);
+    let input = b"guest's ".repeat(alloc, 12_500)?;
+    for size in SIZES {
+        let part = &input[..size];
+        let read = read_back(alloc, object, object, part)?;
+        assert!(rt; read.as_slice() == &part[..size.min(64)]);
+        assert!(rt; receive_all(alloc, object, object, part)?.as_slice() == part);
+        for bound in BOUNDS {
+            for arrivals in ARRIVALS {
+                let got = receive_all_by_interrupts(alloc, object, bound, part, arrivals)?;
+                assert!(rt; got.as_slice() == part, "{bound}: {size}");
+                let got = receive_all_in_pieces(alloc, bound, part, arrivals)?;
+                assert!(rt; got.as_slice() == part, "{bound}: {size}, without objects");
+            }
+        }
+        let mut serial = port(alloc, &log)?;
+        let mut calls: Vec<Call<PortObjects>> = vec![in alloc; Call::Enqueue(part.to_vec(alloc)?)]?;
+        for _ in 0..size {
+            calls.push(Call::Read(5))?;
+        }
+        assert!(rt; run_polled(alloc, &mut serial, calls)?.len() == size + 1);
+    }
+    // Nothing was sent, and no interrupt was enabled.
+    assert!(rt; log.calls() == [0; 4]);
+    Ok(())
+}
+
+#[test]
+fn queues_take_as_many_bytes_as_they_may(rt: HostRuntime) -> Result<(), Fail> {
+    let alloc = rt.alloc();
+    let log = Log::new();
+    let (serial, clock) = (port(alloc, &log)?, Rtc::new());
+    let bytes = b"waiting ".repeat(alloc, 12_500)?;
+    for size in SIZES {
+        let part = &bytes[..size];
+        let mut input = Input::new(alloc, size)?;
+        assert!(rt; input.push(&bytes) == size && input.room() == 0 && input.limit() == size);
+        let mut output = Output::new(alloc, size)?;
+        assert!(rt; output.write(part).ok() == Some(size) && output.write(b"abc").ok() == Some(0));
+        assert!(rt; output.waiting(alloc)?.as_slice() == part && output.dropped() == 3);
+        assert!(rt; output.limit() == size && output.flush().is_ok());
+        let saved = save(alloc, &serial, &clock, &input)?;
+        for limit in [0, size, 2 * size] {
+            let restored = restore_input(alloc, &saved, limit)?;
+            assert!(rt; restored.waiting(alloc)?.as_slice() == part, "{size}");
+            assert!(rt; restored.room() == limit.saturating_sub(size), "{size}");
+        }
+        // A monitor with as much input and output moves, and takes a byte of both for another one.
+        let mut monitor = Monitor::new(alloc, size, size)?;
+        let mut events = Vec::new(alloc);
+        for _ in 0..size {
+            events.push(Event::Typed(b'a'))?;
+            events.push(Event::PortWrite(0x3F8, b'b'))?;
+        }
+        let moved = run_on_two(alloc, &mut monitor, &events, &events[..size.min(2)])?;
+        assert!(rt; moved.before.len() == 2 * size && moved.after.len() == size.min(2));
+        assert!(rt; moved.monitor.output.waiting(alloc)?.len() == size);
+        assert!(rt; moved.monitor.input.waiting(alloc)?.len() == size);
+    }
+    Ok(())
+}
+
+#[test]
+fn devices_move_however_many_bytes_are_held(rt: HostRuntime) -> Result<(), Fail> {
+    let alloc = rt.alloc();
+    let log = Log::new();
+    let object = Object(&log);
+    let mut serial = port(alloc, &log)?;
+    let (clock, input) = (Rtc::with_events(object), Input::new(alloc, 0)?);
+    for count in 0..=64usize {
+        let saved = save(alloc, &serial, &clock, &input)?;
+        assert!(rt; saved.serial.len() == 17 + count && saved.clock.len() == SAVED_SIZE);
+        let restored = restore(alloc, &saved, object, object, object, object);
+        let moved = restored.ok().expect(&rt, "restored devices");
+        assert!(rt; save(alloc, &moved.serial, &moved.clock, &input)? == saved);
+        assert!(rt; serial.enqueue_raw_bytes(b"a").is_ok() == (count < 64));
+    }
+    Ok(())
+}
