@@ -353,9 +353,10 @@ fn an_enqueue_of_any_length_takes_the_first_bytes_that_fit() {
 fn one_write_resets_the_machine_and_a_refusal_is_passed_on() {
     let mut controller = I8042Device::new(Line::refusing(0b10));
     assert_eq!(controller.read(4), 0);
-    controller.write(4, 0xFF).unwrap();
-    controller.write(5, 0xFE).unwrap();
-    assert_eq!(controller.reset_evt().calls.get(), 0);
+    for (offset, value) in [(4, 0xFF), (4, 0xEF), (5, 0xFE), (0, 0xFE), (0xFE, 4)] {
+        controller.write(offset, value).unwrap();
+        assert_eq!(controller.reset_evt().calls.get(), 0, "{offset:#x} {value:#x}");
+    }
     controller.write(4, 0xFE).unwrap();
     assert_eq!(controller.write(4, 0xFE), Err("refused"));
     assert_eq!(controller.reset_evt().calls.get(), 2);
