@@ -353,9 +353,10 @@ fn an_enqueue_of_any_length_takes_the_first_bytes_that_fit() {
 fn one_write_resets_the_machine_and_a_refusal_is_passed_on() {
     let mut controller = I8042Device::new(Line::refusing(0b10));
     assert_eq!(controller.read(4), 0);
-    controller.write(4, 0xFF).unwrap();
-    controller.write(5, 0xFE).unwrap();
-    assert_eq!(controller.reset_evt().calls.get(), 0);
+    for (offset, value) in [(4, 0xFF), (4, 0xEF), (5, 0xFE), (0, 0xFE), (0xFE, 4)] {
+        controller.write(offset, value).unwrap();
+        assert_eq!(controller.reset_evt().calls.get(), 0, "{offset:#x} {value:#x}");
+    }
     controller.write(4, 0xFE).unwrap();
     assert_eq!(controller.write(4, 0xFE), Err("refused"));
     assert_eq!(controller.reset_evt().calls.get(), 2);
@@ -374,6 +375,8 @@ impl Trigger for SharedLine {
     }
 }
 
+fn is_sent_and_shared<T: Send + Sync>() {}
+
 fn goes_to_another_thread<T: Send + Sync + Unpin + UnwindSafe + RefUnwindSafe>() {}
 
 #[test]
@@ -382,6 +385,7 @@ fn what_threads_may_do_with_its_objects_they_may_do_with_a_device() {
     goes_to_another_thread::<Rtc<rtc_pl031::NoEvents>>();
     goes_to_another_thread::<I8042Device<SharedLine>>();
     goes_to_another_thread::<(SerialState, RtcState, rtc_pl031::RtcSnapshot, rtc_pl031::AlarmIsSet, SavedStateError)>();
+    is_sent_and_shared::<Error<&'static str>>(); // an `io::Error` in it may not be used after a panic
 }
 
 #[test]

@@ -4,7 +4,7 @@ use std::io;
 
 use vm_superio::rtc_pl031::{NoEvents, Rtc, RtcSnapshot};
 use vm_superio::serial::{self, Serial, SerialState};
-use vm_superio::{I8042Device, RtcState, Trigger};
+use vm_superio::{RtcState, Trigger};
 
 struct Silent;
 
@@ -109,34 +109,4 @@ fn each_field_shows_what_a_guest_wrote_to_the_clock() {
     let mut clock = Rtc::from_state(&raised, NoEvents);
     clock.write_at(0x1C, &5u32.to_le_bytes(), NOW); // RTCICR clears bits
     assert_eq!(clock.state().ris, 2);
-}
-
-#[test]
-fn the_controller_tells_offset_and_value_apart() {
-    let mut controller = I8042Device::new(Refusing);
-    for (offset, value, resets) in [(4, 0xFE, true), (0xFE, 4, false), (4, 0xEF, false), (0, 0xFE, false)] {
-        assert_eq!(controller.write(offset, value).is_err(), resets, "{offset:#x} {value:#x}");
-    }
-}
-
-struct Refusing;
-
-impl Trigger for Refusing {
-    type E = ();
-
-    fn trigger(&self) -> Result<(), ()> {
-        Err(())
-    }
-}
-
-/// A monitor may move a device to the thread of its processor, and share it behind a lock.
-#[test]
-fn devices_and_states_go_to_other_threads() {
-    fn is_sent_and_shared<T: Send + Sync>() {}
-    is_sent_and_shared::<Serial<Silent, serial::NoEvents, Vec<u8>>>();
-    is_sent_and_shared::<Rtc<NoEvents>>();
-    is_sent_and_shared::<I8042Device<Silent>>();
-    is_sent_and_shared::<(SerialState, RtcState, RtcSnapshot)>();
-    is_sent_and_shared::<vm_superio::saved::SavedStateError>();
-    is_sent_and_shared::<serial::Error<std::convert::Infallible>>();
 }

@@ -7,7 +7,6 @@ use vm_superio::serial::{Error, NoEvents, SerialEvents};
 use vm_superio::{Serial, SerialState, Trigger};
 
 const RDA: u8 = 0x04;
-const THRE: u8 = 0x02;
 const NONE: u8 = 0x01;
 
 /// A trigger that counts its calls, and refuses the next ones, as many as it is told to.
@@ -90,42 +89,6 @@ fn bytes_that_a_read_of_one_byte_left_raise_the_interrupt_again() {
 }
 
 #[test]
-fn a_pending_interrupt_is_not_asked_for_twice() {
-    let mut port = acknowledged(1);
-    for _ in 0..3 {
-        port.character_timeout().unwrap();
-    }
-    assert_eq!((pending(&port), port.interrupt_evt().calls.get()), (RDA, 1));
-}
-
-#[test]
-fn without_bytes_or_an_enabled_interrupt_nothing_happens() {
-    for (held, enabled) in [(0, 0x01), (0, 0x03), (1, 0x00), (1, 0x02), (64, 0x0E)] {
-        let mut port = acknowledged(held);
-        port.write(1, enabled).unwrap();
-        port.read(2);
-        port.interrupt_evt().calls.set(0);
-        let before = port.state();
-        port.character_timeout().unwrap();
-        assert_eq!(port.state(), before);
-        assert_eq!(port.interrupt_evt().calls.get(), 0);
-    }
-}
-
-#[test]
-fn dlab_and_loopback_make_no_difference() {
-    for (line_control, modem_control) in [(0x83, 0x08), (0x03, 0x18), (0x83, 0x18)] {
-        let mut port = acknowledged(1);
-        port.write(3, line_control).unwrap();
-        port.write(4, modem_control).unwrap();
-        port.character_timeout().unwrap();
-        assert_eq!((pending(&port), port.interrupt_evt().calls.get()), (RDA, 1));
-        port.character_timeout().unwrap();
-        assert_eq!(port.interrupt_evt().calls.get(), 1);
-    }
-}
-
-#[test]
 fn a_refused_interrupt_stays_pending_and_is_retried() {
     let mut port = acknowledged(1);
     port.interrupt_evt().refusals.set(2);
@@ -167,15 +130,6 @@ fn the_rule_holds_in_every_state() {
         }
     }
     assert_eq!(raised, 2 * 8 * 4 * 4); // a held byte, an enabled interrupt, none pending, four settings
-}
-
-#[test]
-fn a_pending_empty_transmitter_stays_pending() {
-    let mut port = acknowledged(2);
-    port.write(0, b'a').unwrap(); // raises THRE
-    assert_eq!((pending(&port), port.interrupt_evt().calls.get()), (THRE, 1));
-    port.character_timeout().unwrap();
-    assert_eq!((pending(&port), port.interrupt_evt().calls.get()), (THRE | RDA, 2));
 }
 
 /// How many of 200 bytes a guest receives that takes at most `most` bytes at an interrupt, and then reads IIR.

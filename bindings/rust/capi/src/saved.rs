@@ -1,10 +1,10 @@
 //! Saved states as bytes.
+use crate::bytes_at;
 use crate::devices::rtc_pl031::saved_form::SAVED_SIZE;
 use crate::devices::rtc_pl031::{Clock, RtcState};
 use crate::devices::saved::Error;
 use crate::devices::serial::saved_form::SAVED_MAX;
 use crate::devices::serial::SerialPort;
-use crate::memory::bytes_at;
 
 /// What a load returns on success.
 const LOADED: u32 = 0;

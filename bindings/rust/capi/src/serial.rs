@@ -1,6 +1,6 @@
 //! The serial port. Its struct is `superio_serial` in the header: nine registers, then the received bytes.
+use crate::bytes_at;
 use crate::devices::serial::{EnqueueEffects, ReadEffects, SerialPort, WriteEffects};
-use crate::memory::bytes_at;
 
 /// A fresh port.
 #[no_mangle]
