@@ -109,7 +109,7 @@ def check_provenance(tally, made):
     kit = re.search(r"rattle-kit-\S+ logic [0-9a-f]+", (ROOT / "README.md").read_text(encoding="utf-8"))
     for name, form in {"sources": sources, "kit": re.escape(kit[0]), "commit": r"[0-9a-f]{40}", "commitDate": MOMENT,
                        "gate": GATE, "version": re.escape(VERSION), "abi": ABI, "prebuilt": [r"[0-9a-f]{64}  .+"],
-                       "tools": dict.fromkeys(("python", "git", "cargo", "npm"), r".+")}.items():
+                       "tools": dict.fromkeys(("python", "git", "tar", "cargo", "npm"), r".+")}.items():
         wrong = list(misfits(found.pop(name, None), form, name))
         tally.check(not wrong, f"provenance: {wrong}")
 
@@ -161,7 +161,7 @@ def check_contents(tally, made):
 
 def check_releases(tally, folder):
     """Counts whether two releases have the same bytes, in other folders, at other times, for other users."""
-    if not all(tally.has(tool, "a release") for tool in ("git", "cargo", "npm", "sha256sum")):
+    if not all(tally.has(tool, "a release") for tool in ("git", "tar", "cargo", "npm", "sha256sum")):
         return
     runner = STRANGER
     if run([*STRANGER, "true"]).returncode:

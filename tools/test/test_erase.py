@@ -35,14 +35,8 @@ FORMS = {
         "    ghost held = { λ b. b.x };\n\n    ghost law = {\n        λ b. b.x };\n\n    fn a(&self) {}\n}\n",
         "use a::b;\n\nimpl A for B {\n    fn a(&self) {}\n}\n"),
     "attributes": (
-        "#![tactic(auto)]\n\n#[tactic(auto, using(crate::proofs::a))]\n#[inline]\nfn f() {}\n\n#[ruleset(a)]\n"
-        "#[derive(Drop)]\nstruct A;\n",
+        "#![tactic(auto)]\n\n#[tactic(auto, using(crate::proofs::a))]\n#[inline]\nfn f() {}\n\nstruct A;\n",
         "#[inline]\nfn f() {}\n\nstruct A;\n"),
-    "prove!": ("fn f(a: u8) {\n    let b = a;\n    prove!(b == a);\n}\n", "fn f(a: u8) {\n    let b = a;\n}\n"),
-    "an impl of Model": (
-        "struct A;\n\n/// A list.\nimpl<T> Model for A<T> {\n    ghost use Rattle.a;\n\n"
-        "    ghost Value = { List ℕ };\n\n"
-        "    ghost view = { λ a. a.b };\n}\n\nstruct B;\n", "struct A;\n\nstruct B;\n"),
     "words of contracts in strings and comments": (
         'const A: &str = "ensures { ghost use a; } \\" { prove!(1);"; // requires { ensures\n\n'
         "// ghost use a;\n/// ensures {\nfn f(c: char) -> bool {\n"
@@ -74,13 +68,15 @@ REFUSED = {
     "an unclosed clause": ("fn f()\n    ensures { (1 }\n{}\n", "brackets that do not match"),
     "an unclosed body": ("fn f() {\n", "a bracket that is not closed"),
     "a bracket too many": ("fn f() {}\n}\n", "lib.rt:2: brackets that do not match"),
+    "a derive of Drop": ("#[derive(Drop)]\nstruct A;\n", "lib.rt:1: the attribute #[derive(Drop)]"),
     "a derive with Drop among others": (
         "#[derive(Clone, Drop)]\nstruct A;\n", "lib.rt:1: the attribute #[derive(Clone,Drop)]"),
     "an unknown attribute": ("#[cfg(test)]\nmod tests;\n", "lib.rt:1: the attribute #[cfg(test)]"),
+    "a set of rules": ("#[ruleset(a)]\nstruct A;\n", "lib.rt:1: the attribute #[ruleset(a)]"),
     "a macro of another language": ("fn f() {\n    assert!(rt; 1 == 1);\n}\n", "lib.rt:2: the macro `assert!`"),
+    "prove! as a statement": ("fn f() {\n    prove!(1 == 1);\n}\n", "lib.rt:2: the macro `prove!`"),
     "prove! in an expression": ("const _: () = prove!(1 == 1);\n", "lib.rt:1: the macro `prove!`"),
-    "an impl of Model with code": (
-        "impl Model for A {\n    ghost a = { 1 };\n\n    fn f() {}\n}\n", "lib.rt:4: an `impl Model` with code"),
+    "an impl of Model": ("impl Model for A {\n    ghost a = { 1 };\n}\n", "lib.rt:1: `Model`"),
     "unsafe code": ("fn f() {\n    unsafe { g() }\n}\n", "lib.rt:2: `unsafe`"),
     "a macro's definition": ("macro_rules! m { () => {} }\n", "lib.rt:1: the macro `macro_rules!`"),
     "a name that is not ASCII": ("const ℕ: u8 = 1;\n", "lib.rt:1: `ℕ`"),
