@@ -45,7 +45,10 @@ def _stated(name: str, form: str) -> str:
     return found[1]
 
 
-VERSION = _stated("__init__.py", r'^__version__ = "(.+)"$')
+def _version() -> str:
+    return _stated("__init__.py", r'^__version__ = "(.+)"$')
+
+
 LIBRARY = f"libsuperio.so.{_stated('library.py', r'^ABI = ([0-9]+)$')}"
 
 
@@ -63,15 +66,15 @@ def _licenses() -> List[str]:
     return ["LICENSE", *(f"LICENSES/{path.name}" for path in sorted((ROOT / "LICENSES").iterdir()))]
 
 
-def _contents(tag: str) -> Dict[str, bytes]:
+def _contents(version: str, tag: str) -> Dict[str, bytes]:
     """What the wheel has, by name."""
-    folder = f"superio-{VERSION}.dist-info"
+    folder = f"superio-{version}.dist-info"
     files = {f"superio/{path.name}": path.read_bytes() for path in sorted(PACKAGE.glob("*.py"))}
     files["superio/py.typed"] = b""
     files[f"superio/{LIBRARY}"] = _library().read_bytes()
     for path in _licenses():
         files[f"{folder}/licenses/{path}"] = (ROOT / path).read_bytes()
-    files[f"{folder}/METADATA"] = METADATA.format(version=VERSION).encode()
+    files[f"{folder}/METADATA"] = METADATA.format(version=version).encode()
     files[f"{folder}/WHEEL"] = WHEEL.format(tag=tag).encode()
     rows = [f"{name},sha256={_digest(data)},{len(data)}\n" for name, data in files.items()]
     files[f"{folder}/RECORD"] = "".join([*rows, f"{folder}/RECORD,,\n"]).encode()
@@ -85,9 +88,10 @@ def _digest(data: bytes) -> str:
 def build_wheel(wheel_directory: str, config_settings: Optional[Dict[str, Any]] = None,
                 metadata_directory: Optional[str] = None) -> str:
     """Writes the wheel into a folder, and returns the name of its file."""
+    version = _version()
     tag = "py3-none-" + re.sub(r"[-.]", "_", sysconfig.get_platform())
-    name = f"superio-{VERSION}-{tag}.whl"
-    contents = _contents(tag)  # before the file is there
+    name = f"superio-{version}-{tag}.whl"
+    contents = _contents(version, tag)
     with zipfile.ZipFile(Path(wheel_directory) / name, "w", zipfile.ZIP_DEFLATED) as wheel:
         for file, data in contents.items():
             wheel.writestr(zipfile.ZipInfo(file), data)
@@ -96,13 +100,13 @@ def build_wheel(wheel_directory: str, config_settings: Optional[Dict[str, Any]] 
 
 def build_sdist(sdist_directory: str, config_settings: Optional[Dict[str, Any]] = None) -> str:
     """Writes the sources and the libraries of each machine into a folder, and returns the name of the file."""
-    folder = f"superio-{VERSION}"
+    folder = f"superio-{_version()}"
     names = [HERE / name for name in ("README.md", "build_wheel.py", "pyproject.toml")]
     files = {path.relative_to(HERE).as_posix(): path for path in [*names, *PACKAGE.glob("*.py"), PACKAGE / "py.typed"]}
     libraries = (ROOT / "prebuilt").glob(f"*-linux/{LIBRARY}")
     files.update((path.relative_to(ROOT).as_posix(), path) for path in [*libraries, *(ROOT / it for it in _licenses())])
     contents = {name: path.read_bytes() for name, path in files.items()}
-    contents["PKG-INFO"] = METADATA.format(version=VERSION).encode()
+    contents["PKG-INFO"] = METADATA.format(version=_version()).encode()
     plain = io.BytesIO()
     with tarfile.open(fileobj=plain, mode="w", format=tarfile.PAX_FORMAT) as archive:
         for name in sorted(contents):
