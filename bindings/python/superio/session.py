@@ -1,7 +1,7 @@
 """A session: a board, what a line can make of it, and the lines of its calls."""
 import signal
 import time
-from contextlib import contextmanager, nullcontext
+from contextlib import contextmanager, nullcontext, suppress
 from typing import IO, Callable, ContextManager, Iterable, Iterator, List, Optional, Tuple
 
 from .board import Board, Call
@@ -125,8 +125,12 @@ class Session:
 
     def end_trace(self) -> Optional[str]:
         """Closes that file. Returns its name, or `None` if there is none."""
-        ended, self._trace = self._trace, None
-        return ended[1] if ended else None
+        if self._trace is None:
+            return None
+        (file, path), self._trace = self._trace, None
+        with suppress(OSError):  # of a line that could not be written, which was said
+            file.close()
+        return path
 
     def run_lines(self, name: str, lines: Iterable[bytes]) -> None:
         """Carries out the lines of a file of this name.
