@@ -1,4 +1,5 @@
-"""A session: a board, what a line can make of it, and the lines of its calls."""
+"""A session: a board, what a line can make of it, the lines of its calls, and the colours of what it says."""
+import os
 import signal
 import time
 from contextlib import contextmanager, nullcontext, suppress
@@ -7,10 +8,34 @@ from typing import IO, Callable, ContextManager, Iterable, Iterator, List, Optio
 from .board import Board, Call
 from .commands import HELP, VERBS
 from .faults import BadLine, FileFault, replaced
-from .prompt import Style
 from .script import FORMS, Command, ScriptError, parse, shown, text_of
 from .tell import Story, told
 from .words import Speaker
+
+
+class Style:
+    """Marks texts with colours, or leaves them as they are."""
+
+    def __init__(self, is_coloured: bool) -> None:
+        self.is_coloured = is_coloured
+
+    @classmethod
+    def of(cls, stream: "IO[str]", is_wanted: bool) -> "Style":
+        """Colours, if they are wanted, the stream is a terminal that shows them, and NO_COLOR is not set."""
+        return cls(is_wanted and stream.isatty()
+                   and not os.environ.get("NO_COLOR") and os.environ.get("TERM") != "dumb")
+
+    def _marked(self, code: str, text: str) -> str:
+        return f"\x1b[{code}m{text}\x1b[0m" if self.is_coloured and text else text
+
+    def error(self, text: str) -> str:
+        return self._marked("31", text)
+
+    def quiet(self, text: str) -> str:
+        return self._marked("2", text)
+
+    def strong(self, text: str) -> str:
+        return self._marked("1", text)
 
 
 @contextmanager
