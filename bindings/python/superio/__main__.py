@@ -8,9 +8,8 @@ from typing import IO, Iterator, List, NoReturn, Optional
 from . import __version__
 from .faults import BadLine, FileFault, Leave
 from .library import LibraryError, load
-from .prompt import Style, run_prompt
 from .script import MAXIMUM, ScriptError, lines_of
-from .session import Session
+from .session import Session, Style
 
 _PIECE = 65_536
 
@@ -122,7 +121,7 @@ def _is_fault(error: Optional[BaseException]) -> bool:
 
 
 def _interactive(has_colours: bool) -> int:
-    from .shell import Shell
+    from .shell import Shell, run_prompt
     if signal.getsignal(signal.SIGINT) is _interrupt_once:
         signal.signal(signal.SIGINT, signal.default_int_handler)  # at a prompt, each one drops a line
     session = Session(sys.stdout, Style.of(sys.stdout, has_colours), keeps_lines=True)

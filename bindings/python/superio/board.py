@@ -5,8 +5,8 @@ It replies to each line as the program `superio` does.
 from dataclasses import replace
 from typing import Callable, Dict, List, NamedTuple, Optional, Tuple, Union
 
-from .checks import check_kind
 from .devices import I8042, Rtc, Serial, clock_state, serial_state
+from .library import check_kind
 from .registers import DLAB, SERIAL, bits_by_name
 from .saved import RtcState, SavedStateError, SerialState, script_words
 from .script import Command

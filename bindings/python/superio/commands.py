@@ -200,17 +200,17 @@ def _source(session: "Session", rest: str) -> None:
 def _trace(session: "Session", rest: str) -> None:
     name, _, path = rest.partition(" ")
     if rest in ("on", "off"):
-        session.trace.is_shown = rest == "on"
-        ended = None if session.trace.is_shown else session.trace.end_file()
+        session.shows_calls = rest == "on"
+        ended = None if session.shows_calls else session.end_trace()
         session.say(f"trace is {rest}" + (f", and {ended} is complete" if ended else ""))
     elif name == "on":
-        if not session.trace.is_whole():
+        if not session.has_all_lines():
             raise ScriptError("trace on FILE has to come before every call here")
         path = _path(path, "trace on FILE")
-        session.trace.begin_file(path)
+        session.begin_trace(path)
         session.say(f"the calls since the last reset go to {path}")
-    elif not rest and session.trace.is_whole():
-        session.say(*session.trace.lines)
+    elif not rest and session.has_all_lines():
+        session.say(*session.lines)
     else:
         raise ScriptError("the form is: trace, trace on, trace off, or trace on FILE")
 

@@ -7,8 +7,8 @@ changes.
 from functools import lru_cache
 from typing import NamedTuple, Optional, Union
 
-from .checks import byte_string, check_kind, number
-from .library import FIFO_SIZE, RTC_SAVED_SIZE, SERIAL_SAVED_MAX, RtcStruct, SerialStruct, load
+from .library import (FIFO_SIZE, RTC_SAVED_SIZE, SERIAL_SAVED_MAX, RtcStruct, SerialStruct, byte_string, check_kind,
+                      load, number)
 from .registers import CLOCK, FIELDS, SERIAL, Register, bit_names, clock_offset, serial_offset
 from .saved import RtcState, Saved, SerialState
 

@@ -4,8 +4,7 @@ from dataclasses import dataclass, fields
 from enum import IntEnum
 from typing import Any, Callable, Dict, Iterator, Mapping, Sequence, Tuple, Type, TypeVar
 
-from .checks import byte_string, number
-from .library import FIFO_SIZE, load
+from .library import FIFO_SIZE, byte_string, load, number
 
 _Device = TypeVar("_Device", bound="Saved")
 

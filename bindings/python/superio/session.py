@@ -1,16 +1,41 @@
-"""A session: a board, what a line can make of it, and the calls that it made, as lines of a script."""
+"""A session: a board, what a line can make of it, the lines of its calls, and the colours of what it says."""
+import os
 import signal
 import time
-from contextlib import contextmanager, nullcontext
-from typing import IO, Callable, ContextManager, Iterable, Iterator, List, Optional
+from contextlib import contextmanager, nullcontext, suppress
+from typing import IO, Callable, ContextManager, Iterable, Iterator, List, Optional, Tuple
 
 from .board import Board, Call
 from .commands import HELP, VERBS
 from .faults import BadLine, FileFault, replaced
-from .prompt import Style
 from .script import FORMS, Command, ScriptError, parse, shown, text_of
 from .tell import Story, told
 from .words import Speaker
+
+
+class Style:
+    """Marks texts with colours, or leaves them as they are."""
+
+    def __init__(self, is_coloured: bool) -> None:
+        self.is_coloured = is_coloured
+
+    @classmethod
+    def of(cls, stream: "IO[str]", is_wanted: bool) -> "Style":
+        """Colours, if they are wanted, the stream is a terminal that shows them, and NO_COLOR is not set."""
+        return cls(is_wanted and stream.isatty()
+                   and not os.environ.get("NO_COLOR") and os.environ.get("TERM") != "dumb")
+
+    def _marked(self, code: str, text: str) -> str:
+        return f"\x1b[{code}m{text}\x1b[0m" if self.is_coloured and text else text
+
+    def error(self, text: str) -> str:
+        return self._marked("31", text)
+
+    def quiet(self, text: str) -> str:
+        return self._marked("2", text)
+
+    def strong(self, text: str) -> str:
+        return self._marked("1", text)
 
 
 @contextmanager
@@ -21,54 +46,6 @@ def _undisturbed() -> Iterator[None]:
         yield
     finally:
         signal.pthread_sigmask(signal.SIG_SETMASK, before)
-
-
-class Trace:
-    """The lines of the calls since the last reset. `keeps_lines` says whether they are kept, or only counted."""
-
-    def __init__(self, keeps_lines: bool) -> None:
-        self.keeps_lines = keeps_lines
-        self.is_shown = False
-        self._file: Optional[IO[str]] = None
-        self.restart()
-
-    def restart(self) -> None:
-        """Forgets all lines, as a reset of the board does."""
-        self.end_file()
-        self.lines: List[str] = []
-        self._count = 0
-
-    def note(self, command: Command) -> None:
-        """Notes the line of a call."""
-        self._count += 1
-        if self.keeps_lines:
-            self.lines.append(text_of(command))
-        if self._file:
-            try:
-                self._file.write(text_of(command) + "\n")
-                self._file.flush()
-            except OSError as error:
-                raise FileFault(str(self.end_file()), error) from None
-
-    def is_whole(self) -> bool:
-        """Whether the kept lines are all that there were."""
-        return self._count == len(self.lines)
-
-    def begin_file(self, path: str) -> None:
-        """Writes the kept lines, and from now on each further one, into a file."""
-        self.end_file()
-        with replaced(path) as name:
-            file = open(name, "w", encoding="ascii")
-            file.writelines(line + "\n" for line in self.lines)
-            file.flush()
-        self._file, self._path = file, path
-
-    def end_file(self) -> Optional[str]:
-        """Closes the file. Returns its name, or `None` if there is none."""
-        if self._file is None:
-            return None
-        self._file = None
-        return self._path
 
 
 class Session:
@@ -84,7 +61,9 @@ class Session:
         self.style = style
         self.is_strict = is_strict
         self.depth = 0
-        self.trace = Trace(keeps_lines)
+        self.keeps_lines = keeps_lines
+        self.shows_calls = False
+        self._trace: Optional[Tuple[IO[str], str]] = None  # a file to which the lines of calls go, and its name
         # Only a shell goes on after Ctrl-C. The protection costs more than a call of the board.
         self._undisturbed: Callable[[], ContextManager[None]] = _undisturbed if keeps_lines else nullcontext
         self._host_time = host_time
@@ -96,7 +75,8 @@ class Session:
         self.speaker = Speaker(self.board, self.now)
         self.story = Story()
         self.last: Optional[Call] = None
-        self.trace.restart()
+        self.lines: List[str] = []
+        self.end_trace()
 
     def now(self) -> int:
         """The host's time, in seconds since 1970, or 0 if its clock is before that."""
@@ -143,11 +123,39 @@ class Session:
         with self._undisturbed():
             call = self.last = self.board.run(command)
             self.story.note(call)
-        if self.trace.is_shown:
+            if self.keeps_lines:
+                self.lines.append(text_of(command))
+        if self.shows_calls:
             self.say(self.style.quiet(text_of(command)))
         if call.reply is not None:
             self.say(call.reply if is_short else told(call))
-        self.trace.note(command)
+        if self._trace:
+            try:
+                print(text_of(command), file=self._trace[0], flush=True)
+            except OSError as error:
+                raise FileFault(str(self.end_trace()), error) from None
+
+    def has_all_lines(self) -> bool:
+        """Whether `lines` has those of all calls since the last reset."""
+        return self.board.number == len(self.lines)
+
+    def begin_trace(self, path: str) -> None:
+        """Writes `lines`, and from now on the line of each further call, into a file."""
+        self.end_trace()
+        with replaced(path) as name:
+            file = open(name, "w", encoding="ascii")
+            file.writelines(line + "\n" for line in self.lines)
+            file.flush()
+        self._trace = file, path
+
+    def end_trace(self) -> Optional[str]:
+        """Closes that file. Returns its name, or `None` if there is none."""
+        if self._trace is None:
+            return None
+        (file, path), self._trace = self._trace, None
+        with suppress(OSError):  # of a line that could not be written, which was said
+            file.close()
+        return path
 
     def run_lines(self, name: str, lines: Iterable[bytes]) -> None:
         """Carries out the lines of a file of this name.

@@ -1,14 +1,20 @@
-"""The shell for people: a prompt with editing, history and completion."""
+"""The shell for people: a prompt with editing, completion, Ctrl-C and a history that outlasts the session."""
+import atexit
 import cmd
 import glob
 import os
+from pathlib import Path
 from typing import IO, List
 
 from .commands import HELP
-from .faults import FileFault, Leave
-from .prompt import Style, use_history
+from .faults import FileFault, Leave, replaced
 from .registers import CLOCK, SERIAL
-from .session import Session
+from .session import Session, Style
+
+HISTORY_VARIABLE = "SUPERIO_HISTORY"
+"""The environment variable that can name the history's file. Empty: there is none."""
+
+_HISTORY_LENGTH = 1000
 
 INTRO = """\
 A serial port, a clock and a reset controller, as a guest sees them.
@@ -81,3 +87,44 @@ class Shell(cmd.Cmd):
         except (ValueError, FileFault) as error:
             print(self._error_style.error(str(error)), file=self._errors, flush=True)
         return False
+
+
+def run_prompt(loop: cmd.Cmd) -> None:
+    """Reads and carries out lines up to the end. Ctrl-C drops a line."""
+    is_interrupted = False
+    while True:
+        try:
+            if is_interrupted:
+                loop.preloop = lambda: None  # type: ignore[method-assign]
+                loop.intro = ""
+                loop.stdout.write("^C\n")
+            loop.cmdloop()
+            return
+        except KeyboardInterrupt:
+            is_interrupted = True
+
+
+def use_history() -> None:
+    """Reads the history's file, and writes it at the end of the program. Without a file there is no earlier history."""
+    try:
+        import readline
+    except ImportError:  # a Python without it reads lines all the same
+        return
+    readline.set_completer_delims(" \t\n")
+    named = os.environ.get(HISTORY_VARIABLE)
+    path = str(Path.home() / ".superio_history") if named is None else named
+    if not path:
+        return
+    try:
+        readline.read_history_file(path)
+    except OSError:
+        pass
+    readline.set_history_length(_HISTORY_LENGTH)
+
+    def write_history() -> None:
+        try:
+            with replaced(path) as name:
+                readline.write_history_file(name)
+        except FileFault:
+            pass
+    atexit.register(write_history)

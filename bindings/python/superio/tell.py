@@ -95,27 +95,23 @@ def _enqueue(call: Call) -> str:
     data = call.command.values[0] if call.command.values else b""
     state = call.after.serial
     taken = len(state.in_buffer) - len(call.before.serial.in_buffer)
-    of_all = f" of {len(data)}" if taken < len(data) else ""
-    text = f"{taken}{of_all} {'byte' if len(data) == 1 else 'bytes'} received"
-    if taken < len(data):
-        return text + (": the port is in loopback" if state.modem_control & LOOPBACK else ": the FIFO is full") \
-            + _interrupts(call)
-    if not call.answers and not state.interrupt_enable & ENABLES["RDA"]:
-        return text + "; no interrupt: IER does not enable RDA"
-    if not call.answers:
-        return text + "; no interrupt: RDA is pending already"
-    return text + _interrupts(call)
+    noun = "byte" if len(data) == 1 else "bytes"
+    if taken == len(data):
+        return f"{taken} {noun} received" + _interrupt_for_data(call)
+    reason = "the port is in loopback" if state.modem_control & LOOPBACK else "the FIFO is full"
+    return f"{taken} of {len(data)} {noun} received: {reason}" + _interrupts(call)
 
 
 def _character_timeout(call: Call) -> str:
-    state = call.before.serial
-    if not state.in_buffer:
-        return "no interrupt: no byte is held"
-    held = f"{plural(len(state.in_buffer), 'byte')} held"
-    if call.answers:
-        return held + _interrupts(call)
-    is_enabled = state.interrupt_enable & ENABLES["RDA"]
-    return f"{held}; no interrupt: {'RDA is pending already' if is_enabled else 'IER does not enable RDA'}"
+    held = len(call.before.serial.in_buffer)
+    return f"{plural(held, 'byte')} held" + _interrupt_for_data(call) if held else "no interrupt: no byte is held"
+
+
+def _interrupt_for_data(call: Call) -> str:
+    """What the interrupt line was asked, or why it was not although bytes are held."""
+    is_enabled = call.after.serial.interrupt_enable & ENABLES["RDA"]
+    reason = "RDA is pending already" if is_enabled else "IER does not enable RDA"
+    return _interrupts(call) or f"; no interrupt: {reason}"
 
 
 def date_of(seconds: int) -> str:

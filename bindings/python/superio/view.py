@@ -7,10 +7,11 @@ from itertools import groupby
 from typing import IO, Callable, Dict, Optional, Sequence
 
 from .faults import FileFault, opened, write_text
-from .prompt import Style, run_prompt
 from .recording import Step, picture, replay
 from .registers import CLOCK, SERIAL, clock_register, serial_register
 from .script import ScriptError, shown, text_of
+from .session import Style
+from .shell import run_prompt
 from .tell import CONDITIONS, changes, clock_registers, plural, raised, registers, told
 
 

@@ -6,8 +6,19 @@ from typing import Callable, List, Optional
 from .board import Board
 from .registers import (CLOCK, SERIAL, Register, bits_by_name, clock_offset, clock_register, serial_offset,
                         serial_register)
-from .script import (BYTES, CLOCK_OFFSET, FORMS, MASK, MOMENT, OFFSET, TOO_MANY, VALUE, Command, Field,
+from .script import (BYTES, CLOCK_OFFSET, CLOCK_VALUE, FORMS, MASK, MOMENT, OFFSET, TOO_MANY, VALUE, Command, Field,
                      ScriptError, missing, parse, shown)
+
+# A word of a line. A character in quotes is one, also a blank one.
+_WORD = re.compile(r"'(?:\\.[^']*|[^'])'|\S+")
+
+_PHRASES = {
+    "read": ("read REGISTER", {"": "sr"}),
+    "write": ("write REGISTER VALUE", {"": "sw"}),
+    "clock": ("clock read REGISTER [MOMENT], or clock write REGISTER VALUE [MOMENT]", {"read": "cr", "write": "cw"}),
+    "i8042": ("i8042 read OFFSET, or i8042 write OFFSET VALUE", {"read": "kr", "write": "kw"}),
+}
+"""The forms of words that fill the fields of a script's line, and its name, by the second word where that tells it."""
 
 ALONE = {"timeout": "si", "drain": "sd", "room": "sc", "output": "so", "calls": "st", "events": "se", "restore": "ss"}
 """The words that are a line by themselves, and the line of a script that each means."""
@@ -71,7 +82,9 @@ class Speaker:
         if name in ALONE:
             return Command(ALONE[name])
         if name in _PHRASES:
-            return _PHRASES[name](self, rest)
+            return self._phrase(name, rest)
+        if name in ("type", "alarm"):
+            return self._type(rest) if name == "type" else self._alarm(rest)
         try:
             return parse(line.encode("utf-8", "surrogateescape"), is_first=self.board.number == 0)
         except ScriptError as error:
@@ -88,21 +101,42 @@ class Speaker:
             raise error
         if len(texts) != len(fields):
             raise ScriptError(TOO_MANY if len(texts) > len(fields) else missing(fields[len(texts)]))
+        return self._filled(name, texts, 16)
+
+    def _phrase(self, name: str, rest: str) -> Command:
+        """Words that fill the fields of a script's line. The clock's last one is the moment, or `now` if left out."""
+        usage, names = _PHRASES[name]
+        words = _WORD.findall(rest)
+        second = words.pop(0) if words and "" not in names else ""
+        meant = names.get(second, "")
+        fields = FORMS.get(meant, ())
+        if name == "clock" and len(words) == len(fields) - 1:
+            words.append("now")
+        if not meant or len(words) != len(fields):
+            raise ScriptError(f"the form is: {usage}")
+        if name == "clock":
+            words.insert(0, words.pop())
+        return self._filled(meant, words, 0)
+
+    def _filled(self, name: str, texts: List[str], base: int) -> Command:
+        """A script's line of this name, with as many fields as it has, as people write them."""
         values: List[int] = []
-        for field, text in zip(fields, texts):
-            values.append(self._field(field, text, name, values))
+        for field, text in zip(FORMS[name], texts):
+            values.append(self._field(name, field, text, values, base))
         return Command(name, tuple(values))
 
-    def _field(self, field: Field, text: str, name: str, before: List[int]) -> int:
-        if field is OFFSET and name[0] == "s":
-            return self.offset(text, name == "sw", 16)
+    def _field(self, name: str, field: Field, text: str, before: List[int], base: int) -> int:
         if field is CLOCK_OFFSET:
-            return self.clock_offset(text, 16)
+            return self.clock_offset(text, base)
         if field is MOMENT:
-            return self.moment(text, 16)
-        if field is VALUE and name[0] == "s":
-            return self.value(text, serial_register(before[0], self._line_control(), True), 8, 16)
-        return _integer(text, field.name, 4 * field.digits, 16)
+            return self.moment(text, base)
+        if field is CLOCK_VALUE and base == 0:
+            return self.value(text, clock_register(before[1]), 32, base)
+        if name[0] == "s" and field is OFFSET:
+            return self.offset(text, name == "sw", base)
+        if name[0] == "s" and field is VALUE:
+            return self.value(text, serial_register(before[0], self._line_control(), True), 8, base)
+        return _integer(text, field.name, 4 * field.digits, base)
 
     def _line_control(self) -> int:
         return self.board.serial.state.line_control
@@ -151,42 +185,15 @@ class Speaker:
             raise ScriptError("1 to 128 bytes arrive at once")
         return data
 
-    def _words(self, rest: str, usage: str, least: int, most: int) -> List[str]:
-        """The words after a name. A character in quotes is one, also a blank one.
-
-        Raises `ScriptError` with the usage if they are too few or too many.
-        """
-        words = re.findall(r"'(?:\\.[^']*|[^'])'|\S+", rest)
-        if not least <= len(words) <= most:
-            raise ScriptError(f"the form is: {usage}")
-        return words
-
-    def read(self, rest: str) -> Command:
-        (register,) = self._words(rest, "read REGISTER", 1, 1)
-        return Command("sr", (self.offset(register, False),))
-
-    def write(self, rest: str) -> Command:
-        register, value = self._words(rest, "write REGISTER VALUE", 2, 2)
-        offset = self.offset(register, True)
-        return Command("sw", (offset, self.value(value, serial_register(offset, self._line_control(), True), 8)))
-
-    def type(self, rest: str) -> Command:
+    def _type(self, rest: str) -> Command:
         if not rest.strip():
             raise ScriptError('the form is: type "TEXT"')
         return Command("sq", (self._bytes(rest),))
 
-    def clock(self, rest: str) -> Command:
-        words = self._words(rest, "clock read REGISTER [MOMENT], or clock write REGISTER VALUE [MOMENT]", 2, 4)
-        if words[0] == "read" and len(words) <= 3:
-            return Command("cr", (self.moment(words[2] if len(words) > 2 else "now"), self.clock_offset(words[1])))
-        if words[0] == "write" and len(words) >= 3:
-            offset = self.clock_offset(words[1])
-            moment = self.moment(words[3] if len(words) > 3 else "now")
-            return Command("cw", (moment, offset, self.value(words[2], clock_register(offset), 32)))
-        raise ScriptError("the form is: clock read REGISTER [MOMENT], or clock write REGISTER VALUE [MOMENT]")
-
-    def alarm(self, rest: str) -> Command:
-        words = self._words(rest, "alarm +SECONDS, or alarm GUEST-TIME", 1, 2)
+    def _alarm(self, rest: str) -> Command:
+        words = _WORD.findall(rest)
+        if not 1 <= len(words) <= 2:
+            raise ScriptError("the form is: alarm +SECONDS, or alarm GUEST-TIME")
         now = self.moment(words[1] if len(words) > 1 else "now")
         if words[0].startswith("+"):
             guest_time = copy(self.board.clock).read("DR", now).value
@@ -196,16 +203,3 @@ class Speaker:
         if match >= 1 << 32:
             raise ScriptError("guest time has 32 bits, and this alarm would come after their last second")
         return Command("cw", (now, CLOCK["MR"].offset, match))
-
-    def controller(self, rest: str) -> Command:
-        words = self._words(rest, "i8042 read OFFSET, or i8042 write OFFSET VALUE", 2, 3)
-        offset = _integer(words[1], "offset", 8)
-        if words[0] == "read" and len(words) == 2:
-            return Command("kr", (offset,))
-        if words[0] == "write" and len(words) == 3:
-            return Command("kw", (offset, _integer(words[2], "value", 8)))
-        raise ScriptError("the form is: i8042 read OFFSET, or i8042 write OFFSET VALUE")
-
-
-_PHRASES = {"read": Speaker.read, "write": Speaker.write, "type": Speaker.type, "clock": Speaker.clock,
-            "alarm": Speaker.alarm, "i8042": Speaker.controller}

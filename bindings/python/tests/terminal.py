@@ -68,9 +68,12 @@ class Terminal:
         return _CONTROL.sub("", self.raw).replace("\r\n", "\n")
 
     def status(self):
-        """The exit status, once the program has ended and the terminal shows no more."""
-        while self._take():
+        """The exit status, once the program has ended and the terminal shows no more. One that goes on is killed."""
+        deadline = time.monotonic() + TIMEOUT
+        while self._read(deadline):
             pass
+        if time.monotonic() >= deadline:
+            os.kill(self._pid, signal.SIGKILL)
         _, status = os.waitpid(self._pid, 0)
         os.close(self._end)
         return os.WEXITSTATUS(status) if os.WIFEXITED(status) else -os.WTERMSIG(status)

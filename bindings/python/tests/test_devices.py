@@ -229,12 +229,20 @@ class Copies(unittest.TestCase):
                 self.assertEqual((type(error), str(error), vars(error)), (type(other), str(other), vars(other)))
 
 
-class NamedPort(Serial):
-    """A port with an attribute of its own."""
+class Named:
+    """A device with an attribute of its own."""
 
     def __init__(self, name):
         super().__init__()
         self.name = name
+
+
+class NamedPort(Named, Serial):
+    pass
+
+
+class NamedController(Named, I8042):
+    pass
 
 
 class NamedClock(Rtc):
@@ -255,67 +263,53 @@ class NamedClock(Rtc):
         self.__name = name
 
 
-class NamedController(I8042):
-    """A controller with an attribute of its own."""
-
-    def __init__(self, name):
-        super().__init__()
-        self.name = name
-
-
-# A good value for each parameter of a call, and for each kind of value, by its type.
-GOOD = {"offset": 0, "value": 0, "now": 0}
-KINDS = {int: 0, str: "SCR", bytes: b"", float: 1.0, type(None): None, list: [], SerialState: SerialState(),
+# A value of each kind. Text is the name of a register that the device has.
+KINDS = {int: 0, str: "", bytes: b"", float: 1.0, type(None): None, list: [], SerialState: SerialState(),
          RtcState: RtcState()}
+
+
+def annotated_calls():
+    """Each call of each device, good arguments for it by their names, and what it and they are annotated with."""
+    alarm = Rtc.from_state(RtcState(mr=5, armed=True))
+    for device in (Serial(), Rtc(), alarm, I8042()):
+        for name, _ in inspect.getmembers(type(device), callable):
+            if not name.startswith("_"):
+                call = getattr(device, name)
+                data = device.to_bytes() if name == "from_bytes" else b""
+                good = {"offset": 0, "value": 0, "now": 0, "data": data, "state": getattr(device, "state", None)}
+                names = inspect.signature(call).parameters
+                yield device, call, {name: good[name] for name in names}, typing.get_type_hints(call)
 
 
 class Types(unittest.TestCase):
     """What the calls are annotated with, which a type checker believes."""
 
-    def setUp(self):
-        alarm = Rtc.from_state(RtcState(mr=5, armed=True))
-        self.calls = [(device, name, call) for device in (Serial(), Rtc(), alarm, I8042())
-                      for name, call in inspect.getmembers(type(device), callable) if not name.startswith("_")]
-
-    @staticmethod
-    def good_for(device, name):
-        """A good value for each parameter of the call of this name."""
-        data = device.to_bytes() if name == "from_bytes" else b""
-        return {**GOOD, "data": data, "state": getattr(device, "state", None)}
-
     def test_each_parameter_takes_the_types_that_it_is_annotated_with_and_no_other(self):
         tried = 0
-        for device, name, _ in self.calls:
-            call, hints = getattr(device, name), typing.get_type_hints(getattr(device, name))
-            good = self.good_for(device, name)
-            names = list(inspect.signature(call).parameters)
-            for wrong, (kind, value) in itertools.product(names, KINDS.items()):
-                given = {parameter: good[parameter] for parameter in names}
-                is_taken = kind in (typing.get_args(hints[wrong]) or (hints[wrong],))
-                with self.subTest((name, wrong, kind)):
+        for device, call, good, hints in annotated_calls():
+            for name, (kind, value) in itertools.product(good, KINDS.items()):
+                is_taken = kind in (typing.get_args(hints[name]) or (hints[name],))
+                with self.subTest((call, name, kind)):
                     if not is_taken:
-                        self.assertRaisesRegex(TypeError, f"^{wrong} is ", call, **{**given, wrong: value})
-                    elif not isinstance(given[wrong], kind):
-                        value = "LR" if isinstance(device, Rtc) and kind is str else value
-                        call(**{**given, wrong: value})
+                        self.assertRaisesRegex(TypeError, f"^{name} is ", call, **{**good, name: value})
+                    elif kind is str:
+                        call(**{**good, name: "LR" if isinstance(device, Rtc) else "SCR"})
                     else:
-                        call(**given)
+                        call(**good)
                 tried += 1
         self.assertGreater(tried, 100)
 
     def test_each_call_gives_the_types_that_it_is_annotated_with(self):
-        given = {}
-        for device, name, call in self.calls:
-            good = self.good_for(device, name)
-            names = list(inspect.signature(getattr(device, name)).parameters)
-            result = getattr(device, name)(*(good[parameter] for parameter in names))
-            given.setdefault((type(device), name), set()).add(type(result))
+        given, annotated = {}, {}
+        for device, call, good, hints in annotated_calls():
+            result = call(**good)
+            called = type(device), call.__name__
+            given.setdefault(called, set()).add(type(result))
+            hint = type(device) if isinstance(hints["return"], typing.TypeVar) else hints["return"]
+            annotated[called] = set(typing.get_args(hint) or (hint,))
             if isinstance(result, tuple):
-                self.assertEqual(list(typing.get_type_hints(type(result)).values()), list(map(type, result)), name)
-        for (kind, name), types in given.items():
-            hint = typing.get_type_hints(getattr(kind, name))["return"]
-            hint = kind if isinstance(hint, typing.TypeVar) else hint
-            self.assertEqual(set(typing.get_args(hint) or (hint,)), types, name)
+                self.assertEqual(list(typing.get_type_hints(type(result)).values()), list(map(type, result)), called)
+        self.assertEqual(annotated, given)
 
     def test_a_state_has_the_types_that_it_is_annotated_with(self):
         """Also one that was made of other numbers, such as Booleans, which JSON has as other values."""

@@ -122,20 +122,16 @@ class Replies(unittest.TestCase):
 
 @unittest.skipUnless(PROGRAM.exists(), f"{PROGRAM} is not built")
 class Program(unittest.TestCase):
-    def compare(self, scripts):
-        """Runs scripts through the program and through the package."""
+    def test_examples_and_broken_scripts(self):
+        """The scripts of tests/ have their replies there: tools/checks/scripts and Replies compare both with those."""
+        randomness = random.Random(SEED)
+        whole = [test.script for test in SCRIPTS if 0 < len(test.script) < 3000]
+        scripts = [path.read_bytes() for path in EXAMPLES]
+        scripts += [broken(randomness.choice(whole), randomness) for _ in range(BROKEN)]
         for script, expected in zip(scripts, run_all(PROGRAM, scripts)):
             if run_board(script) != expected:
                 self.assertEqual(expected, run_board(script), script)
-        self.assertTrue(scripts)
-
-    def test_scripts_of_the_examples_and_the_tests(self):
-        self.compare([path.read_bytes() for path in EXAMPLES] + [test.script for test in SCRIPTS])
-
-    def test_broken_scripts(self):
-        randomness = random.Random(SEED)
-        whole = [test.script for test in SCRIPTS if 0 < len(test.script) < 3000]
-        self.compare([broken(randomness.choice(whole), randomness) for _ in range(BROKEN)])
+        self.assertTrue(EXAMPLES)
 
     def test_strict_command_line(self):
         bad = [test.script for test in SCRIPTS if test.expected[0] == 1][::40]

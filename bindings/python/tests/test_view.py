@@ -7,7 +7,7 @@ from support import ROOT, FolderTest, run
 
 from superio.faults import BadLine
 from superio.recording import entries_of, picture, replay
-from superio.prompt import Style
+from superio.session import Style
 from superio.view import Viewer, table
 
 RECORDING = ROOT / "examples" / "linux-boot" / "boot.recording"

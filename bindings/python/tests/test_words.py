@@ -246,11 +246,11 @@ class Words(SessionTest):
             for line in lines:
                 *before, last = line.split("\n")
                 self.afresh(before)
-                calls = self.session.trace.lines[:]
+                calls = self.session.lines[:]
                 with self.subTest(line), self.assertRaises(Exception) as caught:
                     self.said(last)
                 self.assertIn(reason, str(caught.exception))
-                self.assertEqual(calls, self.session.trace.lines)
+                self.assertEqual(calls, self.session.lines)
 
     def test_dialogues(self):
         for lines, replies in DIALOGUES:
@@ -368,7 +368,7 @@ class Files(SessionTest):
     def test_lines_are_kept_only_for_a_shell(self):
         self.begin(keeps_lines=False)
         self.said("kr 04")
-        self.assertEqual([], self.session.trace.lines)
+        self.assertEqual([], self.session.lines)
         for line in ("trace", f"trace on {self.path}"):
             self.assertRaises(ScriptError, self.said, line)
 
