@@ -154,7 +154,11 @@ const features = [
     by("clock-register").value = "LR";
     submit("clock-form", "clock-value", "0x64");
   }, { lines: "cw NOW 0008 00000064=ok", times: /1970-01-01 00:01:4/ }],
-  ["an alarm counts down", "", () => click("unmask", "alarm"), { times: /in (10|9) s/ }],
+  ["an alarm counts down", "", () => click("unmask", "alarm"),
+    { times: /in (10|9) s/, "clock-registers": /IMSC0x00000001/ }],
+  ["an alarm is cleared", "#cw+0000000000000001+0010+00000001;cw+0000000000000001+0004+00000001",
+    () => { const before = text("times").slice(-2); click("acknowledge"); return before; },
+    { gives: "up", lines: / cw NOW 001c 00000001=ok$/, times: /down$/, "clock-registers": /RIS0x00000000/ }],
   ["the monitor finds an alarm that is due", "#cw+0000000000000001+0010+00000001;cw+0000000000000001+0004+00000009",
     () => until(() => SEEN.lines().includes("cr ")),
     { lines: /^(cw 0{15}1 00(10 00000001|04 00000009)=ok ){2}cr NOW 0018=00000001$/, times: /up/ }],
