@@ -103,7 +103,7 @@ class Names(CopyTest):
                  [f"{proofs}: superio_c::serial::superio_serial_character_timeout: waiting is not named"]),
                 ("docs/WRONG-BODIES.md", "| `dropped` |\n| a dropped", "| `alarm` |\n| a dropped",
                  ["docs/WRONG-BODIES.md: crates/superio_tests/src has no module alarm"]),
-                (proofs, "`sending`; `errors`;", "`serial`; `errors`;",
+                (proofs, "| `sending`; `bindings", "| `serial`; `bindings",
                  [f"{proofs}: crates/superio_tests/src has no module serial"]),
                 ("crates/vm_superio/CALLING.md", "| | `data` |", "| | `date` |",
                  ["crates/vm_superio/CALLING.md: vm_superio::serial::Serial::read has no clause date"]),

@@ -9,7 +9,6 @@ import subprocess
 import sys
 import tempfile
 import unittest
-from collections import Counter
 from dataclasses import replace
 from itertools import islice, product
 from pathlib import Path
@@ -182,21 +181,8 @@ class Runs(unittest.TestCase):
             self.assertEqual(self.refused(**{field: some}), sum(counts) + len(counts), field)
         self.assertEqual(self.refused(calls=[]), sum(count - 2 for count in counts))
 
-    def test_refused_calls(self):
-        right = {call: [refused_memory.NOT_PREPARED, *Counter(refusals).elements(), made]
-                 for call, (made, refusals) in refused_memory.OUTCOMES.items()}
-
-        def different(call, outcomes):
-            calls = {**{it: list(right[it]) for it in right}, call: outcomes}
-            results = silently(refused_memory.call_results, calls)
-            return sum(message is not None for _, message in results)
-        for call, outcomes in right.items():
-            self.assertEqual(different(call, list(outcomes)), 0)
-            self.assertEqual(different(call, [*outcomes, "0"]), 1)
-            self.assertEqual(different(call, outcomes[:1]), 1 + (len(outcomes) > 2))
-
     def test_calls_in_any_state(self):
-        """A call says that memory was refused exactly if it was, and each function is called."""
+        """A call says that memory was refused exactly if it was, and takes as much as it may. Each function is called."""
         lines = [("+ more", 1), ("one: refused", -1), ("other: not refused", 1)]
 
         def different(lines, status=0, functions=("one", "other")):
@@ -210,13 +196,9 @@ class Runs(unittest.TestCase):
         self.assertEqual(different([("+ more", 1), ("one: refused", 1), ("other: not refused", -1)]), 2 * runs)
         self.assertEqual(different(lines, status=1), 1)
         self.assertEqual(different(lines, functions=("one", "other", "third")), 1)
-
-    def test_a_call_that_takes_memory(self):
-        for taken in ([], [1]):
-            def run(line, _):
-                return Ran(0, b"", b"", [Call("allocate", 1, it) for it in taken * (b"no such call" not in line)])
-            results = refused_memory.allocation_results(mock.Mock(run=run))
-            self.assertEqual([message is not None for _, message in results], [bool(taken)])
+        for most, faults in ((1, 0), (0, 1), (2, 1)):
+            with mock.patch.object(refused_memory, "MOST", {"other": most}):
+                self.assertEqual(different(lines), faults)
 
     def test_loads_through_a_library(self):
         """One returns another status, size or text."""

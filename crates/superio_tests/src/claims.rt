@@ -187,12 +187,13 @@ fn forms_of_a_device_agree(rt: HostRuntime) -> Result<(), Fail> {
 fn devices_lend_their_objects(rt: HostRuntime) -> Result<(), Fail> {
     let (before, after) = (Log::new(), Log::new());
     let mut serial = port(rt.alloc(), &before)?;
+    assert!(rt; serial.sends(0) && serial.interrupts_due() == 0 && serial.interrupt_enable() == 0);
     *serial.interrupt_evt_mut() = Object(&after);
     *serial.events_mut() = Object(&after);
     // A byte is reported, goes to the writer that stayed, and raises an interrupt.
     assert!(rt; serial.write(1, 0x02).is_ok() && serial.write(0, b'a').is_ok());
     *serial.writer_mut() = Object(&after);
-    assert!(rt; serial.write(0, b'a').is_ok());
+    assert!(rt; serial.write(0, b'a').is_ok() && serial.events().0.events.get() == 2);
     let mut clock = Rtc::with_events(Object(&before));
     *clock.events_mut() = Object(&after);
     clock.write(0x000, &[0; 4], 0);

@@ -84,17 +84,28 @@ fn shown(alloc: Global, fault: &io::Error) -> Result<String, Fail> {
 /// What a call returned that sent a byte.
 type Sent = Result<(), Error<LineRefused>>;
 
-/// The fault that a call has to return, if any, and how often it has to call `write` and `flush`.
-type Expected = (Option<io::Error>, [u64; 2]);
+/// How a byte is lost with this fault: its `write` fails or takes nothing, or its `flush` fails. After interruptions it
+/// is written again.
+fn losses(fault: io::Error) -> [Writing; 3] {
+    let written = match fault.kind() {
+        ErrorKind::Interrupted => Writing::IsInterrupted(300, fault),
+        _ => Writing::Fails(0, fault),
+    };
+    [written, Writing::TakesNone, Writing::FailsToFlush(fault)]
+}
 
-/// Whether a call did this, and its error prints the fault's text.
-fn is_as_expected(
-    alloc: Global,
-    log: &Log,
-    found: &Sent,
-    (fault, calls): Expected,
-) -> Result<bool, Fail> {
-    let is_same = match (found, fault) {
+/// Whether a call returned the fault of its writer, with its text, and called `write` and `flush` no more than it has to,
+/// if the writer does this.
+fn is_right(alloc: Global, log: &Log, writing: Writing, found: &Sent) -> Result<bool, Fail> {
+    let mut none = [0; 0];
+    let (fault, calls) = match writing {
+        Writing::Takes => (None, [1, 1]),
+        Writing::TakesNone => (none.as_mut_slice().write_all(b"x").err(), [1, 0]),
+        Writing::IsInterrupted(times, _) => (None, [times.saturating_add(1), 1]),
+        Writing::Fails(room, fault) => (Some(fault), [1 + u64::from(room > 0), 0]),
+        Writing::FailsToFlush(fault) => (Some(fault), [1, 1]),
+    };
+    let is_its_fault = match (found, fault) {
         (Ok(()), None) => true,
         (Err(lost @ Error::IOError(found)), Some(fault)) => {
             let text = format!(in alloc; "Couldn't write/flush to the given destination: {fault}")?;
@@ -102,35 +113,7 @@ fn is_as_expected(
         }
         _ => false,
     };
-    Ok(is_same && [log.writes.get(), log.flushes.get()] == calls)
-}
-
-/// Where a byte is lost: its `write` fails or takes nothing, or its `flush` fails.
-#[derive(Clone, Copy)]
-enum Place {
-    Write,
-    FullWrite,
-    Flush,
-}
-
-const PLACES: [Place; 3] = [Place::Write, Place::FullWrite, Place::Flush];
-
-/// Makes the next byte fail with this fault. After interruptions it is written again.
-fn fail(log: &Log, fault: io::Error, place: Place) -> Expected {
-    let (writing, expected) = match place {
-        Place::Write if fault.kind() == ErrorKind::Interrupted => {
-            (Writing::IsInterrupted(300, fault), (None, [301, 1]))
-        }
-        Place::Write => (Writing::Fails(0, fault), (Some(fault), [1, 0])),
-        Place::FullWrite => {
-            let mut room = [0; 0];
-            let fault_of_std = room.as_mut_slice().write_all(b"x").err();
-            (Writing::TakesNone, (fault_of_std, [1, 0]))
-        }
-        Place::Flush => (Writing::FailsToFlush(fault), (Some(fault), [1, 1])),
-    };
-    log.start(writing);
-    expected
+    Ok(is_its_fault && [log.writes.get(), log.flushes.get()] == calls)
 }
 
 // ---- calls that send a byte
@@ -269,13 +252,10 @@ fn a_fault_of_the_writer_is_returned_as_it_is(rt: HostRuntime) -> Result<(), Fai
             Way::Console,
             Way::NewPort,
         ] {
-            for place in PLACES {
-                let expected = fail(&log, *fault, place);
+            for writing in losses(*fault) {
+                log.start(writing);
                 let found = sent(rt.alloc(), &log, &mut machine, way, &mut numbers);
-                assert!(rt;
-                    is_as_expected(rt.alloc(), &log, &found, expected)?,
-                    "{fault:?}"
-                );
+                assert!(rt; is_right(rt.alloc(), &log, writing, &found)?, "{fault:?}");
                 go_on(&mut machine.bus.serial, &mut numbers);
                 go_on(&mut machine.console.serial, &mut numbers);
             }
@@ -291,10 +271,10 @@ fn a_run_returns_the_fault_of_each_writer(rt: HostRuntime) -> Result<(), Fail> {
     let mut numbers = 1;
     let faults = faults(alloc)?;
     for (fault, other) in faults.iter().zip(faults.iter().skip(1)) {
-        for place in PLACES {
+        for (first_loses, second_loses) in losses(*fault).into_iter().zip(losses(*other)) {
             let (first, second) = (Log::new(), Log::new());
-            let before_restore = fail(&first, *fault, place);
-            let after_restore = fail(&second, *other, place);
+            first.start(first_loses);
+            second.start(second_loses);
             let object = Object(&second);
             let calls: Vec<Call<PortObjects>> = vec![in alloc;
                 Call::Write(0, any_byte(&mut numbers)),
@@ -302,19 +282,17 @@ fn a_run_returns_the_fault_of_each_writer(rt: HostRuntime) -> Result<(), Fail> {
                 Call::Write(0, any_byte(&mut numbers)),
             ]?;
             let done = any_port(alloc, &first, &mut numbers)?.run(alloc, calls)?;
-            let [before, _, after] = done.as_slice() else {
-                return Err(Fail::from(AllocError));
-            };
-            for (done, log, expected) in [
-                (before, &first, before_restore),
-                (after, &second, after_restore),
-            ] {
-                let is_expected = match &done.reply {
-                    Reply::Wrote(found) => is_as_expected(alloc, log, found, expected)?,
+            let is_as_expected = match done.as_slice() {
+                [before, _, after] => match (&before.reply, &after.reply) {
+                    (Reply::Wrote(before), Reply::Wrote(after)) => {
+                        is_right(alloc, &first, first_loses, before)?
+                            && is_right(alloc, &second, second_loses, after)?
+                    }
                     _ => false,
-                };
-                assert!(rt; is_expected, "{fault:?} {other:?}");
-            }
+                },
+                _ => false,
+            };
+            assert!(rt; is_as_expected, "{fault:?} {other:?}");
         }
     }
     Ok(())
@@ -328,13 +306,10 @@ fn an_event_is_one_write_and_returns_its_fault(rt: HostRuntime) -> Result<(), Fa
     for fault in faults(rt.alloc())?.iter() {
         for taken in 0..8usize {
             if fault.kind() != ErrorKind::Interrupted {
-                log.start(Writing::Fails(taken, *fault));
+                let writing = Writing::Fails(taken, *fault);
+                log.start(writing);
                 let found = event.trigger().map_err(Error::IOError);
-                let expected = (Some(*fault), [1 + u64::from(taken > 0), 0]);
-                assert!(rt;
-                    is_as_expected(rt.alloc(), &log, &found, expected)?,
-                    "{fault:?}"
-                );
+                assert!(rt; is_right(rt.alloc(), &log, writing, &found)?, "{fault:?}");
             }
         }
         log.start(Writing::Takes);
@@ -354,11 +329,11 @@ fn a_drained_output_is_one_write_and_returns_its_fault(rt: HostRuntime) -> Resul
         for step in 0..4usize {
             let waiting = &bytes[..(number + 80 * step) % 321];
             assert!(rt; output.write(waiting).ok() == Some(waiting.len()));
-            log.start(Writing::Fails(0, *fault));
+            let writing = Writing::Fails(0, *fault);
+            log.start(writing);
             let drained = output.drain_into(&mut Object(&log));
             let found = drained.map(|_| ()).map_err(Error::IOError);
-            let expected = (Some(*fault), [1, 0]);
-            assert!(rt; is_as_expected(alloc, &log, &found, expected)?, "{fault:?}");
+            assert!(rt; is_right(alloc, &log, writing, &found)?, "{fault:?}");
             assert!(rt; output.waiting(alloc)?.as_slice() == waiting && output.dropped() == 0);
             log.start(Writing::Takes);
             assert!(rt; output.drain_into(&mut Object(&log)).ok() == Some(waiting.len()));
@@ -371,19 +346,17 @@ fn a_drained_output_is_one_write_and_returns_its_fault(rt: HostRuntime) -> Resul
 #[test]
 fn the_writer_is_asked_once_for_each_byte(rt: HostRuntime) -> Result<(), Fail> {
     let fault = io::Error::from_raw_os_error(5);
-    for (writing, is_taken, flushes) in [
-        (Writing::Takes, true, 100_000),
-        (Writing::Fails(0, fault), false, 0),
-        (Writing::FailsToFlush(fault), false, 100_000),
+    for (writing, flushes) in [
+        (Writing::Takes, 100_000),
+        (Writing::Fails(0, fault), 0),
+        (Writing::FailsToFlush(fault), 100_000),
     ] {
         let log = Log::new();
         log.start(writing);
         let mut serial = port(rt.alloc(), &log)?;
         for number in 0..100_000u32 {
-            assert!(rt;
-                serial.write(0, (number % 251) as u8).is_ok() == is_taken,
-                "{number}"
-            );
+            let is_taken = serial.write(0, (number % 251) as u8).is_ok();
+            assert!(rt; is_taken == matches!(writing, Writing::Takes), "{number}");
         }
         assert!(rt; [log.writes.get(), log.flushes.get()] == [100_000, flushes]);
     }

@@ -10,6 +10,7 @@ use superio_examples::migration::{restore, restore_input, save};
 use superio_examples::monitor::{Event, Monitor};
 use superio_examples::output::Output;
 use superio_examples::saved_monitor::run_on_two;
+use superio_script::drain;
 use vm_superio::Rtc;
 use vm_superio::rtc_pl031::saved_form::SAVED_SIZE;
 use vm_superio::run::Call;
@@ -75,6 +76,12 @@ fn queues_take_as_many_bytes_as_they_may(rt: HostRuntime) -> Result<(), Fail> {
         assert!(rt; output.waiting(alloc)?.as_slice() == part && output.dropped() == 3);
         assert!(rt; output.limit() == size && output.flush().is_ok());
         let saved = save(alloc, &serial, &clock, &input)?;
+        let mut fed = port(alloc, &log)?;
+        assert!(rt; input.feed(&mut fed).ok() == Some(size.min(64)), "{size}");
+        assert!(rt;
+            drain(&mut fed).as_slice() == &part[..size.min(64)],
+            "{size}"
+        );
         for limit in [0, size, 2 * size] {
             let restored = restore_input(alloc, &saved, limit)?;
             assert!(rt; restored.waiting(alloc)?.as_slice() == part, "{size}");
