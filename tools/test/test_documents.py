@@ -234,7 +234,7 @@ class Facts(CopyTest):
                 ("README.md", "read of offset 2 (IIR)", "read of offset 3 (IIR)", "IIR is [(3, 1)], and [(2, 1)]"),
                 ("README.md", "Rust 1.63+", "Rust 1.60+", "Rust is [(1, 60)], and [(1, 63)]"),
                 ("README.md", "Python 3.8+", "Python 3.7+", "Python is [(3, 7)], and [(3, 8)]"),
-                ("README.md", " 9 kB:", " 90 kB:", "libsuperio_c.a is [(90,)], and [(9,)]"),
+                ("README.md", " 9 kB.", " 90 kB.", "libsuperio_c.a is [(90,)], and [(9,)]"),
                 ("docs/RELEASE.md", "| shared library | 8 kB", "| shared library | 9 kB", "so.3 is [(9,)], and [(8,)]"),
                 ("README.md", "the call 80 of 80", "the call 80 of 90", "5, 80, 90)], and [(1, 4, 5, 80, 80)]"),
                 ("README.md", "stops after 256", "stops after 255", "bytes is [(255,)], and [(256,)]"),
@@ -272,7 +272,7 @@ class Facts(CopyTest):
                 ("docs/WRONG-BODIES.md", "from line 16,001 on", "from line 16,002 on", "16,002"),
                 ("docs/PROOFS.md", "no two states", "no three states", "three"),
                 ("docs/WRONG-BODIES.md", "at the second byte", "at the third byte", "third"),
-                ("README.md", "## Read on\n", "## Read on\n\nWe tried 10 guests.\n", "10")):
+                ("README.md", "## Status\n", "## Status\n\nWe tried 10 guests.\n", "10")):
             with self.subTest(new):
                 self.change(name, old, new)
                 faults = faults_of(self.run_tool("tools/checks/facts"))
