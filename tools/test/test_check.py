@@ -30,7 +30,7 @@ def module_of(name):
 check = module_of("check")
 # The commands of tools/ that no check is: they make something, or take hours.
 BY_HAND = {f"tools/{name}" for name in """
-    c/prebuild check erase install js/prebuild kvm/boots packages/abi page/build release run
+    c/prebuild check erase install kvm/boots packages/abi release run
     wrong_definitions""".split()}
 
 

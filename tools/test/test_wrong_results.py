@@ -21,9 +21,9 @@ from test_check import TOOLS, module_of
 
 sys.path[:0] = [str(TOOLS / folder) for folder in ("c", "js", "kvm", "page", "packages")]
 import demo  # noqa: E402
-import licenses  # noqa: E402
 import misuse  # noqa: E402
 import programs  # noqa: E402
+import texts  # noqa: E402
 import twin  # noqa: E402
 from failing import Call, Ran  # noqa: E402
 from machines import machines  # noqa: E402
@@ -32,7 +32,7 @@ from toolchains import Toolchain  # noqa: E402
 
 failing_io, first_crate, hostile, refused_memory, saved_forms = map(
     module_of, map("checks/{}".format, ("failing_io", "first_crate", "hostile", "refused_memory", "saved_forms")))
-rust_check, js_check, page_check = map(module_of, ("rust/check", "js/check", "page/check"))
+rust_check, js_check = map(module_of, ("rust/check", "js/check"))
 packages_check = module_of("packages/check")
 kvm_check = module_of("kvm/check")
 # A program that prints its script, and others that differ from it in one thing.
@@ -268,34 +268,6 @@ class Runs(unittest.TestCase):
                     silently(check, tally)
                 self.assertEqual((tally.passed, tally.failed), (is_good, not is_good))
 
-    def judge_package(self, of_evaluated, said, declared):
-        """How much fails of the package, by what Node gives for an expression with some text, what the package says of
-        another interface, and what superio.d.ts declares."""
-        def evaluated(expression):
-            return next(value for text, value in of_evaluated.items() if text in expression)
-        tally, ran = Tally(), mock.Mock(side_effect=lambda command, **_: subprocess.CompletedProcess(
-            "node", 1, said.format(abi, *re.findall(r"\d+", command[-1]))))
-        abi = js_check.read_header().constants["SUPERIO_ABI"]
-        with mock.patch.multiple(js_check, evaluated=evaluated, run=ran, declared=declared.items), \
-                mock.patch.object(tally, "has", return_value=True):
-            silently(js_check.check_package, tally)
-        return tally.failed
-
-    def test_the_package_of_javascript(self):
-        serial, clock = map(js_check.table, (js_check.SERIAL, js_check.CLOCK))
-        device = {"extends": "", "constructor": [[], "Rtc"], "read": [["offset"], "number"]}
-        right = {js_check.TAKEN: dict(js_check.declared_kinds()), js_check.OWN: {"Rtc": device},
-                 "Module.imports": [], "registers.SERIAL": serial, "registers.CLOCK": clock}
-        said, declared = "interface {}, and this package is for {}", {"Rtc": dict(device)}
-        self.assertEqual(self.judge_package(right, said, declared), 0)
-        for text, wrong in ((js_check.TAKEN, {}), ("Module.imports", ["memory"]), ("registers.SERIAL", clock),
-                            ("registers.CLOCK", serial),
-                            (js_check.OWN, {"Rtc": {**device, "read": [[], "number"]}}),
-                            (js_check.OWN, {"Rtc": {**device, "write": [[], "number"]}})):
-            self.assertEqual(self.judge_package({**right, text: wrong}, said, declared), 1, text)
-        self.assertEqual(self.judge_package(right, said, {"Rtc": {**device, "line": [[], "boolean"]}}), 1)
-        self.assertEqual(self.judge_package(right, "", declared), 3)
-
     def test_programs_of_the_package_of_javascript(self):
         """One prints something else, or fails, or its document does not say what it prints."""
         for wanted, printed, status, failed in (("1\n", "1\n", 0, 0), ("1\n", "2\n", 0, 1), ("1\n", "1\n", 1, 1),
@@ -376,21 +348,6 @@ class Runs(unittest.TestCase):
                     mock.patch.object(twin, "run_bounded", return_value=got):
                 self.assertEqual(len(list(demo.differences("monitor.c", "demo"))), failed, got)
 
-    def test_the_page(self):
-        """A reply, an end, a feature, and the list as a script."""
-        scripts = [("a", "kr 04\n", ["00"], "")] * 2
-        right = {"replies": ["00"], "end": ""}
-        for got, failed in ((right, 0), ({**right, "replies": ["01"]}, 1), ({**right, "end": "bad line 1"}, 1)):
-            browser = mock.Mock(**{"value.return_value": [right, got]})
-            found = silently(page_check.differences, browser, "", scripts)
-            self.assertEqual(sum(it is not None for it in found), failed)
-        for seen, again, said, failed in ((5, True, [], 0), (6, True, [], 1), (5, False, [], 1), (5, True, ["a"], 1)):
-            browser = mock.Mock(**{"value.side_effect": [None, None, seen, again], "complaints.return_value": said})
-            tally = Tally()
-            with mock.patch.object(page_check, "FEATURES", [("it", "", "", "", 5)]):
-                silently(page_check.check_features, tally, browser)
-            self.assertEqual(tally.failed, failed)
-
 
 def failing(command, **options):
     """What each program does: it fails, and prints nothing. Cargo only has what was asked for, and a version."""
@@ -409,7 +366,7 @@ class Failing(unittest.TestCase):
             of_c = [(check, [machines()[0], Path(name)]) for check in (
                 programs.check_header, programs.check_calls, programs.check_other_abi, programs.check_random_calls,
                 programs.check_pastes, programs.check_demos)]
-            others = [(check, []) for check in (licenses.check_reuse, js_check.check_calls, js_check.check_tests)]
+            others = [(check, []) for check in (texts.check_reuse, js_check.check_calls, js_check.check_tests)]
             for check, arguments in of_c + others:
                 with self.subTest(check.__name__):
                     tally = Tally()
@@ -443,7 +400,8 @@ class Failing(unittest.TestCase):
         self.assertEqual(tally.failed, tally.tried.counts["wrong demos"])
 
     def test_a_check_that_ends_by_an_error(self):
-        for run_check in (lambda check, tally: tally.carry_out("it", check), packages_check.run):
+        for run_check in (lambda check, tally: tally.carry_out("it", check),
+                          lambda check, tally: packages_check.run(tally, check)):
             tally, check = Tally(), mock.Mock(__name__="check_it", side_effect=OSError)
             silently(run_check, check, tally)
             self.assertEqual((tally.passed, tally.failed), (0, 1))

@@ -19,7 +19,7 @@ from superio import (AlarmIsSetError, Board, Command, I8042, LibraryError, LoadS
                      SavedStateError, ScriptError, Serial, SerialState, board, devices, parse, registers)
 
 # What programs over vm-superio 0.8.2 saved: the device, the format, and the contents.
-RECORDED = ROOT / "tools" / "rust" / "moved" / "recorded.txt"
+RECORDED = ROOT / "tools" / "rust" / "states" / "recorded.txt"
 
 # The bits of the data sheets of the 16550A and the PL031, from the lowest on.
 BITS = {"IER": "RDA THRE RLS MS - - - -", "IIR": "- THRE RDA - - - - -", "LCR": "- - - - - - BREAK DLAB",
