@@ -81,7 +81,7 @@ class MissingFiles(CopyTest):
 
     def test_wrong_bodies_without_the_prover(self):
         tiny.make(self.root, [("one", "same", "ensures", "    number", "    0")])
-        says = "tiny/one: BAD: the crate tiny is not proved"
+        says = "No such file or directory: 'rt'"
         self.assertEqual(self.sum_of("wrong_bodies", "--root", self.root, says=says, env={"PATH": ""}), (0, 1))
 
     def test_a_damaged_recording(self):

@@ -15,9 +15,9 @@ LACKING = re.compile(r"(.*-)?(rt|cc|c89|c99|tcc|gcc|g\+\+|c\+\+|cpp|clang|clang\
 # The checks that need compilers, each with what it names as missing.
 CHECKS = {"c": "cc is not there", "rust": "cargo is not there", "random_calls": "cargo is not there",
           "counts": "cargo is not there", "calls": "cc is not there", "kvm": "cc is not there"}
-# The same if Cargo is there, but no compiler that it links by.
+# The same if Cargo is there, but no compiler that it links by. targets names a package of Debian first, if that is missing.
 WITH_CARGO = {"c": "cc is not there", "rust": "cc is not there", "random_calls": "cc is not there",
-              "counts": "cc is not there", "calls": "cc is not there", "targets": "cc is not there"}
+              "counts": "cc is not there", "calls": "cc is not there", "targets": " is not there"}
 
 
 class WithoutCompilers(CopyTest):
