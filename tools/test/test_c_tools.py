@@ -5,31 +5,36 @@ import platform
 import re
 import shutil
 import subprocess
-import sys
 import unittest
 from unittest import mock
 
-from repository import ROOT, CopyTest
+import twin
+from libraries import SHARED, STATIC
+from repository import NOTHING_ELSE, ROOT, CopyTest, program
 
-sys.path.append(str(ROOT / "tools" / "c"))
-import twin  # noqa: E402
-from libraries import SHARED, STATIC  # noqa: E402
-
-TARGETS = ("aarch64-linux", "x86_64-linux")
-LIBRARIES = (SHARED, STATIC)
+MACHINE = f"{platform.machine()}-linux"
 SOURCES = ("crates/superio_c/src", "crates/superio_core/src")
-# A change of the model, or of what is expected of the controller, and what is said to differ.
-CHANGES = [
-    ("model.c", "port->registers[SCR] = value;", "port->registers[SCR] = value & 0x7F;", "the port"),
-    ("model.c", "port->held > 0 ? raised(port, RDA) : 0", "port->held > 1 ? raised(port, RDA) : 0",
-     "the effects of superio_serial_character_timeout"),
-    ("model.c", "case 0x010: effects.value = clock->imsc;", "case 0x010: effects.value = clock->ris;",
-     "the effects of superio_rtc_read"),
-    ("fuzz.c", "value == 0xFE), \"superio_i8042_write\"", "value == 0xFF), \"superio_i8042_write\"",
-     "superio_i8042_write"),
+MODEL, FUZZ, PASTES = (f"tools/c/tests/{name}.c" for name in ("model", "fuzz", "pastes"))
+# A change of the model, of what is expected of the controller, or of the calls, and what is said.
+CALLS = [
+    (MODEL, "port->registers[SCR] = value;", "port->registers[SCR] = value & 0x7F;", "the port differs from the model"),
+    (MODEL, "port->held > 0 ? raised(port, RDA) : 0", "port->held > 1 ? raised(port, RDA) : 0",
+     "the effects of superio_serial_character_timeout differs from the model"),
+    (MODEL, "case 0x010: effects.value = clock->imsc;", "case 0x010: effects.value = clock->ris;",
+     "the effects of superio_rtc_read differs from the model"),
+    (FUZZ, "value == 0xFE), \"superio_i8042_write\"", "value == 0xFF), \"superio_i8042_write\"",
+     "superio_i8042_write differs from the model"),
+    (FUZZ, "case 7: time_out();", "case 7: if (0) time_out();", "only 0 of the calls are a timeout that does nothing"),
+]
+# A change of the program that pastes, and how many of the three guests get stuck.
+STUCK = [
+    (PASTES, "", "", 0, 0),
+    (PASTES, "if (offset == IIR && (done.byte & NONE_PENDING))", "if (offset == IIR && 0)", 1, 3),
+    (PASTES, "PASTES = 10000", "PASTES = 9990", 1, 0),
 ]
 HEADER, CALLER = "include/superio.h", "tools/compare/library/src/library.rs"
 # A change of a declaration, and what is said of it.
+UNKNOWN = (HEADER, "superio_abi(void);", "superio_abi(void), superio_zero(void);", "tools/c/header.py does not know")
 DECLARATIONS = [
     (HEADER, "superio_rtc_line(const superio_rtc *clock)", "superio_rtc_line(const superio_rtc *it)",
      "superio_rtc_line: the header has the function"),
@@ -38,7 +43,6 @@ DECLARATIONS = [
     (HEADER, "    uint32_t lr; ", "    uint16_t lr; ", "superio_rtc: the header has the struct"),
     (HEADER, "#define SUPERIO_SERIAL_FIFO_SIZE 64", "#define SUPERIO_SERIAL_FIFO_SIZE 65",
      "SUPERIO_SERIAL_FIFO_SIZE: the header has the constant 65, and crates/superio_c 64"),
-    (HEADER, "superio_abi(void);", "superio_abi(void), superio_zero(void);", "tools/c/header.py does not know"),
     ("bindings/rust/capi/src/clock.rs", "clock: &mut Clock, offset: u16, now", "clock: &mut Clock, offset: u8, now",
      "superio_rtc_read: the header has the function"),
     ("bindings/rust/src/core/serial/effects.rs", "    pub sends: bool,\n", "",
@@ -50,107 +54,61 @@ DECLARATIONS = [
 ]
 # In place of the kit: `rt doc` names a page of the kit, `rt lib` writes a library that says what it is for, and the
 # linker one that says what it was linked of.
-RT = """#!/bin/sh
-case "$1" in
+RT = """case "$1" in
 doc) echo "$KIT/page" ;;
 lib) mkdir -p out && echo "static for $2 $3" > out/libsuperio_c.a && echo built && [ -z "$FAILS" ] ;;
-esac
-"""
-LINKER = """#!/bin/sh
-while [ "$1" != -m ]; do shift; done
+esac"""
+LINKER = """while [ "$1" != -m ]; do shift; done
 emulation=$2
 while [ "$1" != --whole-archive ]; do shift; done
-echo "shared for $emulation of $(cat "$2")" > "$4"
-"""
-BUILT = {
-    "aarch64-linux/libsuperio_c.a": "static for --target aarch64-unknown-linux-gnu\n",
-    f"aarch64-linux/{SHARED}": "shared for aarch64linux of static for --target aarch64-unknown-linux-gnu\n",
-    "x86_64-linux/libsuperio_c.a": "static for --cpu=x86-64 \n",
-    f"x86_64-linux/{SHARED}": "shared for elf_x86_64 of static for --cpu=x86-64 \n",
-}
+echo "shared for $emulation of $(cat "$2")" > "$4\""""
+BUILT = {f"{target}-linux/{name}": text for target, words, emulation in (
+    ("aarch64", "--target aarch64-unknown-linux-gnu", "aarch64linux"), ("x86_64", "--cpu=x86-64 ", "elf_x86_64"))
+    for name, text in ((STATIC, f"static for {words}\n"), (SHARED, f"shared for {emulation} of static for {words}\n"))}
 
 
-class Declaring(CopyTest):
-    def setUp(self):
-        super().setUp()
-        self.take(*SOURCES, "bindings/rust/capi/src", "bindings/rust/src/core", "bindings/python/superio", "include",
-                  "prebuilt", "VERSION")
+def sums_of(contents):
+    """The line of sha256sum for each name with its content."""
+    return "".join(f"{hashlib.sha256(content).hexdigest()}  {name}\n" for name, content in contents.items())
 
+
+class Checking(CopyTest):
     def test_each_kind_of_declaration_is_compared(self):
-        for name, old, new, says in DECLARATIONS:
+        self.assertNotIn("the header has", self.run_tool("tools/c/check", env=NOTHING_ELSE)[1])
+        for *change, _ in DECLARATIONS:
+            self.change(*change)
+        printed = self.run_tool("tools/c/check", env=NOTHING_ELSE)[1]
+        self.assertEqual([says for *_, says in DECLARATIONS if says not in printed], [])
+        self.change(*UNKNOWN[:3])
+        self.assertIn(UNKNOWN[3], self.run_tool("tools/c/check", env=NOTHING_ELSE)[1])
+
+    @unittest.skipUnless(shutil.which("gcc"), "gcc is not there")
+    def test_random_calls(self):
+        self.assertEqual(self.run_tool("tools/c/fuzz", "3000", "7"), (0, "3000 calls\n", ""))
+        for name, old, new, says in CALLS:
             with self.subTest(says):
                 self.change(name, old, new)
-                self.assertIn(says, self.run_tool("tools/c/check", env={"PATH": ""})[1])
-                shutil.copy(ROOT / name, self.root / name)
-        self.assertNotIn("the header has", self.run_tool("tools/c/check", env={"PATH": ""})[1])
-
-
-@unittest.skipUnless(shutil.which("gcc"), "gcc is not there")
-class Fuzzing(CopyTest):
-    def setUp(self):
-        super().setUp()
-        self.take("include", "prebuilt")
-
-    def test_the_same_replies_pass(self):
-        self.assertEqual(self.run_tool("tools/c/fuzz", "3000", "7"), (0, "3000 calls\n", ""))
-
-    def test_each_device_is_compared(self):
-        for name, old, new, what in CHANGES:
-            with self.subTest(what):
-                self.change(f"tools/c/tests/{name}", old, new)
-                self.assertEqual(self.run_tool("tools/c/fuzz", "30000"), (1, f"{what} differs from the model\n", ""))
-                self.change(f"tools/c/tests/{name}", new, old)
-
-    def test_a_kind_of_call_that_is_not_made_is_noticed(self):
-        self.change("tools/c/tests/fuzz.c", "case 7: time_out();", "case 7: if (0) time_out();")
-        status, printed, said = self.run_tool("tools/c/fuzz", "30000")
-        self.assertEqual((status, printed, said), (1, "only 0 of the calls are a timeout that does nothing\n", ""))
-
-    def test_other_arguments_are_refused(self):
+                self.assertEqual(self.run_tool("tools/c/fuzz", "30000"), (1, f"{says}\n", ""))
+                self.change(name, new, old)
         for arguments in (["all"], ["1", "2", "3"], ["-1"]):
             status, printed, said = self.run_tool("tools/c/fuzz", *arguments)
-            self.assertEqual((status, printed), (1, ""))
-            self.assertIn("tools/c/fuzz [CALLS [SEED]]", said)
-
-    def test_a_missing_source_is_named(self):
-        (self.root / "tools/c/tests/model.c").unlink()
+            self.assertEqual((status, printed, "tools/c/fuzz [CALLS [SEED]]" in said), (1, "", True))
+        self.keep(MODEL).unlink()
         status, printed, said = self.run_tool("tools/c/fuzz")
-        self.assertEqual((status, printed), (1, ""))
-        self.assertIn("model.c", said)
+        self.assertEqual((status, printed, "model.c" in said), (1, "", True))
 
+    @unittest.skipUnless(shutil.which("gcc") and (ROOT / "prebuilt" / MACHINE).is_dir(), "needs gcc and a library")
+    def test_pastes_that_are_stuck_or_too_few(self):
+        built, library = self.folder / "pastes", self.root / "prebuilt" / MACHINE / STATIC
+        words = ["gcc", "-std=c11", "-O2", "-I", self.root / "include", self.root / PASTES, library, "-o", built]
+        for name, old, new, status, stuck in STUCK:
+            self.change(name, old, new)
+            subprocess.run(words, check=True, timeout=120)
+            self.change(name, new, old)
+            ran = subprocess.run([built, "1"], capture_output=True, text=True, timeout=120)
+            lines = re.findall(r"(\d+) stuck$", ran.stdout, re.M)
+            self.assertEqual((ran.returncode, len(lines), sum(line != "0" for line in lines)), (status, 3, stuck), new)
 
-@unittest.skipUnless(shutil.which("gcc"), "gcc is not there")
-@unittest.skipUnless(f"{platform.machine()}-linux" in TARGETS, "there is no library for this machine")
-class Pasting(CopyTest):
-    def setUp(self):
-        super().setUp()
-        self.take("include", "prebuilt")
-
-    def paste(self):
-        """The status of the program, and how many pastes are stuck, for each guest."""
-        library = self.root / "prebuilt" / f"{platform.machine()}-linux" / "libsuperio_c.a"
-        source, program = self.root / "tools/c/tests/pastes.c", self.root / "pastes"
-        subprocess.run(["gcc", "-std=c11", "-O2", "-I", self.root / "include", source, library, "-o", program],
-                       check=True, timeout=120)
-        ran = subprocess.run([program, "1"], capture_output=True, text=True, timeout=120)
-        return ran.returncode, [int(stuck) for stuck in re.findall(r"(\d+) stuck$", ran.stdout, re.M)]
-
-    def test_no_paste_is_stuck(self):
-        self.assertEqual(self.paste(), (0, [0, 0, 0]))
-
-    def test_a_call_that_is_left_out_is_noticed(self):
-        self.change("tools/c/tests/pastes.c", "if (offset == IIR && (done.byte & NONE_PENDING))",
-                    "if (offset == IIR && (done.byte & NONE_PENDING) && false)")
-        status, stuck = self.paste()
-        self.assertEqual(status, 1)
-        self.assertTrue(all(stuck) and len(stuck) == 3, stuck)
-
-    def test_too_few_pastes_are_noticed(self):
-        self.change("tools/c/tests/pastes.c", "PASTES = 10000", "PASTES = 9990")
-        self.assertEqual(self.paste(), (1, [0, 0, 0]))
-
-
-class Scripts(unittest.TestCase):
     def test_a_monitor_that_differs_prints_on_or_does_not_end_is_found(self):
         cases = [("it", ["r 3fd"], ["r 3fd"], 0)]
         for command, is_good in (("cat", True), ("cat; echo", False), ("cat; exit 1", False), ("true", False),
@@ -162,52 +120,39 @@ class Scripts(unittest.TestCase):
 class Building(CopyTest):
     def setUp(self):
         super().setUp()
-        self.take(*SOURCES, "include", "prebuilt")
-        tools = self.root / "kit" / "toolchain" / "bin"
-        tools.mkdir(parents=True)
-        for path, script in ((self.root / "kit" / "rt", RT), (tools / "ld.lld", LINKER)):
-            path.write_text(script, encoding="ascii")
-            path.chmod(0o755)
-        self.environment = {"PATH": f"{self.root}/kit:{os.environ['PATH']}", "KIT": f"{self.root}/kit"}
+        program(self.folder / "kit" / "rt", RT)
+        program(self.folder / "kit" / "toolchain" / "bin" / "ld.lld", LINKER)
+        self.environment = {"PATH": f"{self.folder}/kit:{os.environ['PATH']}", "KIT": f"{self.folder}/kit"}
 
     def check(self, folder, other_sums="", other_sources=""):
-        """A folder has the libraries of both processors, their sums, and the digest of the sources, before other lines."""
-        for name, text in BUILT.items():
-            self.assertEqual((folder / name).read_text(encoding="ascii"), text)
-        sums = "".join(f"{hashlib.sha256(text.encode()).hexdigest()}  {name}\n"
-                       for name, text in BUILT.items())
-        self.assertEqual((folder / "SHA256SUMS").read_text(encoding="ascii"), sums + other_sums)
-        names = sorted(path.relative_to(ROOT).as_posix() for source in SOURCES for path in (ROOT / source).rglob("*.rt"))
-        listing = "".join(f"{hashlib.sha256((ROOT / name).read_bytes()).hexdigest()}  {name}\n" for name in names)
-        self.assertEqual((folder / "SOURCES").read_text(encoding="ascii"),
-                         f"{hashlib.sha256(listing.encode()).hexdigest()}  the sources in {' and '.join(SOURCES)}\n"
-                         + other_sources)
+        """A folder has the libraries of both processors, their sums and the sources' digest, before other lines."""
+        names = sorted(path.relative_to(ROOT).as_posix() for it in SOURCES for path in (ROOT / it).rglob("*.rt"))
+        listing = sums_of({name: (ROOT / name).read_bytes() for name in names})
+        digest = sums_of({f"the sources in {' and '.join(SOURCES)}": listing.encode()})
+        wanted = {**BUILT, "SOURCES": digest + other_sources,
+                  "SHA256SUMS": sums_of({name: text.encode() for name, text in BUILT.items()}) + other_sums}
+        self.assertEqual({name: (folder / name).read_text(encoding="ascii") for name in wanted}, wanted)
 
-    def test_into_a_folder(self):
-        folder = self.root / "folder"
+    def test_into_a_folder_and_into_the_repository(self):
+        """In the repository the lines of what another tool builds stay."""
+        folder = self.folder / "built"
         self.assertEqual(self.run_tool("tools/c/prebuild", folder, env=self.environment), (0, "", ""))
         self.check(folder)
-        library = "prebuilt/x86_64-linux/libsuperio_c.a"
+        library = f"prebuilt/x86_64-linux/{STATIC}"
         self.assertEqual((self.root / library).read_bytes(), (ROOT / library).read_bytes())
-
-    def test_into_the_repository(self):
-        """The lines of what another tool builds stay."""
+        self.keep("prebuilt", "crates/superio_c/out")
         self.assertEqual(self.run_tool("tools/c/prebuild", env=self.environment), (0, "", ""))
         sums, sources = ((ROOT / "prebuilt" / name).read_text(encoding="ascii") for name in ("SHA256SUMS", "SOURCES"))
-        others = [line for line in sums.splitlines(keepends=True) if line.split()[1] not in BUILT]
-        self.assertEqual(len(others), 1)
-        self.check(self.root / "prebuilt", others[0], sources.splitlines(keepends=True)[1])
+        other, = [line for line in sums.splitlines(keepends=True) if line.split()[1] not in BUILT]
+        self.check(self.root / "prebuilt", other, sources.splitlines(keepends=True)[1])
 
     def test_a_build_that_fails_says_where_its_output_is(self):
-        status, _, said = self.run_tool("tools/c/prebuild", self.root / "folder", env={**self.environment, "FAILS": "1"})
-        self.assertEqual(status, 1)
+        environment = {**self.environment, "FAILS": "1"}
+        status, _, said = self.run_tool("tools/c/prebuild", self.folder / "built", env=environment)
         log = re.fullmatch(r"tools/c/prebuild: .* for aarch64-linux failed: (\S+) has what it printed\n", said)[1]
         with open(log, encoding="utf-8") as kept:
-            self.assertEqual(kept.read(), "built\n")
+            self.assertEqual((status, kept.read()), (1, "built\n"))
         shutil.rmtree(os.path.dirname(log))
-
-    def test_without_the_kit(self):
-        status, printed, said = self.run_tool("tools/c/prebuild", self.root / "folder", env={"PATH": ""})
-        self.assertEqual((status, printed), (1, ""))
+        status, printed, said = self.run_tool("tools/c/prebuild", self.folder / "none", env=NOTHING_ELSE)
+        self.assertEqual((status, printed, (self.folder / "none").exists()), (1, "", False))
         self.assertIn("tools/c/prebuild: this needs the Rattle kit", said)
-        self.assertFalse((self.root / "folder").exists())
