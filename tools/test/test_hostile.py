@@ -11,7 +11,7 @@ from types import ModuleType
 import cases
 from expected import Monitor, script_replies
 from oracle import FRESH
-from repository import TOOLS, module_of, program
+from repository import ROOT, TOOLS, module_of, program
 from saved_bytes import CLOCK, CLOCK_CONTENTS, SERIAL, form
 
 hostile = module_of("checks/hostile")
@@ -61,40 +61,48 @@ SCRIPTS, RUNS = 500, 500
 # Of so many scripts and runs, how many at least have to differ.
 SOME = 3
 
-# A wrong body, a text of the search, the text that takes its place, and what shows it.
+# A wrong body, a text of the search, the text that takes its place, what shows it, and which recordings refuse it.
 BOTH, IN_SCRIPTS, IN_RUNS = ("scripts", "runs"), ("scripts",), ("runs",)
 BODIES = [
-    ("an IER write goes on after a refusal", 'self.last(condition) and "R" not in did:', "self.last(condition):", BOTH),
+    ("an IER write goes on after a refusal", 'self.last(condition) and "R" not in did:', "self.last(condition):",
+     BOTH, "line order refusals"),
     ("an IER write whose second call is refused takes THRE back", '{"IER": value & 0x0F} | raised, did)',
-     '{"IER": value & 0x0F} | raised | ({"THRE": False} if did[-2:] == ["T", "R"] else {}), did)', BOTH),
+     '{"IER": value & 0x0F} | raised | ({"THRE": False} if did[-2:] == ["T", "R"] else {}), did)',
+     BOTH, "order refusals"),
     ("a lost byte raises no THRE", 'self.raises(["THRE"], self.last("IER"))',
-     'self.raises([] if is_lost else ["THRE"], self.last("IER"))', BOTH),
+     'self.raises([] if is_lost else ["THRE"], self.last("IER"))', BOTH, "line order refusals sending"),
     ("a refused enqueue takes its byte back", "did, accepted=accepted)",
-     'did, accepted=b"" if "R" in did and len(accepted) == 1 else accepted)', BOTH),
-    ("every THR write fails and sends nothing", "writing = self.writing()", 'writing = "n"', BOTH),
-    ("no byte is flushed", ' + ["F"] * len(sent)', "", IN_RUNS),
-    ("the trigger is called before the byte is sent", "written + did", "did + written", IN_RUNS),
+     'did, accepted=b"" if "R" in did and len(accepted) == 1 else accepted)', BOTH, "line order refusals"),
+    ("every THR write fails and sends nothing", "writing = self.writing()", 'writing = "n"',
+     BOTH, "line order original refusals sending"),
+    ("no byte is flushed", ' + ["F"] * len(sent)', "", IN_RUNS, "line order original refusals sending"),
+    ("the trigger is called before the byte is sent", "written + did", "did + written",
+     IN_RUNS, "line order refusals sending"),
     ("an RBR read of an empty FIFO clears bit 0x01 of IIR", 'made | {"READY": False}',
-     'made | {"READY": False} | ({} if held else {"NONE": False})', BOTH),
+     'made | {"READY": False} | ({} if held else {"NONE": False})', BOTH, "refusals"),
     ("such a read leaves IIR at 0 in place of 0x01", 'if self.register("IIR") & ~BITS["IIR"]["RDA"] else',
-     'if self.register("IIR") & ~BITS["IIR"]["RDA"] or not held else', IN_SCRIPTS),
+     'if self.register("IIR") & ~BITS["IIR"]["RDA"] or not held else', IN_SCRIPTS, "refusals"),
     ("such a read leaves IIR as it was", 'made = {"RDA": False} |', 'made = {} if not held else {"RDA": False} |',
-     BOTH),
-    ("a timeout raises RDA with no byte held", '["RDA"] if self.held() else []', '["RDA"]', BOTH),
-    ("a timeout does nothing", '["RDA"] if self.held() else []', "[]", BOTH),
-    ("a restore clears DLAB", "Fact({}, did=did)]", 'Fact({"LCR": self.last("LCR") & 0x7F}, did=did)]', BOTH),
-    ("a restore cuts IER to four bits", "Fact({}, did=did)]", 'Fact({"IER": self.last("IER") & 0x0F}, did=did)]', BOTH),
-    ("an invalid read leaves zeros", 'UNREAD = "a5a5a5a5"', 'UNREAD = "00000000"', IN_RUNS),
+     BOTH, "refusals"),
+    ("a timeout raises RDA with no byte held", '["RDA"] if self.held() else []', '["RDA"]', BOTH, "order timeouts"),
+    ("a timeout does nothing", '["RDA"] if self.held() else []', "[]", BOTH, "line order timeouts"),
+    ("a restore clears DLAB", "Fact({}, did=did)]", 'Fact({"LCR": self.last("LCR") & 0x7F}, did=did)]',
+     BOTH, "line order states timeouts"),
+    ("a restore cuts IER to four bits", "Fact({}, did=did)]", 'Fact({"IER": self.last("IER") & 0x0F}, did=did)]',
+     BOTH, "line states timeouts"),
+    ("an invalid read leaves zeros", 'UNREAD = "a5a5a5a5"', 'UNREAD = "00000000"', IN_RUNS, "clocks order original"),
     ("an invalid write does not look at the alarm", "Fact(made | writes.get(name, {}))",
-     "Fact((made if value is None or name in writes else {}) | writes.get(name, {}))", BOTH),
-    ("the alarm raises at each access from its second on", '{"raised": 1, "armed": False}', '{"raised": 1}', BOTH),
-    ("a match in the past arms the alarm", "value > guest_time", "value != guest_time", BOTH),
-    ("a moment past 32 bits is the last one that 32 bits hold", "moment % 2**32", "min(moment, 2**32 - 1)", BOTH),
+     "Fact((made if value is None or name in writes else {}) | writes.get(name, {}))", BOTH, ""),
+    ("the alarm raises at each access from its second on", '{"raised": 1, "armed": False}', '{"raised": 1}', BOTH, ""),
+    ("a match in the past arms the alarm", "value > guest_time", "value != guest_time", BOTH, ""),
+    ("a moment past 32 bits is the last one that 32 bits hold", "moment % 2**32", "min(moment, 2**32 - 1)",
+     BOTH, "clocks original"),
     ("a counter of 4294967295 counts as out of range", "0 <= counter < 2**32 else", "0 <= counter < 2**32 - 1 else",
-     BOTH),
+     BOTH, "clocks"),
     ("a counter of 4294967296 wraps to 0", "counter if 0 <= counter < 2**32 else",
-     "counter % 2**32 if 0 <= counter <= 2**32 else", BOTH),
-    ("the command byte resets at every offset", "(offset, value) == (4, 0xFE)", "value == 0xFE", BOTH),
+     "counter % 2**32 if 0 <= counter <= 2**32 else", BOTH, "clocks"),
+    ("the command byte resets at every offset", "(offset, value) == (4, 0xFE)", "value == 0xFE",
+     BOTH, "order refusals"),
 ]
 
 
@@ -118,6 +126,13 @@ def replies(expected, scripts, runs):
     monitor = expected.Monitor()
     return {"scripts": (expected.script_replies(script)[1] for script in scripts),
             "runs": ([monitor.reply(call) for call in calls] for calls in runs)}
+
+
+def does(recording, monitor):
+    """Whether a monitor does all calls of a file of tests/calls as they were recorded."""
+    text = (ROOT / "tests" / "calls" / f"{recording}.txt").read_text(encoding="utf-8")
+    calls = (line.partition(" = ") for line in text.splitlines() if " = " in line)
+    return all(monitor.reply(call) == reply for call, _, reply in calls)
 
 
 class Programs(unittest.TestCase):
@@ -163,9 +178,11 @@ class Cases(unittest.TestCase):
         scripts = [script for _, script in cases.random_cases(cases.random_script, "script", 1, SCRIPTS)]
         runs = [calls for _, calls in cases.random_cases(cases.random_run, "run", 1, RUNS)]
         right = {what: list(some) for what, some in replies(search(), scripts, runs).items()}
-        for name, old, new, shown in BODIES:
-            found = replies(search(old, new), scripts, runs)
+        for name, old, new, shown, recorded in BODIES:
+            wrong = search(old, new)
+            found = replies(wrong, scripts, runs)
             different = {what: len(list(islice(filter(None, map(list.__ne__, found[what], right[what])), SOME)))
                          for what in shown}
             with self.subTest(name):
                 self.assertEqual(different, dict.fromkeys(shown, SOME))
+                self.assertEqual([it for it in recorded.split() if does(it, wrong.Monitor())], [])

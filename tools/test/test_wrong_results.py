@@ -322,14 +322,16 @@ class Runs(unittest.TestCase):
             self.assertEqual((tally.passed, tally.failed), (3 - failed, failed), text)
 
     def test_a_wrong_monitor_that_is_not_noticed(self):
-        def notices(_):
-            raise kvm_check.Wrong("it")
-        for body, failed in ((notices, 0), (lambda _: None, len(kvm_check.WRONG))):
+        """Or a right one that is, since its time is up."""
+        for noticed, failed in (({"wrong"}, 0), (set(), 1), ({"right", "wrong"}, 1)):
+            def body(monitor):
+                if ("right" if monitor.name == "right" else "wrong") in noticed:
+                    raise kvm_check.Wrong("it")
             wrong = [(file, old, new, body) for file, old, new, _ in kvm_check.WRONG]
             with tempfile.TemporaryDirectory() as name, mock.patch("subprocess.run", return_value=ended(0)), \
-                    mock.patch.multiple(kvm_check, WRONG=wrong, Bench=mock.Mock()):
-                tally = tally_of(kvm_check.check_wrong, Path(name), Path(name))
-            self.assertEqual((tally.failed, tally.tried.counts.total()), (failed, len(wrong)))
+                    mock.patch.multiple(kvm_check, WRONG=wrong, Bench=lambda _, monitor, __: monitor):
+                tally = tally_of(kvm_check.check_wrong, Path(name), Path("right"), Path(name))
+            self.assertEqual((tally.failed, tally.tried.counts.total()), (failed * len(wrong), len(wrong)))
 
     def test_warnings_of_misuse(self):
         """A compiler warns of a right call, or not of a mistake."""
