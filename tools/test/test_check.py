@@ -49,6 +49,12 @@ CHECKS = [
      FEW),
     ("/nowhere/at/all", {}, (0, 1, 0), "No such file or directory"),
 ]
+# What says how much is tried, where no line of a check does: the module, its number or list, and how much it is at least.
+LEAST = [
+    ("kvm/check", "PASTED", 100_000), ("kvm/check", "FLOOD", 100_000), ("kvm/check", "KEPT_EXITS", 1000),
+    ("kvm/check", "FEWEST_ECHOED", 200), ("checks/first_crate", "PROVED", 3), ("c/programs.py", "SANITIZERS", 4),
+    ("c/programs.py", "CALLS", 1_000_000), ("rust/random_calls", "CALLS", 50_000_000),
+]
 # The tests of a file, and what their last line is.
 TEST = "class It(TestCase):\n    def test_it(self): {}"
 CAUGHT = "\n        try: self.assertEqual(1, 2)\n        except AssertionError: pass"
@@ -156,6 +162,11 @@ class Tables(unittest.TestCase):
         commands = {str(path.relative_to(TOOLS.parent)) for path in files}
         checks = {it.command.removeprefix("nice ") for it in check.CHECKS}
         self.assertEqual((commands - checks, checks - commands), (BY_HAND, set()))
+
+    def test_no_number_of_what_is_tried_falls(self):
+        found = {(module, name): getattr(module_of(module), name) for module, name, _ in LEAST}
+        tried = {place: value if isinstance(value, int) else len(value) for place, value in found.items()}
+        self.assertEqual([place for *place, least in LEAST if tried[tuple(place)] < least], [])
 
     def test_the_checks_that_were_left_out_are_named(self):
         results = [check.Result(it, 1, 0, 0, 1, 1) for it in check.CHECKS[2:]]

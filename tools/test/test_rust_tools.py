@@ -42,6 +42,7 @@ class Counts(unittest.TestCase):
                 for number in range(len(table))]
         self.assertEqual((self.compare(limits)[0], over), (0, [kind != "free" for _, kind, _ in table]))
         self.assertEqual([name for name, kind, _ in table if kind == "free"], ["RTCMR write"])
+        self.assertEqual([limit(10) for limit in counts.LIMITS.values()], [11, 12, 9, 12, math.inf])
 
     def test_each_number_of_the_document_is_compared(self):
         names = [name for name, _, _ in counts.table()]

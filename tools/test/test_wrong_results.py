@@ -188,13 +188,13 @@ class Runs(unittest.TestCase):
             self.assertEqual(found, [0, 1, 1 + (len(outcomes) > 2)])
 
     def test_calls_in_any_state(self):
-        """A call says that memory was refused exactly if it was, and each function is called."""
+        """A call says that memory was refused exactly if it was, each function is called, and runs differ in states."""
         lines = [("+ more", 1), ("one: refused", -1), ("other: not refused", 1)]
 
         def different(lines, status=0, functions=("one", "other")):
             calls = [call for _, given in lines for call in (Call("allocate", 1, given), Call("write", 1, 1))]
             ran = Ran(status, "".join(f"{line}\n" for line, _ in lines).encode(), b"", calls)
-            failing = mock.Mock(run_all=lambda cases: [ran for _ in cases])
+            failing = mock.Mock(run_all=lambda cases: [ran for _ in {line for line, _ in cases}])
             with mock.patch.object(refused_memory, "functions_that_take_memory", lambda: functions):
                 results, _ = silently(refused_memory.any_state_results, failing)
             return sum(message is not None for _, message in results)
