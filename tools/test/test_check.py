@@ -6,6 +6,7 @@ import subprocess
 import sys
 import tempfile
 import unittest
+from itertools import product
 from pathlib import Path
 from unittest import mock
 
@@ -84,17 +85,17 @@ class Running(unittest.TestCase):
         self.addCleanup(folder.cleanup)
         self.folder = Path(folder.name)
 
-    def run_check(self, text, floors, is_writing=False):
+    def run_check(self, text, floors, is_writing=False, needs_kit=True):
         """Runs a check that is a shell script. Returns its result, and what is printed."""
         command = text if text.startswith("/") else f"sh {script_at(self.folder / 'script', text)}"
-        it = check.Check("it", command, "it works")
+        it = check.Check("it", command, "it works", needs_kit=needs_kit)
         with mock.patch.object(check, "KEPT", self.folder), status.Status("test", Log()) as line:
             return silently(check.run, it, line, {} if floors is None else {"it": floors}, is_writing)
 
     def test_what_each_check_passes_fails_and_skips(self):
-        for text, floors, sums, says in CHECKS:
-            with self.subTest(text, floors=floors):
-                result, printed = self.run_check(text, floors)
+        for (text, floors, sums, says), needs_kit in product(CHECKS, (False, True)):
+            with self.subTest(text, floors=floors, needs_kit=needs_kit):
+                result, printed = self.run_check(text, floors, needs_kit=needs_kit)
                 self.assertEqual((result.passed, result.failed, result.skipped), sums, printed)
                 self.assertIn(says, printed)
                 self.assertEqual("many" in printed or "this" in printed, "this" in says)

@@ -12,6 +12,7 @@ paste = module_of("checks/paste")
 DOCUMENTS = [
     ("```sh\ntest -f README.md && test -z \"$(ls ~)\"   # the top folder, and an empty home\n```\n", (1, 0, 0)),
     ("```sh\nfalse\necho goes on\n```\n", (0, 1, 0)),
+    ("```sh\necho goes on\nfalse\n```\n", (0, 1, 0)),
     ("1. Indented:\n\n   ```sh\n   echo a\n   ```\n\n   ```text\n   a\n   ```\n", (1, 0, 0)),
     ("```sh\necho b\n```\n\nIt prints\n\n```text\na\n```\n", (0, 1, 0)),
     ("```sh\necho b\n```\n\n## Another section\n\n```text\na\n```\n", (1, 0, 0)),

@@ -296,6 +296,11 @@ class Runs(unittest.TestCase):
                             (js_check.OWN, {"Rtc": {**device, "write": [[], "number"]}})):
             self.assertEqual(failed({text: wrong}), 1, text)
 
+    def test_what_a_monitor_is_tried_with(self):
+        """Texts have many letters, and the traces of cases have to have what these are about."""
+        self.assertGreater(len(set(kvm_check.text_of(200, "it"))), 20)
+        self.assertGreaterEqual(sum(len(wanted) for *_, wanted in kvm_check.CASES), 14)
+
     def test_wrong_words_for_a_monitor(self):
         """Each has to end with its status, and to say something."""
         def failed(change):
