@@ -21,6 +21,23 @@ ROOT = TOOLS.parent
 LEFT_OUT = shutil.ignore_patterns("__pycache__", "out", "target", ".git")
 # The copies, which go when the tests end.
 COPIES = tempfile.TemporaryDirectory()
+# Programs that reply to calls and to scripts as the search of the past does. A test may change what they print.
+SEARCH = f"#!{sys.executable}\nimport sys\nsys.path.insert(0, {str(TOOLS / 'checks')!r})\n"
+OF_CALLS = SEARCH + """\
+from expected import Monitor
+monitor = Monitor()
+for line in sys.stdin:
+    reply = monitor.reply(line.rstrip())
+    print(reply)
+"""
+OF_SCRIPTS = SEARCH + """\
+from expected import script_replies
+_, replies, bad_line = script_replies(sys.stdin.read())
+for reply in replies:
+    print(reply)
+if bad_line:
+    sys.exit(f"bad line {bad_line}")
+"""
 # Only Python, and of it what the tools start themselves.
 NOTHING_ELSE = {"PATH": ""}
 

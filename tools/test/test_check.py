@@ -50,7 +50,7 @@ CHECKS = [
      FEW),
     ("/nowhere/at/all", {}, (0, 1, 0), "No such file or directory"),
 ]
-# What says how much is tried, where no line of a check does: the module, its number or list, and how much it is at least.
+# What says how much is tried, where no line of a check does: a module, its number or list, and how much it is at least.
 LEAST = [
     ("kvm/check", "PASTED", 100_000), ("kvm/check", "FLOOD", 100_000), ("kvm/check", "KEPT_EXITS", 1000),
     ("kvm/check", "FEWEST_ECHOED", 200), ("checks/first_crate", "PROVED", 3), ("c/programs.py", "SANITIZERS", 4),

@@ -11,27 +11,11 @@ from types import ModuleType
 import cases
 from expected import Monitor, script_replies
 from oracle import FRESH
-from repository import ROOT, TOOLS, module_of, program
+from repository import OF_CALLS, OF_SCRIPTS, ROOT, TOOLS, module_of, program
 from saved_bytes import CLOCK, CLOCK_CONTENTS, SERIAL, form
 
 hostile = module_of("checks/hostile")
 
-# A program that replies to calls or to scripts as the search does, but for the change of a test.
-IMPORTS = f"#!{sys.executable}\nimport sys\nsys.path.insert(0, {str(TOOLS / 'checks')!r})\n"
-OF_RUNS = IMPORTS + """\
-from expected import Monitor
-monitor = Monitor()
-for line in sys.stdin:
-    print(monitor.reply(line.rstrip())CHANGE)
-"""
-OF_SCRIPTS = IMPORTS + """\
-from expected import script_replies
-_, replies, bad_line = script_replies(sys.stdin.read())
-for reply in replies:
-    print(replyCHANGE)
-if bad_line:
-    sys.exit(f"bad line {bad_line}")
-"""
 # The forms of a port whose THRE is not enabled.
 FRESH_FORM = form(SERIAL, FRESH).hex()
 REFUSED_FORM = form(SERIAL, bytes.fromhex("0c000104036108b05a61")).hex()
@@ -46,11 +30,11 @@ CHANGES = [
     (hostile.judge_scripts, OF_SCRIPTS, SOME_SCRIPTS, "", []),
     (hostile.judge_scripts, OF_SCRIPTS, SOME_SCRIPTS, ".replace('bc00', 'bd00')", [("second: ",)]),
     (hostile.judge_scripts, OF_SCRIPTS, SOME_SCRIPTS, ", file=sys.exit(3)", [("first: ",), ("second: ",)]),
-    (hostile.judge_runs, OF_RUNS, SOME_RUNS, "", []),
-    (hostile.judge_runs, OF_RUNS, SOME_RUNS, ".replace('W41 l', 'l W41')", [("first: 'sw 00 41 f'", "io W41 l")]),
-    (hostile.judge_runs, OF_RUNS, SOME_RUNS, ".replace('ok T', 'ok')", [("first: 'sw 01 02'",), ("left: 'si'",)]),
-    (hostile.judge_runs, OF_RUNS, SOME_RUNS, ".replace('R', 'T').replace('W', 'w')", [("first: ",), ("second: ",)]),
-    (hostile.judge_runs, OF_RUNS, SOME_RUNS, " if 'kw' not in line else sys.exit(3)",
+    (hostile.judge_runs, OF_CALLS, SOME_RUNS, "", []),
+    (hostile.judge_runs, OF_CALLS, SOME_RUNS, ".replace('W41 l', 'l W41')", [("first: 'sw 00 41 f'", "io W41 l")]),
+    (hostile.judge_runs, OF_CALLS, SOME_RUNS, ".replace('ok T', 'ok')", [("first: 'sw 01 02'",), ("left: 'si'",)]),
+    (hostile.judge_runs, OF_CALLS, SOME_RUNS, ".replace('R', 'T').replace('W', 'w')", [("first: ",), ("second: ",)]),
+    (hostile.judge_runs, OF_CALLS, SOME_RUNS, " if 'kw' not in line else sys.exit(3)",
      [("second: 'kw 04 fe 1'", "status 3")]),
 ]
 REACHED = {hostile.judge_scripts: {("sw", "ok"): 1, ("sl", "trigger"): 1, ("sb", FRESH_FORM): 1, ("so", "41"): 1,
@@ -140,7 +124,7 @@ class Programs(unittest.TestCase):
         for judge, text, tried, change, found in CHANGES:
             reached = Counter()
             with self.subTest(change), tempfile.TemporaryDirectory() as folder:
-                path = program(Path(folder, "program"), text.replace("CHANGE", change))
+                path = program(Path(folder, "program"), text.replace("print(reply)", f"print(reply{change})"))
                 messages = list(judge(str(path), tried, reached))
                 lost = [says for said, says in zip(messages, found) if not all(it in said for it in says)]
                 self.assertEqual((lost, len(messages)), ([], len(found)))

@@ -1,22 +1,10 @@
 """Tests of what `tools/run` and `tools/replay` print, and of their exit statuses."""
 import os
-import sys
 
 from program import SOURCES
-from repository import ROOT, CopyTest, program
+from repository import OF_SCRIPTS, ROOT, CopyTest, program
 
 EXAMPLE = ROOT / "examples" / "three_devices.script"
-# In place of the program: it replies as the search of the past does.
-PROGRAM = f"""#!{sys.executable}
-import sys
-sys.path.insert(0, {str(ROOT / "tools" / "checks")!r})
-from expected import script_replies
-_, replies, bad_line = script_replies(sys.stdin.read())
-for reply in replies:
-    print(reply)
-if bad_line:
-    sys.exit(f"bad line {{bad_line}}")
-"""
 # A trace as examples/kvm writes it, and the recording that stands for it.
 TRACE = """\
 refuse 0000000000000000
@@ -69,7 +57,7 @@ class Running(CopyTest):
 
     def setUp(self):
         super().setUp()
-        self.program = program(self.root / "crates" / "superio" / "out" / "superio", PROGRAM)
+        self.program = program(self.root / "crates" / "superio" / "out" / "superio", OF_SCRIPTS)
 
     def test_what_is_printed_of_a_script(self):
         """A file and standard input are the same, and the documents show both columns. A bad line has no reply."""

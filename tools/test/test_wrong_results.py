@@ -23,7 +23,8 @@ import programs
 import tiny
 from failing import Call, Ran
 from machines import machines
-from repository import NOTHING_ELSE, ROOT, TOOLS, CopyTest, ended, module_of, program, silently, sum_of, tally_of
+from repository import (NOTHING_ELSE, OF_CALLS, ROOT, CopyTest, ended, module_of, program, silently, sum_of,
+                        tally_of)
 from tally import run
 
 failing_io, first_crate, hostile, refused_memory, saved_forms = (
@@ -33,15 +34,6 @@ rust_check, js_check, kvm_check, c_check, packages_check = (
 # A program that prints its script, and others that differ from it in one thing.
 RIGHT, STATUS = "cat", "cat; exit 1"
 WRONG = ("sed 's/4$/5/'", "cat; echo", "sed '$d'", "cat; echo fault >&2", STATUS, "true")
-# In place of `superio_harness`: it replies as the search of the past does.
-MONITOR = f"""#!{sys.executable}
-import sys
-sys.path.insert(0, {str(TOOLS / "checks")!r})
-from expected import Monitor
-monitor = Monitor()
-for line in sys.stdin:
-    print(monitor.reply(line.rstrip()))
-"""
 # A fault of the scratch register in each library but that of C, and the first call that each does otherwise then.
 SUBJECTS = [
     ("bindings/rust/src/core/serial/steps.rs", "Register::Scr => self.scratch,", "Register::Scr => self.scratch ^ 1,"),
@@ -101,16 +93,16 @@ class Programs(CopyTest):
         def calls(text, environment):
             printed = self.run_tool("tools/checks/calls", program(self.root / "program", text), env=environment)[1]
             return (*sum_of(printed)[:2], printed)
-        passed, failed, _ = calls(MONITOR, self.tools)
+        passed, failed, _ = calls(OF_CALLS, self.tools)
         self.assertIn((passed, failed), [(36, 0), (45, 0)])  # with Cargo beside cc there is a library more
-        self.assertEqual(calls(f"{MONITOR}sys.exit(1)\n", NOTHING_ELSE)[:2], (18, 9))
+        self.assertEqual(calls(f"{OF_CALLS}sys.exit(1)\n", NOTHING_ELSE)[:2], (18, 9))
         for path in folder.glob("*.txt*"):
             pack, unpack = (lzma.compress, lzma.decompress) if path.suffix == ".xz" else (bytes, bytes)
             before, equals, after = unpack(path.read_bytes()).rpartition(b" = ")
             path.write_bytes(pack(before + equals + b"0" + after))
         for change in SUBJECTS:
             self.change(*change)
-        wrong = MONITOR.replace("monitor.reply", "'08' if line == 'sr 07\\n' else monitor.reply")
+        wrong = OF_CALLS.replace("print(reply)", "print('08' if line == 'sr 07\\n' else reply)")
         passed, failed, printed = calls(wrong, os.environ)
         lost = [it for it, says in DIFFERS.items() if f"{it}, line.txt: recorded: {says}\n" not in printed]
         self.assertIn((passed, failed, lost), [(0, 36, ["Rust"]), (0, 45, [])], printed)
