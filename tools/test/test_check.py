@@ -88,7 +88,7 @@ class Running(unittest.TestCase):
     def run_check(self, text, floors, is_writing=False, needs_kit=True):
         """Runs a check that is a shell script. Returns its result, and what is printed."""
         command = text if text.startswith("/") else f"sh {script_at(self.folder / 'script', text)}"
-        it = check.Check("it", command, "it works", needs_kit=needs_kit)
+        it = check.Check("it", "it works", command, needs_kit=needs_kit)
         with mock.patch.object(check, "KEPT", self.folder), status.Status("test", Log()) as line:
             return silently(check.run, it, line, {} if floors is None else {"it": floors}, is_writing)
 
@@ -114,7 +114,7 @@ class Running(unittest.TestCase):
 
     def run_all(self, scripts, floors):
         """The status of all checks that are these shell scripts, and the last line that is printed."""
-        checks = [check.Check(str(number), f"sh {script_at(self.folder / str(number), text)}", "it works", number == 1)
+        checks = [check.Check(str(number), "it works", f"sh {script_at(self.folder / str(number), text)}", number == 1)
                   for number, text in enumerate(scripts)]
         with mock.patch.multiple(check, CHECKS=checks, KEPT=self.folder / "kept", read_floors=lambda: floors), \
                 mock.patch("sys.argv", ["tools/check"]), mock.patch("sys.stderr", Log()):
