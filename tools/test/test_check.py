@@ -136,7 +136,8 @@ class Running(FolderTest):
         shutil.copy(TOOLS / "checks" / "tried.py", self.folder / "checks")
         for text, last in TESTS:
             run = script_at(self.folder / "test" / "run", (TOOLS / "test" / "run").read_text(encoding="utf-8"))
-            (run.parent / "test_it.py").write_text(f"from unittest import *\n{text}\n", encoding="utf-8")
+            head = "from unittest import TestCase, expectedFailure"
+            (run.parent / "test_it.py").write_text(f"{head}\n{text}\n", encoding="utf-8")
             ran = subprocess.run([sys.executable, run], stdout=subprocess.PIPE, text=True)
             self.assertEqual((ran.stdout.splitlines()[-1], ran.returncode), (last, "0 failed" not in last), text)
             # An assertion may make others.
@@ -233,7 +234,8 @@ class StatusLines(unittest.TestCase):
                 line.count(passed=2)
                 while log.getvalue().count("30 of 165") < 3:
                     line.ended.wait(0.01)
-        last = log.getvalue().splitlines()[-1]
+        # The task may end before the last line is printed.
+        last = [it for it in log.getvalue().splitlines() if "30 of 165" in it][-1]
         self.assertEqual(last, "tools/it 0:00 | 2 passed, 0 failed | a crate: 30 of 165 functions")
         self.assertTrue(check.STATUS.match(last))
 
