@@ -8,7 +8,7 @@ tools/checks/facts compares with the definitions.
 """
 import sys
 from pathlib import Path
-from typing import NamedTuple
+from typing import NamedTuple, Sequence
 
 sys.path.append(str(Path(__file__).resolve().parents[2] / "bindings" / "python"))
 from superio import SerialState  # noqa: E402
@@ -37,7 +37,7 @@ class Fact(NamedTuple):
     accepted: bytes = b""                 # the bytes that came in and found room
     took: bool = False                    # whether it took the oldest byte
     sent: bytes = b""                     # what the writer took
-    did: list | tuple = ()                # the calls of objects, as tests/calls names them
+    did: Sequence = ()                    # the calls of objects, as tests/calls names them
     starts: bool = False                  # whether it is a start state, before which no byte is from
 
 
