@@ -7,6 +7,8 @@ from dataclasses import dataclass
 from pathlib import Path
 
 PARTS = ("src", "specs", "proofs")
+# What builds write, as .gitignore has it.
+BUILT = {"out", "target", "__pycache__", "Cargo.lock"}
 # The status of a command that cannot be started, as shells have it.
 NOT_STARTED = 127
 
@@ -17,6 +19,21 @@ def link(source, target):
         os.link(source, target)
     except OSError:
         shutil.copy2(source, target)
+
+
+def files_of(root):
+    """The files that git keeps, or would if they were added. Without a repository, those of an unpacked archive."""
+    words = ["git", "-C", root, "ls-files", "-z", "--cached", "--others", "--exclude-standard"]
+    ran = subprocess.run(words, stdout=subprocess.PIPE, stderr=subprocess.DEVNULL, text=True)
+    paths = [root / name for name in ran.stdout.split("\0") if name] or sorted(root.rglob("*"))
+    return [path for path in paths if path.is_file() and not BUILT & set(path.relative_to(root).parts)]
+
+
+def copy_files(root, folder):
+    """Copies the files that a clone of the repository would have, with those that are not committed yet."""
+    for path in files_of(root):
+        (folder / path.relative_to(root)).parent.mkdir(parents=True, exist_ok=True)
+        shutil.copy2(path, folder / path.relative_to(root), follow_symlinks=False)
 
 
 def place_for_rooms(root):

@@ -33,7 +33,7 @@ class Tally:
         self.of(kind)
         try:
             check(self, *arguments)
-        except (OSError, LookupError, ValueError, subprocess.CalledProcessError) as error:
+        except (OSError, LookupError, TypeError, ValueError, subprocess.CalledProcessError) as error:
             self.check(False, f"{check.__name__}: {error}")
 
     def check(self, is_good, message, number=1):
