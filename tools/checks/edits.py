@@ -7,27 +7,20 @@ from pathlib import Path
 from contracts import functions_of, without_generics
 
 
+# What is in angle brackets, with those in it.
+GENERICS = r"<(?:[^<>]|<(?:[^<>]|<[^<>]*>)*>)*>"
+
+
 def pattern_of(header):
     """The pattern of what an `impl` puts into the paths of its functions: `Serial`, or `LineTrigger` of a trait, whose
     arguments follow it. The types in place of its parameters may follow the type."""
-    parameters, header = split_off_parameters(header.split(" where ")[0])
+    parameters, header = re.fullmatch(rf"\s*({GENERICS})?(.*)", header.split(" where ")[0], re.S).groups()
     names = [re.findall(r"\w+", part) for part in without_generics(header).split(" for ")]
     if len(names) == 1:
         return rf"{names[0][-1]}(?:\+\S*)?"
     trait = re.search(r"(\w+)\s*(?:<(.*)>)?\s* for ", header, re.S)
-    arguments = [it for it in re.findall(r"\w+", without_generics(trait[2] or "")) if it not in parameters]
+    arguments = [it for it in re.findall(r"\w+", without_generics(trait[2] or "")) if it not in re.findall(r"\w+", parameters or "")]
     return rf"{names[1][-1]}\w*{trait[1]}{''.join(arguments)}"
-
-
-def split_off_parameters(header):
-    """The names in the angle brackets at the start of a header, and what comes after them."""
-    depth = 0
-    for place, character in enumerate(header):
-        depth += (character == "<") - (character == ">")
-        if depth == 0 and not character.isspace():
-            return re.findall(r"\w+", header[:place] if character == ">" else ""), \
-                header[place + 1:] if character == ">" else header
-    return [], header
 
 
 def function_at(text, place):

@@ -1,7 +1,9 @@
 """Runs tasks side by side, as many as there are processors and memory for, each once those that it waits for have ended."""
 import os
+import re
 from concurrent.futures import FIRST_COMPLETED, ThreadPoolExecutor, wait
 from dataclasses import dataclass
+from pathlib import Path
 from typing import Callable
 
 # What a check of a large crate takes: at most 1.8 GB was seen.
@@ -16,11 +18,7 @@ def processors():
 
 def free_memory():
     """The memory in bytes that is free now."""
-    with open("/proc/meminfo", encoding="ascii") as lines:
-        for line in lines:
-            if line.startswith("MemAvailable:"):
-                return int(line.split()[1]) * 1024
-    return MEMORY_OF_A_TASK
+    return int(re.search(r"^MemAvailable: *(\d+)", Path("/proc/meminfo").read_text(encoding="ascii"), re.M)[1]) * 1024
 
 
 @dataclass

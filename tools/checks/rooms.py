@@ -1,5 +1,6 @@
 """The crates of the repository, and copies of some in a folder of their own, where `rt` works without touching it."""
 import os
+import re
 import shutil
 import subprocess
 import tempfile
@@ -68,6 +69,10 @@ class Crate:
             found += [it for it in [*crate.below(), crate] if it not in found]
         return found
 
+    def libraries(self):
+        """The names of all that it uses, of the repository and of the kit."""
+        return set(self.line.partition(":")[2].partition("#")[0].split())
+
     def size(self):
         """How much there is to prove: its lines."""
         return sum(path.read_bytes().count(b"\n") for part in PARTS for path in (self.folder / part).rglob("*.*t"))
@@ -75,14 +80,10 @@ class Crate:
 
 def crates_of(root):
     """The crates that crates.txt lists, by name."""
-    lines = {}
-    for line in (root / "crates.txt").read_text(encoding="utf-8").splitlines():
-        head, colon, _ = line.partition(":")
-        if colon and not line.startswith("#"):
-            lines[head.split()[0]] = line
-    crates = {name: Crate(root / "crates" / name, line, []) for name, line in lines.items()}
+    lines = re.findall(r"^((\w+)[^:#\n]*:.*)", (root / "crates.txt").read_text(encoding="utf-8"), re.M)
+    crates = {name: Crate(root / "crates" / name, line, []) for line, name in lines}
     for crate in crates.values():
-        crate.uses += [crates[name] for name in crate.line.partition(":")[2].split() if name in crates]
+        crate.uses += [used for name, used in crates.items() if name in crate.libraries()]
     return crates
 
 
