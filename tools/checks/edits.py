@@ -19,7 +19,8 @@ def pattern_of(header):
     if len(names) == 1:
         return rf"{names[0][-1]}(?:\+\S*)?"
     trait = re.search(r"(\w+)\s*(?:<(.*)>)?\s* for ", header, re.S)
-    arguments = [it for it in re.findall(r"\w+", without_generics(trait[2] or "")) if it not in re.findall(r"\w+", parameters or "")]
+    arguments = [it for it in re.findall(r"\w+", without_generics(trait[2] or ""))
+                 if it not in re.findall(r"\w+", parameters or "")]
     return rf"{names[1][-1]}\w*{trait[1]}{''.join(arguments)}"
 
 

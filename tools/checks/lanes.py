@@ -1,4 +1,4 @@
-"""Runs tasks side by side, as many as there are processors and memory for, each once those that it waits for have ended."""
+"""Runs tasks side by side, as many as there are processors and memory for, each once what it waits for has ended."""
 import os
 import re
 from concurrent.futures import FIRST_COMPLETED, ThreadPoolExecutor, wait
@@ -23,8 +23,8 @@ def free_memory():
 
 @dataclass
 class Task:
-    """A call that uses one processor, and returns further tasks. Of the tasks that are ready, the one with the largest cost
-    begins first."""
+    """A call that uses one processor, and returns further tasks. Of the tasks that are ready, the one with the largest
+    cost begins first."""
     key: tuple
     waits: set
     cost: int

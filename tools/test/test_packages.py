@@ -79,8 +79,8 @@ class Addresses(unittest.TestCase):
 class Versions(unittest.TestCase):
     def test_each_place_is_compared(self):
         for name, form, wanted in texts.PLACES:
-            tally = Tally()
-            with mock.patch.object(texts, "PLACES", [(name, form, f"9{wanted}")]), contextlib.redirect_stdout(io.StringIO()):
+            tally, places = Tally(), [(name, form, f"9{wanted}")]
+            with mock.patch.object(texts, "PLACES", places), contextlib.redirect_stdout(io.StringIO()):
                 texts.check_versions(tally)
             self.assertEqual((tally.passed, tally.failed), (1, 1), name)
 
