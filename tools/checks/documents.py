@@ -117,8 +117,8 @@ def judged(kind, is_good, fault):
 
 def run(check, said):
     """Runs a check of documents that takes no argument, prints what is wrong, how much of each kind was tried, and the
-    sum, and ends: with 1 if something is wrong or nothing was tried. A result is a kind and its faults, which are `None`
-    if it cannot be tried here. `said` is what the check says of itself."""
+    sum, and ends: with 1 if something is wrong or nothing was tried. A result is a kind and its faults, which are
+    `None` without rt. `said` is what the check says of itself."""
     takes_no_argument(said)
     tally = Tally()
     try:
