@@ -6,16 +6,9 @@ from typing import NamedTuple
 from contracts import functions_of
 from edits import has_path
 
-PLACE = re.compile(r"(note: )?(?:\./)?((?:src|specs|proofs)/[^:\s]+):(\d+):\d+: (.*)")
-UNPROVED = re.compile(r"fn (\S+): (?:not proved|no proof)\b(.*)")
-EXPECTED = re.compile(r"expected answers in (?:\./)?(proofs/\S+/)\w+\.antt")
 GOAL = re.compile(r"\((?:in )?`([^`]+)`\)|^error: `([^`]+)`: ")
 # What the prover says of a text that it could not even read.
 NOT_READ = re.compile(r"is not in scope|has no field|is no name|operand is missing|expected the end|cannot continue")
-# The last line of a check of some functions.
-ONLY = re.compile(r"only=(\d+) proved=(\d+)")
-# A goal that joins clauses, with the statement of each.
-JOINED = re.compile(r"note: `([^`]+)` of (?:\./)?(proofs/\S+/)\w+\.antt must prove: record \{(.*)\}$")
 BRACKETS = re.compile(r"[(\[{][^][(){}]*[])}]")
 LINES_OF_TAIL = 5
 
@@ -85,7 +78,7 @@ class Said:
 def verdict_of(lines):
     """Whether a check proved all that it was to prove, `None` if it reached no verdict."""
     for line in reversed(lines):
-        if found := ONLY.fullmatch(line):
+        if found := re.fullmatch(r"only=(\d+) proved=(\d+)", line):
             return found[1] == found[2]
         if line.startswith("logic="):
             return {"logic=proved": True, "logic=not-proved": False}.get(line.split()[0])
@@ -97,11 +90,11 @@ def read_said(lines, status):
     verdict = verdict_of(lines)
     said = Said(has_verdict=status == 1 and verdict is False, is_proved=status == 0 and verdict is True)
     for line in lines:
-        if found := UNPROVED.match(line):
+        if found := re.match(r"fn (\S+): (?:not proved|no proof)\b(.*)", line):
             said.unproved[found[1]] = found[2]
-        elif found := JOINED.match(line):
+        elif found := re.match(r"note: `([^`]+)` of (?:\./)?(proofs/\S+/)\w+\.antt must prove: record \{(.*)\}$", line):
             said.joined[found[2], found[1]] = fields_of(found[3])
-        elif found := PLACE.match(line):
+        elif found := re.match(r"(note: )?(?:\./)?((?:src|specs|proofs)/[^:\s]+):(\d+):\d+: (.*)", line):
             if found[1] and "it is not proved" in found[4] or found[4].startswith("error"):
                 said.errors.append(Error(found[2], int(found[3]), found[4]))
     said.tail = " / ".join(line for line in lines[-LINES_OF_TAIL:] if line)
@@ -165,7 +158,7 @@ def judge(edit, said, texts):
         return Outcome("BAD", f"it changes no function of the path `{edit.function}`")
     refused, clauses, unread = set(), set(), []
     for path, why in said.unproved.items():
-        proofs = {proofs_of(path), *EXPECTED.findall(why)}
+        proofs = {proofs_of(path), *re.findall(r"expected answers in (?:\./)?(proofs/\S+/)\w+\.antt", why)}
         for place in places:
             if has_path(place.file, place.function, path) and edit.function in ("", path):
                 for error in said.errors:
