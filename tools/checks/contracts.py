@@ -57,11 +57,6 @@ class Function:
         return "::".join(self.path)
 
 
-def only_code(text):
-    """The text with blanks in place of all that is no code."""
-    return NO_CODE.sub(lambda found: re.sub(r"[^\n]", " ", found[0]), text)
-
-
 def without_generics(text):
     """A piece of code without what stands in angle brackets."""
     while NESTED.search(text):
@@ -105,7 +100,8 @@ def owner_of(header):
 
 def functions_of(text):
     """The functions of a source, in the order of their heads."""
-    code = only_code(text)
+    # Blanks are in place of all that is no code.
+    code = NO_CODE.sub(lambda found: re.sub(r"[^\n]", " ", found[0]), text)
     blocks = [(found.start(), end_of_braces(code, found.end() - 1), *found.groups()) for found in BLOCK.finditer(code)]
     for head in re.finditer(r"(\bpub (?:const |unsafe |extern\s+)*)?(\bfn\s+(\w+))", code):
         body, end = body_of(code, head.end())

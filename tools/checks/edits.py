@@ -43,7 +43,7 @@ def has_path(file, function, path):
 Replacement = namedtuple("Replacement", "file line start end text")
 
 
-@dataclass
+@dataclass(eq=False)
 class Edit:
     """An edit, as its entry says it. `problem` says why it cannot be tried, if it cannot."""
     crate: Path
@@ -114,18 +114,13 @@ def add_replacement(edit, file, old, new):
     return ""
 
 
-def changed(text, replacements):
-    """A text with these replacements, which do not overlap."""
-    for it in sorted(replacements, key=lambda it: -it.start):
-        text = text[:it.start] + it.text + text[it.end:]
-    return text
-
-
 def texts_of(crate, edits):
-    """The sources of a crate that these edits change, with all of them made."""
-    made = [it for edit in edits for it in edit.replacements]
-    return {file: changed((crate / file).read_text(encoding="utf-8"), [it for it in made if it.file == file])
-            for file in dict.fromkeys(it.file for it in made)}
+    """The sources of a crate that these edits change, with all their replacements made, which do not overlap."""
+    texts = {}
+    for it in sorted((it for edit in edits for it in edit.replacements), key=lambda it: -it.start):
+        text = texts.get(it.file) or (crate / it.file).read_text(encoding="utf-8")
+        texts[it.file] = text[:it.start] + it.text + text[it.end:]
+    return texts
 
 
 def may_share(edit, other):

@@ -16,11 +16,6 @@ def processors():
     return int(given) if given.isdigit() and int(given) else len(os.sched_getaffinity(0))
 
 
-def free_memory():
-    """The memory in bytes that is free now."""
-    return int(re.search(r"^MemAvailable: *(\d+)", Path("/proc/meminfo").read_text(encoding="ascii"), re.M)[1]) * 1024
-
-
 @dataclass
 class Task:
     """A call that uses one processor, and returns further tasks. Of the tasks that are ready, the one with the largest
@@ -37,7 +32,8 @@ class Lanes:
     def __init__(self):
         self.most = processors()
         if "RT_JOBS" not in os.environ:
-            self.most = max(1, min(self.most, int(free_memory() * 0.9 / MEMORY_OF_A_TASK)))
+            free = re.search(r"^MemAvailable: *(\d+) kB", Path("/proc/meminfo").read_text(encoding="ascii"), re.M)
+            self.most = max(1, min(self.most, int(int(free[1]) * 1024 * 0.9 / MEMORY_OF_A_TASK)))
 
     def run(self, tasks):
         """Runs these tasks, and those that they return."""
