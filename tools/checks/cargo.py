@@ -23,8 +23,8 @@ def original():
 
 
 def debian_crates(original=None):
-    """The crates of Debian's packages, by name and version, or `None` if there are none. A given folder takes the place of
-    their vm-superio."""
+    """The crates of Debian's packages, by name and version, or `None` if there are none. A given folder takes the place
+    of their vm-superio."""
     if not DEBIAN.is_dir():
         return None
     crates = {it.name: it for it in DEBIAN.iterdir() if not (original and it.name.startswith("vm-superio-"))}
@@ -32,8 +32,8 @@ def debian_crates(original=None):
 
 
 class Cargo:
-    """Runs Cargo offline in a folder. Its registry has these crates: by name and version the folder of each, or `None` for
-    one without contents. If they are `None` it is Cargo's own."""
+    """Runs Cargo offline in a folder. Its registry has these crates: by name and version the folder of each, or `None`
+    for one without contents. If they are `None` it is Cargo's own."""
 
     def __init__(self, folder, crates=None, toolchain=None):
         self.folder, self.program = folder, toolchain.cargo if toolchain else "cargo"
@@ -46,12 +46,13 @@ class Cargo:
             add_crate(folder / "registry" / name, source)
         (folder / ".cargo").mkdir()
         (folder / ".cargo" / "config.toml").write_text(
-            f'[source.crates-io]\nreplace-with = "folder"\n[source.folder]\ndirectory = "{folder}/registry"\n', encoding="utf-8")
+            f'[source.crates-io]\nreplace-with = "folder"\n[source.folder]\ndirectory = "{folder}/registry"\n',
+            encoding="utf-8")
 
     def run(self, *words, **environment):
         """Runs a command, and gives its status and all that it printed."""
-        return subprocess.run([self.program, *words], cwd=self.folder, env={**self.environment, **environment}, text=True,
-                              stdout=subprocess.PIPE, stderr=subprocess.STDOUT, errors="replace")
+        return subprocess.run([self.program, *words], cwd=self.folder, env={**self.environment, **environment},
+                              stdout=subprocess.PIPE, stderr=subprocess.STDOUT, text=True, errors="replace")
 
 
 def add_crate(place, source):

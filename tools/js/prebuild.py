@@ -17,6 +17,7 @@ ROOT = Path(__file__).resolve().parent.parent.parent
 sys.path[:0] = [str(ROOT / "tools" / "checks"), str(ROOT / "tools" / "c")]
 from libraries import PREBUILT, BuildError, replace_lines, source_line, sums_of  # noqa: E402
 from toolchains import DEBIAN  # noqa: E402
+from usage import takes_no_argument  # noqa: E402
 
 TARGET = "wasm32-unknown-unknown"
 MODULE = "wasm32/superio.wasm"
@@ -77,11 +78,10 @@ def module_sources():
 
 
 def main():
-    if sys.argv[1:]:
-        sys.exit(__doc__)
-    if not has_compiler():
-        sys.exit(f"tools/js/prebuild.py: the module needs {PACKAGES}")
+    takes_no_argument(__doc__)
     try:
+        if not has_compiler():
+            raise BuildError(f"the module needs {PACKAGES}")
         build(PREBUILT / MODULE)
     except BuildError as error:
         sys.exit(f"tools/js/prebuild.py: {error}")

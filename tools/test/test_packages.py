@@ -1,14 +1,19 @@
 """Tests that an installation is whole or is not made, and that the checks of a packager's files find what is wrong."""
+import contextlib
+import io
 import os
 import resource
 import shutil
 import subprocess
 import sys
 import unittest
+from unittest import mock
 
 from repository import ROOT, CopyTest
 
 sys.path[:0] = [str(ROOT / "tools" / folder) for folder in ("c", "packages")]
+import texts  # noqa: E402
+from tally import Tally  # noqa: E402
 from texts import PLACEHOLDER  # noqa: E402
 
 TARGETS = ("aarch64-linux", "x86_64-linux")
@@ -69,6 +74,15 @@ class Addresses(unittest.TestCase):
                 self.assertEqual(len(PLACEHOLDER.findall(text)), 1, text)
         for text in ("input.invalid, for example // an example.", "https://example-works.com/"):
             self.assertEqual(PLACEHOLDER.findall(text), [])
+
+
+class Versions(unittest.TestCase):
+    def test_each_place_is_compared(self):
+        for name, form, wanted in texts.PLACES:
+            tally, places = Tally(), [(name, form, f"9{wanted}")]
+            with mock.patch.object(texts, "PLACES", places), contextlib.redirect_stdout(io.StringIO()):
+                texts.check_versions(tally)
+            self.assertEqual((tally.passed, tally.failed), (1, 1), name)
 
 
 class Interface(CopyTest):

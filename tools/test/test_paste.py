@@ -51,8 +51,9 @@ class Pasting(CopyTest):
         """What the blocks of a document pass, fail and skip."""
         (self.root / "README.md").write_text(text, encoding="utf-8")
         with mock.patch.object(paste, "PLAIN_PATH", str(self.root / "bin")), contextlib.redirect_stdout(io.StringIO()) as said:
-            counts = paste.paste(self.root, [Path("README.md")], None, paste.Tried())
-        return tuple(counts[outcome] for outcome in ("passed", "failed", "skipped")), said.getvalue()
+            tally = paste.Tally()
+            paste.paste(self.root, [Path("README.md")], None, tally)
+        return (tally.passed, tally.failed, tally.skipped), said.getvalue()
 
     def test_what_each_document_passes_fails_and_skips(self):
         for text, wanted in DOCUMENTS:

@@ -33,7 +33,6 @@ from toolchains import Toolchain  # noqa: E402
 failing_io, first_crate, hostile, refused_memory, saved_forms = map(
     module_of, map("checks/{}".format, ("failing_io", "first_crate", "hostile", "refused_memory", "saved_forms")))
 rust_check, js_check = map(module_of, ("rust/check", "js/check"))
-packages_check = module_of("packages/check")
 kvm_check = module_of("kvm/check")
 # A program that prints its script, and others that differ from it in one thing.
 RIGHT, STATUS = "cat", "cat; exit 1"
@@ -400,11 +399,9 @@ class Failing(unittest.TestCase):
         self.assertEqual(tally.failed, tally.tried.counts["wrong demos"])
 
     def test_a_check_that_ends_by_an_error(self):
-        for run_check in (lambda check, tally: tally.carry_out("it", check),
-                          lambda check, tally: packages_check.run(tally, check)):
-            tally, check = Tally(), mock.Mock(__name__="check_it", side_effect=OSError)
-            silently(run_check, check, tally)
-            self.assertEqual((tally.passed, tally.failed), (0, 1))
+        tally, check = Tally(), mock.Mock(__name__="check_it", side_effect=OSError)
+        silently(tally.carry_out, "it", check)
+        self.assertEqual((tally.passed, tally.failed), (0, 1))
 
     def test_of_rust(self):
         """But that an empty crate is no vm-superio."""
