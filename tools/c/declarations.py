@@ -10,12 +10,11 @@ import re
 from header import Declared, read_header
 from libraries import ROOT, SOURCE_FOLDERS
 
-# The proved library, that from source, and what calls the library at random, which has the registers in arrays.
-PROVED, FROM_SOURCE, CALLER = "crates/superio_c", "bindings/rust/capi", "tools/compare"
+# The proved library, and that from source.
+PROVED, FROM_SOURCE = "crates/superio_c", "bindings/rust/capi"
 FOLDERS = {
     PROVED: SOURCE_FOLDERS,
     FROM_SOURCE: ["bindings/rust/capi/src", "bindings/rust/src/core"],
-    CALLER: ["tools/compare/src"],
 }
 # The header's name of each struct, number and constant.
 STRUCTS = {
@@ -39,7 +38,7 @@ CONSTANTS = {
     "SAVED_MAX": "SUPERIO_SERIAL_SAVED_MAX",
     "SAVED_SIZE": "SUPERIO_RTC_SAVED_SIZE",
 }
-FUNCTION = re.compile(r'^(?:pub (?:unsafe )?extern "C" |    (?:safe )?)fn (superio_\w+)\((.*?)\)(?: -> (\w+))?'
+FUNCTION = re.compile(r'^pub (?:unsafe )?extern "C" fn (superio_\w+)\((.*?)\)(?: -> (\w+))?'
                       r"\s*(?:ensures|\{|;)", re.M | re.S)
 STRUCT = re.compile(r"#\[repr\(C\)\]\s*(?:#\[[^\]]*\]\s*)*(?:pub(?:\(\w+\))? )?struct (\w+) \{(.*?)\n\}", re.S)
 FIELD = re.compile(r"^\s*(?:pub(?:\(\w+\))? )?(\w+): ([^,]+),", re.M)
@@ -157,22 +156,21 @@ def of_side(side):
     found = {
         "function": {name: (c_type(returned), [*c_parameters(pairs)]) for name, (pairs, returned) in own.items()},
         "size": {c_name: shape(name, known)[0] for name, c_name in names.items()},
+        "struct": {c_name: [it for it, _ in flattened(name, known)] for name, c_name in names.items()},
+        "constant": constants(side),
     }
-    if side != CALLER:
-        found["struct"] = {c_name: [it for it, _ in flattened(name, known)] for name, c_name in names.items()}
-        found["constant"] = constants(side)
     if side == PROVED:
         found["attributes"] = {name: sorted(wanted_attributes(name, *it)) for name, it in own.items()}
     return found
 
 
 def differences(side):
-    """What a side declares otherwise than the header. What calls the library need not compare the interface."""
+    """What a side declares otherwise than the header."""
     declared = of_header(read_header())
     for kind, wanted in of_side(side).items():
         for name in sorted(wanted.keys() | declared[kind].keys()):
             found = declared[kind].get(name)
-            if wanted.get(name) != found and (side, name) != (CALLER, "superio_abi"):
+            if wanted.get(name) != found:
                 yield f"{name}: the header has the {kind} {found}, and {side} {wanted.get(name)}"
 
 

@@ -7,13 +7,13 @@ use std::rc::Rc;
 use super::superio::Trigger;
 use super::superio::rtc_pl031::RtcEvents;
 use super::superio::serial::SerialEvents;
-use crate::call::{Behaviour, Event, Writing};
+use crate::line::Behaviour;
 
 /// What the objects of all devices share: how they are to behave, and what they were asked.
 #[derive(Debug, Default)]
 struct Script {
     behaviour: Cell<Behaviour>,
-    events: RefCell<Vec<Event>>,
+    events: RefCell<String>,
 }
 
 /// A trigger, an events object and a writer in one.
@@ -29,14 +29,14 @@ impl Object {
         self.0.behaviour.set(behaviour);
     }
 
-    /// The calls of objects since the last one of this.
-    pub fn take_events(&self) -> Vec<Event> {
+    /// The signs of the calls of objects since the last call of this, with a space before each.
+    pub fn take_events(&self) -> String {
         self.0.events.take()
     }
 
     /// Notes a call of an object, and panics if it is the one that is to.
-    pub fn note(&self, event: Event) {
-        self.0.events.borrow_mut().push(event);
+    fn note(&self, sign: &str) {
+        self.0.events.borrow_mut().extend([" ", sign]);
         let behaviour = self.0.behaviour.get();
         let left = behaviour.panics_after;
         self.0.behaviour.set(Behaviour { panics_after: left.and_then(|calls| calls.checked_sub(1)), ..behaviour });
@@ -59,58 +59,58 @@ impl Trigger for Object {
         let behaviour = self.0.behaviour.get();
         let [refuses, next] = behaviour.refuses;
         self.0.behaviour.set(Behaviour { refuses: [next, false], ..behaviour });
-        self.note(if refuses { Event::Refusal } else { Event::Trigger });
+        self.note(if refuses { "R" } else { "T" });
         if refuses { Err(Refused) } else { Ok(()) }
     }
 }
 
 impl SerialEvents for Object {
     fn buffer_read(&self) {
-        self.note(Event::BufferRead);
+        self.note("b");
     }
 
     fn out_byte(&self) {
-        self.note(Event::OutByte);
+        self.note("o");
     }
 
     fn tx_lost_byte(&self) {
-        self.note(Event::TxLostByte);
+        self.note("l");
     }
 
     fn in_buffer_empty(&self) {
-        self.note(Event::InBufferEmpty);
+        self.note("e");
     }
 }
 
 impl RtcEvents for Object {
     fn invalid_read(&self) {
-        self.note(Event::InvalidRead);
+        self.note("i");
     }
 
     fn invalid_write(&self) {
-        self.note(Event::InvalidWrite);
+        self.note("j");
     }
 }
 
 impl Write for Object {
     fn write(&mut self, bytes: &[u8]) -> io::Result<usize> {
-        bytes.iter().for_each(|byte| self.note(Event::Write(*byte)));
+        bytes.iter().for_each(|byte| self.note(&format!("W{byte:02x}")));
         let behaviour = self.0.behaviour.get();
         match behaviour.writing {
-            Writing::TakesNone => Ok(0),
-            Writing::Fails => Err(ErrorKind::BrokenPipe.into()),
-            Writing::IsInterruptedOnce => {
-                self.0.behaviour.set(Behaviour { writing: Writing::Takes, ..behaviour });
+            Some('n') => Ok(0),
+            Some('f') => Err(ErrorKind::BrokenPipe.into()),
+            Some('i') => {
+                self.0.behaviour.set(Behaviour { writing: None, ..behaviour });
                 Err(ErrorKind::Interrupted.into())
             }
-            Writing::Takes | Writing::FailsToFlush => Ok(bytes.len()),
+            _ => Ok(bytes.len()),
         }
     }
 
     fn flush(&mut self) -> io::Result<()> {
-        self.note(Event::Flush);
+        self.note("F");
         match self.0.behaviour.get().writing {
-            Writing::FailsToFlush => Err(ErrorKind::WouldBlock.into()),
+            Some('u') => Err(ErrorKind::WouldBlock.into()),
             _ => Ok(()),
         }
     }
