@@ -63,8 +63,8 @@ def watched(machine):
 
 @lru_cache(maxsize=None)
 def recorded(folder):
-    """A file of calls, and how many they are: those that are C's own, which begin with new devices, then those that the Rust
-    crate has too, and then those of tests/calls. The recording comes first of these, and begins with a new clock."""
+    """A file of calls, and how many they are: those that are C's own, which begin with new devices, the recording, which
+    begins with such a clock, and the others."""
     calls = ROOT / "tests" / "calls"
     own, shared, *others = [path.read_text(encoding="ascii") for path in (
         TESTS / "own.txt", TESTS / "shared.txt", *calls.glob("*.txt"))]

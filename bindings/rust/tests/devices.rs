@@ -1,6 +1,6 @@
 //! What a monitor in Rust alone sees of the devices: their writers and objects, the host's time, long input, texts, conversions
 //! and threads. What any monitor sees is in the lines of tests/calls and tools/c/tests/shared.txt of the repository.
-use std::io;
+use std::io::{self, ErrorKind, Write};
 use std::panic::{RefUnwindSafe, UnwindSafe};
 use std::sync::atomic::{AtomicU32, Ordering};
 use std::sync::Mutex;
@@ -34,6 +34,32 @@ fn output_goes_to_the_writer_which_comes_back() {
     assert_eq!(serial.writer(), b"a-b");
     assert_eq!(serial.interrupt_evt().0.load(Ordering::SeqCst), 0);
     assert_eq!(serial.into_writer(), b"a-b");
+}
+
+/// A writer that is interrupted so many times.
+struct Interrupted(u32);
+
+impl Write for Interrupted {
+    fn write(&mut self, bytes: &[u8]) -> io::Result<usize> {
+        if self.0 > 0 {
+            self.0 -= 1;
+            return Err(ErrorKind::Interrupted.into());
+        }
+        Ok(bytes.len())
+    }
+
+    fn flush(&mut self) -> io::Result<()> {
+        Ok(())
+    }
+}
+
+#[test]
+fn a_write_that_is_interrupted_is_made_again() {
+    for times in [0, 1, 2, 100, 1000] {
+        let mut port = Serial::new(Line::default(), Interrupted(times));
+        port.write(0, b'x').unwrap();
+        assert_eq!(port.writer().0, 0);
+    }
 }
 
 #[test]

@@ -1,9 +1,11 @@
 //! The devices of one of the two crates, with objects that keep a log, and the calls that both crates have.
+use std::error::Error as StdError;
+use std::io;
 use std::mem;
 use std::panic::{AssertUnwindSafe, catch_unwind};
 use std::sync::Arc;
 
-use super::objects::{Object, Refused};
+use super::objects::Object;
 use super::superio::I8042Device;
 use super::superio::rtc_pl031::{Rtc, RtcState};
 use super::superio::serial::{Error, Serial, SerialState};
@@ -11,7 +13,7 @@ use crate::line::{Behaviour, Observed, bytes_of, number, text_of_bytes};
 use crate::moment;
 
 /// The text of a reply.
-pub type Outcome = Result<String, Error<Refused>>;
+pub type Outcome = Result<String, Error<io::Error>>;
 
 /// The bytes before a clock read, which an invalid one leaves as they were.
 pub const UNREAD: [u8; 4] = [0xA5; 4];
@@ -40,15 +42,26 @@ impl Devices {
         self.object.prepare(Behaviour::taken_off(&mut words));
         let reply = match catch_unwind(AssertUnwindSafe(|| carry_out(self, &words))) {
             Ok(Ok(reply)) => reply,
-            Ok(Err(Error::Trigger(_))) => "trigger".into(),
-            Ok(Err(Error::IOError(_))) => "io".into(),
-            Ok(Err(Error::FullFifo)) => "full".into(),
+            Ok(Err(error)) => self.name_of(&error).into(),
             Err(_) => "panics".into(),
         };
         self.object.prepare(Behaviour::default());
         let RtcState { ris, offset, .. } = self.clock.state();
         let held = 64 - self.serial.fifo_capacity();
         Observed { reply, events: self.object.take_events(), held, ris, offset, is_armed: false }
+    }
+
+    /// The reply of a call that fails, if its error and its text are those that its object gave.
+    fn name_of(&self, error: &Error<io::Error>) -> &'static str {
+        let (name, text, is_given) = match error {
+            Error::Trigger(it) => ("trigger", format!("Failed to trigger interrupt: {it}"), self.object.gave(it, true)),
+            Error::IOError(it) => {
+                let text = format!("Couldn't write/flush to the given destination: {it}");
+                ("io", text, self.object.gave(it, false))
+            }
+            Error::FullFifo => ("full", "No space left in FIFO".into(), true),
+        };
+        if is_given && error.to_string() == text && error.source().is_none() { name } else { "another error" }
     }
 
     /// Makes a call that both crates have.

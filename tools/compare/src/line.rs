@@ -1,6 +1,6 @@
-//! A call and what it did as a line of text, `CALL [BEHAVIOUR ..] = REPLY [EVENT ..]`. tests/calls/README.md has the words,
-//! and tools/c/tests/replay.c those of calls that vm-superio does not have. One more behaviour is here: `p2` lets the call
-//! of an object panic that comes after two others, and the reply is then `panics`.
+//! A call and what it did as a line of text, `CALL [BEHAVIOUR ..] = REPLY [EVENT ..]`. tests/calls/README.md has the
+//! words, and tools/c/tests/replay.c those of calls that vm-superio does not have. One more behaviour is here: `p2`
+//! lets the call of an object panic that comes after two others, and the reply is then `panics`.
 
 /// How the objects behave in a call.
 #[derive(Clone, Copy, Debug, Default)]

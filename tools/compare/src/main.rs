@@ -6,14 +6,15 @@
 //!     compare texts                       compares what no call reaches in the two crates
 //!
 //! `record` and `texts` need the feature `original`. What one of them prints, another player takes: the C library's is
-//! tools/c/tests/replay.c. The last lines of `draw` and `record` say how often each case was reached. A player prints the
-//! first calls that differ, and in the last line how many do. It exits with 1 if one does, and `draw` if a case was reached
-//! too seldom.
+//! tools/c/tests/replay.c. The last lines of `draw` and `record` say how often each case was reached. A player prints
+//! the first calls that differ, and in the last line how many do. It exits with 1 if one does, and `draw` if a case was
+//! reached too seldom.
 #![cfg_attr(not(feature = "original"), allow(dead_code))] // what the other modes need
 #![allow(clippy::duplicate_mod)] // of the two crates, below
 #![allow(clippy::arc_with_non_send_sync)] // the crates have events behind an `Arc`, and none behind an `Rc`
 
 mod cases;
+mod errors;
 mod extra;
 mod line;
 mod moment;

@@ -1,12 +1,12 @@
 //! The trigger, the events object and the writer of one of the two crates, which behave as a call says, and keep a log.
 use std::cell::{Cell, RefCell};
-use std::fmt;
 use std::io::{self, ErrorKind, Write};
 use std::rc::Rc;
 
 use super::superio::Trigger;
 use super::superio::rtc_pl031::RtcEvents;
 use super::superio::serial::SerialEvents;
+use crate::errors::{OF_WRITE_ALL, made, seen};
 use crate::line::Behaviour;
 
 /// What the objects of all devices share: how they are to behave, and what they were asked.
@@ -14,14 +14,15 @@ use crate::line::Behaviour;
 struct Script {
     behaviour: Cell<Behaviour>,
     events: RefCell<String>,
+    /// The number of the next error, and of the last ones of a trigger and a writer.
+    errors: Cell<u32>,
+    refusal: Cell<u32>,
+    fault: Cell<u32>,
 }
 
 /// A trigger, an events object and a writer in one.
 #[derive(Clone, Debug, Default)]
 pub struct Object(Rc<Script>);
-
-#[derive(Debug)]
-pub struct Refused;
 
 impl Object {
     /// Prepares a call.
@@ -34,6 +35,19 @@ impl Object {
         self.0.events.take()
     }
 
+    /// Whether an error is in every respect the last one of a trigger or of a writer.
+    pub fn gave(&self, error: &io::Error, is_refusal: bool) -> bool {
+        let number = if is_refusal { &self.0.refusal } else { &self.0.fault };
+        seen(error) == seen(&made(number.get()))
+    }
+
+    /// The next error.
+    fn fail(&self, number: &Cell<u32>) -> io::Error {
+        number.set(self.0.errors.get());
+        self.0.errors.set(number.get() + 1);
+        made(number.get())
+    }
+
     /// Notes a call of an object, and panics if it is the one that is to.
     fn note(&self, sign: &str) {
         self.0.events.borrow_mut().extend([" ", sign]);
@@ -44,23 +58,15 @@ impl Object {
     }
 }
 
-impl fmt::Display for Refused {
-    fn fmt(&self, f: &mut fmt::Formatter) -> fmt::Result {
-        f.write_str("refused")
-    }
-}
-
-impl std::error::Error for Refused {}
-
 impl Trigger for Object {
-    type E = Refused;
+    type E = io::Error;
 
-    fn trigger(&self) -> Result<(), Refused> {
+    fn trigger(&self) -> io::Result<()> {
         let behaviour = self.0.behaviour.get();
         let [refuses, next] = behaviour.refuses;
         self.0.behaviour.set(Behaviour { refuses: [next, false], ..behaviour });
         self.note(if refuses { "R" } else { "T" });
-        if refuses { Err(Refused) } else { Ok(()) }
+        if refuses { Err(self.fail(&self.0.refusal)) } else { Ok(()) }
     }
 }
 
@@ -97,8 +103,17 @@ impl Write for Object {
         bytes.iter().for_each(|byte| self.note(&format!("W{byte:02x}")));
         let behaviour = self.0.behaviour.get();
         match behaviour.writing {
-            Some('n') => Ok(0),
-            Some('f') => Err(ErrorKind::BrokenPipe.into()),
+            Some('n') => {
+                self.0.fault.set(OF_WRITE_ALL);
+                Ok(0)
+            }
+            Some('f') => loop {
+                // A write that is interrupted is made again.
+                let error = self.fail(&self.0.fault);
+                if error.kind() != ErrorKind::Interrupted {
+                    break Err(error);
+                }
+            },
             Some('i') => {
                 self.0.behaviour.set(Behaviour { writing: None, ..behaviour });
                 Err(ErrorKind::Interrupted.into())
@@ -110,7 +125,7 @@ impl Write for Object {
     fn flush(&mut self) -> io::Result<()> {
         self.note("F");
         match self.0.behaviour.get().writing {
-            Some('u') => Err(ErrorKind::WouldBlock.into()),
+            Some('u') => Err(self.fail(&self.0.fault)),
             _ => Ok(()),
         }
     }

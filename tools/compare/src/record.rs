@@ -55,9 +55,9 @@ impl<Make: FnMut(&str) -> Observed> Recorder<Make> {
         self.record("ss")
     }
 
-    /// Each setting of DLAB, loopback and IER, with an access of each register and each answer of the objects that it can
-    /// meet: at each number of held bytes with the four settings of IER that the conditions know, and at four numbers with
-    /// all sixteen.
+    /// Each setting of DLAB, loopback and IER, with an access of each register and each answer of the objects that it
+    /// can meet: at each number of held bytes with the four settings of IER that the conditions know, and at four
+    /// numbers with all sixteen.
     pub fn record_settings(&mut self) -> io::Result<()> {
         let mut number = 0;
         for held in 0..=FIFO_SIZE {
