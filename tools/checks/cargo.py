@@ -72,6 +72,20 @@ def add_crate(place, source):
     return (place / ".cargo-checksum.json").write_text(json.dumps({"files": {}, "package": package}), encoding="utf-8")
 
 
+def files_of_crate():
+    """The names of the files of the crate, without what Cargo makes and the crate for C."""
+    names = {path.relative_to(BINDINGS).as_posix() for path in BINDINGS.rglob("*") if path.is_file()}
+    return sorted(name for name in names if name != "Cargo.lock" and not name.startswith(("target/", "capi/")))
+
+
+def copied_crate(folder):
+    """Cargo's arguments for a copy of the crate: a Cargo.lock with an empty serde would not do for who has another."""
+    for name in files_of_crate():
+        (folder / "crate" / name).parent.mkdir(parents=True, exist_ok=True)
+        shutil.copyfile(BINDINGS / name, folder / "crate" / name)
+    return ["--manifest-path", folder / "crate" / "Cargo.toml"]
+
+
 class Project:
     """A Cargo project of tools, in a copy: its Cargo.lock differs by the crates that there are."""
 

@@ -10,7 +10,7 @@ import sys
 import tempfile
 import unittest
 from dataclasses import replace
-from itertools import islice, product
+from itertools import islice
 from pathlib import Path
 from unittest import mock
 
@@ -114,10 +114,11 @@ class Programs(CopyTest):
         (folder / "calls.txt.xz").write_bytes(lzma.compress((folder / "line.txt").read_bytes()))
         tools = {"PATH": str(Path(shutil.which("cc")).parent)}
         passed, failed = sum_of(self.run_tool("tools/checks/calls", self.program(MONITOR), env=tools)[1])
-        self.assertIn((passed, failed), [(36, 0), (45, 0)])  # with Cargo beside cc there is a library more
+        self.assertIn((passed, failed), [(37, 0), (48, 0)])  # with Cargo beside cc there is a library more
         ends_badly = self.program(f"{MONITOR}sys.exit(1)\n")
         self.assertEqual(sum_of(self.run_tool("tools/checks/calls", ends_badly, env=tools)[1]), (passed - 9, 9))
-        for path in folder.glob("*.txt*"):
+        further = ("c/tests/shared.txt", "compare/panics.txt")
+        for path in (*folder.glob("*.txt*"), *(self.root / "tools" / it for it in further)):
             pack, unpack = (lzma.compress, lzma.decompress) if path.suffix == ".xz" else (bytes, bytes)
             before, equals, after = unpack(path.read_bytes()).rpartition(b" = ")
             path.write_bytes(pack(before + equals + b"0" + after))
@@ -199,25 +200,18 @@ class Runs(unittest.TestCase):
             with mock.patch.object(refused_memory, "MOST", {"other": most}):
                 self.assertEqual(different(lines), faults)
 
-    def test_loads_through_a_library(self):
-        """One returns another status, size or text."""
-        tried, right = list(saved_forms.chosen_bytes(random.Random(1))), []
-        for data, kind in product(tried, saved_forms.LINES):
-            status = saved_forms.status(kind, data)
-            text = data if status == saved_forms.OK else b""
-            right.append((kind, data, status, len(text), text))
-        place = next(place for place, it in enumerate(right) if it[2] == saved_forms.OK)
-        kind, data, status, size, text = right[place]
-        for wrong, failed in ((right[place], 0), ((kind, data, status + 1, 0, b""), 1),
-                              ((kind, data, status, size, b""), 1)):
-            with mock.patch.object(saved_forms, "replies", return_value=[*right[:place], wrong, *right[place + 1:]]):
-                result = silently(saved_forms.through_library, "", tried[:1])
-            self.assertEqual(result, (len(right) - failed, failed))
-        for printed, failed in ((f"{2 * len(right)} calls did the same, 0 did not\n", 0), ("", len(right)),
-                                (f"{2 * len(right) - 1} calls did the same, 1 did not\n", len(right))):
+    def test_loads_through_a_player(self):
+        """One load differs, or a status is never returned."""
+        tried = list(saved_forms.chosen_bytes(random.Random(1)))
+        loads = len(saved_forms.LINES) * len(tried)
+        for printed, failed in ((f"{2 * loads} calls did the same, 0 did not\n", 0), ("", loads),
+                                (f"{2 * loads - 1} calls did the same, 1 did not\n", loads)):
             ran = subprocess.CompletedProcess("replay", 0, printed)
             with mock.patch("subprocess.run", return_value=ran), mock.patch.object(saved_forms, "CHUNK", len(tried)):
-                self.assertEqual(silently(saved_forms.through_c, "", tried), (len(right) - failed, failed))
+                self.assertEqual(silently(saved_forms.through_player, [""], tried), (loads - failed, failed))
+        ran = subprocess.CompletedProcess("replay", 0, "4 calls did the same, 0 did not\n")
+        with mock.patch("subprocess.run", return_value=ran):
+            self.assertGreater(silently(saved_forms.through_player, [""], [b""])[1], 0)
 
     def test_loads_through_scripts(self):
         """The runs of all scripts but the first are right."""
