@@ -244,7 +244,7 @@ class Facts(CopyTest):
                 (proofs, "the version at place 5", "the version at place 4", "version is [(4,)], and [(5,)]"),
                 (proofs, "at 0x020 to 0xFDF", "at 0x020 to 0xFE0", "addresses is [(32, 4064)], and [(32, 4063)]"),
                 (proofs, "10,000 random", "20,000 random", "pastes is [(20000,)], and [(10000,)]"),
-                (proofs, "does in 50 million", "does in 5 million", "calls is [(5000000,)], and [(50000000,)]"),
+                (proofs, "does in 5 million", "does in 9 million", "calls is [(9000000,)], and [(5000000,)]"),
                 (proofs, "lists to 300", "lists to 400", "lists is [(400, 65536)], and [(300, 65536)]"),
                 (bodies, "first twelve", "first eleven", "allocations is [('eleven',)], and [(12,)]"),
                 (bodies, "At least 3 of", "At least 5 of", "cases is [(5, 500, 3, 500)], and [(3, 500, 3, 500)]"),
