@@ -125,14 +125,14 @@ def lost_or_new(folder, pattern, names):
 
 
 def reason(error):
-    """What an `OSError` says, with the file that it is about."""
-    return f"{error.filename}: {error.strerror}" if error.filename else str(error)
+    """What an error says, an `OSError` with the file that it is about."""
+    return f"{error.filename}: {error.strerror}" if getattr(error, "filename", None) else str(error)
 
 
 def report(results, generated=()):
     """Prints each message, what was tried of each kind, and then `N passed, M failed`. A result is its kind and a message,
     or `None` for a pass. The cases of the kinds in `generated` are one check together. Returns the exit status: 1 if
-    something failed, if a file cannot be used, or if nothing was checked."""
+    something failed, if a file cannot be used or a program not built, or if nothing was checked."""
     tried, failures, faults = Tried(), Counter(), 0
     try:
         for kind, message in results:
@@ -140,7 +140,7 @@ def report(results, generated=()):
             if message is not None:
                 print(message)
                 failures[kind] += 1
-    except OSError as error:
+    except (OSError, NotBuilt) as error:
         print(reason(error))
         faults = 1
     checks = {kind: 1 if kind in generated else number for kind, number in tried.counts.items()}
@@ -154,9 +154,6 @@ def report(results, generated=()):
 
 def check_program(check, generated=()):
     """Reports what a check of the built program yields, as `report` does. A first argument names another program."""
-    try:
-        program = built_program(sys.argv[1:])
-    except NotBuilt as error:
-        print(f"{error}\n0 passed, 1 failed")
-        return 1
-    return report(check(program), generated)
+    def results():
+        yield from check(built_program(sys.argv[1:]))
+    return report(results(), generated)

@@ -16,6 +16,7 @@ import shutil
 import sys
 import threading
 import time
+from contextlib import contextmanager
 
 SECONDS_ON_A_TERMINAL = 1
 SECONDS_IN_A_LOG = 60
@@ -40,11 +41,11 @@ def progress(task, line):
 
 
 class Task:
-    """One of the things that run now. It ends with its `with` block. `passed` and `failed` are what it has counted so far,
-    until it is counted as a whole."""
+    """One of the things that run now. `passed` and `failed` are what it has counted so far, until it is counted as a
+    whole."""
 
-    def __init__(self, status, name):
-        self.status, self.name, self.text = status, name, ""
+    def __init__(self, name):
+        self.name, self.text = name, ""
         self.passed = self.failed = 0
 
     def show(self, text):
@@ -54,27 +55,16 @@ class Task:
     def __str__(self):
         return f"{self.name}: {self.text}" if self.text else self.name
 
-    def __enter__(self):
-        self.status.change(self.status.tasks.append, self)
-        return self
-
-    def __exit__(self, *_):
-        self.status.change(self.status.tasks.remove, self)
-
 
 class Status:
     """The status line of a tool. `counts=False` leaves out 'N passed, M failed', for a tool that counts nothing."""
 
     def __init__(self, name, stream=None, counts=True):
-        self.name, self.counts = name, counts
-        self.stream = stream or sys.stderr
+        self.name, self.counts, self.stream = name, counts, stream or sys.stderr
         self.is_terminal = self.stream.isatty() and os.environ.get("TERM") != "dumb"
         self.passed = self.failed = self.skipped = 0
-        self.tasks = []
-        self.start = time.monotonic()
-        self.is_shown = False
-        self.lock = threading.RLock()
-        self.ended = threading.Event()
+        self.tasks, self.start = [], time.monotonic()
+        self.lock, self.ended = threading.RLock(), threading.Event()
         self.ticker = threading.Thread(target=self.tick, daemon=True)
 
     def __enter__(self):
@@ -85,12 +75,19 @@ class Status:
     def __exit__(self, *_):
         self.ended.set()
         self.ticker.join()
-        with self.lock:
-            self.clear()
+        self.draw("")
 
+    @contextmanager
     def task(self, name):
         """A thing that runs from now to the end of its `with` block."""
-        return Task(self, name)
+        task = Task(name)
+        self.tasks.append(task)
+        self.draw(self.text())
+        try:
+            yield task
+        finally:
+            self.tasks.remove(task)
+            self.draw(self.text())
 
     def count(self, passed=0, failed=0, skipped=0):
         """Adds to what the line says has passed, failed and was skipped."""
@@ -102,44 +99,31 @@ class Status:
     def print(self, text, stream=None):
         """Prints a line that stays, on standard output if no stream is given."""
         with self.lock:
-            self.clear()
+            self.draw("")
             print(text, file=stream or sys.stdout, flush=True)
-            if self.is_terminal and not self.ended.is_set():
-                self.draw()
-
-    def change(self, call, task):
-        with self.lock:
-            call(task)
-            if self.is_terminal:
-                self.draw()
+            self.draw("" if self.ended.is_set() else self.text())
 
     def text(self):
         """The line as it stands now."""
-        parts = [f"{self.name} {clock(time.monotonic() - self.start)}"]
+        parts, tasks = [f"{self.name} {clock(time.monotonic() - self.start)}"], list(self.tasks)
         if self.counts:
-            passed, failed = (sum(getattr(it, name) for it in [self, *self.tasks]) for name in ("passed", "failed"))
+            passed, failed = (sum(getattr(it, name) for it in [self, *tasks]) for name in ("passed", "failed"))
             skipped = f", {self.skipped} skipped" if self.skipped else ""
             parts.append(f"{passed} passed, {failed} failed{skipped}")
-        return " | ".join([*parts, *map(str, self.tasks)])
+        return " | ".join([*parts, *map(str, tasks)])
 
     def tick(self):
         # A tool that shows the line of another asks for it more often.
         often = float(os.environ.get("STATUS_SECONDS", SECONDS_IN_A_LOG))
         while not self.ended.wait(SECONDS_ON_A_TERMINAL if self.is_terminal else often):
-            with self.lock:
-                if self.is_terminal:
-                    self.draw()
-                else:
+            self.draw(self.text())
+            if not self.is_terminal:
+                with self.lock:
                     print(self.text(), file=self.stream, flush=True)
 
-    def draw(self):
-        columns = shutil.get_terminal_size().columns
-        self.stream.write("\r" + self.text()[: columns - 1] + "\x1b[K")
-        self.stream.flush()
-        self.is_shown = True
-
-    def clear(self):
-        if self.is_shown:
-            self.stream.write("\r\x1b[K")
-            self.stream.flush()
-            self.is_shown = False
+    def draw(self, text):
+        """Rewrites the line of a terminal."""
+        if self.is_terminal:
+            with self.lock:
+                self.stream.write(f"\r{text[:shutil.get_terminal_size().columns - 1]}\x1b[K")
+                self.stream.flush()

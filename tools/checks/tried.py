@@ -53,34 +53,52 @@ class Tried:
     @classmethod
     def of_tests(cls, suite):
         """The tests of a suite of unittest by their files, before it runs: a suite drops those that it has run."""
-        return cls(Counter(map(file_of, tests_of(suite))))
+        return cls(Counter(f"tests of {file_of(test)}" for test in tests_of(suite)))
 
-    def leave_out_skipped(self, result):
+    def leave_out_skipped(self, result, kind="tests"):
         """Names the files of which a run of unittest skipped a test."""
         for test, _ in result.skipped:
-            self.leave_out(file_of(test))
+            self.leave_out(f"{kind} of {file_of(test)}")
+
+    def add_assertions(self, result):
+        """Adds how often the tests of each file compared something, so that a row of a table that goes is noticed."""
+        self.counts.update({f"assertions of {file}": number for file, number in result.assertions.items()})
+        self.leave_out_skipped(result, "assertions")
 
 
 class Asserting(TextTestResult):
-    """What a run of unittest found. A test that passes and asserted nothing, or caught what failed, is a failure."""
+    """What a run of unittest found, and the assertions that tests made by their files. A test that passes and asserted
+    nothing, or caught what failed, is a failure."""
+
+    def __init__(self, *arguments, **options):
+        super().__init__(*arguments, **options)
+        self.assertions = Counter()
 
     def startTest(self, test):
         super().startTest(test)
         # A doctest compares what it prints.
-        self.asserted, self.caught = isinstance(test, DocTestCase), False
+        self.asserted, self.depth, self.caught = int(isinstance(test, DocTestCase)), 0, False
         for name in dir(test):
             if name.startswith("assert"):
                 setattr(test, name, self.noted(getattr(test, name)))
 
     def noted(self, method):
         def call(*arguments, **options):
-            self.asserted = True
+            # An assertion may make others, which differ between versions of Python.
+            self.asserted += not self.depth
+            self.depth += 1
             try:
                 return method(*arguments, **options)
             except AssertionError:
                 self.caught = True
                 raise
+            finally:
+                self.depth -= 1
         return call
+
+    def stopTest(self, test):
+        super().stopTest(test)
+        self.assertions[file_of(test)] += self.asserted
 
     def addSuccess(self, test):
         if self.asserted and not self.caught:
@@ -97,8 +115,7 @@ def tests_of(suite):
 
 def file_of(test):
     # The id of a class that is skipped as a whole is `setUpClass (PATH)`.
-    path = re.sub(r"^\w+ \(", "", test.id())
-    return f"tests of {path.partition('.')[0]}"
+    return re.sub(r"^\w+ \(", "", test.id()).partition(".")[0]
 
 
 def read_floors(path=FLOORS):

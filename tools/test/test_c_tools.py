@@ -5,22 +5,24 @@ import platform
 import re
 import shutil
 import subprocess
-import sys
 import unittest
 from unittest import mock
 
-from repository import ROOT, CopyTest
+import random_calls
+import twin
+from libraries import SHARED, STATIC
+from repository import NOTHING_ELSE, ROOT, CopyTest, program
 
-sys.path.append(str(ROOT / "tools" / "c"))
-import random_calls  # noqa: E402
-import twin  # noqa: E402
-from libraries import SHARED, STATIC  # noqa: E402
-
-TARGETS = ("aarch64-linux", "x86_64-linux")
-LIBRARIES = (SHARED, STATIC)
+MACHINE = f"{platform.machine()}-linux"
 SOURCES = ("crates/superio_c/src", "crates/superio_core/src")
+# A change of the program that pastes, and how many of the three guests get stuck.
+STUCK = [
+    ("", "", 0, 0), ("if (offset == IIR && (done.byte & NONE_PENDING))", "if (offset == IIR && 0)", 1, 3),
+    ("PASTES = 10000", "PASTES = 9990", 1, 0),
+]
 HEADER = "include/superio.h"
 # A change of a declaration, and what is said of it.
+UNKNOWN = (HEADER, "superio_abi(void);", "superio_abi(void), superio_zero(void);", "tools/c/header.py does not know")
 DECLARATIONS = [
     (HEADER, "superio_rtc_line(const superio_rtc *clock)", "superio_rtc_line(const superio_rtc *it)",
      "superio_rtc_line: the header has the function"),
@@ -29,7 +31,6 @@ DECLARATIONS = [
     (HEADER, "    uint32_t lr; ", "    uint16_t lr; ", "superio_rtc: the header has the struct"),
     (HEADER, "#define SUPERIO_SERIAL_FIFO_SIZE 64", "#define SUPERIO_SERIAL_FIFO_SIZE 65",
      "SUPERIO_SERIAL_FIFO_SIZE: the header has the constant 65, and crates/superio_c 64"),
-    (HEADER, "superio_abi(void);", "superio_abi(void), superio_zero(void);", "tools/c/header.py does not know"),
     ("bindings/rust/capi/src/clock.rs", "clock: &mut Clock, offset: u16, now", "clock: &mut Clock, offset: u8, now",
      "superio_rtc_read: the header has the function"),
     ("bindings/rust/src/core/serial/effects.rs", "    pub sends: bool,\n", "",
@@ -39,108 +40,77 @@ DECLARATIONS = [
 ]
 # In place of the kit: `rt doc` names a page of the kit, `rt lib` writes a library that says what it is for, and the
 # linker one that says what it was linked of.
-RT = """#!/bin/sh
-case "$1" in
+RT = """case "$1" in
 doc) echo "$KIT/page" ;;
 lib) while [ "$1" != --jobs ]; do said="$said $1"; shift; done
     mkdir -p out && echo "static for$said" > out/libsuperio_c.a && echo built && [ -z "$FAILS" ] ;;
-esac
-"""
-LINKER = """#!/bin/sh
-while [ "$1" != -m ]; do shift; done
+esac"""
+LINKER = """while [ "$1" != -m ]; do shift; done
 emulation=$2
 while [ "$1" != --whole-archive ]; do shift; done
-echo "shared for $emulation of $(cat "$2")" > "$4"
-"""
-BUILT = {
-    "aarch64-linux/libsuperio_c.a": "static for lib --target aarch64-unknown-linux-gnu\n",
-    f"aarch64-linux/{SHARED}": "shared for aarch64linux of static for lib --target aarch64-unknown-linux-gnu\n",
-    "x86_64-linux/libsuperio_c.a": "static for lib --cpu=x86-64\n",
-    f"x86_64-linux/{SHARED}": "shared for elf_x86_64 of static for lib --cpu=x86-64\n",
-}
+echo "shared for $emulation of $(cat "$2")" > "$4\""""
+BUILT = {f"{target}-linux/{name}": text for target, words, emulation in (
+    ("aarch64", "--target aarch64-unknown-linux-gnu", "aarch64linux"), ("x86_64", "--cpu=x86-64", "elf_x86_64"))
+    for name, text in ((STATIC, f"static for lib {words}\n"),
+                       (SHARED, f"shared for {emulation} of static for lib {words}\n"))}
 
 
-class Declaring(CopyTest):
-    def setUp(self):
-        super().setUp()
-        self.take(*SOURCES, "bindings/rust/capi/src", "bindings/rust/src/core", "bindings/python/superio", "include",
-                  "prebuilt", "VERSION")
+NEEDS_LIBRARY = unittest.skipUnless(shutil.which("gcc") and (ROOT / "prebuilt" / MACHINE).is_dir(),
+                                    "needs gcc and a library")
 
+
+def sums_of(contents):
+    """The line of sha256sum for each name with its content."""
+    return "".join(f"{hashlib.sha256(content).hexdigest()}  {name}\n" for name, content in contents.items())
+
+
+class Checking(CopyTest):
     def test_each_kind_of_declaration_is_compared(self):
-        for name, old, new, says in DECLARATIONS:
-            with self.subTest(says):
-                self.change(name, old, new)
-                self.assertIn(says, self.run_tool("tools/c/check", env={"PATH": ""})[1])
-                shutil.copy(ROOT / name, self.root / name)
-        self.assertNotIn("the header has", self.run_tool("tools/c/check", env={"PATH": ""})[1])
+        self.assertNotIn("the header has", self.run_tool("tools/c/check", env=NOTHING_ELSE)[1])
+        for *change, _ in DECLARATIONS:
+            self.change(*change)
+        printed = self.run_tool("tools/c/check", env=NOTHING_ELSE)[1]
+        self.assertEqual([says for *_, says in DECLARATIONS if says not in printed], [])
+        self.change(*UNKNOWN[:3])
+        self.assertIn(UNKNOWN[3], self.run_tool("tools/c/check", env=NOTHING_ELSE)[1])
 
+    def run_program(self, name, *arguments, **options):
+        """The status of a program of tools/c/tests over the library for this machine, and what it prints."""
+        built, library = self.folder / name, self.root / "prebuilt" / MACHINE / STATIC
+        subprocess.run(["gcc", "-std=c11", "-O2", "-I", self.root / "include", self.root / f"tools/c/tests/{name}.c",
+                        library, "-o", built], check=True, timeout=120)
+        ran = subprocess.run([built, *arguments], capture_output=True, text=True, timeout=120, **options)
+        return ran.returncode, ran.stdout
 
-def built(name, root):
-    """A program of tools/c/tests, built in a copy for this machine."""
-    library = ROOT / "prebuilt" / f"{platform.machine()}-linux" / "libsuperio_c.a"
-    source = root / "tools/c/tests" / f"{name}.c"
-    subprocess.run(["gcc", "-std=c11", "-O2", "-I", ROOT / "include", source, library, "-o", root / name], check=True,
-                   timeout=120)
-    return root / name
-
-
-@unittest.skipUnless(shutil.which("gcc"), "gcc is not there")
-@unittest.skipUnless(f"{platform.machine()}-linux" in TARGETS, "there is no library for this machine")
-class Replaying(CopyTest):
-    def setUp(self):
-        super().setUp()
-        self.calls = self.root / "calls"
-
-    def replay(self):
-        with open(self.calls, encoding="ascii") as calls:
-            ran = subprocess.run([built("replay", self.root)], stdin=calls, capture_output=True, text=True, timeout=120)
-        return ran.returncode, ran.stdout.splitlines()[-1]
-
+    @NEEDS_LIBRARY
     def test_a_call_of_each_kind_that_differs_is_found(self):
-        self.assertEqual(random_calls.write_calls(self.calls, 20000), [])
-        self.assertEqual(self.replay(), (0, "20000 calls did the same, 0 did not"))
-        rows, kinds = self.calls.read_text(encoding="ascii").splitlines(), set(random_calls.KINDS)
+        """And a kind of which too few are drawn, and a file without calls."""
+        calls, kinds = self.folder / "calls", set(random_calls.KINDS)
+        self.assertEqual(random_calls.write_calls(calls, 20000), [])
+        rows = calls.read_text(encoding="ascii").splitlines()
         for place, (call, _, reply) in enumerate(row.partition(" = ") for row in rows):
             if (kind := random_calls.kind_of(call, reply)) in kinds:
                 kinds.remove(kind)
                 rows[place] += " T"
-        self.calls.write_text("".join(f"{row}\n" for row in rows), encoding="ascii")
-        number = len(random_calls.KINDS)
-        self.assertEqual((kinds, self.replay()), (set(), (1, f"{20000 - number} calls did the same, {number} did not")))
-
-    def test_a_kind_of_call_that_is_not_made_is_noticed(self):
+        self.assertEqual(kinds, set())
+        for text, differ in ((calls.read_text(encoding="ascii"), 0), ("\n".join(rows), len(random_calls.KINDS)),
+                             ("# a comment\n\nsc\n", 0)):
+            status, printed = self.run_program("replay", input=text)
+            same = text.count(" = ") - differ
+            self.assertEqual((status, printed.splitlines()[-1]),
+                             (differ > 0 or not same, f"{same} calls did the same, {differ} did not"))
         with mock.patch.object(random_calls, "KINDS", ["sr ..", "sz .."]):
-            self.assertEqual(random_calls.write_calls(self.calls, 2000), ["only 0 of 2000 calls are 'sz ..'"])
+            self.assertEqual(random_calls.write_calls(calls, 2000), ["only 0 of 2000 calls are 'sz ..'"])
 
-    def test_without_a_call_nothing_passes(self):
-        self.calls.write_text("# a comment\n\nsc\n", encoding="ascii")
-        self.assertEqual(self.replay(), (1, "0 calls did the same, 0 did not"))
+    @NEEDS_LIBRARY
+    def test_pastes_that_are_stuck_or_too_few(self):
+        for old, new, status, stuck in STUCK:
+            self.change("tools/c/tests/pastes.c", old, new)
+            ended, printed = self.run_program("pastes", "1")
+            self.change("tools/c/tests/pastes.c", new, old)
+            lines = re.findall(r"(\d+) stuck$", printed, re.M)
+            self.assertEqual((ended, len(lines), sum(line != "0" for line in lines)), (status, 3, stuck), new)
 
-
-@unittest.skipUnless(shutil.which("gcc"), "gcc is not there")
-@unittest.skipUnless(f"{platform.machine()}-linux" in TARGETS, "there is no library for this machine")
-class Pasting(CopyTest):
-    def paste(self):
-        """The status of the program, and how many pastes are stuck, for each guest."""
-        ran = subprocess.run([built("pastes", self.root), "1"], capture_output=True, text=True, timeout=120)
-        return ran.returncode, [int(stuck) for stuck in re.findall(r"(\d+) stuck$", ran.stdout, re.M)]
-
-    def test_no_paste_is_stuck(self):
-        self.assertEqual(self.paste(), (0, [0, 0, 0]))
-
-    def test_a_call_that_is_left_out_is_noticed(self):
-        self.change("tools/c/tests/pastes.c", "if (offset == IIR && (done.byte & NONE_PENDING))",
-                    "if (offset == IIR && (done.byte & NONE_PENDING) && false)")
-        status, stuck = self.paste()
-        self.assertEqual(status, 1)
-        self.assertTrue(all(stuck) and len(stuck) == 3, stuck)
-
-    def test_too_few_pastes_are_noticed(self):
-        self.change("tools/c/tests/pastes.c", "PASTES = 10000", "PASTES = 9990")
-        self.assertEqual(self.paste(), (1, [0, 0, 0]))
-
-
-class Scripts(unittest.TestCase):
     def test_a_monitor_that_differs_prints_on_or_does_not_end_is_found(self):
         cases = [("it", ["r 3fd"], ["r 3fd"], 0)]
         for command, is_good in (("cat", True), ("cat; echo", False), ("cat; exit 1", False), ("true", False),
@@ -152,53 +122,40 @@ class Scripts(unittest.TestCase):
 class Building(CopyTest):
     def setUp(self):
         super().setUp()
-        self.take(*SOURCES, "include", "prebuilt")
-        tools = self.root / "kit" / "toolchain" / "bin"
-        tools.mkdir(parents=True)
-        for path, script in ((self.root / "kit" / "rt", RT), (tools / "ld.lld", LINKER)):
-            path.write_text(script, encoding="ascii")
-            path.chmod(0o755)
-        self.environment = {"PATH": f"{self.root}/kit:{os.environ['PATH']}", "KIT": f"{self.root}/kit"}
+        program(self.folder / "kit" / "rt", RT)
+        program(self.folder / "kit" / "toolchain" / "bin" / "ld.lld", LINKER)
+        self.environment = {"PATH": f"{self.folder}/kit:{os.environ['PATH']}", "KIT": f"{self.folder}/kit"}
 
     def check(self, folder, other_sums="", other_sources=""):
-        """A folder has the libraries of both processors, their sums, and the digest of the sources, before other lines."""
-        for name, text in BUILT.items():
-            self.assertEqual((folder / name).read_text(encoding="ascii"), text)
-        sums = "".join(f"{hashlib.sha256(text.encode()).hexdigest()}  {name}\n"
-                       for name, text in BUILT.items())
-        self.assertEqual((folder / "SHA256SUMS").read_text(encoding="ascii"), sums + other_sums)
-        names = sorted(path.relative_to(ROOT).as_posix() for source in SOURCES for path in (ROOT / source).rglob("*.rt"))
-        listing = "".join(f"{hashlib.sha256((ROOT / name).read_bytes()).hexdigest()}  {name}\n" for name in names)
-        self.assertEqual((folder / "SOURCES").read_text(encoding="ascii"),
-                         f"{hashlib.sha256(listing.encode()).hexdigest()}  the sources in {' and '.join(SOURCES)}\n"
-                         + other_sources)
+        """A folder has the libraries of both processors, their sums and the sources' digest, before other lines."""
+        names = sorted(path.relative_to(ROOT).as_posix() for it in SOURCES for path in (ROOT / it).rglob("*.rt"))
+        listing = sums_of({name: (ROOT / name).read_bytes() for name in names})
+        digest = sums_of({f"the sources in {' and '.join(SOURCES)}": listing.encode()})
+        wanted = {**BUILT, "SOURCES": digest + other_sources,
+                  "SHA256SUMS": sums_of({name: text.encode() for name, text in BUILT.items()}) + other_sums}
+        self.assertEqual({name: (folder / name).read_text(encoding="ascii") for name in wanted}, wanted)
 
-    def test_into_a_folder(self):
-        folder = self.root / "folder"
+    def test_into_a_folder_and_into_the_repository(self):
+        """In the repository the lines of what another tool builds stay."""
+        folder = self.folder / "built"
         self.assertEqual(self.run_tool("tools/c/prebuild", folder, env=self.environment), (0, "", ""))
         self.check(folder)
-        library = "prebuilt/x86_64-linux/libsuperio_c.a"
+        library = f"prebuilt/x86_64-linux/{STATIC}"
         self.assertEqual((self.root / library).read_bytes(), (ROOT / library).read_bytes())
-
-    def test_into_the_repository(self):
-        """The lines of what another tool builds stay."""
+        self.keep("prebuilt", "crates/superio_c/out")
         self.assertEqual(self.run_tool("tools/c/prebuild", env=self.environment), (0, "", ""))
         sums, sources = ((ROOT / "prebuilt" / name).read_text(encoding="ascii") for name in ("SHA256SUMS", "SOURCES"))
-        others = [line for line in sums.splitlines(keepends=True) if line.split()[1] not in BUILT]
-        self.assertEqual(len(others), 1)
-        self.check(self.root / "prebuilt", others[0], sources.splitlines(keepends=True)[1])
+        other, = [line for line in sums.splitlines(keepends=True) if line.split()[1] not in BUILT]
+        self.check(self.root / "prebuilt", other, sources.splitlines(keepends=True)[1])
 
     def test_a_build_that_fails_says_where_its_output_is(self):
-        status, _, said = self.run_tool("tools/c/prebuild", self.root / "folder", env={**self.environment, "FAILS": "1"})
-        self.assertEqual(status, 1)
+        environment = {**self.environment, "FAILS": "1"}
+        status, _, said = self.run_tool("tools/c/prebuild", self.folder / "built", env=environment)
         says = r"tools/c/prebuild: superio_c .* `rt lib --target aarch64\S+ .* (\S+) has what it printed\n"
         log = re.fullmatch(says, said)[1]
         with open(log, encoding="utf-8") as kept:
-            self.assertEqual(kept.read(), "built\n")
+            self.assertEqual((status, kept.read()), (1, "built\n"))
         os.unlink(log)
-
-    def test_without_the_kit(self):
-        status, printed, said = self.run_tool("tools/c/prebuild", self.root / "folder", env={"PATH": ""})
-        self.assertEqual((status, printed), (1, ""))
+        status, printed, said = self.run_tool("tools/c/prebuild", self.folder / "none", env=NOTHING_ELSE)
+        self.assertEqual((status, printed, (self.folder / "none").exists()), (1, "", False))
         self.assertIn("tools/c/prebuild: this needs the Rattle kit", said)
-        self.assertFalse((self.root / "folder").exists())

@@ -1,37 +1,72 @@
-"""Tests of what `tools/check` counts, and of the status line."""
-import importlib.machinery
-import importlib.util
+"""Tests of what `tools/check` and `tools/test/run` count, of the table of floors, and of the status line."""
 import io
 import os
 import shutil
 import subprocess
 import sys
 import tempfile
-import time
 import unittest
+from itertools import product
 from pathlib import Path
 from unittest import mock
 
+import program
 import status
-
-TOOLS = Path(__file__).resolve().parent.parent
-
-
-def module_of(name):
-    """A tool without the ending `.py`, as a module."""
-    path = TOOLS / name
-    loader = importlib.machinery.SourceFileLoader(path.name, str(path))
-    module = importlib.util.module_from_spec(importlib.util.spec_from_loader(path.name, loader))
-    with mock.patch.dict("sys.modules", {path.name: module}):
-        loader.exec_module(module)
-    return module
-
+import tried
+from repository import TOOLS, module_of, silently
+from repository import program as script_at
+from tried import Tried, raised, read_floors, shortfalls, write_floors
 
 check = module_of("check")
+FLOORS = read_floors()
 # The commands of tools/ that no check is: they make something, or take hours.
 BY_HAND = {f"tools/{name}" for name in """
     c/prebuild check erase install kvm/boots packages/abi release run
     wrong_definitions""".split()}
+THREE, FEW = "echo 'tried: 3 cases'; ", "of 4 at least"
+NO_SUM, NO_ROW = "the last line is not 'N passed, M failed'", "the table of floors has no row of"
+# A check as a script, its floors, what it passes, fails and skips, and a text that is printed of it.
+CHECKS = [
+    ("echo many; echo '2 passed, 0 failed, 1 skipped'", {}, (2, 0, 1), "2 passed, 0 failed, 1 skipped"),
+    ("echo this; echo and this >&2; echo '1 passed, 1 failed'; exit 1", {}, (1, 1, 0), "and this\n"),
+    ("echo '3 passed, 1 failed, 2 skipped'; exit 1", {}, (3, 1, 2), ""),
+    ("true", {}, (0, 1, 0), NO_SUM),
+    ("echo 3 passed", {}, (0, 1, 0), NO_SUM),
+    ("echo '3 passed, 0 failed'; echo more", {}, (0, 1, 0), NO_SUM),
+    (f"{THREE}echo '3 passed, 0 failed'; exit 3", {"cases": 3}, (3, 1, 0), "exit status 3"),
+    (f"{THREE}echo '3 passed, 0 failed'; kill -9 $$", {"cases": 3}, (3, 1, 0), "exit status -9"),
+    (f"{THREE}echo '3 passed, 0 failed'", {"cases": 3}, (3, 0, 0), "3 passed, 0 failed"),
+    (f"{THREE}echo '3 passed, 0 failed'", {"cases": 4}, (3, 1, 0), f"cases: 3 tried, {FEW}"),
+    (f"{THREE}echo '3 passed, 0 failed'", {"cases": 3, "scripts": 1}, (3, 1, 0), "scripts: 0 tried, of 1 at least"),
+    (f"{THREE}echo '3 passed, 0 failed'", {}, (3, 1, 0), f"cases: {NO_ROW} it"),
+    (f"{THREE}echo '3 passed, 0 failed'", None, (3, 1, 0), f"{NO_ROW} this check"),
+    (f"{THREE}echo 'tried: 4 scripts'; echo '2 passed, 0 failed'", {"cases": 3, "scripts": 4}, (2, 0, 0), ""),
+    (f"{THREE}echo 'tried: 4 scripts'; echo '1 passed, 0 failed'", {"cases": 3, "scripts": 4}, (1, 1, 0), "of 2 kinds"),
+    ("echo 'not tried: cases'; echo '3 passed, 0 failed'", {"cases": 3}, (3, 1, 0), "nothing counts as skipped"),
+    ("echo 'not tried: cases'; echo '3 passed, 0 failed, 0 skipped'", {"cases": 3}, (3, 1, 0), "nothing counts as"),
+    ("echo 'not tried: cases'; echo '3 passed, 0 failed, 2 skipped'", {"cases": 3}, (3, 0, 2), ""),
+    # The other kinds keep their floors.
+    (f"{THREE}echo 'not tried: pastes'; echo '3 passed, 0 failed, 1 skipped'", {"cases": 4, "pastes": 8}, (3, 1, 1),
+     FEW),
+    ("/nowhere/at/all", {}, (0, 1, 0), "No such file or directory"),
+]
+# What says how much is tried, where no line of a check does: a module, its number or list, and how much it is at least.
+LEAST = [
+    ("kvm/check", "PASTED", 100_000), ("kvm/check", "FLOOD", 100_000), ("kvm/check", "KEPT_EXITS", 1000),
+    ("kvm/check", "FEWEST_ECHOED", 200), ("checks/first_crate", "PROVED", 3), ("c/programs.py", "SANITIZERS", 4),
+    ("c/programs.py", "CALLS", 1_000_000), ("rust/random_calls", "CALLS", 50_000_000),
+]
+# The tests of a file, and what their last line is.
+TEST = "class It(TestCase):\n    def test_it(self): {}"
+CAUGHT = "\n        try: self.assertEqual(1, 2)\n        except AssertionError: pass"
+TESTS = [
+    (TEST.format("self.assertTrue(1)"), "1 passed, 0 failed"),
+    (TEST.format("self.skipTest('why')"), "0 passed, 0 failed, 1 skipped"), ("", "0 passed, 1 failed"),
+    *((text, "0 passed, 1 failed") for text in (
+        TEST.format("pass"), TEST.format("[self.fail() for _ in ()]"), TEST.format("self.fail()"), TEST.format(CAUGHT),
+        TEST.format("self.assertTrue(1); self._outcome.result.stop()"), TEST.format("raise OSError()"),
+        "import nowhere", *(TEST.replace("    def", "    @expectedFailure\n    def").format(body)
+                            for body in ("self.fail()", "pass"))))]
 
 
 class Log(io.StringIO):
@@ -44,190 +79,156 @@ class Terminal(io.StringIO):
         return True
 
 
-class Sums(unittest.TestCase):
-    def test_both_forms_of_the_last_line_count(self):
-        self.assertEqual(check.counted(["a", "3 passed, 0 failed"], 0), (3, 0, 0, ""))
-        self.assertEqual(check.counted(["3 passed, 1 failed, 2 skipped"], 1), (3, 1, 2, ""))
+class Running(unittest.TestCase):
+    def setUp(self):
+        folder = tempfile.TemporaryDirectory()
+        self.addCleanup(folder.cleanup)
+        self.folder = Path(folder.name)
 
-    def test_another_last_line_is_a_failure(self):
-        for lines in ([], ["3 passed"], ["3 passed, 0 failed", "and more"]):
-            self.assertEqual(check.counted(lines, 0)[:3], (0, 1, 0))
+    def run_check(self, text, floors, is_writing=False, needs_kit=True):
+        """Runs a check that is a shell script. Returns its result, and what is printed."""
+        command = text if text.startswith("/") else f"sh {script_at(self.folder / 'script', text)}"
+        it = check.Check("it", "it works", command, needs_kit=needs_kit)
+        with mock.patch.object(check, "KEPT", self.folder), status.Status("test", Log()) as line:
+            return silently(check.run, it, line, {} if floors is None else {"it": floors}, is_writing)
 
-    def test_a_status_without_a_failure_is_one(self):
-        for status in (1, 2, 127, -9):
-            self.assertEqual(check.counted(["3 passed, 0 failed"], status), (3, 1, 0, f"exit status {status}"))
-
-
-class Runs(unittest.TestCase):
-    def run_command(self, script, floors=None, is_writing=False):
-        """Runs a check that is a shell script, and returns its result and what was printed."""
-        printed = io.StringIO()
-        with tempfile.TemporaryDirectory() as folder, mock.patch.object(check, "KEPT", Path(folder)), \
-                mock.patch("sys.stdout", printed), status.Status("test", Log()) as line:
-            file = Path(folder, "script")
-            file.write_text(script, encoding="utf-8")
-            it = check.Check("it", f"sh {file}", "it works")
-            return check.run(it, line, {"it": {}} if floors is None else floors, is_writing), printed.getvalue()
-
-    def test_a_check_that_passes_says_so_in_a_line(self):
-        result, printed = self.run_command("echo many lines; echo '2 passed, 0 failed, 1 skipped'")
-        self.assertEqual((result.passed, result.failed, result.skipped), (2, 0, 1))
-        self.assertIn("2 passed, 0 failed, 1 skipped", printed)
-        self.assertNotIn("many lines", printed)
-
-    def test_a_check_that_fails_shows_what_it_printed(self):
-        result, printed = self.run_command("echo this differs; echo and this >&2; echo '1 passed, 1 failed'; exit 1")
-        self.assertEqual((result.passed, result.failed), (1, 1))
-        self.assertIn("this differs\n", printed)
-        self.assertIn("and this\n", printed)
-
-    def test_a_check_that_passes_and_dies_fails(self):
-        for end, says in (("exit 3", "exit status 3"), ("kill -9 $$", "exit status -9")):
-            result, printed = self.run_command(f"echo 'tried: 1 cases'; echo '1 passed, 0 failed'; {end}")
-            self.assertEqual((result.passed, result.failed), (1, 1))
-            self.assertIn(says, printed)
-
-    def test_a_check_that_tries_less_than_its_floors_fails(self):
-        script = "echo 'tried: 3 cases'; echo '3 passed, 0 failed'"
-        for floors, is_enough in (({"cases": 3}, True), ({"cases": 4}, False), ({"cases": 3, "scripts": 1}, False),
-                                  ({}, False), (None, False)):
-            result, printed = self.run_command(script, {} if floors is None else {"it": floors})
-            self.assertEqual((result.passed, result.failed), (3, not is_enough), printed)
-        self.assertIn("the table of floors has no row of this check", printed)
-
-    def test_a_check_that_passes_less_than_it_has_kinds_fails(self):
-        for passed, failed in ((2, 0), (1, 1), (0, 1)):
-            script = f"echo 'tried: 3 cases'; echo 'tried: 4 scripts'; echo '{passed} passed, 0 failed'"
-            self.assertEqual(self.run_command(script, {"it": {"cases": 3, "scripts": 4}})[0].failed, failed)
-
-    def test_a_kind_that_cannot_run_has_to_be_skipped(self):
-        for skipped, failed in (("", 1), (", 0 skipped", 1), (", 2 skipped", 0)):
-            script = f"echo 'not tried: cases'; echo '3 passed, 0 failed{skipped}'"
-            self.assertEqual(self.run_command(script, {"it": {"cases": 3}})[0].failed, failed)
+    def test_what_each_check_passes_fails_and_skips(self):
+        for (text, floors, sums, says), needs_kit in product(CHECKS, (False, True)):
+            with self.subTest(text, floors=floors, needs_kit=needs_kit):
+                result, printed = self.run_check(text, floors, needs_kit=needs_kit)
+                self.assertEqual((result.passed, result.failed, result.skipped), sums, printed)
+                self.assertIn(says, printed)
+                self.assertEqual("many" in printed or "this" in printed, "this" in says)
 
     def test_floors_rise_and_never_fall(self):
-        floors = {"it": {"cases": 2, "scripts": 5}}
-        script = "echo 'tried: 3 cases'; echo 'tried: 4 scripts'; echo '7 passed, 0 failed'"
-        result, printed = self.run_command(script, floors, is_writing=True)
-        self.assertEqual((result.failed, floors), (1, {"it": {"cases": 3, "scripts": 5}}))
-        self.assertIn("scripts: 4 tried, of 5 at least", printed)
+        """And a check that fails raises none."""
+        for end in ("0 failed'", "1 failed'; exit 1"):
+            floors = {"cases": 2, "scripts": 5}
+            with mock.patch.object(check, "raised", side_effect=raised) as rises:
+                result, _ = self.run_check(f"{THREE}echo 'tried: 4 scripts'; echo '7 passed, {end}", floors, True)
+            self.assertEqual((result.failed, rises.call_count), (1, "exit" not in end))
+        some = Tried({"more": 5, "fewer": 1, "new": 2, "in part": 1})
+        some.leave_out("in part")
+        self.assertEqual(raised({"more": 4, "fewer": 3, "gone": 6, "in part": 9}, some),
+                         {"more": 5, "fewer": 3, "gone": 6, "in part": 9, "new": 2})
 
-    def test_a_check_that_fails_raises_no_floor(self):
-        floors = {"it": {"cases": 2}}
-        self.run_command("echo 'tried: 3 cases'; echo '2 passed, 1 failed'; exit 1", floors, is_writing=True)
-        self.assertEqual(floors, {"it": {"cases": 2}})
-
-    def test_a_command_that_is_not_there_fails(self):
-        printed = io.StringIO()
-        with tempfile.TemporaryDirectory() as folder, mock.patch.object(check, "KEPT", Path(folder)), \
-                mock.patch("sys.stdout", printed), status.Status("test", Log()) as line:
-            result = check.run(check.Check("it", "/nowhere/at/all", "it works"), line, {})
-        self.assertEqual((result.passed, result.failed), (0, 1))
-        self.assertRegex(printed.getvalue(), "/nowhere/at/all.*: No such file or directory")
-
-    def test_the_table_ends_with_all_processor_seconds(self):
-        one = check.Result(check.CHECKS[0], 3, 0, 0, 65, 7.2)
-        other = check.Result(check.CHECKS[1], 1, 2, 4, 5, 1.1)
-        self.assertEqual(list(check.table([one, other]))[-1].split(), ["all", "8"])
-        self.assertEqual(check.summed([one, other]), "4 passed, 2 failed, 4 skipped")
-
-
-    def test_the_checks_that_were_left_out_are_named(self):
-        results = [check.Result(it, 1, 0, 0, 1, 1) for it in check.CHECKS]
-        self.assertEqual(check.told_of(results), f"{len(results)} of {len(results)} checks")
-        self.assertEqual(check.told_of(results[:-2]), f"{len(results) - 2} of {len(results)} checks; left out: "
-                         f"{check.CHECKS[-2].name}, {check.CHECKS[-1].name}")
-
-
-class Whole(unittest.TestCase):
-    GOOD = "echo 'tried: 1 cases'; echo '1 passed, 0 failed, 1 skipped'"
-    BAD = "echo 'tried: 1 cases'; echo '0 passed, 1 failed, 1 skipped'; exit 1"
-
-    def run_main(self, scripts, floors=None):
+    def run_all(self, scripts, floors):
         """The status of all checks that are these shell scripts, and the last line that is printed."""
-        printed = io.StringIO()
-        with tempfile.TemporaryDirectory() as folder:
-            checks = [check.Check(str(number), f"sh {folder}/{number}", "it works", is_first=number == 1)
-                      for number in range(len(scripts))]
-            for it, script in zip(checks, scripts):
-                Path(folder, it.name).write_text(script, encoding="utf-8")
-            table = {it.name: {"cases": 1} for it in checks} if floors is None else floors
-            with mock.patch.object(check, "CHECKS", checks), mock.patch.object(check, "KEPT", Path(folder, "kept")), \
-                    mock.patch.object(check, "read_floors", lambda: table), mock.patch("sys.argv", ["tools/check"]), \
-                    mock.patch("sys.stdout", printed), mock.patch("sys.stderr", Log()):
-                return check.main(), printed.getvalue().splitlines()[-1]
+        checks = [check.Check(str(number), "it works", f"sh {script_at(self.folder / str(number), text)}", number == 1)
+                  for number, text in enumerate(scripts)]
+        with mock.patch.multiple(check, CHECKS=checks, KEPT=self.folder / "kept", read_floors=lambda: floors), \
+                mock.patch("sys.argv", ["tools/check"]), mock.patch("sys.stderr", Log()):
+            ended, printed = silently(check.main)
+        return ended, printed.splitlines()[-1]
 
-    def test_each_check_is_run_and_one_that_fails_is_enough(self):
-        self.assertEqual(self.run_main([self.GOOD] * 3), (0, "6 passed, 0 failed, 3 skipped"))
+    def test_one_check_that_fails_is_enough(self):
+        good = "echo 'tried: 1 cases'; echo '1 passed, 0 failed, 1 skipped'"
+        floors = {str(number): {"cases": 1} for number in range(3)}
+        self.assertEqual(self.run_all([good] * 3, floors), (0, "6 passed, 0 failed, 3 skipped"))
         for place in range(3):
-            scripts = [self.BAD if number == place else self.GOOD for number in range(3)]
-            self.assertEqual(self.run_main(scripts), (1, "5 passed, 1 failed, 3 skipped"))
+            scripts = [good.replace("1 passed, 0", "0 passed, 1") if number == place else good for number in range(3)]
+            self.assertEqual(self.run_all(scripts, floors), (1, "5 passed, 1 failed, 3 skipped"))
+        for wrong in ({"0": {"cases": 2}}, {"0": {"cases": 1, "more": 1}}, {}, {"0": {"cases": 1}, "1": {"cases": 1}}):
+            self.assertEqual(self.run_all([good], wrong)[0], 1)
 
     def test_without_the_kit_it_is_not_found_and_all_else_is(self):
-        with tempfile.TemporaryDirectory() as folder:
-            kit, links = Path(folder, "kit"), Path(folder, "links")
-            links.mkdir()
-            kit.mkdir()
-            for name in ("rt", "cc"):
-                (kit / name).write_text("#!/bin/sh\n", encoding="ascii")
-                (kit / name).chmod(0o755)
-            with mock.patch.dict(os.environ, PATH=f"{folder}:{kit}:/nowhere/at/all"):
-                path = check.path_without_kit(links)
-            self.assertIsNone(shutil.which("rt", path=path))
-            self.assertEqual(Path(shutil.which("cc", path=path)).resolve(), kit.resolve() / "cc")
-            self.assertEqual(path.split(":")[::2], [folder, "/nowhere/at/all"])
+        kit, links = self.folder / "kit", self.folder / "links"
+        links.mkdir()
+        for name in ("rt", "cc"):
+            script_at(kit / name, "")
+        with mock.patch.dict(os.environ, PATH=f"{self.folder}:{kit}:/nowhere/at/all"):
+            path = check.path_without_kit(links)
+        self.assertIsNone(shutil.which("rt", path=path))
+        self.assertEqual(Path(shutil.which("cc", path=path)).resolve(), (kit / "cc").resolve())
+        self.assertEqual(path.split(":")[::2], [str(self.folder), "/nowhere/at/all"])
 
-    def test_a_check_below_its_floor_or_without_one_fails(self):
-        for floors in ({"0": {"cases": 2}}, {"0": {"cases": 1, "more": 1}}, {}, {"0": {"cases": 1}, "1": {"cases": 1}}):
-            status, printed = self.run_main([self.GOOD], floors)
-            self.assertEqual(status, 1, printed)
+    def test_whatever_is_no_pass_of_a_test_is_a_failure(self):
+        (self.folder / "checks").mkdir()
+        shutil.copy(TOOLS / "checks" / "tried.py", self.folder / "checks")
+        for text, last in TESTS:
+            run = script_at(self.folder / "test" / "run", (TOOLS / "test" / "run").read_text(encoding="utf-8"))
+            (run.parent / "test_it.py").write_text(f"from unittest import *\n{text}\n", encoding="utf-8")
+            ran = subprocess.run([sys.executable, run], stdout=subprocess.PIPE, text=True)
+            self.assertEqual((ran.stdout.splitlines()[-1], ran.returncode), (last, "0 failed" not in last), text)
 
 
-class Table(unittest.TestCase):
+def lines_of(rows):
+    """What a check tried that prints just these numbers."""
+    return Tried.read(Tried(rows).lines())
+
+
+class Tables(unittest.TestCase):
     def test_each_tool_is_a_check_or_is_run_by_hand(self):
         files = [path for path in TOOLS.rglob("*") if path.is_file() and not path.suffix and os.access(path, os.X_OK)]
         commands = {str(path.relative_to(TOOLS.parent)) for path in files}
         checks = {it.command.removeprefix("nice ") for it in check.CHECKS}
-        self.assertEqual(commands - checks, BY_HAND)
-        self.assertEqual(checks - commands, set())
+        self.assertEqual((commands - checks, checks - commands), (BY_HAND, set()))
 
+    def test_no_number_of_what_is_tried_falls(self):
+        found = {(module, name): getattr(module_of(module), name) for module, name, _ in LEAST}
+        tried = {place: value if isinstance(value, int) else len(value) for place, value in found.items()}
+        self.assertEqual([place for *place, least in LEAST if tried[tuple(place)] < least], [])
 
-class Tests(unittest.TestCase):
-    def run_tests(self, text):
-        """The last line of the tests of a file of this text."""
+    def test_the_checks_that_were_left_out_are_named(self):
+        results = [check.Result(it, 1, 0, 0, 1, 1) for it in check.CHECKS[2:]]
+        self.assertEqual(check.told_of(results), f"{len(results)} of {len(results) + 2} checks; left out: "
+                         f"{check.CHECKS[0].name}, {check.CHECKS[1].name}")
+
+    def test_each_check_has_floors_and_nothing_else_has(self):
+        self.assertEqual(list(FLOORS), [it.name for it in check.CHECKS])
+        tables = [{it: rows for it, rows in FLOORS.items() if it != name} for name in FLOORS]
+        tables = [FLOORS, *tables, {**FLOORS, "another": {}}]
+        failed = [silently(check.judge_table, table)[0].failed for table in tables]
+        self.assertEqual(failed, [0] + [1] * (len(FLOORS) + 1))
+
+    def test_each_floor_raised_by_one_fails_and_so_does_a_kind_that_is_missing(self):
+        wrong = []
+        for name, rows in FLOORS.items():
+            wrong += [name] * (shortfalls(rows, lines_of(rows), 0) != [])
+            for kind, number in rows.items():
+                rest = {it: least for it, least in rows.items() if it != kind}
+                found = [shortfalls(*pair, 0) for pair in (
+                    ({**rows, kind: number + 1}, lines_of(rows)), (rows, lines_of(rest)), (rest, lines_of(rows)))]
+                wanted = [f"{kind}: {number} tried, of {number + 1} at least", f"{kind}: 0 tried, of {number} at least",
+                          f"{kind}: the table of floors has no row of it"]
+                wrong += [f"{name}: {kind}"] * (found != [[it] for it in wanted])
+        self.assertEqual(wrong, [])
+
+    def test_the_table_is_written_as_it_is_read(self):
         with tempfile.TemporaryDirectory() as folder:
-            place, checks = Path(folder, "test"), Path(folder, "checks")
-            for it in (place, checks):
-                it.mkdir()
-            shutil.copy(TOOLS / "checks" / "tried.py", checks)
-            shutil.copy(TOOLS / "test" / "run", place)
-            (place / "test_it.py").write_text(f"from unittest import *\n{text}\n", encoding="utf-8")
-            ran = subprocess.run([sys.executable, place / "run"], stdout=subprocess.PIPE, text=True)
-        last = ran.stdout.splitlines()[-1]
-        self.assertEqual(ran.returncode, "0 failed" not in last)
-        return last
-
-    def test_whatever_is_no_pass_is_a_failure(self):
-        one = "class It(TestCase):\n    def test_it(self): {}"
-        self.assertEqual(self.run_tests(one.format("self.assertTrue(1)")), "1 passed, 0 failed")
-        self.assertEqual(self.run_tests(one.format("self.skipTest('why')")), "0 passed, 0 failed, 1 skipped")
-        caught = one.format("\n        try: self.assertEqual(1, 2)\n        except AssertionError: pass")
-        for text in (one.format("pass"), one.format("[self.fail() for _ in ()]"), one.format("self.fail()"), caught,
-                     one.format("self.assertTrue(1); self._outcome.result.stop()"),
-                     one.format("raise OSError()"), "import nowhere",
-                     one.replace("    def", "    @expectedFailure\n    def").format("self.fail()"),
-                     one.replace("    def", "    @expectedFailure\n    def").format("pass")):
-            self.assertEqual(self.run_tests(text), "0 passed, 1 failed", text)
-        self.assertIn("1 failed", self.run_tests(""))
+            path = Path(shutil.copy(tried.FLOORS, folder))
+            write_floors(FLOORS, path)
+            self.assertEqual(path.read_bytes(), tried.FLOORS.read_bytes())
 
 
-class Programs(unittest.TestCase):
-    def test_a_program_that_replies_nothing_passes_only_scripts_without_replies(self):
-        for name, most in (("checks/scripts", 0.05), ("checks/transcripts", 0), ("replay", 0)):
-            ran = subprocess.run([sys.executable, TOOLS / name, "/bin/true"], stdout=subprocess.PIPE, text=True)
-            passed, failed, *_ = check.counted(ran.stdout.splitlines(), ran.returncode)
-            self.assertGreater(failed, 0, name)
-            self.assertLessEqual(passed, most * failed, name)
+class Counting(unittest.TestCase):
+    def test_lines_of_one_kind_add_up_and_others_are_passed_over(self):
+        found = Tried.read(["tried: 2 lines", "and more", "tried: 40 lines", "not tried: b", "3 passed, 0 failed"])
+        self.assertEqual((found.counts, found.left_out), ({"lines": 42}, {"b"}))
+
+    def test_made_up_cases_are_one_check_of_their_kind_and_nothing_is_no_pass(self):
+        many, some = [("random", None)] * 1000, [("lines", None)] * 3
+        for results, generated, wanted in (
+                (many + some, ["random"], (0, "4 passed, 0 failed")), (many + some, [], (0, "1003 passed, 0 failed")),
+                (many + [("random", "it differs")] * 5 + some, ["random"], (1, "3 passed, 1 failed")),
+                (many + [("lines", "it differs")], ["random"], (1, "1 passed, 1 failed")),
+                ([], [], (1, "0 passed, 1 failed"))):
+            ended, printed = silently(program.report, iter(results), generated)
+            self.assertEqual((ended, printed.splitlines()[-1]), wanted)
+
+    def test_tests_count_by_their_file_even_if_their_class_is_skipped(self):
+        @unittest.skip("it cannot run")
+        class One(unittest.TestCase):
+            setUpClass = mock.Mock(side_effect=unittest.SkipTest("nor can its class"))
+
+            def test_it(self):
+                pass
+
+        suite = unittest.TestSuite([unittest.defaultTestLoader.loadTestsFromTestCase(One)])
+        found, result = Tried.of_tests(suite), unittest.TestResult()
+        suite.run(result)
+        found.leave_out_skipped(result)
+        self.assertEqual((found.counts, found.left_out), ({f"tests of {__name__}": 1}, {f"tests of {__name__}"}))
 
 
 class StatusLines(unittest.TestCase):
@@ -237,20 +238,15 @@ class StatusLines(unittest.TestCase):
             with line.task("a crate") as task:
                 status.progress(task, "so far: 30 of 165 functions checked")
                 line.count(passed=2)
-                deadline = time.monotonic() + 60
-                while log.getvalue().count("\n") < 3 and time.monotonic() < deadline:
-                    time.sleep(0.01)
-        self.assertIn("tools/it 0:00 | 2 passed, 0 failed | a crate: 30 of 165 functions\n", log.getvalue())
-        self.assertTrue(check.STATUS.match(log.getvalue().splitlines()[-1]))
+                while log.getvalue().count("30 of 165") < 3:
+                    line.ended.wait(0.01)
+        last = log.getvalue().splitlines()[-1]
+        self.assertEqual(last, "tools/it 0:00 | 2 passed, 0 failed | a crate: 30 of 165 functions")
+        self.assertTrue(check.STATUS.match(last))
 
     def test_a_terminal_has_one_line_that_is_gone_at_the_end(self):
         terminal = Terminal()
-        with mock.patch.dict("os.environ", {"TERM": "xterm"}), status.Status("tools/it", terminal) as line:
-            with line.task("a crate"):
-                pass
-        self.assertNotIn("\n", terminal.getvalue())
-        self.assertIn("a crate", terminal.getvalue())
-        self.assertTrue(terminal.getvalue().endswith("\r\x1b[K"))
-
-    def test_durations_have_minutes_and_hours(self):
-        self.assertEqual([status.clock(it) for it in (7.9, 725, 3905)], ["0:07", "12:05", "1:05:05"])
+        with mock.patch.dict("os.environ", {"TERM": "xterm"}), status.Status("tools/it", terminal) as line, \
+                line.task("a crate"):
+            pass
+        self.assertRegex(terminal.getvalue(), r"a crate[^\n]*\r\x1b\[K\Z")

@@ -1,69 +1,13 @@
-"""Tests of how edits are read, where they are, and which share a round. No prover runs."""
+"""Tests of how edits are read, which share a round, and what a check's lines make of them. No prover runs."""
 import tempfile
 import unittest
 
 import tiny
 from contracts import functions_of
 from edits import function_at, has_path, read_edits, rounds_of, texts_of
+from verdicts import judge, read_said
 
 NOTHING = ("smaller", "left", "first < second { first }", "first < second { 0 }")
-
-
-class Reading(unittest.TestCase):
-    def read(self, *edits):
-        folder = tempfile.TemporaryDirectory()
-        self.addCleanup(folder.cleanup)
-        crate = tiny.make(folder.name, [(f"edit{number}", *edit) for number, edit in enumerate(edits)])
-        return crate, read_edits(crate)
-
-    def test_an_edit_has_the_place_that_its_text_names(self):
-        crate, [edit] = self.read(NOTHING)
-        self.assertEqual((edit.problem, edit.is_outside, len(edit.places)), ("", False, 1))
-        self.assertIn("if first < second { 0 } else", texts_of(crate, [edit])["src/lib.rt"])
-
-    def test_a_text_that_is_not_there_is_bad(self):
-        _, [edit] = self.read(("same", "ensures", "numbers", "0"))
-        self.assertIn("0 times", edit.problem)
-
-    def test_a_text_that_stands_twice_is_bad(self):
-        _, [edit] = self.read(("larger", "left", "if first < second", "if second < first"))
-        self.assertIn("2 times", edit.problem)
-
-    def test_an_edit_without_a_clause_is_bad(self):
-        _, [edit] = self.read(("smaller", "", "first < second { first }", "first < second { 0 }"))
-        self.assertIn("a clause", edit.problem)
-
-    def test_two_edits_of_one_name_are_bad(self):
-        crate, _ = self.read(NOTHING)
-        path = crate / "wrong-bodies" / "lib.edits"
-        text = path.read_text(encoding="utf-8")
-        path.write_text(f"{text}\n{text}", encoding="utf-8")
-        for edit in read_edits(crate):
-            self.assertIn("has its name", edit.problem)
-            self.assertEqual(edit.replacements, [])
-
-    def test_an_edit_ends_with_an_empty_line(self):
-        crate, _ = self.read(NOTHING)
-        path = crate / "wrong-bodies" / "lib.edits"
-        text = path.read_text(encoding="utf-8")
-        path.write_text(text + text, encoding="utf-8")
-        [edit] = read_edits(crate)
-        self.assertIn("no empty line", edit.problem)
-
-    def test_two_edits_of_one_function_share_no_round(self):
-        _, edits = self.read(NOTHING, ("smaller", "right", "{ first } else { second }", "{ second } else { second }"),
-                             ("larger", "left", "{ second } else { first }", "{ first } else { second }"))
-        rounds = rounds_of(edits)
-        self.assertEqual(sorted(map(len, rounds)), [1, 2])
-        for these in rounds:
-            self.assertEqual(len(set.union(*(edit.places for edit in these))), len(these))
-
-    def test_an_edit_of_a_constant_goes_alone(self):
-        _, edits = self.read(NOTHING, ("seven", "value", "const SEVEN: u32 = 7;", "const SEVEN: u32 = 8;"))
-        self.assertTrue(edits[1].is_outside)
-        self.assertEqual([len(these) for these in rounds_of(edits)], [1, 1])
-
-
 SOURCE = """\
 impl<T: Into<u8>, W: Write> Write for Port<T, W> {
     /// Not `fn written() {`.
@@ -85,39 +29,102 @@ trait Trigger {
 
 fn last(bytes: [u8; 3]) -> u8 { bytes[2] }
 """
+# What a check prints of `tiny::larger`, and the verdict that is made of it.
+ANSWERS = "./proofs/larger/Answers.antt:5:30: error: `returns-clause-right`:"
+UNPROVED = ("fn tiny::larger: no proof: expected answers in ./proofs/larger/Answers.antt; "
+            "`search` did not prove `returns`")
+OF_LARGER = "note: src/lib.rt:10:5: it is not proved that what the function ensures holds (`returns-clause-right`)"
+LAST, PAST = "logic=not-proved", f"{ANSWERS} record `Past` has no field `step`"
+JOINED = ("note: `returns` of proofs/larger/Answers.antt must prove: "
+          "record {left : c.args.first ≤ c.result; right : f {a = 1; b = 2} c}")
+JUDGED = [
+    ((UNPROVED, OF_LARGER, LAST), "REFUSED", "tiny::larger: right"),
+    ((UNPROVED, f"{ANSWERS} `search`: no proof was found", LAST), "REFUSED", ""),
+    ((UNPROVED, OF_LARGER.replace(":10:", ":20:"), LAST), "NOT REFUSED", ""),
+    ((OF_LARGER, LAST), "NOT REFUSED", ""),
+    ((UNPROVED, f"{ANSWERS} `other` was not admitted", LAST), "NOT REFUSED", ""),
+    ((UNPROVED, PAST, LAST), "BAD", ""),
+    ((UNPROVED, PAST, OF_LARGER, LAST), "REFUSED", ""),
+    ((UNPROVED, OF_LARGER), "BAD", ""),
+    ((UNPROVED, OF_LARGER.replace("returns-clause-right", "returns"), JOINED, LAST), "REFUSED",
+     "tiny::larger: left, right"),
+    # Of a check of some functions.
+    ((UNPROVED, OF_LARGER, "only=2 proved=1", "rt: more"), "REFUSED", ""),
+]
+
+
+class Edits(unittest.TestCase):
+    def read(self, *edits):
+        folder = tempfile.TemporaryDirectory()
+        self.addCleanup(folder.cleanup)
+        crate = tiny.make(folder.name, [(f"edit{number}", *edit) for number, edit in enumerate(edits)])
+        return crate, read_edits(crate)
+
+    def test_an_edit_has_the_place_that_its_text_names(self):
+        crate, [edit] = self.read(NOTHING)
+        self.assertEqual((edit.problem, edit.is_outside, len(edit.places)), ("", False, 1))
+        self.assertIn("if first < second { 0 } else", texts_of(crate, [edit])["src/lib.rt"])
+
+    def test_an_edit_that_cannot_be_tried_says_why(self):
+        for edit, says in ((("same", "ensures", "numbers", "0"), "0 times"),
+                           (("larger", "left", "if first < second", "if second < first"), "2 times"),
+                           (("smaller", "", "first < second { first }", "first < second { 0 }"), "a clause")):
+            self.assertIn(says, self.read(edit)[1][0].problem)
+        crate, _ = self.read(NOTHING)
+        path = crate / "wrong-bodies" / "lib.edits"
+        text = path.read_text(encoding="utf-8")
+        for between, says, count in (("\n", "has its name", 2), ("", "no empty line", 1)):
+            path.write_text(text + between + text, encoding="utf-8")
+            found = read_edits(crate)
+            self.assertEqual([says in edit.problem for edit in found], [True] * count)
+            self.assertTrue(count == 1 or not any(edit.replacements for edit in found))
+
+    def test_edits_of_one_function_or_of_a_constant_share_no_round(self):
+        _, edits = self.read(NOTHING, ("smaller", "right", "{ first } else { second }", "{ second } else { second }"),
+                             ("larger", "left", "{ second } else { first }", "{ first } else { second }"),
+                             ("seven", "value", "const SEVEN: u32 = 7;", "const SEVEN: u32 = 8;"))
+        self.assertEqual([edit.is_outside for edit in edits], [False] * 3 + [True])
+        rounds = rounds_of(edits)
+        self.assertEqual(sorted(map(len, rounds)), [1, 1, 2])
+        shared, = (these for these in rounds if len(these) == 2)
+        self.assertEqual(len(set.union(*(edit.places for edit in shared))), 2)
+
+    def test_what_the_lines_of_a_check_make_of_an_edit(self):
+        def verdict(lines, function="larger", clause="right", status=1):
+            crate, [edit] = self.read((function, clause, "{ second } else { first }", "{ first } else { first }"))
+            return judge(edit, read_said(lines, status), texts_of(crate, [edit]))
+        for lines, kind, text in JUDGED:
+            outcome = verdict(lines)
+            self.assertEqual((outcome.kind, text and outcome.text), (kind, text), lines)
+        right = JUDGED[0][0]
+        self.assertEqual([verdict(right, **other).kind for other in (
+            {"status": -9}, {"clause": "left"}, {"function": "smaller"})], ["BAD", "ANOTHER CLAUSE", "BAD"])
+        self.assertEqual(verdict(["only=2 proved=2"], status=0).kind, "NOT REFUSED")
 
 
 class Places(unittest.TestCase):
-    def test_functions_are_found_with_their_impl(self):
+    def test_functions_are_found_with_their_impl_and_their_comment(self):
         found = [(it.name, SOURCE.count("\n", 0, it.start) + 1, SOURCE.count("\n", 0, it.end) + 1)
                  for it in functions_of(SOURCE) if it.has_body]
         self.assertEqual(found, [("write", 3, 8), ("new", 12, 12), ("last", 19, 19)])
-
-    def test_the_lines_of_a_function_begin_with_its_comment(self):
         self.assertEqual(next(functions_of(SOURCE)).lines(SOURCE), (2, 8))
-
-    def test_a_place_is_in_the_function_around_it(self):
         self.assertEqual(function_at(SOURCE, SOURCE.index("byte == ")).name, "write")
         self.assertIsNone(function_at(SOURCE, SOURCE.index("fn trigger")))
 
     def test_a_path_ends_in_the_impl_and_the_name(self):
         write, new, last = (it for it in functions_of(SOURCE) if it.has_body)
-        for function, path, expected in (
-                (write, "crate::port::PortWrite::write", True), (write, "crate::port::Port::write", False),
-                (new, "crate::port::Port+u8+NoWriter::new", True), (new, "crate::port::PortState::new", False),
-                (last, "crate::port::last", True), (last, "crate::port::Port::last", False),
-                (last, "crate::bits::last", False)):
-            self.assertEqual(has_path("src/port.rt", function, path), expected, path)
-        self.assertTrue(has_path("src/lib.rt", last, "crate::last"))
-
-    def test_arguments_of_a_trait_are_in_the_path(self):
-        [function] = functions_of("impl<V: Drop, E> From<Refused<V>> for Error<E> {\n    fn from(it: V) -> Self { it }\n}\n")
-        self.assertTrue(has_path("src/lib.rt", function, "crate::ErrorFromRefused::from"))
-        self.assertFalse(has_path("src/lib.rt", function, "crate::ErrorFromFault::from"))
+        [of_trait] = functions_of(
+            "impl<V: Drop, E> From<Refused<V>> for Error<E> {\n    fn from(it: V) -> Self { it }\n}\n")
+        for file, function, path, expected in (
+                ("port", write, "port::PortWrite::write", True), ("port", write, "port::Port::write", False),
+                ("port", new, "port::Port+u8+NoWriter::new", True), ("port", new, "port::PortState::new", False),
+                ("port", last, "port::last", True), ("port", last, "port::Port::last", False),
+                ("port", last, "bits::last", False), ("lib", last, "last", True),
+                ("lib", of_trait, "ErrorFromRefused::from", True), ("lib", of_trait, "ErrorFromFault::from", False)):
+            self.assertEqual(has_path(f"src/{file}.rt", function, f"crate::{path}"), expected, path)
 
     def test_the_clauses_of_a_function_have_their_names(self):
-        write = next(functions_of(SOURCE))
-        self.assertEqual([clause[:2] for clause in write.clauses], [("", "state"), ("", "")])
+        self.assertEqual([clause[:2] for clause in next(functions_of(SOURCE)).clauses], [("", "state"), ("", "")])
         for text, expected in (("ensures { a }", ""), ("ensures only { a }", "only"),
                                ("ensures* lends { a } ensures value { b }", "lends"),
                                ("ensures first { a } ensures second { b }", "")):

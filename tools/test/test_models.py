@@ -4,83 +4,65 @@ import unittest
 from itertools import product
 from pathlib import Path
 
-from test_check import module_of
+from repository import module_of
 
 models = module_of("checks/models")
 
 COUNTER = "pub struct Counter { count: u64, calls: u64 }"
 GOOD_VIEW = "λ it. record { count = it.count; calls = it.calls }"
+# What stands before a view of a ring, and what after it.
+RING, BOUND = "pub struct Counter { ring: HeapCircularBuffer<u8> }", "λ it. it.ring.items }; ghost invariant = { λ it. "
+INNER = "struct Inner { kept: u8, past: u8 } "
 # A struct and its view, and whether the view names each field.
 VIEWS = [
-    (COUNTER, GOOD_VIEW, True),
-    (COUNTER, "λ it. it.count", False),
-    (COUNTER, "λ it. record { count = it.count; calls = it.count }", False),
-    (COUNTER, "λ it. of_counter it", False),
-    (COUNTER, "of_counter", False),
-    (COUNTER, "λ it. let it = fresh in record { count = it.count; calls = it.calls }", False),
-    (COUNTER, "λ it. record { count = it.count; calls = x-it.calls }", False),
-    (COUNTER, "λ it. record { count = it.count; calls = x'it.calls }", False),
-    (COUNTER, "λ it. ((λ it. it.count) it.calls)", False),
-    ("pub struct Counter { pub(crate) count: Option<(u8, u16)>, #[repr(C)] calls: u64 }", GOOD_VIEW, True),
-    ("pub struct Counter { pub(crate) count: Option<(u8, u16)>, #[repr(C)] calls: u64 }", "λ it. it.count", False),
-    ("pub struct Counter<T: Fn(u8) -> u8>(T, u64);", "λ it. f it.0 it.1", True),
-    ("pub struct Counter<T: Fn(u8) -> u8>(T, u64);", "λ it. it.1", False),
-    ("pub struct Inner { kept: u8, past: u8 } pub struct Counter { inner: Inner }", "λ it. it.inner", True),
-    ("pub struct Inner { kept: u8, past: u8 } pub struct Counter { inner: Inner }", "λ it. it.inner.kept", False),
-    ("pub struct Inner { kept: u8, past: u8 } pub struct Counter { inner: Inner }", "λ it. f it.inner.past it.inner.kept",
-     True),
+    *((COUNTER, view, view == GOOD_VIEW) for view in (
+        GOOD_VIEW, "λ it. it.count", "λ it. record { count = it.count; calls = it.count }", "λ it. of_counter it",
+        "of_counter", "λ it. let it = fresh in record { count = it.count; calls = it.calls }",
+        "λ it. record { count = it.count; calls = x-it.calls }",
+        "λ it. record { count = it.count; calls = x'it.calls }", "λ it. ((λ it. it.count) it.calls)")),
+    *(("pub struct Counter { pub(crate) count: Option<(u8, u16)>, #[repr(C)] calls: u64 }", *it) for it in (
+        (GOOD_VIEW, True), ("λ it. it.count", False))),
+    *(("pub struct Counter<T: Fn(u8) -> u8>(T, u64);", *it) for it in (
+        ("λ it. f it.0 it.1", True), ("λ it. it.1", False))),
+    *((f"pub {INNER}pub struct Counter {{ inner: Inner }}", *it) for it in (
+        ("λ it. it.inner", True), ("λ it. it.inner.kept", False), ("λ it. f it.inner.past it.inner.kept", True))),
     ("use crate::hidden::Log as ArrayVec; pub struct Counter { log: ArrayVec<u8, 8> }", "λ it. it.log.items", False),
     ("pub struct Counter where u8: Fn() { count: u64, calls: u64 }", "λ it. it.count", False),
     ("pub enum Counter { None, Some(u64) }", "λ it. it.0", False),
-    ("pub struct Inner { kept: u8, past: u8 } type Same = Inner; pub struct Counter { inner: Same }",
-     "λ it. it.inner.kept", False),
-    ("mod first { struct Inner { kept: u8, past: u8 } } struct Inner { kept: u8 } pub struct Counter { inner: Inner }",
+    (f"pub {INNER}type Same = Inner; pub struct Counter {{ inner: Same }}", "λ it. it.inner.kept", False),
+    (f"mod first {{ {INNER}}} struct Inner {{ kept: u8 }} pub struct Counter {{ inner: Inner }}",
      "λ it. it.inner.kept", False),
     ("struct Inner<O, const N: usize> { kept: O } struct Own { past: u8 } pub struct Counter { inner: Inner<Own, 8> }",
      "λ it. it.inner.kept.past", True),
     ("struct Inner<O> { kept: O } struct Own { past: u8, more: u8 } pub struct Counter { inner: Inner<Own> }",
      "λ it. it.inner.kept.past", False),
-    ("pub struct Counter { ring: HeapCircularBuffer<u8> }", "λ it. it.ring.items", False),
-    ("pub struct Counter { ring: HeapCircularBuffer<u8> }", "λ it. it.ring.items }; ghost invariant = { λ it. "
-     "it.ring.capacity ≡ 64", True),
-    ("pub struct Counter { ring: HeapCircularBuffer<u8> }", "λ it. it.ring.items }; ghost invariant = { λ it. "
-     "it.ring.capacity ≤ 64", False),
-    ("pub struct Counter { ring: HeapCircularBuffer<u8> }", "λ it. it.ring.items }; ghost invariant = { λ it. "
-     "(it.ring.capacity ≡ 64) × (0 ≤ 1)", True),
-    ("pub struct Counter { ring: HeapCircularBuffer<u8> }", "λ it. it.ring.items }; ghost invariant = { λ it. "
-     "(0 ≡ 1 → it.ring.capacity ≡ 64) × (0 ≤ 1)", False),
-    ("pub struct Counter { ring: HeapCircularBuffer<u8> }", "λ it. it.ring.items }; ghost invariant = { λ it. "
-     "(it.ring.capacity ≡ 64 + any) × (0 ≤ 1)", False),
-    ("pub struct Counter { ring: HeapCircularBuffer<u8> }", "λ it. it.ring.items }; ghost invariant = { λ it. "
-     "0 ≡ 0 ∨₁ (0 ≤ 1) × (it.ring.capacity ≡ 64)", False),
+    (RING, "λ it. it.ring.items", False),
+    *((RING, BOUND + invariant, is_good) for invariant, is_good in (
+        ("it.ring.capacity ≡ 64", True), ("it.ring.capacity ≤ 64", False),
+        ("(it.ring.capacity ≡ 64) × (0 ≤ 1)", True), ("(0 ≡ 1 → it.ring.capacity ≡ 64) × (0 ≤ 1)", False),
+        ("(it.ring.capacity ≡ 64 + any) × (0 ≤ 1)", False), ("0 ≡ 0 ∨₁ (0 ≤ 1) × (it.ring.capacity ≡ 64)", False))),
 ]
 MODEL = "impl{parameters} {path}Model for Counter{arguments} {{ ghost Value = {{ Of }}; ghost view = {{ {view} }}; }}"
 DROP = "fn drop(&mut self) { self.0.trigger(); }"
 # What hides a call or state.
 HIDING = [
+    *(f"use {path};" for path in (
+        "std::ops::Drop as Ended", "std::{marker::Model as Seen, io}", "std::cell::RefCell as Plain",
+        "std::sync::mpsc::{Receiver, Sender}", "std::{io, thread}", "std::sync::*", "std::*", "std as own",
+        "core::cell::UnsafeCell", "alloc::rc::Rc", "std::collections::HashMap",
+        "std::collections::{HashSet, VecDeque}", "std::io::{Write, stdout}", "std::mem::{replace, forget}",
+        "std::mem as own")),
     f"impl Drop for Counter {{ {DROP} }}",
     f"impl<T: Trigger, W> Drop for Counter<T, W> where W: Write {{ {DROP} }}",
     f"impl std::ops::Drop for Counter {{ {DROP} }}",
     f"unsafe impl<const N: usize> ::core::ops::Drop for Counter<[u8; N]> {{ {DROP} }}",
-    "use std::ops::Drop as Ended;",
-    "use std::{marker::Model as Seen, io};",
     "macro_rules! seen { ($name:ident) => { impl Model for $name {} } }",
     "use std::cell::Cell; struct Counter { calls: Cell<u64> }",
-    "use std::cell::RefCell as Plain;",
     "fn of(it: &std::sync::atomic::AtomicU64) -> u64 { it.load() }",
     "struct Counter { calls: std::sync::Mutex<u64> }",
     "static CALLS: OnceLock<u64> = OnceLock::new();",
     "pub static mut CALLS: u64 = 0;",
     "thread_local! { pub CALLS: u64 = 0; }",
-    "use std::sync::mpsc::{Receiver, Sender};",
-    "use std::{io, thread};",
-    "use std::sync::*;",
-    "use std::*;",
-    "use std as own;",
-    "use core::cell::UnsafeCell;",
-    "use alloc::rc::Rc;",
-    "use std::collections::HashMap;",
-    "use std::collections::{HashSet, VecDeque};",
     "fn calls() -> usize { std::env::vars().count() }",
     "fn calls() -> usize { <std::fmt::Error as std::env::Args>::len() }",
     'fn count() { std::fs::write("calls", "1") }',
@@ -94,10 +76,7 @@ HIDING = [
     "fn count() { std::eprint! { 1 } }",
     "const HOME: Option<&str> = option_env! [HOME];",
     "use std::io; fn asked() -> u64 { io::stdin().lines().count() }",
-    "use std::io::{Write, stdout};",
     "use std::mem; fn kept(it: Line) { mem::forget(it) }",
-    "use std::mem::{replace, forget};",
-    "use std::mem as own;",
     'include!("../hidden.rt");',
     '#[path = "../hidden.rt"] mod hidden;',
     "#[cfg(test)] mod hidden;",
@@ -198,6 +177,3 @@ class Models(unittest.TestCase):
             self.assertTrue(self.faults(f"impl Drop for Counter {{ {DROP} }}", name, crate))
             self.assertTrue(self.faults("use std::cell::Cell;", "src/other.rt", crate))
 
-
-if __name__ == "__main__":
-    unittest.main()

@@ -1,14 +1,11 @@
 """Tests of `tools/checks/paste` over documents with planted faults."""
-import contextlib
-import io
 import shutil
 import subprocess
 import unittest
 from pathlib import Path
 from unittest import mock
 
-from repository import CopyTest
-from test_check import module_of
+from repository import CopyTest, module_of, program, silently
 
 paste = module_of("checks/paste")
 
@@ -16,6 +13,7 @@ paste = module_of("checks/paste")
 DOCUMENTS = [
     ("```sh\ntest -f README.md && test -z \"$(ls ~)\"   # the top folder, and an empty home\n```\n", (1, 0, 0)),
     ("```sh\nfalse\necho goes on\n```\n", (0, 1, 0)),
+    ("```sh\necho goes on\nfalse\n```\n", (0, 1, 0)),
     ("1. Indented:\n\n   ```sh\n   echo a\n   ```\n\n   ```text\n   a\n   ```\n", (1, 0, 0)),
     ("```sh\necho b\n```\n\nIt prints\n\n```text\na\n```\n", (0, 1, 0)),
     ("```sh\necho b\n```\n\n## Another section\n\n```text\na\n```\n", (1, 0, 0)),
@@ -36,38 +34,36 @@ DOCUMENTS = [
 
 @unittest.skipUnless(shutil.which("git"), "git is needed")
 class Pasting(CopyTest):
+    parts = "tools", "bindings/python/tests"
+
     def setUp(self):
         super().setUp()
-        self.take("bindings/python/tests")
         subprocess.run(["git", "init", "--quiet", self.root], check=True)
-        (self.root / "expected").write_text("wanted\n", encoding="ascii")
-        (self.root / "tools" / "run").write_text("#!/bin/sh\nexit 1\n", encoding="ascii")
+        self.write("expected", "wanted\n")
+        program(self.root / "tools" / "run", "exit 1")
         # What the blocks find, so that pkg-config is there on no machine.
         (self.root / "bin").mkdir()
         for name in ("bash", "sh", "ls", "rm", "test", "echo"):
             (self.root / "bin" / name).symlink_to(shutil.which(name))
 
     def count(self, text):
-        """What the blocks of a document pass, fail and skip."""
-        (self.root / "README.md").write_text(text, encoding="utf-8")
-        with mock.patch.object(paste, "PLAIN_PATH", str(self.root / "bin")), contextlib.redirect_stdout(io.StringIO()) as said:
+        """What the blocks of a document pass, fail and skip, and what is printed."""
+        self.write("README.md", text)
+        with mock.patch.object(paste, "PLAIN_PATH", str(self.root / "bin")):
             tally = paste.Tally()
-            paste.paste(self.root, [Path("README.md")], None, tally)
-        return (tally.passed, tally.failed, tally.skipped), said.getvalue()
+            _, said = silently(paste.paste, self.root, [Path("README.md")], None, tally)
+        return (tally.passed, tally.failed, tally.skipped), said
 
     def test_what_each_document_passes_fails_and_skips(self):
         for text, wanted in DOCUMENTS:
             with self.subTest(text):
                 counts, said = self.count(text)
                 self.assertEqual(wanted, counts, said)
-
-    def test_a_command_that_takes_minutes_has_a_stand_in(self):
         with mock.patch.object(paste, "STAND_INS", {"sleep 3600": "echo short"}):
             counts, said = self.count("```sh\nsleep 3600   # an hour\n```\n\n```text\nshort\n```\n")
         self.assertEqual(((1, 0, 0), True), (counts, "works, by a shorter command" in said), said)
 
     def test_a_repository_without_its_blocks_fails(self):
-        (self.root / "README.md").write_text("Nothing.\n", encoding="ascii")
+        self.write("README.md", "Nothing.\n")
         status, printed, _ = self.run_tool("tools/checks/paste", env={"PATH": "/usr/bin:/bin"})
-        self.assertEqual(1, status)
-        self.assertIn("no block was found", printed)
+        self.assertEqual((1, True), (status, "no block was found" in printed))

@@ -1,69 +1,10 @@
 """Tests of what `tools/run` and `tools/replay` print, and of their exit statuses."""
 import os
-import sys
 
 from program import SOURCES
-from repository import ROOT, CopyTest
+from repository import OF_SCRIPTS, ROOT, CopyTest, program
 
 EXAMPLE = ROOT / "examples" / "three_devices.script"
-# In place of the program: it replies as the search of the past does.
-PROGRAM = f"""#!{sys.executable}
-import sys
-sys.path.insert(0, {str(ROOT / "tools" / "checks")!r})
-from expected import script_replies
-_, replies, bad_line = script_replies(sys.stdin.read())
-for reply in replies:
-    print(reply)
-if bad_line:
-    sys.exit(f"bad line {{bad_line}}")
-"""
-
-
-class Running(CopyTest):
-    def setUp(self):
-        super().setUp()
-        self.take(*(f"crates/{name}/src" for name in SOURCES["superio"]))
-        self.program = self.root / "crates" / "superio" / "out" / "superio"
-        self.program.parent.mkdir()
-        self.program.write_text(PROGRAM, encoding="utf-8")
-        self.program.chmod(0o755)
-        self.script = self.root / "script"
-        # The tool keeps the output of a build that failed.
-        self.without_rt = {"PATH": "", "TMPDIR": str(self.root)}
-
-    def test_a_file_and_standard_input_are_the_same(self):
-        status, printed, said = self.run_tool("tools/run", EXAMPLE)
-        self.assertEqual((status, len(printed.splitlines()), said), (0, 15, ""))
-        with open(EXAMPLE, encoding="ascii") as script:
-            self.assertEqual(self.run_tool("tools/run", stdin=script), (0, printed, ""))
-
-    def test_lines_with_their_replies_as_the_documents_show_them(self):
-        status, printed, said = self.run_tool("tools/run", "--beside", EXAMPLE)
-        self.assertEqual((status, said), (0, ""))
-        self.assertIn(f"```text\n{printed}```\n", (ROOT / "docs" / "SCRIPT.md").read_text(encoding="utf-8"))
-
-    def test_a_bad_line_has_no_reply(self):
-        self.script.write_text("kr 04\nbad\nsr 05\n", encoding="ascii")
-        self.assertEqual(self.run_tool("tools/run", self.script), (1, "00\n", "bad line 2\n"))
-        self.assertEqual(self.run_tool("tools/run", "--beside", self.script),
-                         (1, f"{'kr 04':37}00\nbad\nsr 05\n", "bad line 2\n"))
-
-    def test_a_script_that_is_not_there(self):
-        status, printed, said = self.run_tool("tools/run", self.script)
-        self.assertEqual((status, printed), (2, ""))
-        self.assertIn(str(self.script), said)
-
-    def test_a_program_that_is_not_built(self):
-        self.program.unlink()
-        status, printed, said = self.run_tool("tools/run", EXAMPLE, env=self.without_rt)
-        self.assertEqual((status, printed), (125, ""))
-        self.assertIn("superio was not built", said)
-
-    def test_a_program_that_is_older_than_its_sources(self):
-        os.utime(self.program, (0, 0))
-        self.assertEqual(self.run_tool("tools/run", EXAMPLE, env=self.without_rt)[0], 125)
-
-
 # A trace as examples/kvm writes it, and the recording that stands for it.
 TRACE = """\
 refuse 0000000000000000
@@ -111,28 +52,49 @@ so "\\n"
 """
 
 
-class Recordings(CopyTest):
+class Running(CopyTest):
+    parts = "tools", "bindings/python/superio", *(f"crates/{name}/src" for name in SOURCES["superio"])
+
     def setUp(self):
         super().setUp()
-        self.trace, self.program = self.root / "trace", self.root / "program"
-        self.trace.write_text(TRACE, encoding="ascii")
-        self.program.write_text(PROGRAM, encoding="utf-8")
-        self.program.chmod(0o755)
-        self.boots = self.root / "examples" / "linux-boot"
-        self.boots.mkdir(parents=True)
-        for name in ("boot", "console"):
-            (self.boots / f"{name}.recording").write_text(RECORDING, encoding="ascii")
+        self.program = program(self.root / "crates" / "superio" / "out" / "superio", OF_SCRIPTS)
+
+    def test_what_is_printed_of_a_script(self):
+        """A file and standard input are the same, and the documents show both columns. A bad line has no reply."""
+        status, printed, said = self.run_tool("tools/run", EXAMPLE)
+        self.assertEqual((status, len(printed.splitlines()), said), (0, 15, ""))
+        with open(EXAMPLE, encoding="ascii") as script:
+            self.assertEqual(self.run_tool("tools/run", stdin=script), (0, printed, ""))
+        status, printed, said = self.run_tool("tools/run", "--beside", EXAMPLE)
+        self.assertEqual((status, said), (0, ""))
+        self.assertIn(f"```text\n{printed}```\n", (ROOT / "docs" / "SCRIPT.md").read_text(encoding="utf-8"))
+        script = self.write("script", "kr 04\nbad\nsr 05\n")
+        self.assertEqual(self.run_tool("tools/run", script), (1, "00\n", "bad line 2\n"))
+        self.assertEqual(self.run_tool("tools/run", "--beside", script),
+                         (1, f"{'kr 04':37}00\nbad\nsr 05\n", "bad line 2\n"))
+
+    def test_what_is_not_there(self):
+        """A script, and a program that is older than its sources or not built."""
+        status, printed, said = self.run_tool("tools/run", self.root / "script")
+        self.assertEqual((status, printed, str(self.root / "script") in said), (2, "", True))
+        os.utime(self.program, (0, 0))
+        for _ in range(2):
+            # The tool keeps the output of a build that failed.
+            ran = self.run_tool("tools/run", EXAMPLE, env={"PATH": "", "TMPDIR": str(self.root)})
+            self.assertEqual((*ran[:2], "superio was not built" in ran[2]), (125, "", True))
+            self.program.unlink(missing_ok=True)
 
     def test_a_trace_is_folded_and_unfolded(self):
-        self.assertEqual(self.run_tool("tools/replay", "--fold", self.trace), (0, RECORDING, ""))
+        for name in ("boot", "console"):
+            self.write(f"examples/linux-boot/{name}.recording", RECORDING)
+        trace = self.write("trace", TRACE)
+        self.assertEqual(self.run_tool("tools/replay", "--fold", trace), (0, RECORDING, ""))
         self.assertEqual(self.run_tool("tools/replay", "--unfold", self.root / "out"), (0, "", ""))
         for number, piece in enumerate(TRACE.split("\n\n")):
             rows = [row.split("  ") for row in piece.splitlines()[1:]]
             for kind, place in (("script", 0), ("replies", 1)):
                 path = self.root / "out" / f"console-{number:02}.{kind}"
                 self.assertEqual(path.read_text(encoding="ascii").splitlines(), [row[place] for row in rows])
-
-    def test_each_recording_is_replayed_and_a_reply_that_differs_fails(self):
         status, printed, _ = self.run_tool("tools/replay", self.program)
         self.assertEqual((status, printed.splitlines()[-1]), (0, "4 passed, 0 failed"))
         self.assertIn("tried: 2 pieces of console.recording\n", printed)

@@ -1,33 +1,20 @@
 """Tests of the limits and the floors of tools/bench/counts, tools/rust/random_calls and tools/rust/targets."""
-import contextlib
-import io
 import math
 import shutil
-import subprocess
-import sys
 import tempfile
 import unittest
 from pathlib import Path
 from unittest import mock
 
-from test_check import TOOLS, module_of
-
-sys.path[:0] = [str(TOOLS / folder) for folder in ("bench", "rust", "c")]
-import cargo  # noqa: E402
-from libraries import host_target  # noqa: E402
-from planted import Bug, read_bugs  # noqa: E402
-from tally import Tally  # noqa: E402
-from toolchains import is_too_old  # noqa: E402
+import cargo
+from libraries import host_target
+from planted import Bug, read_bugs
+from repository import ended, module_of, silently
+from tally import Tally
+from toolchains import is_too_old
 
 counts, random_calls, targets = map(module_of, ("bench/counts", "rust/random_calls", "rust/targets"))
-
-
-def silently(function, *arguments):
-    """Calls a function, and returns what it returns and what it printed."""
-    printed = io.StringIO()
-    with contextlib.redirect_stdout(printed):
-        result = function(*arguments)
-    return result, printed.getvalue()
+SERIAL = "src/serial.rs"
 
 
 class Counts(unittest.TestCase):
@@ -41,20 +28,22 @@ class Counts(unittest.TestCase):
 
     def compare_document(self, rows, document, version="1.2.3"):
         """What passes, fails and is skipped of a document that has this text."""
-        tally, said = Tally(), subprocess.CompletedProcess("rustc", 0, f"rustc {version} (0123abcd)")
         with tempfile.TemporaryDirectory() as folder, mock.patch.object(counts, "DOCUMENT", Path(folder, "TEXT.md")), \
-                mock.patch.object(counts.subprocess, "run", return_value=said):
+                mock.patch.object(counts.subprocess, "run", return_value=ended(0, f"rustc {version} (0123abcd)")):
             counts.DOCUMENT.write_text(document, encoding="utf-8")
+            tally = Tally()
             silently(counts.compare_document, tally, rows)
         return tally.passed, tally.failed, tally.skipped
 
-    def test_each_row_has_a_limit_of_its_own(self):
-        limits = [counts.LIMITS[row.kind](row.original) for row in counts.ROWS[1:]]
+    def test_each_row_has_a_limit_of_its_own_but_one(self):
+        table = counts.ROWS[1:]
+        limits = [counts.LIMITS[row.kind](row.original) for row in table]
         limits = [limit if limit != math.inf else 100 for limit in limits]
-        self.assertEqual(self.compare(limits)[0], 0)
-        for number, row in enumerate(counts.ROWS[1:]):
-            over = self.compare([*limits[:number], limits[number] + 0.1, *limits[number + 1:]])[0]
-            self.assertEqual(over, row.kind != "free", number)
+        over = [self.compare([*limits[:number], limits[number] + 0.1, *limits[number + 1:]])[0]
+                for number in range(len(table))]
+        self.assertEqual((self.compare(limits)[0], over), (0, [row.kind != "free" for row in table]))
+        self.assertEqual([row.name for row in table if row.kind == "free"], ["RTCMR write"])
+        self.assertEqual([limit(10) for limit in counts.LIMITS.values()], [11, 12, 9, 12, math.inf])
 
     def test_each_number_of_the_document_is_compared(self):
         names = [row.name for row in counts.ROWS[1:]]
@@ -63,22 +52,14 @@ class Counts(unittest.TestCase):
         text = "\n".join(["rustc 1.2.3", *lines])
         self.assertEqual(self.compare_document(rows, text), (len(rows), 0, 0))
         name, count, (original, limit), own = rows[0]
-        for planted in (f"| {name}s | {count} | {original} | {limit} | {own} |",
-                        f"| {name} | {count + 2} | {original} | {limit} | {own} |",
-                        f"| {name} | {count} | {original}0 | {limit} | {own} |",
-                        f"| {name} | {count} | {original} | {limit}0 | {own} |",
-                        f"| {name} | {count} | {original} | {limit} | {own - 2} |",
-                        f"| {name} | {count} | {original} | {limit} |"):
-            printed = self.compare_document(rows, text.replace(lines[0], planted))
+        for planted in ((f"{name}s", count, original, limit, own), (name, count + 2, original, limit, own),
+                        (name, count, f"{original}0", limit, own), (name, count, original, f"{limit}0", own),
+                        (name, count, original, limit, own - 2), (name, count, original, limit)):
+            printed = self.compare_document(rows, text.replace(lines[0], f"| {' | '.join(map(str, planted))} |"))
             self.assertEqual(printed, (len(rows) - 1, 1, 0), planted)
         self.assertEqual(self.compare_document([(*row[:3], None) for row in rows], text), (len(rows), 0, 0))
-
-    def test_a_document_of_another_compiler_is_skipped(self):
+        # A document of another compiler is skipped.
         self.assertEqual(self.compare_document([("x", 1, ["1", "2"], None)], "rustc 1.2.3", "1.2.4"), (0, 0, 1))
-
-    def test_one_row_alone_has_no_limit(self):
-        free = [row.name for row in counts.ROWS[1:] if row.kind == "free"]
-        self.assertEqual(free, ["RTCMR write"])
 
     def test_rows_of_the_table_are_read(self):
         rows = {row.name: row for row in counts.ROWS}
@@ -90,31 +71,24 @@ class Counts(unittest.TestCase):
 
 
 class Targets(unittest.TestCase):
-    def count(self, printed, status=0):
-        """What `count_tests` passes and fails of a run, and how many tests it tries."""
-        tally = Tally()
-        silently(targets.count_tests, tally, "the tests", subprocess.CompletedProcess("cargo", status, printed))
-        return tally.passed, tally.failed, tally.tried.counts.total()
-
     def test_the_tests_of_all_programs_are_tried_and_none_is_a_failure(self):
-        printed = "test result: ok. 12 passed; 0 failed\ntest result: ok. 8 passed; 0 failed\n"
-        self.assertEqual(self.count(printed), (1, 0, 20))
-        self.assertEqual(self.count(""), (0, 1, 0))
-
-    def test_a_run_that_fails_passed_no_test(self):
-        self.assertEqual(self.count("test result: ok. 20 passed; 0 failed\n", status=101), (0, 1, 0))
+        """A run that fails passed no test."""
+        good = "test result: ok. 12 passed; 0 failed\ntest result: ok. 8 passed; 0 failed\n"
+        for status, printed, wanted in ((0, good, (1, 0, 20)), (0, "", (0, 1, 0)), (101, good, (0, 1, 0))):
+            tally = Tally()
+            silently(targets.count_tests, tally, "the tests", ended(status, printed))
+            self.assertEqual((tally.passed, tally.failed, sum(tally.tried.counts.values())), wanted)
 
     @unittest.skipUnless(shutil.which("cargo"), "needs cargo")
     def test_each_target_is_built_or_named(self):
         tally = Tally()
         built = [next(targets.toolchains())] + [None] * (len(targets.BUILT) - 1)
-        ran = subprocess.CompletedProcess("cargo", 101, "use of undeclared crate `std`")
+        ran = mock.Mock(**{"run.return_value": ended(101, "use of undeclared crate `std`")})
         with tempfile.TemporaryDirectory() as folder, mock.patch.object(targets, "toolchain_for", side_effect=built), \
-                mock.patch.object(targets, "Cargo", return_value=mock.Mock(**{"run.return_value": ran})):
+                mock.patch.object(targets, "Cargo", return_value=ran):
             printed = silently(targets.check_builds, tally, Path(folder))[1]
         self.assertEqual((tally.passed, tally.failed, tally.skipped), (0, 1, len(targets.BUILT) - 1))
-        for target in targets.BUILT:
-            self.assertIn(target, printed)
+        self.assertEqual([target for target in targets.BUILT if target not in printed], [])
 
 
 @unittest.skipIf(host_target() is None, "needs a library for this processor")
@@ -129,19 +103,14 @@ class RandomCalls(unittest.TestCase):
         cls.addClassCleanup(folder.cleanup)
         cls.comparison = cargo.Comparison(Path(folder.name))
 
-    def try_edit(self, file, old, new):
-        """The sum of the checks of a wrong shell, and what they print."""
-        tally = Tally()
-        printed = silently(random_calls.check_wrong_shell, tally, self.comparison, Bug("planted", file, old, new))[1]
-        return (tally.passed, tally.failed), printed
-
-    def test_a_shell_that_is_right_is_not_counted_as_refused(self):
-        result, printed = self.try_edit("src/serial.rs", "self.events.out_byte()", "{ self.events.out_byte() }")
-        self.assertEqual(result, (2, 1))
-        self.assertIn("planted is not refused", printed)
-
-    def test_an_edit_whose_text_has_moved_fails(self):
-        self.assertEqual(self.try_edit("src/serial.rs", "no such text", "x")[0], (0, 1))
+    def test_a_shell_that_is_right_or_that_has_moved_is_not_counted_as_refused(self):
+        for old, new, wanted, says in ((
+                "self.events.out_byte()", "{ self.events.out_byte() }", (2, 1), "planted is not refused"),
+                ("no such text", "x", (0, 1), "")):
+            tally = Tally()
+            bug = Bug("planted", SERIAL, old, new)
+            printed = silently(random_calls.check_wrong_shell, tally, self.comparison, bug)[1]
+            self.assertEqual((tally.passed, tally.failed, says in printed), (*wanted, True))
 
     def test_a_case_that_no_call_reaches_fails(self):
         """The calls make no timeout any more."""
@@ -153,13 +122,12 @@ class RandomCalls(unittest.TestCase):
         self.comparison.take(cargo.BINDINGS)
         tally = Tally()
         printed = silently(random_calls.check_calls, tally, self.comparison, 400_000, 1)[1]
-        self.assertEqual(tally.passed, 1)
-        self.assertGreater(tally.failed, 0)
+        self.assertEqual((tally.passed, tally.failed > 0), (1, True))
         self.assertIn("2 cases too seldom", printed)
 
     def test_each_edit_is_tried_as_one_of_its_kind(self):
         tally = Tally()
         with mock.patch.object(random_calls, "check_wrong_shell") as tries:
             silently(random_calls.check_wrong_shells, tally, self.comparison)
-        self.assertEqual(tries.call_count, len(list(read_bugs(random_calls.WRONG))))
-        self.assertEqual(tally.kind, random_calls.WRONG_SHELLS)
+        self.assertEqual((tries.call_count, tally.kind),
+                         (len(list(read_bugs(random_calls.WRONG))), random_calls.WRONG_SHELLS))

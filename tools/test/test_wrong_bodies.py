@@ -1,4 +1,4 @@
-"""Tests of what `tools/checks/wrong_bodies` says of edits, by the prover, over a small crate."""
+"""Tests of what `tools/checks/wrong_bodies` says of edits, by the prover, over a small crate, and of its record."""
 import re
 import shutil
 import subprocess
@@ -9,46 +9,28 @@ from unittest import mock
 
 import tiny
 from record import drawn, recorded, write_record
+from repository import TOOLS
 from rooms import crates_of
 
-TOOL = Path(__file__).resolve().parent.parent / "checks" / "wrong_bodies"
-
-
-def try_edits(*edits):
-    """What the tool says of each edit, and the line that it ends with."""
-    with tempfile.TemporaryDirectory() as folder:
-        tiny.make(folder, edits)
-        ran = subprocess.run([TOOL, "--seen", "--root", folder], capture_output=True, text=True, timeout=3600)
-    *lines, tried, in_all, last = ran.stdout.splitlines()
-    assert (tried, in_all) == (f"tried: {len(edits)} wrong bodies of tiny", f"tried: {len(edits)} tried or recorded wrong bodies of tiny")
-    said = dict(re.match(r"tiny/(\w+): (.*)", line).groups() for line in lines)
-    return said, last, ran.returncode
-
-
-@unittest.skipUnless(shutil.which("rt"), "rt is not there")
-class Verdicts(unittest.TestCase):
-    @classmethod
-    def setUpClass(cls):
-        cls.said, cls.sums, cls.status = try_edits(
-            ("refused", "larger", "right", "{ second } else", "{ first } else"),
-            ("harmless", "smaller", "left", "first < second { first }", "first <= second { first }"),
-            ("another", "seven", "other", "    SEVEN", "    SEVEN + 1"),
-            ("broken", "same", "returns", "    number", "    numbers"))
-
-    def test_a_wrong_body_is_refused_for_its_clause(self):
-        self.assertEqual(self.said["refused"], "REFUSED: tiny::larger: right")
-
-    def test_a_harmless_edit_is_not_refused(self):
-        self.assertRegex(self.said["harmless"], "^NOT REFUSED")
-
-    def test_a_clause_that_does_not_refuse_it_is_reported(self):
-        self.assertRegex(self.said["another"], "^ANOTHER CLAUSE: other does not refuse it, but tiny::seven: value")
-
-    def test_an_edit_that_does_not_compile_is_bad(self):
-        self.assertRegex(self.said["broken"], "^BAD: an error of names, types or syntax: .* cannot find value `numbers`")
-
-    def test_the_last_line_counts_them(self):
-        self.assertEqual((self.sums, self.status), ("1 passed, 3 failed", 1))
+REFUSED = ("refused", "larger", "right", "{ second } else", "{ first } else")
+# It is refused in the function that reads it.
+CONSTANT = ("constant", "seven", "value", "SEVEN: u32 = 7;", "SEVEN: u32 = 8;")
+# Edits, and what is said of each.
+EDITS = {
+    REFUSED: "REFUSED: tiny::larger: right$",
+    ("harmless", "smaller", "left", "first < second { first }", "first <= second { first }"): "NOT REFUSED",
+    ("another", "seven", "other", "    SEVEN", "    SEVEN + 1"):
+        "ANOTHER CLAUSE: other does not refuse it, but tiny::seven: value",
+    ("broken", "same", "returns", "    number", "    numbers"):
+        "BAD: an error of names, types or syntax: .* cannot find value `numbers`",
+    CONSTANT: "REFUSED: tiny::seven: value$",
+}
+# What decides whether the edits are refused: a file, a text of it, or none if it is new, and the one in its place.
+CHANGES = [
+    ("crates/tiny/src/lib.rt", "    number\n", "    { number }\n"), ("crates/tiny/specs/Lib.antt", "", "mod More\n"),
+    ("crates/tiny/proofs/Lib.antt", "", "mod More\n"), ("crates/low/src/lib.rt", "", "//! More.\n"),
+    *(("crates/tiny/wrong-bodies/lib.edits", old, new) for old, new in (
+        ("right", "left"), ("{ first } else", "{ 1 } else"), ("larger", "smaller")))]
 
 
 class Recorded(unittest.TestCase):
@@ -58,51 +40,49 @@ class Recorded(unittest.TestCase):
         room = tempfile.TemporaryDirectory()
         self.addCleanup(room.cleanup)
         self.root = Path(room.name)
-        self.crate = tiny.make(self.root, [("refused", "larger", "right", "{ second } else", "{ first } else")])
         (self.root / "tools").mkdir()
-        self.record()
 
-    def record(self):
-        write_record(self.root, {"tiny": 1})
-        self.assertEqual(recorded(self.root), {"tiny"})
-
-    def assert_change_is_noticed(self, path, text):
-        was = path.read_bytes() if path.is_file() else None
-        path.parent.mkdir(parents=True, exist_ok=True)
-        path.write_text(text, encoding="utf-8")
-        self.assertEqual(recorded(self.root), set())
-        path.write_bytes(was) if was else path.unlink()
-        self.assertEqual(recorded(self.root), {"tiny"})
-
-    def test_a_change_of_a_source_a_definition_a_proof_or_an_edit_is_noticed(self):
-        edits = self.crate / "wrong-bodies" / "lib.edits"
-        self.assert_change_is_noticed(edits, edits.read_text(encoding="utf-8").replace("right", "left"))
-        self.assert_change_is_noticed(self.crate / "src" / "lib.rt", tiny.SOURCE.replace("    number\n", "    { number }\n"))
-        for part in ("specs", "proofs"):
-            self.assert_change_is_noticed(self.crate / part / "Lib.antt", "mod More\n")
-
-    def test_a_change_of_a_library_below_is_noticed(self):
+    def test_each_change_is_noticed(self):
+        """Of a source, a definition, a proof, a library below, each part of an edit, and the prover's logic."""
+        crate = tiny.make(self.root, [REFUSED])
         (self.root / "crates.txt").write_text("low:\ntiny: low\n", encoding="utf-8")
-        self.record()
-        self.assert_change_is_noticed(self.root / "crates" / "low" / "src" / "lib.rt", "//! More.\n")
-
-    def test_another_logic_is_noticed(self):
+        write_record(self.root, {"tiny": 1})
+        for name, old, new in CHANGES:
+            with self.subTest(f"{name}: {new}"):
+                path = self.root / name
+                kept = path.read_text(encoding="utf-8") if old else ""
+                path.parent.mkdir(parents=True, exist_ok=True)
+                self.assertEqual(recorded(self.root), {"tiny"})
+                path.write_text(kept.replace(old, new) if old else new, encoding="utf-8")
+                self.assertEqual(recorded(self.root), set())
+                path.write_text(kept, encoding="utf-8") if old else path.unlink()
         with mock.patch("record.logic", lambda: b"another"):
             self.assertEqual(recorded(self.root), set())
+        self.assertEqual(recorded(self.root), {crate.name})
 
     def test_one_in_ten_is_drawn_and_never_none(self):
+        tiny.make(self.root, [])
         crate = crates_of(self.root)["tiny"]
         self.assertEqual([len(drawn(crate, range(number))) for number in (1, 10, 11, 99)], [1, 1, 2, 10])
 
+    def run_tool(self, *words):
+        """What the tool prints, how many edits each round has, and its status."""
+        ran = subprocess.run([TOOLS / "checks" / "wrong_bodies", *words, "--root", self.root], capture_output=True,
+                             text=True, timeout=3600)
+        return ran.stdout.splitlines(), re.findall(r"round \d+: (\d+) edits", ran.stderr), ran.returncode
+
     @unittest.skipUnless(shutil.which("rt"), "rt is not there")
-    def test_a_run_that_refuses_all_writes_the_row(self):
-        (self.root / "tools" / "refused").unlink()
-        ran = subprocess.run([TOOL, "--record", "--root", self.root], capture_output=True, text=True, timeout=3600)
-        self.assertEqual((ran.stdout.splitlines()[-1], recorded(self.root)), ("1 passed, 0 failed", {"tiny"}))
-
-
-@unittest.skipUnless(shutil.which("rt"), "rt is not there")
-class Constants(unittest.TestCase):
-    def test_a_constant_is_refused_in_the_function_that_reads_it(self):
-        said, sums, status = try_edits(("constant", "seven", "value", "SEVEN: u32 = 7;", "SEVEN: u32 = 8;"))
-        self.assertEqual((said, sums, status), ({"constant": "REFUSED: tiny::seven: value"}, "1 passed, 0 failed", 0))
+    def test_the_tool_says_what_becomes_of_each_edit(self):
+        """A run that refuses all writes the row of their crate, and the next one tries one of them."""
+        for edits, sums, failed, is_recorded in ((EDITS, "2 passed, 3 failed", 1, False),
+                                                 ([REFUSED, CONSTANT], "2 passed, 0 failed", 0, True)):
+            shutil.rmtree(self.root / "crates", ignore_errors=True)
+            tiny.make(self.root, edits)
+            (*lines, tried, in_all, last), rounds, status = self.run_tool("--seen", "--record")
+            counts = [f"tried: {len(edits)} {kind}wrong bodies of tiny" for kind in ("", "tried or recorded ")]
+            self.assertEqual(([tried, in_all], last, status), (counts, sums, failed))
+            self.assertEqual((str(len(edits) - 1) in rounds, "tiny" in recorded(self.root)), (True, is_recorded))
+            said = dict(re.match(r"tiny/(\w+): (.*)", line).groups() for line in lines)
+            self.assertEqual([it for it in edits if not re.match(EDITS[it], said.get(it[0], ""))], [])
+        counts[0] = "tried: 1 wrong bodies of tiny"
+        self.assertEqual(self.run_tool(), ([*counts, "1 passed, 0 failed"], ["1"], 0))

@@ -1,0 +1,144 @@
+"""Tests that tools name a file that is missing or damaged, and fail, and skip by its name and kind what needs a program
+that is missing. Each ends with its sum."""
+import lzma
+import re
+import shutil
+import sys
+import unittest
+from pathlib import Path
+
+import tiny
+from repository import NOTHING_ELSE, ROOT, CopyTest, module_of, program, sum_of
+from tried import Tried, read_floors, shortfalls
+
+check = module_of("check")
+# Prints a script as its own replies.
+CAT = shutil.which("cat")
+CALLS_OF, NONE = "tests/calls/calls.txt.xz", "/nowhere/at/all is not there"
+LIBRARY, DEVICE = "prebuilt/aarch64-linux/libsuperio_c.a", "bindings/rust/src/core/serial.rs"
+SAVED, SOME = "docs/SAVED-STATES.md", "some"
+# A tool with its arguments, the parts of the repository that it has beside tools/ and the Python package, how a line of
+# it ends, and what it passes and fails.
+MISSING = [
+    ("checks/calls", [CAT], [], "calls/clocks.txt is not there", (0, SOME)),
+    ("checks/excerpts", [], [], "nothing was checked", (0, SOME)),
+    ("checks/failing_io", [CAT], [], "tests/whole_scripts.txt: No such file or directory", (0, SOME)),
+    ("replay", [CAT], [], "boot.recording: No such file or directory", (0, SOME)),
+    ("checks/scripts", [CAT], [], "tests/clock.txt is not there", (0, SOME)),
+    ("checks/transcripts", [CAT], [], "nothing was checked", (0, SOME)),
+    ("checks/excerpts", [], ["README.md", "docs", "examples/c", "bindings/rust/tests"], "No such file or directory",
+     (SOME, 1)),
+    *((f"checks/{name}", ["/nowhere/at/all"], [], NONE, (0, SOME)) for name in ("scripts", "hostile")),
+    ("checks/calls", ["/nowhere/at/all"], ["tests/calls"], NONE, (SOME, SOME)),
+    ("checks/saved_forms", [CAT, "--random", "0"], ["include", "prebuilt"], f"{SAVED}: No such file or directory",
+     (0, 1)),
+    ("checks/saved_forms", [CAT, "--random", "0"], ["include", SAVED], "returned non-zero exit status 1.", (0, 1)),
+]
+# The programs that a machine may lack: the kit, compilers and Cargo.
+LACKING = re.compile(r"(.*-)?(rt|cc|c89|c99|tcc|gcc|g\+\+|c\+\+|cpp|clang|clang\+\+|cargo|rustc)(-[\d.]+)?")
+# The checks that need compilers, each with what it names as missing; the same if Cargo is there, but no compiler that
+# it links by; and if it is too old.
+NO_CC, NO_CARGO, OLD = "cc is not there", "cargo is not there", "a Cargo that knows the edition"
+WITHOUT = {**dict.fromkeys(("rust", "random_calls", "counts"), NO_CARGO), **dict.fromkeys(("c", "calls", "kvm"), NO_CC)}
+# targets names a package of Debian first, if that is missing.
+WITH_CARGO = {**dict.fromkeys(("c", "rust", "random_calls", "counts", "calls"), NO_CC), "targets": " is not there"}
+WITH_OLD_CARGO = dict.fromkeys(("random_calls", "calls", "counts"), OLD)
+
+
+@unittest.skipUnless(CAT and shutil.which("cc"), "cat and cc are needed")
+class MissingFiles(CopyTest):
+    parts = "tools", "bindings/python/superio"
+
+    def judge_sums(self, tool, *arguments, says, sums, **options):
+        """A tool of the copy passes and fails so much, or some. One of its lines ends so."""
+        status, printed, _ = self.run_tool(f"tools/{tool}", *arguments, **options)
+        self.assertTrue(any(line.endswith(says) for line in printed.splitlines()), printed)
+        found = [SOME if wanted == SOME and number else number for number, wanted in zip(sum_of(printed), sums)]
+        self.assertEqual((status, *found), (bool(sums[1]), *sums), printed)
+
+    def test_files_that_are_not_there(self):
+        for number, (tool, arguments, parts, says, sums) in enumerate(MISSING):
+            with self.subTest(tool, parts=parts):
+                self.root = self.folder / str(number)
+                self.take(*self.parts, *parts)
+                self.judge_sums(tool, *arguments, says=says, sums=sums)
+
+    def test_a_lost_or_new_file_of_scripts(self):
+        self.take("tests")
+        names = [path.name for path in (self.root / "tests").glob("*.txt")]
+        for name in names:
+            self.write(f"tests/{name}", "kr 04  kr 04\n")
+        self.judge_sums("checks/scripts", CAT, says="tried: 1 scripts of clock.txt", sums=(len(names), 0))
+        (self.root / "tests" / "clock.txt").rename(self.root / "tests" / "other.txt")
+        for says in ("tests/clock.txt is not there", "tests/other.txt is not in the tool's list"):
+            self.judge_sums("checks/scripts", CAT, says=says, sums=(len(names), 2))
+
+    def test_a_library_and_a_source_that_are_lost(self):
+        self.take("CHANGELOG.md", "VERSION", "LICENSE", "LICENSES", "README.md", "bindings/rust", "examples/c",
+                  "include", "prebuilt", "crates/superio_c/src", "crates/superio_core/src")
+        # Cargo is there, and fails.
+        program(self.root / "cargo", '[ "$*" = --version ]')
+        for lost in (LIBRARY, DEVICE):
+            (self.root / lost).unlink()
+        path = {"PATH": f"{self.root}:{Path(sys.executable).parent}"}
+        self.judge_sums("c/check", says=f"{LIBRARY}'", sums=(SOME, SOME), env=path)
+        self.judge_sums("rust/check", says=f"{DEVICE} is not there", sums=(SOME, SOME), env=path)
+
+    def test_wrong_bodies_without_the_prover(self):
+        tiny.make(self.root, [("one", "same", "ensures", "    number", "    0")])
+        self.judge_sums("checks/wrong_bodies", "--root", self.root, says="No such file or directory: 'rt'", sums=(0, 1),
+                        env=NOTHING_ELSE)
+
+    def test_a_damaged_recording_and_a_document_without_an_example(self):
+        self.take("tests", "include", "prebuilt")
+        self.write(CALLS_OF, (self.root / CALLS_OF).read_bytes()[:-1000])
+        says = "end-of-stream marker was reached"
+        self.judge_sums("checks/calls", CAT, says=says, sums=(SOME, SOME), env=NOTHING_ELSE)
+        self.write(SAVED, "Without an example.\n")
+        says = "one good example of each device is wanted, and these are there: {}"
+        self.judge_sums("checks/saved_forms", CAT, "--random", "0", says=says, sums=(0, 1))
+
+
+class MissingPrograms(CopyTest):
+    def setUp(self):
+        super().setUp()
+        self.bin = self.folder / "bin"
+        self.bin.mkdir()
+        for folder in ("/usr/bin", "/bin", str(Path(sys.executable).parent)):
+            for path in Path(folder).iterdir():
+                if not LACKING.fullmatch(path.name) and not (self.bin / path.name).exists() and path.exists():
+                    (self.bin / path.name).symlink_to(path)
+        # A recording of a hundred calls in place of one of 200,000.
+        self.floors = read_floors()
+        self.floors["calls"]["calls of calls.txt.xz"] = self.floors["calls"]["calls of line.txt"]
+        self.floors["calls"]["different calls of a file"] = 1
+        self.write(CALLS_OF, lzma.compress((ROOT / "tests" / "calls" / "line.txt").read_bytes()))
+
+    def check_each(self, wanted):
+        """Each check skips what is missing. A kind that is neither tried nor named as not tried is below its floor."""
+        commands = {it.name: it.command for it in check.CHECKS if not it.needs_kit}
+        for name, says in wanted.items():
+            with self.subTest(name):
+                environment = {"HOME": str(self.folder), "PATH": str(self.bin)}
+                status, printed, _ = self.run_tool(commands[name], env=environment)
+                self.assertIn(says, printed)
+                self.assertEqual(shortfalls(self.floors[name], Tried.read(printed.splitlines()), 1), [])
+                self.assertRegex(printed.splitlines()[-1], r"^\d+ passed, 0 failed, [1-9]\d* skipped$", printed)
+                self.assertEqual(0, status)
+
+    def test_without_a_compiler_and_without_cargo(self):
+        self.check_each(WITHOUT)
+
+    @unittest.skipUnless(shutil.which("cargo", path="/usr/bin"), "no Cargo is in /usr/bin")
+    def test_cargo_without_a_linker(self):
+        for name in ("cargo", "rustc"):
+            (self.bin / name).symlink_to(Path("/usr/bin", name))
+        self.check_each(WITH_CARGO)
+
+    @unittest.skipUnless(shutil.which("cc", path="/usr/bin"), "no C compiler is in /usr/bin")
+    def test_a_cargo_that_is_too_old(self):
+        program(self.bin / "cargo", "echo 'this version of Cargo is older than the `2024` edition' >&2\nexit 101")
+        (self.bin / "cc").symlink_to("/usr/bin/cc")
+        if not (self.bin / "valgrind").exists():
+            (self.bin / "valgrind").symlink_to("true")
+        self.check_each(WITH_OLD_CARGO)
