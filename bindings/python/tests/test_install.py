@@ -38,24 +38,28 @@ BUILD = "import build_wheel, sys; print(getattr(build_wheel, sys.argv[1])(sys.ar
 
 class Sources(unittest.TestCase):
     def nodes(self, *kinds):
-        return [(f"{path.name}:{node.lineno}", node) for path, tree in TREES.items() for node in ast.walk(tree)
-                if isinstance(node, kinds)]
+        """The nodes of these kinds, each with its place. How many they are changes with the sources, so that a test
+        compares the places of those that are wrong, by one assertion."""
+        found = [(f"{path.name}:{node.lineno}", node) for path, tree in TREES.items() for node in ast.walk(tree)
+                 if isinstance(node, kinds)]
+        self.assertGreater(len(found), len(TREES))
+        return found
 
     def test_names_of_python_3_8(self):
         """Nothing that came later, and no annotation that Python 3.8 cannot evaluate. The syntax is that of TREES."""
-        given = []
-        for tree in TREES.values():
-            for node in ast.walk(tree):
-                name = getattr(node, "attr", getattr(node, "id", node.name if isinstance(node, ast.alias) else None))
-                self.assertNotIn(name, NEWER)
-        for place, call in self.nodes(ast.Call):
-            self.assertFalse({argument.arg for argument in call.keywords} & NEWER_ARGUMENTS, place)
-        for place, node in self.nodes(ast.arg, ast.AnnAssign, ast.FunctionDef):
-            given.append((place, node.returns if isinstance(node, ast.FunctionDef) else node.annotation))
-        for place, part in [(place, part) for place, it in given if it for part in ast.walk(it)]:
-            self.assertNotIsInstance(part, ast.BinOp, place)
-            if isinstance(part, ast.Subscript) and isinstance(part.value, ast.Name):
-                self.assertFalse(hasattr(builtins, part.value.id), place)
+        names = [(place, getattr(node, "attr", getattr(node, "id", "")))
+                 for place, node in self.nodes(ast.Attribute, ast.Name)]
+        names += [(place, it.name) for place, node in self.nodes(ast.Import, ast.ImportFrom) for it in node.names]
+        self.assertEqual([], [it for it in names if it[1] in NEWER])
+        given = [(place, {argument.arg for argument in call.keywords}) for place, call in self.nodes(ast.Call)]
+        self.assertEqual([], [place for place, arguments in given if arguments & NEWER_ARGUMENTS])
+        annotations = [(place, node.returns if isinstance(node, ast.FunctionDef) else node.annotation)
+                       for place, node in self.nodes(ast.arg, ast.AnnAssign, ast.FunctionDef)]
+        parts = [(place, part) for place, it in annotations if it for part in ast.walk(it)]
+        subscripts = [(place, part.value.id) for place, part in parts
+                      if isinstance(part, ast.Subscript) and isinstance(part.value, ast.Name)]
+        self.assertEqual([], [place for place, part in parts if isinstance(part, ast.BinOp)])
+        self.assertEqual([], [place for place, name in subscripts if hasattr(builtins, name)])
 
     def test_public_names_are_all_that_the_package_imports(self):
         body = TREES[PACKAGE / "superio" / "__init__.py"].body
@@ -64,18 +68,16 @@ class Sources(unittest.TestCase):
 
     @unittest.skipUnless(hasattr(sys, "stdlib_module_names"), "this Python does not list its library")
     def test_standard_library_alone(self):
-        for place, node in self.nodes(ast.Import, ast.ImportFrom):
-            names = [alias.name for alias in node.names] if isinstance(node, ast.Import) else \
-                [node.module] * (not node.level)
-            if not place.startswith("superio:"):
-                self.assertLessEqual({name.split(".")[0] for name in names}, sys.stdlib_module_names, place)
+        names = [(place, name) for place, node in self.nodes(ast.Import, ast.ImportFrom) for name in (
+            [alias.name for alias in node.names] if isinstance(node, ast.Import) else [node.module] * (not node.level))]
+        self.assertEqual([], [it for it in names if not it[0].startswith("superio:")
+                              and it[1].split(".")[0] not in sys.stdlib_module_names])
 
     def test_functions_are_typed_and_short_and_modules_documented(self):
-        for place, node in self.nodes(ast.FunctionDef):
-            self.assertIsNotNone(node.returns, f"{place} has no type")
-            self.assertLessEqual(node.end_lineno - node.lineno, 40, f"{place} is long")
-        for path, tree in TREES.items():
-            self.assertTrue(ast.get_docstring(tree), path)
+        functions = self.nodes(ast.FunctionDef)
+        self.assertEqual([], [place for place, node in functions if node.returns is None])
+        self.assertEqual([], [place for place, node in functions if node.end_lineno - node.lineno > 40])
+        self.assertEqual([], [path for path, tree in TREES.items() if not ast.get_docstring(tree)])
 
 
 @unittest.skipUnless(LIBRARY, "no library is there")
@@ -106,10 +108,10 @@ class Wheel(FolderTest):
             files = {name: wheel.read(name) for name in wheel.namelist()}
         info = re.sub(r"-py3-.*", ".dist-info", name)
         rows = dict(line.split(",", 1) for line in files[f"{info}/RECORD"].decode().splitlines())
-        for name, data in files.items():
-            digest = base64.urlsafe_b64encode(hashlib.sha256(data).digest()).decode().rstrip("=")
-            self.assertEqual("," if name.endswith("/RECORD") else f"sha256={digest},{len(data)}", rows.pop(name), name)
-        self.assertEqual({}, rows)
+        digests = {name: base64.urlsafe_b64encode(hashlib.sha256(data).digest()).decode().rstrip("=")
+                   for name, data in files.items()}
+        self.assertEqual({name: "," if name.endswith("/RECORD") else f"sha256={digest},{len(files[name])}"
+                          for name, digest in digests.items()}, rows)
         licenses = ("LICENSE", "LICENSES/Apache-2.0.txt", "LICENSES/BSD-3-Clause.txt")
         package = (*(path.name for path in SOURCES), "py.typed", library.FILE_NAME)
         self.assertEqual({*(f"superio/{name}" for name in package),
