@@ -60,10 +60,10 @@ def silently(function, *arguments):
 
 
 def tally_of(check, *arguments):
-    """What a check counts of these, as if each tool that it asks for were there."""
+    """What a check counts, returns and prints of these, as if each tool that it asks for were there."""
     tally = Tally()
     with mock.patch.object(tally, "has", return_value=True):
-        silently(check, tally, *arguments)
+        tally.result, tally.printed = silently(check, tally, *arguments)
     return tally
 
 
@@ -115,13 +115,20 @@ def whole_copy():
     return Path(COPIES.name).resolve() / "whole"
 
 
-class CopyTest(unittest.TestCase):
-    """Tests of tools in a copy of the repository, or if `parts` names any, of these folders and files alone."""
-    parts = ()
+class FolderTest(unittest.TestCase):
+    """Tests with a folder, which goes when they end."""
 
     def setUp(self):
         self.folder = Path(tempfile.mkdtemp(dir=COPIES.name)).resolve()
         self.addCleanup(shutil.rmtree, self.folder)
+
+
+class CopyTest(FolderTest):
+    """Tests of tools in a copy of the repository, or if `parts` names any, of these folders and files alone."""
+    parts = ()
+
+    def setUp(self):
+        super().setUp()
         self.root = self.folder / "copy" if self.parts else whole_copy()
         self.take(*self.parts)
 

@@ -4,7 +4,6 @@ import os
 import shutil
 import subprocess
 import sys
-import tempfile
 import unittest
 from itertools import product
 from pathlib import Path
@@ -13,7 +12,7 @@ from unittest import mock
 import program
 import status
 import tried
-from repository import TOOLS, module_of, silently
+from repository import TOOLS, FolderTest, module_of, silently
 from repository import program as script_at
 from tried import Tried, raised, read_floors, shortfalls, write_floors
 
@@ -69,27 +68,17 @@ TESTS = [
                             for body in ("self.fail()", "pass"))))]
 
 
-class Log(io.StringIO):
-    def isatty(self):
-        return False
-
-
 class Terminal(io.StringIO):
     def isatty(self):
         return True
 
 
-class Running(unittest.TestCase):
-    def setUp(self):
-        folder = tempfile.TemporaryDirectory()
-        self.addCleanup(folder.cleanup)
-        self.folder = Path(folder.name)
-
+class Running(FolderTest):
     def run_check(self, text, floors, is_writing=False, needs_kit=True):
         """Runs a check that is a shell script. Returns its result, and what is printed."""
         command = text if text.startswith("/") else f"sh {script_at(self.folder / 'script', text)}"
         it = check.Check("it", "it works", command, needs_kit=needs_kit)
-        with mock.patch.object(check, "KEPT", self.folder), status.Status("test", Log()) as line:
+        with mock.patch.object(check, "KEPT", self.folder), status.Status("test", io.StringIO()) as line:
             return silently(check.run, it, line, {} if floors is None else {"it": floors}, is_writing)
 
     def test_what_each_check_passes_fails_and_skips(self):
@@ -117,7 +106,7 @@ class Running(unittest.TestCase):
         checks = [check.Check(str(number), "it works", f"sh {script_at(self.folder / str(number), text)}", number == 1)
                   for number, text in enumerate(scripts)]
         with mock.patch.multiple(check, CHECKS=checks, KEPT=self.folder / "kept", read_floors=lambda: floors), \
-                mock.patch("sys.argv", ["tools/check"]), mock.patch("sys.stderr", Log()):
+                mock.patch("sys.argv", ["tools/check"]), mock.patch("sys.stderr", io.StringIO()):
             ended, printed = silently(check.main)
         return ended, printed.splitlines()[-1]
 
@@ -157,7 +146,7 @@ def lines_of(rows):
     return Tried.read(Tried(rows).lines())
 
 
-class Tables(unittest.TestCase):
+class Tables(FolderTest):
     def test_each_tool_is_a_check_or_is_run_by_hand(self):
         files = [path for path in TOOLS.rglob("*") if path.is_file() and not path.suffix and os.access(path, os.X_OK)]
         commands = {str(path.relative_to(TOOLS.parent)) for path in files}
@@ -195,10 +184,9 @@ class Tables(unittest.TestCase):
         self.assertEqual(wrong, [])
 
     def test_the_table_is_written_as_it_is_read(self):
-        with tempfile.TemporaryDirectory() as folder:
-            path = Path(shutil.copy(tried.FLOORS, folder))
-            write_floors(FLOORS, path)
-            self.assertEqual(path.read_bytes(), tried.FLOORS.read_bytes())
+        path = Path(shutil.copy(tried.FLOORS, self.folder))
+        write_floors(FLOORS, path)
+        self.assertEqual(path.read_bytes(), tried.FLOORS.read_bytes())
 
 
 class Counting(unittest.TestCase):
@@ -233,7 +221,7 @@ class Counting(unittest.TestCase):
 
 class StatusLines(unittest.TestCase):
     def test_a_log_has_a_line_now_and_then(self):
-        log = Log()
+        log = io.StringIO()
         with mock.patch.dict("os.environ", {"STATUS_SECONDS": "0.01"}), status.Status("tools/it", log) as line:
             with line.task("a crate") as task:
                 status.progress(task, "so far: 30 of 165 functions checked")

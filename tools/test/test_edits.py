@@ -5,6 +5,7 @@ import unittest
 import tiny
 from contracts import functions_of
 from edits import function_at, has_path, read_edits, rounds_of, texts_of
+from repository import FolderTest
 from verdicts import judge, read_said
 
 NOTHING = ("smaller", "left", "first < second { first }", "first < second { 0 }")
@@ -53,11 +54,10 @@ JUDGED = [
 ]
 
 
-class Edits(unittest.TestCase):
+class Edits(FolderTest):
     def read(self, *edits):
-        folder = tempfile.TemporaryDirectory()
-        self.addCleanup(folder.cleanup)
-        crate = tiny.make(folder.name, [(f"edit{number}", *edit) for number, edit in enumerate(edits)])
+        named = [(f"edit{number}", *edit) for number, edit in enumerate(edits)]
+        crate = tiny.make(tempfile.mkdtemp(dir=self.folder), named)
         return crate, read_edits(crate)
 
     def test_an_edit_has_the_place_that_its_text_names(self):

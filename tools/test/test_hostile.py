@@ -1,17 +1,15 @@
 """Tests that `tools/checks/hostile` finds a program that does something else than the search of the past, and that its
 cases reach wrong bodies: each is planted in the search, and then enough random scripts or runs reply otherwise."""
 import sys
-import tempfile
 import unittest
 from collections import Counter
 from itertools import islice
-from pathlib import Path
 from types import ModuleType
 
 import cases
 from expected import Monitor, script_replies
 from oracle import FRESH
-from repository import OF_CALLS, OF_SCRIPTS, ROOT, TOOLS, module_of, program
+from repository import OF_CALLS, OF_SCRIPTS, ROOT, TOOLS, FolderTest, module_of, program
 from saved_bytes import CLOCK, CLOCK_CONTENTS, SERIAL, form
 
 hostile = module_of("checks/hostile")
@@ -119,12 +117,12 @@ def does(recording, monitor):
     return all(monitor.reply(call) == reply for call, _, reply in calls)
 
 
-class Programs(unittest.TestCase):
+class Programs(FolderTest):
     def test_a_program_that_differs_or_ends_early_is_found(self):
         for judge, text, tried, change, found in CHANGES:
             reached = Counter()
-            with self.subTest(change), tempfile.TemporaryDirectory() as folder:
-                path = program(Path(folder, "program"), text.replace("print(reply)", f"print(reply{change})"))
+            with self.subTest(change):
+                path = program(self.folder / "program", text.replace("print(reply)", f"print(reply{change})"))
                 messages = list(judge(str(path), tried, reached))
                 lost = [says for said, says in zip(messages, found) if not all(it in said for it in says)]
                 self.assertEqual((lost, len(messages)), ([], len(found)))

@@ -1,10 +1,7 @@
 """Tests that `tools/checks/models` finds hidden state and hidden calls, on however many lines they are written."""
-import tempfile
-import unittest
 from itertools import product
-from pathlib import Path
 
-from repository import module_of
+from repository import FolderTest, module_of
 
 models = module_of("checks/models")
 
@@ -127,18 +124,13 @@ def on_lines(text, lines):
             yield "\n    ".join(map(" ".join, (words[:first], words[first:second], words[second:])))
 
 
-class Models(unittest.TestCase):
-    def setUp(self):
-        folder = tempfile.TemporaryDirectory()
-        self.addCleanup(folder.cleanup)
-        self.root = Path(folder.name)
-
+class Models(FolderTest):
     def faults(self, text, name="src/lib.rt", crate="tiny", libraries="hex"):
-        path = self.root / "crates" / crate / name
+        path = self.folder / "crates" / crate / name
         path.parent.mkdir(parents=True, exist_ok=True)
         path.write_text(text + "\n", encoding="utf-8")
-        (self.root / "crates.txt").write_text(f"low:\n{crate} staticlib: low {libraries}\n", encoding="utf-8")
-        faults = [fault for _, fault in models.results(self.root) if fault]
+        (self.folder / "crates.txt").write_text(f"low:\n{crate} staticlib: low {libraries}\n", encoding="utf-8")
+        faults = [fault for _, fault in models.results(self.folder) if fault]
         path.unlink()
         return faults
 
@@ -166,8 +158,8 @@ class Models(unittest.TestCase):
         self.assertTrue(self.faults("use boxcar::Vec as Log;", libraries="hex boxcar # a log"))
 
     def test_a_source_is_no_link(self):
-        (self.root / "crates" / "tiny" / "src").mkdir(parents=True)
-        (self.root / "crates" / "tiny" / "src" / "held").symlink_to(self.root)
+        (self.folder / "crates" / "tiny" / "src").mkdir(parents=True)
+        (self.folder / "crates" / "tiny" / "src" / "held").symlink_to(self.folder)
         self.assertEqual(self.faults("mod held;"), ["crates/tiny/src/held is a link"])
 
     def test_test_objects_may_have_cells_and_no_drop(self):

@@ -9,30 +9,27 @@ from unittest import mock
 import cargo
 from libraries import host_target
 from planted import Bug, read_bugs
-from repository import ended, module_of, silently
-from tally import Tally
+from repository import FolderTest, ended, module_of, tally_of
 from toolchains import is_too_old
 
 counts, random_calls, targets = map(module_of, ("bench/counts", "rust/random_calls", "rust/targets"))
 SERIAL = "src/serial.rs"
 
 
-class Counts(unittest.TestCase):
+class Counts(FolderTest):
     def compare(self, found, own=None):
         """How many of these counts are over their limits, and the rows of the table."""
-        tally = Tally()
         with mock.patch.object(counts, "counts", return_value=found), mock.patch.object(counts, "build_in_rust"), \
                 mock.patch.object(counts, "own_counts", return_value=own or [None] * len(found)):
-            rows = silently(counts.compare, tally, Path(), Path())[0]
-        return tally.failed, rows
+            tally = tally_of(counts.compare, Path(), Path())
+        return tally.failed, tally.result
 
     def compare_document(self, rows, document, version="1.2.3"):
         """What passes, fails and is skipped of a document that has this text."""
-        with tempfile.TemporaryDirectory() as folder, mock.patch.object(counts, "DOCUMENT", Path(folder, "TEXT.md")), \
+        (self.folder / "TEXT.md").write_text(document, encoding="utf-8")
+        with mock.patch.object(counts, "DOCUMENT", self.folder / "TEXT.md"), \
                 mock.patch.object(counts.subprocess, "run", return_value=ended(0, f"rustc {version} (0123abcd)")):
-            counts.DOCUMENT.write_text(document, encoding="utf-8")
-            tally = Tally()
-            silently(counts.compare_document, tally, rows)
+            tally = tally_of(counts.compare_document, rows)
         return tally.passed, tally.failed, tally.skipped
 
     def test_each_row_has_a_limit_of_its_own_but_one(self):
@@ -70,25 +67,23 @@ class Counts(unittest.TestCase):
         self.assertEqual(many.accesses, 9 * (b"e\x00\x40" + 64 * b"r\x00\x00"))
 
 
-class Targets(unittest.TestCase):
+class Targets(FolderTest):
     def test_the_tests_of_all_programs_are_tried_and_none_is_a_failure(self):
         """A run that fails passed no test."""
         good = "test result: ok. 12 passed; 0 failed\ntest result: ok. 8 passed; 0 failed\n"
         for status, printed, wanted in ((0, good, (1, 0, 20)), (0, "", (0, 1, 0)), (101, good, (0, 1, 0))):
-            tally = Tally()
-            silently(targets.count_tests, tally, "the tests", ended(status, printed))
+            tally = tally_of(targets.count_tests, "the tests", ended(status, printed))
             self.assertEqual((tally.passed, tally.failed, sum(tally.tried.counts.values())), wanted)
 
     @unittest.skipUnless(shutil.which("cargo"), "needs cargo")
     def test_each_target_is_built_or_named(self):
-        tally = Tally()
         built = [next(targets.toolchains())] + [None] * (len(targets.BUILT) - 1)
         ran = mock.Mock(**{"run.return_value": ended(101, "use of undeclared crate `std`")})
-        with tempfile.TemporaryDirectory() as folder, mock.patch.object(targets, "toolchain_for", side_effect=built), \
+        with mock.patch.object(targets, "toolchain_for", side_effect=built), \
                 mock.patch.object(targets, "Cargo", return_value=ran):
-            printed = silently(targets.check_builds, tally, Path(folder))[1]
+            tally = tally_of(targets.check_builds, self.folder)
         self.assertEqual((tally.passed, tally.failed, tally.skipped), (0, 1, len(targets.BUILT) - 1))
-        self.assertEqual([target for target in targets.BUILT if target not in printed], [])
+        self.assertEqual([target for target in targets.BUILT if target not in tally.printed], [])
 
 
 @unittest.skipIf(host_target() is None, "needs a library for this processor")
@@ -107,10 +102,8 @@ class RandomCalls(unittest.TestCase):
         for old, new, wanted, says in ((
                 "self.events.out_byte()", "{ self.events.out_byte() }", (2, 1), "planted is not refused"),
                 ("no such text", "x", (0, 1), "")):
-            tally = Tally()
-            bug = Bug("planted", SERIAL, old, new)
-            printed = silently(random_calls.check_wrong_shell, tally, self.comparison, bug)[1]
-            self.assertEqual((tally.passed, tally.failed, says in printed), (*wanted, True))
+            tally = tally_of(random_calls.check_wrong_shell, self.comparison, Bug("planted", SERIAL, old, new))
+            self.assertEqual((tally.passed, tally.failed, says in tally.printed), (*wanted, True))
 
     def test_a_case_that_no_call_reaches_fails(self):
         """The calls make no timeout any more."""
@@ -120,14 +113,12 @@ class RandomCalls(unittest.TestCase):
         self.assertEqual(text.count('"si"'), 1)
         source.write_text(text.replace('"si"', '"sf"'), encoding="utf-8")
         self.comparison.take(cargo.BINDINGS)
-        tally = Tally()
-        printed = silently(random_calls.check_calls, tally, self.comparison, 400_000, 1)[1]
+        tally = tally_of(random_calls.check_calls, self.comparison, 400_000, 1)
         self.assertEqual((tally.passed, tally.failed > 0), (1, True))
-        self.assertIn("2 cases too seldom", printed)
+        self.assertIn("2 cases too seldom", tally.printed)
 
     def test_each_edit_is_tried_as_one_of_its_kind(self):
-        tally = Tally()
         with mock.patch.object(random_calls, "check_wrong_shell") as tries:
-            silently(random_calls.check_wrong_shells, tally, self.comparison)
+            tally = tally_of(random_calls.check_wrong_shells, self.comparison)
         self.assertEqual((tries.call_count, tally.kind),
                          (len(list(read_bugs(random_calls.WRONG))), random_calls.WRONG_SHELLS))

@@ -2,14 +2,12 @@
 import re
 import shutil
 import subprocess
-import tempfile
 import unittest
-from pathlib import Path
 from unittest import mock
 
 import tiny
 from record import drawn, recorded, write_record
-from repository import TOOLS
+from repository import TOOLS, FolderTest
 from rooms import crates_of
 
 REFUSED = ("refused", "larger", "right", "{ second } else", "{ first } else")
@@ -33,41 +31,39 @@ CHANGES = [
         ("right", "left"), ("{ first } else", "{ 1 } else"), ("larger", "smaller")))]
 
 
-class Recorded(unittest.TestCase):
+class Recorded(FolderTest):
     """A crate has its row of the record as long as nothing changed that decides it."""
 
     def setUp(self):
-        room = tempfile.TemporaryDirectory()
-        self.addCleanup(room.cleanup)
-        self.root = Path(room.name)
-        (self.root / "tools").mkdir()
+        super().setUp()
+        (self.folder / "tools").mkdir()
 
     def test_each_change_is_noticed(self):
         """Of a source, a definition, a proof, a library below, each part of an edit, and the prover's logic."""
-        crate = tiny.make(self.root, [REFUSED])
-        (self.root / "crates.txt").write_text("low:\ntiny: low\n", encoding="utf-8")
-        write_record(self.root, {"tiny": 1})
+        crate = tiny.make(self.folder, [REFUSED])
+        (self.folder / "crates.txt").write_text("low:\ntiny: low\n", encoding="utf-8")
+        write_record(self.folder, {"tiny": 1})
         for name, old, new in CHANGES:
             with self.subTest(f"{name}: {new}"):
-                path = self.root / name
+                path = self.folder / name
                 kept = path.read_text(encoding="utf-8") if old else ""
                 path.parent.mkdir(parents=True, exist_ok=True)
-                self.assertEqual(recorded(self.root), {"tiny"})
+                self.assertEqual(recorded(self.folder), {"tiny"})
                 path.write_text(kept.replace(old, new) if old else new, encoding="utf-8")
-                self.assertEqual(recorded(self.root), set())
+                self.assertEqual(recorded(self.folder), set())
                 path.write_text(kept, encoding="utf-8") if old else path.unlink()
         with mock.patch("record.logic", lambda: b"another"):
-            self.assertEqual(recorded(self.root), set())
-        self.assertEqual(recorded(self.root), {crate.name})
+            self.assertEqual(recorded(self.folder), set())
+        self.assertEqual(recorded(self.folder), {crate.name})
 
     def test_one_in_ten_is_drawn_and_never_none(self):
-        tiny.make(self.root, [])
-        crate = crates_of(self.root)["tiny"]
+        tiny.make(self.folder, [])
+        crate = crates_of(self.folder)["tiny"]
         self.assertEqual([len(drawn(crate, range(number))) for number in (1, 10, 11, 99)], [1, 1, 2, 10])
 
     def run_tool(self, *words):
         """What the tool prints, how many edits each round has, and its status."""
-        ran = subprocess.run([TOOLS / "checks" / "wrong_bodies", *words, "--root", self.root], capture_output=True,
+        ran = subprocess.run([TOOLS / "checks" / "wrong_bodies", *words, "--root", self.folder], capture_output=True,
                              text=True, timeout=3600)
         return ran.stdout.splitlines(), re.findall(r"round \d+: (\d+) edits", ran.stderr), ran.returncode
 
@@ -76,12 +72,12 @@ class Recorded(unittest.TestCase):
         """A run that refuses all writes the row of their crate, and the next one tries one of them."""
         for edits, sums, failed, is_recorded in ((EDITS, "2 passed, 3 failed", 1, False),
                                                  ([REFUSED, CONSTANT], "2 passed, 0 failed", 0, True)):
-            shutil.rmtree(self.root / "crates", ignore_errors=True)
-            tiny.make(self.root, edits)
+            shutil.rmtree(self.folder / "crates", ignore_errors=True)
+            tiny.make(self.folder, edits)
             (*lines, tried, in_all, last), rounds, status = self.run_tool("--seen", "--record")
             counts = [f"tried: {len(edits)} {kind}wrong bodies of tiny" for kind in ("", "tried or recorded ")]
             self.assertEqual(([tried, in_all], last, status), (counts, sums, failed))
-            self.assertEqual((str(len(edits) - 1) in rounds, "tiny" in recorded(self.root)), (True, is_recorded))
+            self.assertEqual((str(len(edits) - 1) in rounds, "tiny" in recorded(self.folder)), (True, is_recorded))
             said = dict(re.match(r"tiny/(\w+): (.*)", line).groups() for line in lines)
             self.assertEqual([it for it in edits if not re.match(EDITS[it], said.get(it[0], ""))], [])
         counts[0] = "tried: 1 wrong bodies of tiny"

@@ -1,12 +1,10 @@
 """Tests that each check notices a wrong result: what it compares is right, and then right but for one part."""
-import contextlib
 import lzma
 import os
 import random
 import shutil
 import subprocess
 import sys
-import tempfile
 import unittest
 from dataclasses import replace
 from itertools import chain, islice, repeat
@@ -22,9 +20,9 @@ import tiny
 import twin
 from failing import Call, Ran
 from machines import machines
-from repository import (NOTHING_ELSE, OF_CALLS, ROOT, CopyTest, ended, module_of, program, silently, sum_of,
-                        tally_of)
-from tally import Tally, run
+from repository import (NOTHING_ELSE, OF_CALLS, ROOT, CopyTest, FolderTest, ended, module_of, program, silently,
+                        sum_of, tally_of)
+from tally import run
 from toolchains import Toolchain
 
 failing_io, first_crate, hostile, refused_memory, saved_forms = (
@@ -124,12 +122,12 @@ class Programs(CopyTest):
             self.assertEqual((ran.returncode, said in ran.stdout), (status, True))
 
 
-def is_whole(results):
-    """Whether nothing is wrong by the messages of a check."""
-    return all(message is None for _, message in results)
+def faults_in(results):
+    """How many messages are among what a check yields."""
+    return sum(message is not None for _, message in results)
 
 
-class Runs(unittest.TestCase):
+class Runs(FolderTest):
     """What a check says of a run that went as it should, and of others."""
 
     def test_failing_io(self):
@@ -155,7 +153,7 @@ class Runs(unittest.TestCase):
                 reads = [Call("read", 1, 1)] * (number > 2 and "calls" not in more)
                 right = Ran(status, outputs[number - 1], errors, [Call("allocate", 1, -1), *reads])
             return replace(right, **{field: getattr(right, field) + some for field, some in more.items()})
-        return sum(message is not None for _, message in refused_memory.program_results(mock.Mock(run=run)))
+        return faults_in(refused_memory.program_results(mock.Mock(run=run)))
 
     def test_refused_memory(self):
         counts = [len(outputs) for _, outputs in refused_memory.SCRIPTS]
@@ -174,8 +172,7 @@ class Runs(unittest.TestCase):
             ran = Ran(status, "".join(f"{line}\n" for line, _ in lines).encode(), b"", calls)
             failing = mock.Mock(run_all=lambda cases: [ran for _ in {line for line, _ in cases}])
             with mock.patch.object(refused_memory, "functions_that_take_memory", lambda: functions):
-                results, _ = silently(refused_memory.any_state_results, failing)
-            return sum(message is not None for _, message in results)
+                return faults_in(silently(refused_memory.any_state_results, failing)[0])
         runs = refused_memory.UNREFUSED + refused_memory.MOST_OF_A_CALL
         turned = [(line, -given if ":" in line else given) for line, given in lines]
         self.assertEqual([different(lines), different(turned), different(lines, status=1),
@@ -204,20 +201,18 @@ class Runs(unittest.TestCase):
 
     def test_first_crate(self):
         def proves(printed, status=0):
-            with tempfile.TemporaryDirectory() as name, \
-                    mock.patch("subprocess.run", return_value=ended(status, printed)):
-                return first_crate.unproved(Path(name)) is None
+            with mock.patch("subprocess.run", return_value=ended(status, printed)):
+                return first_crate.unproved(self.folder) is None
         whole = "\n".join(first_crate.PROVED)
         self.assertEqual([proves(whole), proves(whole, 1)], [True, False])
         self.assertFalse(any(proves(whole.replace(text, "")) for text in first_crate.PROVED))
         with mock.patch.multiple(first_crate, unproved=str, links_out=str, steps=str):
             self.assertTrue(all(message for _, message in silently(first_crate.check)[0]))
-        with tempfile.TemporaryDirectory() as name:
-            library = Path(name).resolve() / "library"
-            library.mkdir()
-            for link, is_good in (("README.md", True), ("lost.md", False), ("../..", False)):
-                (library / "README.md").write_text(f"[a link]({link})\n", encoding="ascii")
-                self.assertEqual(first_crate.links_out(library) is None, is_good)
+        library = self.folder / "library"
+        library.mkdir()
+        for link, is_good in (("README.md", True), ("lost.md", False), ("../..", False)):
+            (library / "README.md").write_text(f"[a link]({link})\n", encoding="ascii")
+            self.assertEqual(first_crate.links_out(library) is None, is_good)
 
     def test_a_tally(self):
         for command, expected, is_good in ((["echo", "a"], "a\n", True), (["echo", "a"], "b\n", False),
@@ -283,10 +278,9 @@ class Runs(unittest.TestCase):
                                       (good.replace("sw", "kw"), b"ok\nc1\n0\n", 1),
                                       (good.replace("si", "ss"), b"ok\nc1\n0\n", 1)):
             got = replies and (0, replies, b"")
-            with tempfile.TemporaryDirectory() as name, mock.patch.object(kvm_check, "run_all", lambda *_: [got]):
-                trace = Path(name, "trace")
-                trace.write_text(text, encoding="ascii")
-                tally = tally_of(kvm_check.judge_traces, "it", [trace], ["sw 01"], "program")
+            (self.folder / "trace").write_text(text, encoding="ascii")
+            with mock.patch.object(kvm_check, "run_all", lambda *_: [got]):
+                tally = tally_of(kvm_check.judge_traces, "it", [self.folder / "trace"], ["sw 01"], "program")
             self.assertEqual((tally.passed, tally.failed), (3 - failed, failed), text)
 
     def test_a_wrong_monitor_that_is_not_noticed(self):
@@ -296,9 +290,10 @@ class Runs(unittest.TestCase):
                 if ("right" if monitor.name == "right" else "wrong") in noticed:
                     raise kvm_check.Wrong("it")
             wrong = [(file, old, new, body) for file, old, new, _ in kvm_check.WRONG]
-            with tempfile.TemporaryDirectory() as name, mock.patch("subprocess.run", return_value=ended(0)), \
+            place = self.folder / "".join(sorted(noticed))
+            with mock.patch("subprocess.run", return_value=ended(0)), \
                     mock.patch.multiple(kvm_check, WRONG=wrong, Bench=lambda _, monitor, __: monitor):
-                tally = tally_of(kvm_check.check_wrong, Path(name), Path("right"), Path(name))
+                tally = tally_of(kvm_check.check_wrong, place, Path("right"), place)
             self.assertEqual((tally.failed, sum(tally.tried.counts.values())), (failed * len(wrong), len(wrong)))
 
     def test_warnings_of_misuse(self):
@@ -338,13 +333,8 @@ OF_C = (programs.check_calls, programs.check_other_abi, programs.check_random_ca
 
 @mock.patch("subprocess.run", failing)
 @mock.patch("shutil.which", lambda name, **_: f"/usr/bin/{name}")
-class Failing(unittest.TestCase):
+class Failing(FolderTest):
     """Nothing passes if each program that a check starts fails."""
-
-    def setUp(self):
-        folder = tempfile.TemporaryDirectory()
-        self.addCleanup(folder.cleanup)
-        self.folder = Path(folder.name)
 
     def test_with_a_tally(self):
         of_c = [(check, [machines()[0], self.folder]) for check in (programs.check_header, *OF_C)]
@@ -378,15 +368,13 @@ class Failing(unittest.TestCase):
     def test_of_rust(self):
         """But that an empty crate is no vm-superio."""
         for check in rust_check.OF_PROGRAMS:
-            tally, place = Tally(), Path(tempfile.mkdtemp(dir=self.folder), "place")
-            with self.subTest(check.__name__), contextlib.suppress(FileNotFoundError), \
-                    mock.patch.object(rust_check, "debian_crates", lambda *_: {}), \
+            with mock.patch.object(rust_check, "debian_crates", lambda *_: {}), \
                     mock.patch.object(rust_check, "toolchains", lambda: [Toolchain("/rustc", rust_check.OLDEST)]), \
                     mock.patch.dict("os.environ", {"VM_SUPERIO": ""}):
-                silently(check, tally, place)
+                tally = tally_of(lambda it: it.carry_out("it", check, self.folder / check.__name__))
             is_moved = check is rust_check.check_moved_original
             self.assertEqual((tally.passed, tally.skipped > 0, tally.failed > 0),
-                             (check is rust_check.check_drop_in, is_moved, not is_moved))
+                             (check is rust_check.check_drop_in, is_moved, not is_moved), check.__name__)
 
     def test_the_echo(self):
         """Scripts that differ, and wrong echoes that differ in nothing or are not built."""
@@ -395,8 +383,9 @@ class Failing(unittest.TestCase):
                 ([0], ["one", "another"], 1 + wrong, 1), ([0], [], 2, wrong), ([0, 101], ["one"], 1, 1 + wrong)):
             runs = chain(map(ended, statuses), repeat(ended(statuses[-1])))
             crate = mock.Mock(**{"return_value.run.side_effect": runs})
-            with mock.patch.multiple(rust_check, Cargo=crate, different_scripts=lambda *_: different):
-                tally = tally_of(rust_check.check_echo, Path(tempfile.mkdtemp(dir=self.folder), "place"))
+            with mock.patch.multiple(rust_check, Cargo=crate, random_cases=lambda *_: [],
+                                     different_scripts=lambda *_: different):
+                tally = tally_of(rust_check.check_echo, self.folder / str(failed))
             self.assertEqual((tally.passed, tally.failed), (passed, failed))
 
 
