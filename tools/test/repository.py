@@ -81,7 +81,7 @@ def sum_of(printed):
 def faults_of(ran):
     """The faults that a check printed. Its status and its last line have to fit."""
     status, printed, _ = ran
-    said = [line for line in printed.splitlines()[:-1] if not re.match(r"(not )?tried: ", line)]
+    said = [line for line in printed.splitlines()[:-1] if not re.match(r"(?:(?:not )?tried|skipped): ", line)]
     if sum_of(printed)[1] != len(said) or status != bool(said):
         raise AssertionError(printed)
     return said
@@ -154,22 +154,30 @@ class CopyTest(FolderTest):
         return path
 
     def change(self, name, old, new):
-        """Changes a text that occurs once in a file of the copy. With no text to change, the other comes at its end."""
-        text = (self.root / name).read_text(encoding="utf-8")
-        if old:
-            self.assertEqual(text.count(old), 1, f"{name} has {old!r} otherwise than once")
-        self.write(name, text.replace(old, new) if old else f"{text}\n{new}\n")
+        """Changes a text that occurs once in a file of the copy. For '' the other comes at its end, and for `None`
+        it is the whole file, or the file goes if there is none."""
+        if new is None:
+            self.keep(name).unlink()
+            return
+        if old is not None:
+            text = (self.root / name).read_text(encoding="utf-8")
+            self.assertEqual(text.count(old) if old else 1, 1, f"{name} has {old!r} otherwise than once")
+            new = text.replace(old, new) if old else f"{text}\n{new}\n"
+        self.write(name, new)
 
     def judge(self, tool, faults, **options):
-        """Plants faults: each a file, a text of it, the one in its place, and what the tool has to say of it. It has to
-        say all of that, and nothing else."""
+        """Plants faults where a tool finds none: each a file, a text of it, the one in its place, and what the tool has
+        to say of it. It has to say all of that, and nothing else. Returns what it prints."""
+        self.assertEqual(faults_of(self.run_tool(tool, **options)), [])
         for fault in faults:
             self.change(*fault[:3])
-        lines = [re.sub(r":\d+: ", ": ", line) for line in faults_of(self.run_tool(tool, **options))]
+        ran = self.run_tool(tool, **options)
+        lines = [re.sub(r":\d+: ", ": ", line) for line in faults_of(ran)]
         wanted = Counter(says for fault in faults for says in fault[3:])
         lost = [says for says, number in wanted.items() if sum(says in line for line in lines) < number]
         other = [line for line in lines if not any(says in line for says in wanted)]
         self.assertEqual((lost, other), ([], []))
+        return ran[1]
 
     def run_tool(self, name, *arguments, **options):
         """The status, the output and the errors of a tool of the copy, which may not end in a traceback."""

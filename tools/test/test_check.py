@@ -59,7 +59,7 @@ LEAST = [
 TEST = "class It(TestCase):\n    def test_it(self): {}"
 CAUGHT = "\n        try: self.assertEqual(1, 2)\n        except AssertionError: pass"
 TESTS = [
-    (TEST.format("self.assertTrue(1)"), "1 passed, 0 failed"),
+    (TEST.format("self.assertTrue(1); self.assertEqual([1], [1])"), "1 passed, 0 failed"),
     (TEST.format("self.skipTest('why')"), "0 passed, 0 failed, 1 skipped"), ("", "0 passed, 1 failed"),
     *((text, "0 passed, 1 failed") for text in (
         TEST.format("pass"), TEST.format("[self.fail() for _ in ()]"), TEST.format("self.fail()"), TEST.format(CAUGHT),
@@ -139,6 +139,8 @@ class Running(FolderTest):
             (run.parent / "test_it.py").write_text(f"from unittest import *\n{text}\n", encoding="utf-8")
             ran = subprocess.run([sys.executable, run], stdout=subprocess.PIPE, text=True)
             self.assertEqual((ran.stdout.splitlines()[-1], ran.returncode), (last, "0 failed" not in last), text)
+            # An assertion may make others.
+            self.assertEqual("tried: 2 assertions of test_it\n" in ran.stdout, last.startswith("1 passed"), ran.stdout)
 
 
 def lines_of(rows):
@@ -154,9 +156,12 @@ class Tables(FolderTest):
         self.assertEqual((commands - checks, checks - commands), (BY_HAND, set()))
 
     def test_no_number_of_what_is_tried_falls(self):
-        found = {(module, name): getattr(module_of(module), name) for module, name, _ in LEAST}
-        tried = {place: value if isinstance(value, int) else len(value) for place, value in found.items()}
-        self.assertEqual([place for *place, least in LEAST if tried[tuple(place)] < least], [])
+        for module, name, least in LEAST:
+            found = getattr(module_of(module), name)
+            self.assertGreaterEqual(found if isinstance(found, int) else len(found), least, name)
+        kvm = module_of("kvm/check")
+        self.assertGreater(len(set(kvm.text_of(200, "it"))), 20)
+        self.assertGreaterEqual(sum(len(wanted) for *_, wanted in kvm.CASES), 14)
 
     def test_the_checks_that_were_left_out_are_named(self):
         results = [check.Result(it, 1, 0, 0, 1, 1) for it in check.CHECKS[2:]]

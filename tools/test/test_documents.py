@@ -1,15 +1,17 @@
 """Tests that the checks of documents find planted faults: in tables, each with what has to be said of it."""
-import os
 import re
+from unittest import mock
 
-from repository import ROOT, CopyTest, program
+from repository import ROOT, CopyTest, ended, module_of
 
+with mock.patch("documents.run"):
+    names = module_of("checks/names")
 PROOFS, BODIES, USING, DEVICES, RELEASE = (
     f"docs/{name}.md" for name in ("PROOFS", "WRONG-BODIES", "USING", "DEVICES", "RELEASE"))
 CALLING, DIFFERENCES, HEADER = "crates/vm_superio/CALLING.md", "docs/DIFFERENCES.md", "include/superio.h"
 SPECS, PYTHON, I8042 = "crates/superio_core/specs", "bindings/python/superio", "crates/vm_superio/src/i8042.rt"
 JS, README = "bindings/js", "README.md"
-# A row of each table has a file, a text of it, the one in its place, and what the check says. A text of '' is the end.
+# A row of each table has a file, a text of it, the one in its place, and what the check says.
 LINKS = [(USING, "", text, f"{USING}: {says}") for text, says in (
     ("[one](two.md)", "two.md is not there"), ("[one](DEVICES.md#another)", "DEVICES.md#another is no heading"),
     ("`docs/three.md`", "docs/three.md is not there"), ("[a folder](four 'Four')", "four is not there"),
@@ -19,6 +21,7 @@ LINKS = [(USING, "", text, f"{USING}: {says}") for text, says in (
     ("[1](one.md 'a' b)", "](one.md 'a' b) is no link"), ("[up](../../README.md)", "../../README.md is not there"),
     ("## Same\n\n## Same\n\n[second](#same-1), [third](#same-2)", "#same-2 is no heading"),
     ("```text\n[not a link](nowhere.md)\n```\n\n[eight](eight.md)", "eight.md is not there"))]
+LINKS.append(("docs/lost.md", None, "# Lost\n", "docs/lost.md: no document links to it"))
 NAMES = [
     (PROOFS, "`Serial::read: data`", "`Serial::read: date`",
      f"{PROOFS}: vm_superio::serial::Serial::read has no clause date",
@@ -43,7 +46,9 @@ NAMES = [
     (PROOFS, "- `State`: `State`, `not_empty`", "- `State`: `State`, `count_if`",
      f"{PROOFS}: State does not define count_if"),
     (BODIES, "- `writer`, `interrupt_evt` and", "- `writer`, `interrupt_enable` and",
-     f"{BODIES}: interrupt_enable has an edit")]
+     f"{BODIES}: interrupt_enable has an edit"),
+    ("tests/forms.txt", None, None, *(f"{document}: tests/forms.txt is nowhere in the sources"
+                                      for document in (PROOFS, BODIES, "CONTRIBUTING.md")))]
 # Names in sentences, columns and blocks.
 NAMES += [(document, old, new, f"{document}: {says}") for document, old, new, says in (
     (PROOFS, "(`link`) |", "(`links`) |", "events.rt has no links"),
@@ -99,6 +104,7 @@ FACTS = [
      "RIS is (20, 'rw'), and (20, 'r')"),
     (HEADER, "0x01 is data ready", "0x02 is data ready", "LSR DR is 2, and 1"),
     (HEADER, "0x10 is loopback", "0x10 is XX", "MCR XX is 16, and None"),
+    (DEVICES, "| 7 | any | SCR | SCR | 0x00 |\n", ""),
     (DEVICES, "| 1 | set | DLM", "| 1 | clear | DLM", "DLM is (1, False), and (1, True)"),
     (DEVICES, "| 0xFE0 to 0xFFF |", "| 0xFE0 to 0xFFB |", "is [(4064, 4091)], and [(4064, 4095)]"),
     (DEVICES, "0x0D 0xF0 0x05", "0x0D 0xF1 0x05", "5 is F1, and F0"),
@@ -160,6 +166,7 @@ NAMES_OF_VM_SUPERIO = [
      f"{DIFFERENCES}: I8042Device::reset_evt is not in the row 'not here'",
      f"{DIFFERENCES}: I8042Device::lent is not in the row 'new'")]
 EXCERPTS = [
+    ("docs/one.c", None, "one;\nanother;\nmore;\n"),
     ("docs/c.md", "return done.byte;", "return done.bytes;",
      "docs/c.md: monitor.c has no line 'return done.bytes;' there"),
     (USING, "", "Of [it](one.c):\n\n```c\nmore;\none;\n```\n", f"{USING}: one.c has no line 'one;' there"),
@@ -171,37 +178,27 @@ class Planted(CopyTest):
     """Each check passes before, and finds all of its faults at once."""
 
     def test_links(self):
-        self.judge("tools/checks/links", [])
-        self.write("docs/lost.md", "# Lost\n")
-        self.judge("tools/checks/links", [*LINKS, (USING, "", "", "docs/lost.md: no document links to it")])
+        self.judge("tools/checks/links", LINKS)
 
     def test_names(self):
-        """README.md has the logic that `rt` prints, by whichever build of it, and then another logic."""
-        logic = re.search("`rattle-kit-\\S+ (logic [^`]*)`", (ROOT / README).read_text(encoding="utf-8"))[1]
+        self.judge("tools/checks/names", NAMES, env={"PATH": "/usr/bin:/bin"})
 
-        def judge(faults, version):
-            program(self.folder / "rt", f"echo {version}")
-            other = [(README, "", "", f"README.md does not show the logic of {version}, which rt version prints")]
-            self.judge("tools/checks/names", faults + other * (version != f"rattle-kit-0 {logic}"),
-                       env={"PATH": f"{self.folder}:{os.environ['PATH']}"})
-        for version in (f"rattle-kit-0 {logic}", f"rattle-kit-0 {logic[:-1]}", f"rattle-kit-0 {logic}0"):
-            judge([], version)
-        self.keep("tests/forms.txt").unlink()
-        lost = (f"{it}: tests/forms.txt is nowhere in the sources" for it in (PROOFS, BODIES, "CONTRIBUTING.md"))
-        judge([*NAMES, (USING, "", "", *lost)], "rattle-kit-0")
+    def test_another_logic_of_the_kit(self):
+        """README.md has the logic that `rt` prints, by whichever build of it."""
+        logic = re.search("`rattle-kit-\\S+ (logic [^`]*)`", (ROOT / README).read_text(encoding="utf-8"))[1]
+        for printed, is_shown in ((logic, True), (logic[:-1], False), (f"{logic}0", False), ("", False)):
+            ran = ended(0, f"rattle-kit-0 {printed}")
+            with mock.patch("shutil.which"), mock.patch("subprocess.run", return_value=ran):
+                self.assertEqual(names.version_faults() == [], is_shown, printed)
 
     def test_facts(self):
-        self.judge("tools/checks/facts", [])
-        self.judge("tools/checks/facts", FACTS)
-        self.change(DEVICES, "| 7 | any | SCR | SCR | 0x00 |\n", "")
-        self.assertIn("tried: 10 offsets of the port in DEVICES.md", self.run_tool("tools/checks/facts")[1])
+        """One that is lost is tried no more."""
+        printed = self.judge("tools/checks/facts", FACTS)
+        self.assertIn("tried: 10 offsets of the port in DEVICES.md", printed)
 
     def test_differences(self):
-        self.judge("tools/checks/differences", [])
         self.judge("tools/checks/differences", NAMES_OF_VM_SUPERIO)
 
     def test_excerpts(self):
         """Lines in another order are missing, too."""
-        self.judge("tools/checks/excerpts", [])
-        self.write("docs/one.c", "one;\nanother;\nmore;\n")
         self.judge("tools/checks/excerpts", EXCERPTS)

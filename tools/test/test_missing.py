@@ -63,16 +63,6 @@ class MissingFiles(CopyTest):
                 self.take(*self.parts, *parts)
                 self.judge_sums(tool, *arguments, says=says, sums=sums)
 
-    def test_a_lost_or_new_file_of_scripts(self):
-        self.take("tests")
-        names = [path.name for path in (self.root / "tests").glob("*.txt")]
-        for name in names:
-            self.write(f"tests/{name}", "kr 04  kr 04\n")
-        self.judge_sums("checks/scripts", CAT, says="tried: 1 scripts of clock.txt", sums=(len(names), 0))
-        (self.root / "tests" / "clock.txt").rename(self.root / "tests" / "other.txt")
-        for says in ("tests/clock.txt is not there", "tests/other.txt is not in the tool's list"):
-            self.judge_sums("checks/scripts", CAT, says=says, sums=(len(names), 2))
-
     def test_a_library_and_a_source_that_are_lost(self):
         self.take("CHANGELOG.md", "VERSION", "LICENSE", "LICENSES", "README.md", "bindings/rust", "examples/c",
                   "include", "prebuilt", "crates/superio_c/src", "crates/superio_core/src")

@@ -60,6 +60,11 @@ class Programs(CopyTest):
         for name in names:
             self.write(f"tests/{name}", "kr 04  kr 04\n")
         self.judge_programs("tools/checks/scripts", len(names))
+        (self.root / "tests" / "clock.txt").rename(self.root / "tests" / "other.txt")
+        _, printed, _ = self.run_tool("tools/checks/scripts", program(self.root / "program", RIGHT))
+        self.assertEqual(sum_of(printed), (len(names), 2))
+        for says in ("tests/clock.txt is not there", "tests/other.txt is not in the tool's list"):
+            self.assertIn(says, printed)
 
     def test_transcripts(self):
         self.write("examples/one.script", "kr 04\n")
@@ -253,11 +258,6 @@ class Runs(FolderTest):
                                            ([], None, [], 0), ([], True, ["a"], 1)):
             values = {"value.side_effect": [[("it", "")], (wrong, again)], "complaints.return_value": said}
             self.assertEqual(tally_of(page_check.check_features, mock.Mock(**values)).failed, failed)
-
-    def test_what_a_monitor_is_tried_with(self):
-        """Texts have many letters, and the traces of cases have to have what these are about."""
-        self.assertGreater(len(set(kvm_check.text_of(200, "it"))), 20)
-        self.assertGreaterEqual(sum(len(wanted) for *_, wanted in kvm_check.CASES), 14)
 
     def test_wrong_words_for_a_monitor(self):
         """Each has to end with its status, and to say something."""
