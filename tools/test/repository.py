@@ -133,6 +133,7 @@ class CopyTest(FolderTest):
         self.take(*self.parts)
 
     def take(self, *parts):
+        """Makes folders and files of the copy what they are in the repository."""
         for part in parts:
             put(ROOT / part, self.root / part)
 

@@ -107,7 +107,7 @@ class Checking(CopyTest):
         for old, new, status, stuck in STUCK:
             self.change("tools/c/tests/pastes.c", old, new)
             ended, printed = self.run_program("pastes", "1")
-            self.change("tools/c/tests/pastes.c", new, old)
+            self.take("tools/c/tests/pastes.c")
             lines = re.findall(r"(\d+) stuck$", printed, re.M)
             self.assertEqual((ended, len(lines), sum(line != "0" for line in lines)), (status, 3, stuck), new)
 
