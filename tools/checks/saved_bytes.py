@@ -1,10 +1,25 @@
-"""The byte form of saved states, as docs/SAVED-STATES.md has it: how it is written, and what a load replies."""
+"""The byte form of saved states, as the tables of docs/SAVED-STATES.md have it: how it is written, and what a load
+replies."""
+import re
+from pathlib import Path
 from struct import Struct
 
+DOCUMENT = Path(__file__).resolve().parents[2] / "docs" / "SAVED-STATES.md"
+TEXT = DOCUMENT.read_text(encoding="utf-8")
 SERIAL, CLOCK = 1, 2
-VERSION = 1
-REGISTERS = 9                         # of a port, a byte each, before the bytes that it holds
-CLOCK_CONTENTS = Struct("<IIIIq?")      # of a clock: its registers, its offset, and last its alarm
+VERSION = int(re.search(r"^\| 5 \| 1 \| the version of the form: (\d+)", TEXT, re.M)[1])
+
+
+def fields_of(heading):
+    """The fields of a device below its heading: beside the name of each its offset, and its size unless that varies."""
+    section = TEXT.partition(f"\n## {heading}\n")[2].partition("\n## ")[0]
+    rows = re.findall(r"^\| (\d+) \| (\d+)( to \d+)? \| `(\w+)`", section, re.M)
+    return {name: (int(offset), None if varies else int(size)) for offset, size, varies, name in rows}
+
+
+PLACES = {SERIAL: fields_of("A serial port"), CLOCK: fields_of("A clock")}
+REGISTERS = len(PLACES[SERIAL]) - 1   # of a port, a byte each, before the bytes that it holds
+CLOCK_CONTENTS = Struct("<" + "".join({4: "I", 8: "q", 1: "?"}[size] for _, size in PLACES[CLOCK].values()))
 CLOCK_SIZE = 8 + CLOCK_CONTENTS.size
 # The names of the statuses below in words, as a script replies them.
 WORDS = ["ok", "too short", "not a saved state", "other device", "unknown version", "wrong length", "too many bytes",
@@ -28,7 +43,7 @@ def status(kind, data):
         (WRONG_LENGTH, int.from_bytes(data[6:8], "little") == length),
         (WRONG_LENGTH, length >= REGISTERS if kind == SERIAL else length == CLOCK_CONTENTS.size),
         (TOO_MANY_BYTES, kind == CLOCK or length <= REGISTERS + 64),
-        (INVALID_ARMED, kind == SERIAL or data[CLOCK_SIZE - 1:CLOCK_SIZE] in (b"\x00", b"\x01")),
+        (INVALID_ARMED, kind == SERIAL or data[PLACES[CLOCK]["armed"][0]:][:1] in (b"\x00", b"\x01")),
     ]
     return next((fault for fault, good in checks if not good), OK)
 

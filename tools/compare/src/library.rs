@@ -4,6 +4,8 @@ use std::io::Write;
 use ours::Trigger;
 use ours::rtc_pl031::RtcEvents;
 use ours::serial::{Error, SerialEvents};
+use ours::values::Clock; // `superio_rtc`, which is read by its names alone
+use ours::values::rtc_pl031::saved_form::SAVED_SIZE;
 
 use crate::by_ours::devices::Outcome;
 use crate::by_ours::objects::Object;
@@ -17,15 +19,6 @@ struct SerialPort {
     head: u8,
     len: u8,
     bytes: [u8; 64],
-}
-
-/// `superio_rtc`.
-#[repr(C)]
-#[derive(Clone, Copy)]
-struct Clock {
-    registers: [u32; 4],
-    offset: i64,
-    armed: u64,
 }
 
 #[repr(C)]
@@ -84,7 +77,7 @@ unsafe extern "C" {
     safe fn superio_rtc_write(clock: &mut Clock, offset: u16, value: u32, now: u64) -> RtcWriteEffects;
     safe fn superio_rtc_line(clock: &Clock) -> bool;
     safe fn superio_rtc_due(clock: &Clock, now: u64) -> u64;
-    safe fn superio_rtc_save(clock: &Clock, bytes: &mut [u8; 33]);
+    safe fn superio_rtc_save(clock: &Clock, bytes: &mut [u8; SAVED_SIZE]);
     fn superio_rtc_load(clock: &mut Clock, bytes: *const u8, count: usize) -> u32;
     safe fn superio_i8042_read(offset: u8) -> u8;
     safe fn superio_i8042_write(offset: u8, value: u8) -> I8042WriteEffects;
@@ -114,14 +107,14 @@ impl Devices {
         let reply = self.serve_port(&call.action).unwrap_or_else(|| Ok(self.serve_clock(&call.action, moment)));
         let SerialPort { registers, head, len, bytes } = &self.port;
         let places = (0..usize::from(*len).min(64)).map(|place| (usize::from(*head) + place) % 64);
-        let [lr, mr, imsc, ris] = self.clock.registers;
+        let Clock { lr, mr, imsc, ris, offset, armed, .. } = self.clock;
         Observed {
             reply: reply.unwrap_or_else(|error| Reply::Error(error.to_string())),
             events: self.object.take_events(),
             serial: call::Port { registers: *registers, in_buffer: places.map(|place| bytes[place]).collect() },
             capacity: superio_serial_fifo_capacity(&self.port),
-            clock: call::Clock { lr, offset: self.clock.offset, mr, imsc, ris },
-            is_armed: self.clock.armed != 0,
+            clock: call::Clock { lr, offset, mr, imsc, ris },
+            is_armed: armed != 0,
         }
     }
 
@@ -236,7 +229,7 @@ impl Devices {
             Action::ClockLine => Reply::Number(superio_rtc_line(&self.clock).into()),
             Action::ClockDue => Reply::Number(superio_rtc_due(&self.clock, moment)),
             Action::ClockSave => {
-                let mut form = [0; 33];
+                let mut form = [0; SAVED_SIZE];
                 superio_rtc_save(&self.clock, &mut form);
                 Reply::Form(form.to_vec())
             }
