@@ -10,12 +10,13 @@ import re
 from header import Declared, read_header
 from libraries import ROOT, SOURCE_FOLDERS
 
-# The proved library, that from source, and what calls the library at random, which has the registers in arrays.
+# The proved library, that from source, and what calls the library at random, which has a port's registers in an array,
+# and the clock of the crate.
 PROVED, FROM_SOURCE, CALLER = "crates/superio_c", "bindings/rust/capi", "tools/compare"
 FOLDERS = {
     PROVED: SOURCE_FOLDERS,
     FROM_SOURCE: ["bindings/rust/capi/src", "bindings/rust/src/core"],
-    CALLER: ["tools/compare/src"],
+    CALLER: ["bindings/rust/src/core", "tools/compare/src"],
 }
 # The header's name of each struct, number and constant.
 STRUCTS = {

@@ -11,20 +11,20 @@ LEFT_OUT = shutil.ignore_patterns("__pycache__", "out", "target", "test")
 
 
 class CopyTest(unittest.TestCase):
-    """Tests of tools in a copy that has the folder tools alone. `take` adds others."""
+    """Tests of tools in a copy that has the folder tools and the document that it reads alone. `take` adds others."""
 
     def setUp(self):
         folder = tempfile.TemporaryDirectory()
         self.addCleanup(folder.cleanup)
         self.root = Path(folder.name).resolve()
-        self.take("tools")
+        self.take("tools", "docs/SAVED-STATES.md")
 
     def take(self, *parts):
         """Copies folders or files of the repository."""
         for part in parts:
             (self.root / part).parent.mkdir(parents=True, exist_ok=True)
             if (ROOT / part).is_dir():
-                shutil.copytree(ROOT / part, self.root / part, ignore=LEFT_OUT)
+                shutil.copytree(ROOT / part, self.root / part, ignore=LEFT_OUT, dirs_exist_ok=True)
             else:
                 shutil.copy(ROOT / part, self.root / part)
 

@@ -29,7 +29,7 @@ def faults_of(ran):
 class Links(CopyTest):
     def setUp(self):
         super().setUp()
-        (self.root / "docs").mkdir()
+        (self.root / "docs" / "SAVED-STATES.md").unlink()
         (self.root / "README.md").write_text(README, encoding="utf-8")
         (self.root / "docs" / "one.md").write_text(ONE, encoding="utf-8")
 

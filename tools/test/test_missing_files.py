@@ -94,14 +94,15 @@ class MissingFiles(CopyTest):
     def test_saved_forms_without_its_document(self):
         self.take("include", "prebuilt")
         few = (CAT, "--random", "0")
-        says = "docs/SAVED-STATES.md: No such file or directory"
-        self.assertEqual(self.sum_of("saved_forms", *few, says=says), (0, 1))
-        (self.root / "docs").mkdir()
         document = self.root / "docs" / "SAVED-STATES.md"
-        document.write_text("Without an example.\n", encoding="ascii")
-        says = "one good example of each device is wanted, and these are there: {}"
-        self.assertEqual(self.sum_of("saved_forms", *few, says=says), (0, 1))
+        text = document.read_text(encoding="utf-8")
+        for other, says in ((text.replace("53494f53", "-"), "one good example of each device is wanted, and these are there: {}"),
+                            ("Without a table.\n", "SAVED-STATES.md has no version of the form"),
+                            (text.replace("| `lr`", "| lr"), "SAVED-STATES.md: the fields of a clock are not one after the other")):
+            document.write_text(other, encoding="utf-8")
+            self.assertEqual(self.sum_of("saved_forms", *few, says=says), (0, 1))
         document.unlink()
-        self.take("docs/SAVED-STATES.md")
+        self.assertEqual(self.sum_of("saved_forms", *few, says="SAVED-STATES.md: No such file or directory"), (0, 1))
+        document.write_text(text, encoding="utf-8")
         shutil.rmtree(self.root / "prebuilt")
         self.assertEqual(self.sum_of("saved_forms", *few, says="returned non-zero exit status 1."), (0, 1))

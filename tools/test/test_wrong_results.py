@@ -126,7 +126,7 @@ class Programs(CopyTest):
 
     @unittest.skipUnless(shutil.which("cc"), "cc is needed")
     def test_saved_forms(self):
-        self.take("include", "prebuilt", "bindings", "docs/SAVED-STATES.md")
+        self.take("include", "prebuilt", "bindings")
         tools = {"PATH": str(Path(shutil.which("cc")).parent)}
         _, printed, _ = self.run_tool("tools/checks/saved_forms", self.program("true"), "--random", "0", env=tools)
         passed, failed = sum_of(printed)
