@@ -14,9 +14,8 @@ from saved_bytes import CLOCK as OF_CLOCK, PLACES, SERIAL as OF_PORT
 
 sys.path.append(str(Path(__file__).resolve().parents[2] / "bindings" / "python"))
 from superio import SerialState  # noqa: E402
-from superio.library import FIFO_SIZE  # noqa: E402
-from superio.registers import (CLOCK, DLAB, FIELDS, FIFO_BITS, IDENTIFICATION, LOOPBACK, SERIAL,  # noqa: E402
-                               bits_by_name, clock_register, serial_register)
+from superio.registers import (CLOCK, DLAB, FIELDS, FIFO_BITS, FIFO_SIZE, IDENTIFICATION, LOOPBACK,  # noqa: E402
+                               SERIAL, bits_by_name, clock_register, serial_register)
 
 # In the order of a saved state.
 REGISTERS = [name for place in PLACES[OF_PORT] for name, field in FIELDS.items() if field == place]

@@ -96,9 +96,10 @@ class MissingFiles(CopyTest):
         few = (CAT, "--random", "0")
         document = self.root / "docs" / "SAVED-STATES.md"
         text = document.read_text(encoding="utf-8")
-        for other, says in ((text.replace("53494f53", "-"), "one good example of each device is wanted, and these are there: {}"),
-                            ("Without a table.\n", "SAVED-STATES.md has no version of the form"),
-                            (text.replace("| `lr`", "| lr"), "SAVED-STATES.md: the fields of a clock are not one after the other")):
+        for other, says in (
+                (text.replace("53494f53", "-"), "one good example of each device is wanted, and these are there: {}"),
+                ("Without a table.\n", "SAVED-STATES.md has no version of the form"),
+                (text.replace("| `lr`", "| lr"), "SAVED-STATES.md: the fields of a clock are not one after the other")):
             document.write_text(other, encoding="utf-8")
             self.assertEqual(self.sum_of("saved_forms", *few, says=says), (0, 1))
         document.unlink()

@@ -6,7 +6,7 @@ import re
 from functools import lru_cache
 from typing import Dict, NamedTuple, Optional, Tuple, Union
 
-from .library import byte_string
+from .arguments import byte_string
 
 MAXIMUM = 65_536
 """A script has at most this many bytes."""
