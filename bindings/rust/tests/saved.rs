@@ -92,27 +92,42 @@ fn coherent_states_are_those_that_a_new_port_can_come_to() {
 #[test]
 fn five_fields_are_made_only_without_an_alarm() {
     let state = RtcState { lr: 1, offset: -2, mr: 3, imsc: 4, ris: 5 };
-    assert_eq!(RtcSnapshot::from(state), RtcSnapshot { state, armed: false });
-    assert_eq!(RtcState::try_from(RtcSnapshot { state, armed: false }), Ok(state));
-    assert_eq!(RtcState::try_from(RtcSnapshot { state, armed: true }), Err(AlarmIsSet));
+    let snapshot = RtcSnapshot::from(state);
+    assert_eq!((snapshot.state, snapshot.armed), (state, false));
+    assert_eq!(RtcState::try_from(snapshot), Ok(state));
+    assert_eq!(RtcState::try_from(RtcSnapshot { armed: true, ..snapshot }), Err(AlarmIsSet));
     let error: Box<dyn std::error::Error> = AlarmIsSet.into();
     assert_eq!(error.to_string(), "an alarm is set, and the five fields of RtcState cannot hold it");
 }
 
+/// The fields in the text of a clock's state, as `name: number`, sorted.
+fn fields_in(text: &str) -> Vec<&str> {
+    let parts = text.split(&[',', '{', '}'][..]).map(str::trim);
+    let mut fields: Vec<_> = parts.filter(|it| it.contains(": ") && !it.ends_with("RtcState")).collect();
+    fields.sort_unstable();
+    fields
+}
+
 #[test]
 fn a_clock_is_saved_byte_by_byte_with_its_alarm() {
-    let state = RtcState { lr: 0x0102_0304, offset: -2, mr: 0x0506_0708, imsc: 1, ris: 0x8000_0000 };
-    let snapshot = RtcSnapshot { state, armed: true };
-    let bytes = snapshot.to_bytes();
-    let mut expected = b"SIOS\x02\x01\x19\x00\x04\x03\x02\x01\x08\x07\x06\x05\x01\0\0\0\0\0\0\x80".to_vec();
-    expected.extend([0xFE, 0xFF, 0xFF, 0xFF, 0xFF, 0xFF, 0xFF, 0xFF, 1]);
-    assert_eq!(bytes, expected);
-    assert_eq!(RtcSnapshot::from_bytes(&bytes), Ok(snapshot));
-    expected[32] = 2;
-    assert_eq!(RtcSnapshot::from_bytes(&expected), Err(SavedStateError::InvalidArmed));
-    assert_eq!(RtcSnapshot::from_bytes(&expected[..32]), Err(SavedStateError::WrongLength));
-    let longer = [bytes.as_slice(), &[0]].concat();
-    assert_eq!(RtcSnapshot::from_bytes(&longer), Err(SavedStateError::WrongLength));
+    let fresh = RtcSnapshot::default().to_bytes();
+    let (header, contents) = fresh.split_at(8);
+    assert_eq!(header, [b"SIOS\x02\x01".as_slice(), &[contents.len() as u8, 0]].concat());
+    // No two bytes are the same, and the last is the alarm.
+    let mut bytes = [header, &(0xA0..).take(contents.len()).collect::<Vec<u8>>()].concat();
+    *bytes.last_mut().unwrap() = 1;
+    let snapshot = RtcSnapshot::from_bytes(&bytes).unwrap();
+    assert_eq!(snapshot.to_bytes(), bytes);
+    assert_eq!(snapshot.state.lr, 0xA3A2_A1A0);
+    let proved = vm_superio::values::RtcState::from_bytes(&bytes).unwrap();
+    let shown = format!("{snapshot:?}");
+    assert_eq!(fields_in(&shown), fields_in(&format!("{proved:?}")));
+    assert!(fields_in(&shown).len() > 5 && shown.ends_with("armed: true }"), "{shown}");
+    let end = bytes.len() - 1;
+    assert_eq!(RtcSnapshot::from_bytes(&bytes[..end]), Err(SavedStateError::WrongLength));
+    assert_eq!(RtcSnapshot::from_bytes(&[&bytes, [0].as_slice()].concat()), Err(SavedStateError::WrongLength));
+    bytes[end] = 2;
+    assert_eq!(RtcSnapshot::from_bytes(&bytes), Err(SavedStateError::InvalidArmed));
 }
 
 #[test]
