@@ -235,7 +235,7 @@ class Facts(CopyTest):
                 ("README.md", "Rust 1.63+", "Rust 1.60+", "Rust is [(1, 60)], and [(1, 63)]"),
                 ("README.md", "Python 3.8+", "Python 3.7+", "Python is [(3, 7)], and [(3, 8)]"),
                 ("README.md", " 9 kB.", " 90 kB.", "libsuperio_c.a is [(90,)], and [(9,)]"),
-                ("docs/RELEASE.md", "| shared library | 8 kB", "| shared library | 9 kB", "so.3 is [(9,)], and [(8,)]"),
+                ("docs/RELEASE.md", "| shared library | 8 kB", "| shared library | 9 kB", "is [(9,)], and [(8,)]"),
                 ("README.md", "the call 80 of 80", "the call 80 of 90", "5, 80, 90)], and [(1, 4, 5, 80, 80)]"),
                 ("README.md", "stops after 256", "stops after 255", "bytes is [(255,)], and [(256,)]"),
                 (proofs, "2 more for each read", "3 more for each read", "bound is [(2, 3)], and [(2, 2)]"),

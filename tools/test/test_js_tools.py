@@ -54,8 +54,12 @@ class Package(Checked):
 
     def test_another_version_and_interface(self):
         self.change("bindings/js/package.json", '"version": "', '"version": "9')
-        self.change("bindings/js/superio.mjs", "const ABI = ", "const ABI = 9")
-        self.check(1, "package.json has version 9", "superio.mjs is for the binary interface 9")
+        self.change("bindings/js/module.mjs", "const ABI = ", "const ABI = 9")
+        self.check(1, "package.json has version 9", "module.mjs has other bytes or tables")
+
+    def test_other_registers(self):
+        self.change("bindings/python/superio/registers.py", '"SCR", 7', '"SCR", 8')
+        self.check(1, "module.mjs has other bytes or tables")
 
     def test_a_build_without_the_compiler(self):
         status, printed, said = self.run_tool("tools/js/prebuild.py", env=ALONE)

@@ -33,7 +33,7 @@ function savedClock(state) {
   const sizes = { number: 4, bigint: 8, boolean: 1 };
   const contents = Object.values(state).flatMap((value) => Array.from({ length: sizes[typeof value] },
     (_, place) => Number((BigInt(value) >> BigInt(8 * place)) & 0xffn)));
-  return [..."SIOS".split("").map((letter) => letter.charCodeAt(0)), 2, 1, contents.length, 0, ...contents];
+  return [..."SIOS".split("").map((letter) => letter.charCodeAt(0)), 2, new Serial().toBytes()[5], contents.length, 0, ...contents];
 }
 
 const CLOCK_SAVED = savedClock(CLOCK).map((one) => one.toString(16).padStart(2, "0")).join("");
@@ -281,7 +281,7 @@ function statusOf(kind, saved, least, most) {
   if (saved.length < 8) return "too short";
   if (!"SIOS".split("").every((letter, place) => letter.charCodeAt(0) === saved[place])) return "not a saved state";
   if (saved[4] !== kind) return "other device";
-  if (saved[5] !== 1) return "unknown version";
+  if (saved[5] !== new Serial().toBytes()[5]) return "unknown version";
   const count = saved[6] + 256 * saved[7];
   if (count !== saved.length - 8 || count < least || (kind === 2 && count > most)) return "wrong length";
   if (count > most) return "too many bytes";

@@ -28,11 +28,17 @@ fn port_with_a_read_password() -> Serial<Silent, serial::NoEvents, Vec<u8>> {
     serial
 }
 
+/// The form of a port with these contents, of the version that new ports have.
+fn port_form(contents: &[u8]) -> Vec<u8> {
+    let version = SerialState::default().to_bytes().unwrap()[5];
+    [b"SIOS\x01".as_slice(), &[version, contents.len() as u8, 0], contents].concat()
+}
+
 #[test]
 fn a_port_is_saved_byte_by_byte_without_what_the_guest_has_read() {
     let saved = port_with_a_read_password().state();
     let bytes = saved.to_bytes().unwrap();
-    assert_eq!(bytes, *b"SIOS\x01\x01\x0A\x00\x0C\x00\x00\x01\x03\x61\x08\xB0\x00!");
+    assert_eq!(bytes, port_form(b"\x0C\x00\x00\x01\x03\x61\x08\xB0\x00!"));
     assert_eq!(SerialState::from_bytes(&bytes), Ok(saved));
 }
 
@@ -44,12 +50,12 @@ fn what_is_no_saved_port_is_refused_for_the_first_reason() {
         bytes[place] = byte;
         bytes
     };
-    let full = |count: u8| [b"SIOS\x01\x01", [9 + count, 0].as_slice(), &vec![0; 9 + usize::from(count)]].concat();
+    let full = |count: usize| port_form(&vec![0; 9 + count]);
     for (bytes, error) in [
         (good[..7].to_vec(), SavedStateError::TooShort),
         (changed(3, b's'), SavedStateError::NotASavedState),
         (changed(4, 2), SavedStateError::OtherDevice),
-        (changed(5, 3), SavedStateError::UnknownVersion(3)),
+        (changed(5, 0xFF), SavedStateError::UnknownVersion(0xFF)),
         (changed(6, 10), SavedStateError::WrongLength),
         (good[..16].to_vec(), SavedStateError::WrongLength),
         ([good.as_slice(), &[0]].concat(), SavedStateError::WrongLength),
@@ -112,7 +118,7 @@ fn fields_in(text: &str) -> Vec<&str> {
 fn a_clock_is_saved_byte_by_byte_with_its_alarm() {
     let fresh = RtcSnapshot::default().to_bytes();
     let (header, contents) = fresh.split_at(8);
-    assert_eq!(header, [b"SIOS\x02\x01".as_slice(), &[contents.len() as u8, 0]].concat());
+    assert_eq!(header, [b"SIOS\x02".as_slice(), &[port_form(b"")[5], contents.len() as u8, 0]].concat());
     // No two bytes are the same, and the last is the alarm.
     let mut bytes = [header, &(0xA0..).take(contents.len()).collect::<Vec<u8>>()].concat();
     *bytes.last_mut().unwrap() = 1;
@@ -153,7 +159,7 @@ fn devices_print_their_registers_and_no_byte_that_the_guest_has_read() {
     let objects = "interrupt_evt: Silent, events: NoEvents, out: []";
     assert_eq!(format!("{serial:?}"), format!("Serial {{ {registers}, {objects} }}"));
     assert_eq!(format!("{:?}", serial.state()), format!("SerialState {{ {registers} }}"));
-    let state = SerialState::from_bytes(b"SIOS\x01\x01\x0A\0\x01\x02\x03\x04\x05\x06\x07\x08\x09!").unwrap();
+    let state = SerialState::from_bytes(&port_form(b"\x01\x02\x03\x04\x05\x06\x07\x08\x09!")).unwrap();
     let restored = Serial::from_state(&state, Silent, serial::NoEvents, Vec::<u8>::new()).unwrap();
     let shown = format!("{state:?}").replace("State {", " {").replace(" }", &format!(", {objects} }}"));
     assert_eq!(format!("{restored:?}"), shown);
