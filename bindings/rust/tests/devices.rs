@@ -322,7 +322,7 @@ fn an_alarm_is_due_when_guest_time_reaches_it() {
     for &now in edges.iter().chain(&moments) {
         for (mr, time) in edges.iter().flat_map(|&mr| edges.iter().map(move |&time| (mr, time))) {
             let state = RtcState { mr: mr as u32, offset: time as i64 - i64::from(now as u32), ..RtcState::default() };
-            let snapshot = rtc_pl031::RtcSnapshot { state, armed: true };
+            let snapshot = rtc_pl031::RtcSnapshot { armed: true, ..state.into() };
             let mut clock = Rtc::from_snapshot(&snapshot, rtc_pl031::NoEvents);
             // The host's seconds do not begin anew until then.
             if u64::from(now as u32) + mr.saturating_sub(time) < 1 << 32 {

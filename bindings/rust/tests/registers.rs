@@ -82,7 +82,7 @@ fn no_register_is_at_an_offset_from_8_on() {
 #[test]
 fn a_guest_reads_each_field_of_a_restored_clock_at_its_offset() {
     let state = RtcState { lr: LOADED, offset: 0x100, mr: MATCH, imsc: 1, ris: 3 };
-    let mut clock = Rtc::from_snapshot(&RtcSnapshot { state, armed: false }, NoEvents);
+    let mut clock = Rtc::from_snapshot(&RtcSnapshot::from(state), NoEvents);
     let mut read = |offset| {
         let mut data = [0; 4];
         clock.read_at(offset, &mut data, NOW);
@@ -101,7 +101,7 @@ fn each_field_shows_what_a_guest_wrote_to_the_clock() {
         clock.write_at(offset, &value.to_le_bytes(), NOW);
     }
     let state = RtcState { lr: LOADED + 0x1000, offset: 0x1000, mr: MATCH, imsc: 1, ris: 0 };
-    assert_eq!(clock.snapshot(), RtcSnapshot { state, armed: true });
+    assert_eq!(clock.snapshot(), RtcSnapshot { armed: true, ..RtcSnapshot::from(state) });
     assert_eq!(clock.due(NOW), Some(u64::from(MATCH - LOADED - 0x1000)));
     clock.write_at(0x0C, &1u32.to_le_bytes(), NOW); // RTCCR resets the counter
     assert_eq!((clock.state().lr, clock.state().offset), (0, 0));
