@@ -242,7 +242,6 @@ class Facts(CopyTest):
                 (proofs, "in at most 81 bytes", "in at most 82 bytes", "bytes is [(82,)], and [(81,)]"),
                 (proofs, "`state` saves the ten", "`state` saves the six", "SerialState is [(6,), (10,)], and [(10,)]"),
                 (proofs, "the version at place 5", "the version at place 4", "version is [(4,)], and [(5,)]"),
-                (proofs, "at 0x020 to 0xFDF", "at 0x020 to 0xFE0", "addresses is [(32, 4064)], and [(32, 4063)]"),
                 (proofs, "10,000 random", "20,000 random", "pastes is [(20000,)], and [(10000,)]"),
                 (proofs, "does in 50 million", "does in 5 million", "calls is [(5000000,)], and [(50000000,)]"),
                 (proofs, "lists to 300", "lists to 400", "lists is [(400, 65536)], and [(300, 65536)]"),
