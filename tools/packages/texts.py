@@ -19,7 +19,7 @@ PLACES = [
     ("debian/changelog", r"\Asuperio \((.+)-\d+\) ", VERSION),
     ("include/superio.h", r'^#define SUPERIO_VERSION "(.+)"$', VERSION),
     # The same for the number of the binary interface, which the name of the shared library ends with.
-    ("bindings/js/superio.mjs", r"^const ABI = (\d+);$", ABI),
+    ("bindings/js/module.mjs", r"^export const ABI = (\d+);$", ABI),
     ("bindings/python/superio/library.py", r"^ABI = (\d+)$", ABI),
     ("bindings/rust/capi/src/lib.rs", r"^const ABI: u32 = (\d+);$", ABI),
     ("crates/superio_c/src/lib.rt", r"^const ABI: u32 = (\d+);$", ABI),

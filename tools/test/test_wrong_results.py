@@ -44,7 +44,7 @@ DIFFERS = {"C": "sh = 001", **{library: f"sr 07 = 00\ngot:      sr 07 = {got}" f
 
 @unittest.skipUnless(shutil.which("sed") and shutil.which("cc"), "sed and cc are needed")
 class Programs(CopyTest):
-    parts = "tools", "bindings/python", "include", "prebuilt", "tests/calls"
+    parts = "tools", "bindings/python", "docs/SAVED-STATES.md", "include", "prebuilt", "tests/calls"
     # Where the checks find cc, and Cargo if that is beside it.
     tools = {"PATH": str(Path(shutil.which("cc") or "").parent)}
 
@@ -390,7 +390,7 @@ class Failing(FolderTest):
 
 
 class Proving(CopyTest):
-    parts = ("tools",)
+    parts = ("tools", "docs/SAVED-STATES.md")
 
     def test_ci_runs_all_in_a_copy_and_ends_as_it_does(self):
         tiny.make(self.root, [])
