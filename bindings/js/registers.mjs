@@ -1,4 +1,5 @@
-/** The registers of the serial port and of the clock: names, offsets and bits. */
+/** The registers of the serial port and of the clock: names, offsets and bits, as the Python package has them. */
+import { CLOCK_ROWS, SERIAL_ROWS } from "./module.mjs";
 
 /** The bit of LCR that puts the divisor at the offsets 0 and 1. */
 export const DLAB = 0x80;
@@ -8,47 +9,14 @@ export class RegisterError extends RangeError {
   name = "RegisterError";
 }
 
-const alarm = { 0x01: "ALARM" };
-
-/**
- * `latched` says whether a register is reached while DLAB is set (true), while it is clear (false), or always (null);
- * `access` has r if a read reaches it, and w if a write does.
- */
-function register(name, offset, bits = {}, latched = null, access = "rw") {
-  const named = Object.entries(bits).map(([bit, bitName]) => [Number(bit), bitName]);
-  return Object.freeze({ name, offset, bits: Object.freeze(named), latched, access });
-}
-
-const serial = [
-  register("RBR", 0, {}, false, "r"),
-  register("THR", 0, {}, false, "w"),
-  register("DLL", 0, {}, true),
-  register("IER", 1, { 0x01: "RDA", 0x02: "THRE", 0x04: "RLS", 0x08: "MS" }, false),
-  register("DLM", 1, {}, true),
-  register("IIR", 2, { 0x02: "THRE", 0x04: "RDA" }, null, "r"),
-  register("FCR", 2, {}, null, "w"),
-  register("LCR", 3, { 0x40: "BREAK", 0x80: "DLAB" }),
-  register("MCR", 4, { 0x01: "DTR", 0x02: "RTS", 0x04: "OUT1", 0x08: "OUT2", 0x10: "LOOP" }),
-  register("LSR", 5, { 0x01: "DR", 0x02: "OE", 0x04: "PE", 0x08: "FE", 0x10: "BI", 0x20: "THRE", 0x40: "TEMT" }),
-  register("MSR", 6, { 0x10: "CTS", 0x20: "DSR", 0x40: "RI", 0x80: "DCD" }),
-  register("SCR", 7),
-];
-
-const clock = [
-  register("DR", 0x000, {}, null, "r"),
-  register("MR", 0x004),
-  register("LR", 0x008),
-  register("CR", 0x00c),
-  register("IMSC", 0x010, alarm),
-  register("RIS", 0x014, alarm, null, "r"),
-  register("MIS", 0x018, alarm, null, "r"),
-  register("ICR", 0x01c, alarm, null, "w"),
-  ...Array.from({ length: 8 }, (_, index) => register(`ID${index}`, 0xfe0 + 4 * index, {}, null, "r")),
-];
-
+const frozen = (one) => Object.freeze({ ...one, bits: Object.freeze(one.bits) });
+const [serial, clock] = [SERIAL_ROWS, CLOCK_ROWS].map((rows) => rows.map(frozen));
 const byName = (registers) => Object.freeze(Object.fromEntries(registers.map((one) => [one.name, one])));
 
-/** The registers of the serial port by name. */
+/**
+ * The registers of the serial port by name. `latched` says whether a register is reached while DLAB is set (true), while
+ * it is clear (false), or always (null); `access` has r if a read reaches it, and w if a write does.
+ */
 export const SERIAL = byName(serial);
 
 /** The registers of the clock by name, each without the `RTC` that the data sheet begins it with. */

@@ -5,16 +5,13 @@
  * superio.d.ts says what each call does, takes and returns. Each makes the call of that name of superio.h, compiled to
  * WebAssembly, on a copy of the device's struct. A wrong argument throws an error that names it, and changes nothing.
  */
-import text from "./module.mjs";
+import text, { ABI, CLOCK_SAVED_SIZE, CLOCK_SIZE, CLOCK_STRUCT } from "./module.mjs";
 import { RegisterError, clockOffset, serialOffset } from "./registers.mjs";
 
 export { RegisterError };
 
-const ABI = 3;
 const FIFO_SIZE = 64;
 const PORT_SIZE = 75;
-const CLOCK_SIZE = 32;
-const CLOCK_SAVED_SIZE = 33;
 // More bytes than this are refused as those are: a header gives a length of 16 bits.
 const LONGEST = 8 + 0xffff + 1;
 
@@ -210,9 +207,12 @@ export class Serial {
   }
 }
 
-/** The numbers of 32 bits at the start of a clock's struct. Then come the offset and the alarm, of 64 bits. */
-const CLOCK_FIELDS = ["lr", "mr", "imsc", "ris"];
-const [OFFSET, ARMED] = [16, 24];
+/** What a field of a clock's struct may be set to, by its kind, which DataView names. */
+const OF_KIND = {
+  Uint32: word,
+  BigInt64: (name, value) => whole(name, value, -(2n ** 63n), 2n ** 63n - 1n),
+  flag: (name, value) => typeof value === "boolean" ? value : refuse(TypeError, name, value, "true or false is wanted"),
+};
 
 const offsetOfClock = (offset) =>
   typeof offset === "string" ? clockOffset(offset) : whole("offset", offset, 0, 0xffff);
@@ -258,21 +258,17 @@ export class Rtc {
   }
 
   get state() {
-    const numbers = CLOCK_FIELDS.map((name, place) => [name, this.#view.getUint32(4 * place, true)]);
-    const armed = this.#view.getBigUint64(ARMED, true) !== 0n;
-    return { ...Object.fromEntries(numbers), offset: this.#view.getBigInt64(OFFSET, true), armed };
+    const valueOf = (place, kind) => this.#view[`get${kind}`](place, true);
+    return Object.fromEntries(CLOCK_STRUCT.map(([name, place, kind, isFlag]) =>
+      [name, isFlag ? Boolean(valueOf(place, kind)) : valueOf(place, kind)]));
   }
 
   static fromState(state) {
     checkState(state);
     const clock = new Rtc();
-    const numbers = CLOCK_FIELDS.map((name) => word(name, state[name]));
-    const offset = whole("offset", state.offset, -(2n ** 63n), 2n ** 63n - 1n);
-    const { armed } = state;
-    if (typeof armed !== "boolean") refuse(TypeError, "armed", armed, "true or false is wanted");
-    numbers.forEach((value, place) => clock.#view.setUint32(4 * place, value, true));
-    clock.#view.setBigInt64(OFFSET, offset, true);
-    clock.#view.setBigUint64(ARMED, BigInt(armed), true);
+    const values = CLOCK_STRUCT.map(([name, , kind, isFlag]) => OF_KIND[isFlag ? "flag" : kind](name, state[name]));
+    CLOCK_STRUCT.forEach(([, place, kind], index) =>
+      clock.#view[`set${kind}`](place, kind.startsWith("Big") ? BigInt(values[index]) : values[index], true));
     return clock;
   }
 

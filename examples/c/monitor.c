@@ -144,7 +144,7 @@ static struct machine migrate(const struct machine *machine) {
     strcpy(other.input, machine->input);
     check(superio_serial_load(&other.serial, serial, count) == SUPERIO_LOAD_OK, "loading the serial port");
     check(superio_rtc_load(&other.clock, clock, sizeof clock) == SUPERIO_LOAD_OK, "loading the clock");
-    printf("moved %zu and %zu bytes, and %zu of input\n", count, sizeof clock, strlen(other.input));
+    printf("moved a clock, a port of %zu bytes, and %zu of input\n", count, strlen(other.input));
     interrupt(&other, superio_serial_interrupts_due(&other.serial)); /* what the guest has not taken */
     follow_clock(&other);
     return other;

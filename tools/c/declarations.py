@@ -2,20 +2,19 @@
 
 The prover sees neither the header nor the layout of a struct. So this reads functions, constants and the structs that
 are `repr(C)`, and says what the header has to declare: each name, each parameter in its order, each type, and what a
-compiler may warn of. A C file of assertions, which a compiler checks, has the layout of the proved library's structs
-and the types of its functions.
+compiler may warn of. A C file of assertions, which a compiler checks, has the layout of the structs and the types of
+the functions.
 """
 import re
 
-from header import Declared, read_header
+from header import Declared, layout, read_header
 from libraries import ROOT, SOURCE_FOLDERS
 
-# The proved library, that from source, and what calls the library at random, which has the registers in arrays.
-PROVED, FROM_SOURCE, CALLER = "crates/superio_c", "bindings/rust/capi", "tools/compare"
+# The proved library, and that from source.
+PROVED, FROM_SOURCE = "crates/superio_c", "bindings/rust/capi"
 FOLDERS = {
     PROVED: SOURCE_FOLDERS,
     FROM_SOURCE: ["bindings/rust/capi/src", "bindings/rust/src/core"],
-    CALLER: ["tools/compare/src"],
 }
 # The header's name of each struct, number and constant.
 STRUCTS = {
@@ -28,10 +27,8 @@ STRUCTS = {
     "RtcWriteEffects": "superio_rtc_write_effects",
     "I8042WriteEffects": "superio_i8042_write_effects",
 }
-NUMBERS = {
-    "u8": ("uint8_t", 1), "u16": ("uint16_t", 2), "u32": ("uint32_t", 4), "u64": ("uint64_t", 8),
-    "i64": ("int64_t", 8), "usize": ("size_t", 8), "bool": ("bool", 1),
-}
+NUMBERS = {"u8": "uint8_t", "u16": "uint16_t", "u32": "uint32_t", "u64": "uint64_t", "i64": "int64_t",
+           "usize": "size_t", "bool": "bool"}
 CONSTANTS = {
     "ABI": "SUPERIO_ABI",
     "FIFO_SIZE": "SUPERIO_SERIAL_FIFO_SIZE",
@@ -39,7 +36,7 @@ CONSTANTS = {
     "SAVED_MAX": "SUPERIO_SERIAL_SAVED_MAX",
     "SAVED_SIZE": "SUPERIO_RTC_SAVED_SIZE",
 }
-FUNCTION = re.compile(r'^(?:pub (?:unsafe )?extern "C" |    (?:safe )?)fn (superio_\w+)\((.*?)\)(?: -> (\w+))?'
+FUNCTION = re.compile(r'^pub (?:unsafe )?extern "C" fn (superio_\w+)\((.*?)\)(?: -> (\w+))?'
                       r"\s*(?:ensures|\{|;)", re.M | re.S)
 STRUCT = re.compile(r"#\[repr\(C\)\]\s*(?:#\[[^\]]*\]\s*)*(?:pub(?:\(\w+\))? )?struct (\w+) \{(.*?)\n\}", re.S)
 FIELD = re.compile(r"^\s*(?:pub(?:\(\w+\))? )?(\w+): ([^,]+),", re.M)
@@ -78,34 +75,21 @@ def constants(side):
     return {CONSTANTS[name]: number(known[name]) for name in CONSTANTS if name in known}
 
 
-def shape(kind, known):
-    """The size and the alignment of a type, by the rules of C."""
-    number, _, length = kind.strip("[]").partition("; ")
-    if number in NUMBERS:
-        return NUMBERS[number][1] * int(length or 1), NUMBERS[number][1]
-    end, alignment = 0, 1
-    for _, its_kind in known[kind]:
-        size, its_alignment = shape(its_kind, known)
-        end = -(-end // its_alignment) * its_alignment + size
-        alignment = max(alignment, its_alignment)
-    return -(-end // alignment) * alignment, alignment
-
-
-def flattened(name, known, start=0):
-    """The fields of a struct as C declares them, with their offsets. A struct within it stands for its own fields."""
+def c_fields(name, known):
+    """The fields of a struct as C declares them. A struct within it stands for its own fields, bytes without gaps."""
     for field, kind in known[name]:
-        size, alignment = shape(kind, known)
-        start = -(-start // alignment) * alignment
         if kind in known:
-            yield from flattened(kind, known, start)
+            fields = list(c_fields(kind, known))
+            if {it.kind for it in fields} != {"uint8_t"}:
+                raise ValueError(f"{name} has {field}, which may have gaps")
+            yield from fields
         else:
             number, _, length = kind.strip("[]").partition("; ")
-            yield Declared(NUMBERS[number][0], field, length), start
-        start += size
+            yield Declared(NUMBERS[number], field, length)
 
 
 def c_type(kind):
-    return "void" if kind == "()" else STRUCTS.get(kind) or NUMBERS[kind][0]
+    return "void" if kind == "()" else STRUCTS.get(kind) or NUMBERS[kind]
 
 
 def c_parameters(pairs):
@@ -137,13 +121,12 @@ def wanted_attributes(name, pairs, returned):
 
 def of_header(header):
     """What the header declares, as `of_side` has it."""
-    def length(it):
-        return it._replace(length=str(header.constants.get(it.length, it.length)))
-
+    structs = {name: [it._replace(length=str(header.constants.get(it.length, it.length))) for it in fields]
+               for name, fields in header.structs.items()}
     return {
         "function": {name: (it.returned, [(one.name, one.kind + " *" * bool(one.length)) for one in it.parameters])
                      for name, it in header.functions.items()},
-        "struct": {name: [*map(length, fields)] for name, fields in header.structs.items()},
+        "struct": structs,
         "size": header.sizes,
         "constant": {name: header.constants[name] for name in CONSTANTS.values()},
         "attributes": {name: sorted(it.attributes) for name, it in header.functions.items()},
@@ -153,50 +136,44 @@ def of_header(header):
 def of_side(side):
     """What a side declares, by its kind and its name in the header."""
     known, own = structs(side), functions(side)
-    names = {name: STRUCTS[name] for name in STRUCTS if name in known}
+    fields = {c_name: [*c_fields(name, known)] for name, c_name in STRUCTS.items() if name in known}
     found = {
         "function": {name: (c_type(returned), [*c_parameters(pairs)]) for name, (pairs, returned) in own.items()},
-        "size": {c_name: shape(name, known)[0] for name, c_name in names.items()},
+        "struct": fields,
+        "size": {name: layout(it)[1] for name, it in fields.items()},
+        "constant": constants(side),
     }
-    if side != CALLER:
-        found["struct"] = {c_name: [it for it, _ in flattened(name, known)] for name, c_name in names.items()}
-        found["constant"] = constants(side)
     if side == PROVED:
         found["attributes"] = {name: sorted(wanted_attributes(name, *it)) for name, it in own.items()}
     return found
 
 
 def differences(side):
-    """What a side declares otherwise than the header. What calls the library need not compare the interface."""
+    """What a side declares otherwise than the header."""
     declared = of_header(read_header())
     for kind, wanted in of_side(side).items():
         for name in sorted(wanted.keys() | declared[kind].keys()):
             found = declared[kind].get(name)
-            if wanted.get(name) != found and (side, name) != (CALLER, "superio_abi"):
+            if wanted.get(name) != found:
                 yield f"{name}: the header has the {kind} {found}, and {side} {wanted.get(name)}"
-
-
-def struct_assertions(name, known):
-    """Assertions on the size of a struct, and on the place and type of each field."""
-    c_name = STRUCTS[name]
-    yield f"_Static_assert(sizeof(struct {c_name}) == {shape(name, known)[0]}, \"size of {c_name}\");"
-    for field, offset in flattened(name, known):
-        pointer = f"{field.kind} (*)[{field.length}]" if field.length else f"{field.kind} *"
-        yield f"_Static_assert(offsetof({c_name}, {field.name}) == {offset}, \"place of {c_name}.{field.name}\");"
-        is_typed = f"_Generic(&(({c_name} *)0)->{field.name}, {pointer}: 1, default: 0)"
-        yield f"_Static_assert({is_typed}, \"type of {c_name}.{field.name}\");"
 
 
 def assertions():
     """A file in C and, but for the layout, in C++, that compiles if the header has the types of the proved library."""
-    known = structs(PROVED)
-    lines = ["#include <superio.h>", "#ifndef __cplusplus"]
-    for name in STRUCTS:
-        lines += struct_assertions(name, known)
+    wanted, lines = of_side(PROVED), ["#include <superio.h>", "#ifndef __cplusplus"]
+    for name, fields in wanted["struct"].items():
+        places, size = layout(fields)
+        lines.append(f"_Static_assert(sizeof(struct {name}) == {size}, \"size of {name}\");")
+        for field, (place, _) in zip(fields, places):
+            at = f"{name}.{field.name}"
+            pointer = f"{field.kind} (*)[{field.length}]" if field.length else f"{field.kind} *"
+            lines.append(f"_Static_assert(offsetof({name}, {field.name}) == {place}, \"place of {at}\");")
+            is_typed = f"_Generic(&(({name} *)0)->{field.name}, {pointer}: 1, default: 0)"
+            lines.append(f"_Static_assert({is_typed}, \"type of {at}\");")
     lines += ["#endif", "int main(void) {"]
-    for name, (pairs, returned) in sorted(functions(PROVED).items()):
-        types = ", ".join(kind for _, kind in c_parameters(pairs)) or "void"
-        lines.append(f"    {{ {c_type(returned)} (*function)({types}) = {name}; (void)function; }}")
+    for name, (returned, parameters) in sorted(wanted["function"].items()):
+        types = ", ".join(kind for _, kind in parameters) or "void"
+        lines.append(f"    {{ {returned} (*function)({types}) = {name}; (void)function; }}")
     return "\n".join([*lines, "    return 0;", "}", ""])
 
 

@@ -16,6 +16,8 @@ SIZE = re.compile(r"typedef char \w+ ?\[sizeof\((\w+)\) == (\d+)( \* sizeof\(siz
 FUNCTION = re.compile(rf"((?:\w+ )+\*?)(superio_\w+)\(([^()]*)\)((?:{ATTRIBUTE.pattern})*);")
 DECLARED = re.compile(r"((?:const )?\w+ \*?)(\w+)(?:\[(\w+)\])?")
 CONSTANT = re.compile(r"(SUPERIO_\w+) = (\w+)")
+# The types of fields, with their sizes on processors of 64 bits.
+BYTES = {"bool": 1, "uint8_t": 1, "uint16_t": 2, "uint32_t": 4, "uint64_t": 8, "int64_t": 8, "size_t": 8}
 
 
 class Declared(NamedTuple):
@@ -37,6 +39,17 @@ class Header(NamedTuple):
     sizes: Dict[str, int]
     functions: Dict[str, Function]
     constants: Dict[str, Union[int, str]]
+
+
+def layout(fields, constants=()):
+    """The place and the size of each field of a struct, and the size of all, by the rules of C: each field is aligned to
+    its size. A length may be one of these constants."""
+    places, end = [], 0
+    for kind, _, length in fields:
+        start, size = end + -end % BYTES[kind], BYTES[kind] * int(dict(constants).get(length, length or 1))
+        places.append((start, size))
+        end = start + size
+    return places, end + -end % max(BYTES[kind] for kind, _, _ in fields)
 
 
 def parsed(pattern, text):

@@ -1,6 +1,7 @@
 """The C library of each processor: where it is in `prebuilt`, and how it is built from the proofs."""
 import hashlib
 import platform
+import re
 import shutil
 import subprocess
 import sys
@@ -16,7 +17,9 @@ TESTS = ROOT / "tools" / "c" / "tests"
 DEMO = ROOT / "examples" / "c"
 
 STATIC = "libsuperio_c.a"
-SHARED = "libsuperio.so.3"
+# Its number is the header's. What needs a header that is missing says so.
+SHARED = "libsuperio.so." + "".join(re.findall(r"^#define SUPERIO_ABI (\d+)$", HEADER.read_text(encoding="ascii"), re.M)
+                                    if HEADER.is_file() else [])
 # Beside each folder of `prebuilt`: what `rt lib` is told to build for, and the linker's name of it. The host's is last,
 # so that it is what `out/` keeps.
 TARGETS = {

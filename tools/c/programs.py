@@ -63,11 +63,12 @@ def watched(machine):
 
 @lru_cache(maxsize=None)
 def recorded(folder):
-    """A file of calls, and how many they are: those that are C's own, and then those of tests/calls. The first two begin
-    with new devices, or with such a clock."""
+    """A file of calls, and how many they are: those that are C's own, which begin with new devices, the recording, which
+    begins with such a clock, and the others."""
     calls = ROOT / "tests" / "calls"
-    own, *others = [path.read_text(encoding="ascii") for path in (TESTS / "own.txt", *calls.glob("*.txt"))]
-    texts = [own, lzma.decompress((calls / "calls.txt.xz").read_bytes()).decode(), *others]
+    own, shared, *others = [path.read_text(encoding="ascii") for path in (
+        TESTS / "own.txt", TESTS / "shared.txt", *calls.glob("*.txt"))]
+    texts = [own, lzma.decompress((calls / "calls.txt.xz").read_bytes()).decode(), shared, *others]
     (folder / "recorded").write_text("".join(texts), encoding="ascii")
     return folder / "recorded", sum(text.count(" = ") for text in texts)
 

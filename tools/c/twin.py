@@ -10,7 +10,6 @@ import threading
 from functools import lru_cache
 
 from oracle import CLOCK, SERIAL, Clock, Port, resets
-from saved_bytes import CLOCK_SIZE
 
 COM1 = 0x3F8
 RBR, IER, IIR, MCR, LSR = (SERIAL[name].offset for name in ("RBR", "IER", "IIR", "MCR", "LSR"))
@@ -174,7 +173,7 @@ class Monitor:
 
     def g(self):
         self.is_down = self.was_refused = self.is_interrupted = False
-        self.printed.append(f"moved {17 + len(self.port.held())} and {CLOCK_SIZE} bytes, and {len(self.input)} of input")
+        self.printed.append(f"moved a clock, a port of {17 + len(self.port.held())} bytes, and {len(self.input)} of input")
         self.ask(self.port.due())
         self.follow_clock()
 

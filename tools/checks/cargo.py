@@ -23,8 +23,8 @@ def original():
 
 
 def debian_crates(original=None):
-    """The crates of Debian's packages, by name and version, or `None` if there are none. A given folder takes the place of
-    their vm-superio."""
+    """The crates of Debian's packages, by name and version, or `None` if there are none. A given folder takes the place
+    of their vm-superio."""
     if not DEBIAN.is_dir():
         return None
     crates = {it.name: it for it in DEBIAN.iterdir() if not (original and it.name.startswith("vm-superio-"))}
@@ -32,8 +32,8 @@ def debian_crates(original=None):
 
 
 class Cargo:
-    """Runs Cargo offline in a folder. Its registry has these crates: by name and version the folder of each, or `None` for
-    one without contents. If they are `None` it is Cargo's own."""
+    """Runs Cargo offline in a folder. Its registry has these crates: by name and version the folder of each, or `None`
+    for one without contents. If they are `None` it is Cargo's own."""
 
     def __init__(self, folder, crates=None, toolchain=None):
         self.folder, self.program = folder, toolchain.cargo if toolchain else "cargo"
@@ -46,12 +46,13 @@ class Cargo:
             add_crate(folder / "registry" / name, source)
         (folder / ".cargo").mkdir()
         (folder / ".cargo" / "config.toml").write_text(
-            f'[source.crates-io]\nreplace-with = "folder"\n[source.folder]\ndirectory = "{folder}/registry"\n', encoding="utf-8")
+            f'[source.crates-io]\nreplace-with = "folder"\n[source.folder]\ndirectory = "{folder}/registry"\n',
+            encoding="utf-8")
 
     def run(self, *words, **environment):
         """Runs a command, and gives its status and all that it printed."""
-        return subprocess.run([self.program, *words], cwd=self.folder, env={**self.environment, **environment}, text=True,
-                              stdout=subprocess.PIPE, stderr=subprocess.STDOUT, errors="replace")
+        return subprocess.run([self.program, *words], cwd=self.folder, env={**self.environment, **environment},
+                              stdout=subprocess.PIPE, stderr=subprocess.STDOUT, text=True, errors="replace")
 
 
 def add_crate(place, source):
@@ -69,6 +70,20 @@ def add_crate(place, source):
             f'[package]\nname = "{name}"\nversion = "{version}"\n[features]\nderive = []\n', encoding="utf-8")
     package = f"{sum(place.name.encode()):064}"  # a checksum, by which Cargo.lock tells crates apart
     return (place / ".cargo-checksum.json").write_text(json.dumps({"files": {}, "package": package}), encoding="utf-8")
+
+
+def files_of_crate():
+    """The names of the files of the crate, without what Cargo makes and the crate for C."""
+    names = {path.relative_to(BINDINGS).as_posix() for path in BINDINGS.rglob("*") if path.is_file()}
+    return sorted(name for name in names if name != "Cargo.lock" and not name.startswith(("target/", "capi/")))
+
+
+def copied_crate(folder):
+    """Cargo's arguments for a copy of the crate: a Cargo.lock with an empty serde would not do for who has another."""
+    for name in files_of_crate():
+        (folder / "crate" / name).parent.mkdir(parents=True, exist_ok=True)
+        shutil.copyfile(BINDINGS / name, folder / "crate" / name)
+    return ["--manifest-path", folder / "crate" / "Cargo.toml"]
 
 
 class Project:

@@ -1,4 +1,4 @@
-"""What tools/checks/hostile tries: random scripts for the program `superio`, and runs of calls for `superio_harness`."""
+"""What tools/checks/hostile tries: random scripts for the program `superio`, runs of calls for `superio_harness`."""
 import random
 from itertools import product
 
@@ -147,7 +147,7 @@ def turns(source):
 
 
 def few_at_a_time(source):
-    """A driver that enables one condition or both, mostly with a byte held, and to which a byte or none comes at a time."""
+    """A driver that enables one condition or both, mostly with a byte held. A byte or none comes to it at a time."""
     lines = []
     for _ in range(LINES // 4):
         enables = ["sw 01 00", *["sq 61"] * source.randrange(2), f"sw 01 {source.choice((1, 3, 3)):02x}"]
@@ -246,8 +246,8 @@ def every_write():
 
 
 def every_timeout():
-    """A timeout under 8 values of IIR and 32 of IER, with and without data ready, the divisor latch, loopback and a held
-    byte. The trigger takes its call or refuses it."""
+    """A timeout under 8 values of IIR and 32 of IER, with and without data ready, the divisor latch, loopback and a
+    held byte. The trigger takes its call or refuses it."""
     states = product(range(8), ("60", "61"), ("03", "80"), ("08", "10"), ("-", "61"), ("", " 1"))
     for identification, status, latch, modem, held, refusal in states:
         yield [call for enable in (*range(16), *range(0xF0, 0x100)) for call in (
@@ -271,7 +271,7 @@ def every_access():
 
 
 def late_refusals():
-    """A byte at a time, whose interrupt is taken, but for one of the first or one after more than a script can refuse."""
+    """A byte at a time, whose interrupt is taken, save one of the first or one after more than a script can refuse."""
     for refused in (1, 2, 64, 65, 300):
         calls = ((f"sq 61{' 1' * (number == refused)}", "sh", "sr 00", "sh") for number in range(1, 302))
         yield ["sl 0c000101036008b000 -", *(call for four in calls for call in four)]

@@ -7,18 +7,13 @@ from documents import ROOT
 
 # What is no code: comments, strings, characters.
 NO_CODE = re.compile(r'//[^\n]*|/\*.*?\*/|r(#*)".*?"\1|"(?:\\.|[^"\\])*"|\'(?:\\.|[^\'\\\n])\'', re.S)
-HEAD = re.compile(r"(\bpub (?:const |unsafe |extern\s+)*)?(\bfn\s+(\w+))")
 BLOCK = re.compile(r"^[ \t]*(?:pub )?(?:unsafe\s+)?(impl|trait)\b([^{;]*)\{", re.M)
-# What precedes the brace of a clause, and never that of a body.
-CLAUSE = re.compile(r"\b(?:requires|ensures|ghost)\b\*?\s*(?:\w+\s*:?)?\s*$")
 ENSURES = re.compile(r"\bensures\b(\*?)\s*(\w*)\s*\{")
-ABOVE = re.compile(r"(?:^[ \t]*(?:#\[|//).*\n)*\Z", re.M)
 NESTED = re.compile(r"<[^<>]*>")
 # A definition is its head and the lines below that are further in, or a text without an empty line.
 RECORD = re.compile(r"^( *)(?:pub )?record (\w+)(.*(?:\n(?:\1 +\S.*)?(?=\n))*)", re.M)
 VALUE = re.compile(r"^ *(?:abbrev |unfoldable |pub )*(\w+) :(.*(?:\n.*\S.*)*)", re.M)
 FOLLOWED = re.compile(r"\b(?:[A-Z]\w*|\w+_\w+|step)\b")
-FIELD = re.compile(r"^ +pub (\w+) :", re.M)
 
 
 @dataclass(frozen=True)
@@ -45,7 +40,7 @@ class Function:
 
     def lines(self, text):
         """The first and last line, with the attributes and comments above the head."""
-        above = ABOVE.search(text[:text.rfind("\n", 0, self.start) + 1])
+        above = re.search(r"(?:^[ \t]*(?:#\[|//).*\n)*\Z", text[:text.rfind("\n", 0, self.start) + 1], re.M)
         return text.count("\n", 0, above.start()) + 1, text.count("\n", 0, self.end) + 1
 
     @property
@@ -60,11 +55,6 @@ class Function:
 
     def __str__(self):
         return "::".join(self.path)
-
-
-def only_code(text):
-    """The text with blanks in place of all that is no code."""
-    return NO_CODE.sub(lambda found: re.sub(r"[^\n]", " ", found[0]), text)
 
 
 def without_generics(text):
@@ -95,7 +85,8 @@ def body_of(code, at):
             return found.start(), found.start()
         if sign == "{" and depth == 0:
             end = end_of_braces(code, found.start())
-            if not CLAUSE.search(code[last:found.start()]):
+            # What precedes the brace of a clause, and never that of a body.
+            if not re.search(r"\b(?:requires|ensures|ghost)\b\*?\s*(?:\w+\s*:?)?\s*$", code[last:found.start()]):
                 return found.start(), end
             at = last = end
     return len(code), len(code)
@@ -109,9 +100,10 @@ def owner_of(header):
 
 def functions_of(text):
     """The functions of a source, in the order of their heads."""
-    code = only_code(text)
+    # Blanks are in place of all that is no code.
+    code = NO_CODE.sub(lambda found: re.sub(r"[^\n]", " ", found[0]), text)
     blocks = [(found.start(), end_of_braces(code, found.end() - 1), *found.groups()) for found in BLOCK.finditer(code)]
-    for head in HEAD.finditer(code):
+    for head in re.finditer(r"(\bpub (?:const |unsafe |extern\s+)*)?(\bfn\s+(\w+))", code):
         body, end = body_of(code, head.end())
         around = [it for it in blocks if it[0] <= head.start() < it[1]]
         _, _, kind, header = around[-1] if around else (0, 0, "", "")
@@ -141,7 +133,7 @@ class Definitions:
         for path in sorted(it for crate in crates for it in (ROOT / "crates" / crate / "specs").rglob("*.antt")):
             text = self.texts[str(path.relative_to(ROOT))] = path.read_text(encoding="utf-8")
             for _, name, body in RECORD.findall(text):
-                self.fields[name] |= set(FIELD.findall(body))
+                self.fields[name] |= set(re.findall(r"^ +pub (\w+) :", body, re.M))
                 self.uses[name] |= set(FOLLOWED.findall(body))
             for name, body in VALUE.findall(RECORD.sub("", text)):
                 self.uses[name] |= set(FOLLOWED.findall(body))

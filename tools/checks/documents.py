@@ -6,7 +6,7 @@ from pathlib import Path
 from typing import NamedTuple
 
 from program import reason
-from tried import Tried
+from tally import Tally
 from usage import takes_no_argument
 
 ROOT = Path(__file__).resolve().parents[2]
@@ -72,8 +72,14 @@ class Document:
         return enumerate(self.prose.splitlines(), 1)
 
     @property
-    def headings(self):
-        return HEADING.findall(self.prose)
+    def anchors(self):
+        """The anchors of the headings, as hosting sites make them."""
+        found = []
+        for heading in HEADING.findall(self.prose):
+            shown = re.sub(r"\]\([^)]*\)", "", heading).replace("[", "")
+            anchor = re.sub(r"[^\w\- ]", "", shown.lower()).replace(" ", "-")
+            found.append(anchor + (f"-{found.count(anchor)}" if anchor in found else ""))
+        return found
 
     @property
     def links(self):
@@ -109,29 +115,22 @@ def judged(kind, is_good, fault):
     return kind, [] if is_good else [fault]
 
 
-def finish(results):
-    """Prints what is wrong, how much of each kind was tried, and the sum. A result is a kind and its faults, which are
-    `None` if it cannot be tried here. Returns the exit status: 1 if something is wrong, or if nothing was tried."""
-    tried, faults = Tried(), []
-    try:
-        for kind, found in results:
-            if found is None:
-                tried.leave_out(kind)
-            else:
-                tried.add(kind)
-                faults += found
-    except OSError as error:
-        faults.append(reason(error))
-    if not tried.counts and not faults:
-        faults.append("nothing was checked")
-    failed, skipped = len(faults), len(tried.left_out)
-    passed = max(sum(tried.counts.values()) - failed, 0)
-    print(*faults, *tried.lines(), sep="\n")
-    print(f"{passed} passed, {failed} failed" + (f", {skipped} skipped" if skipped else ""))
-    return 1 if faults else 0
-
-
 def run(check, said):
-    """Runs a check of documents that takes no argument, and ends. `said` is what it says of itself."""
+    """Runs a check of documents that takes no argument, prints what is wrong, how much of each kind was tried, and the
+    sum, and ends: with 1 if something is wrong or nothing was tried. A result is a kind and its faults, which are
+    `None` without rt. `said` is what the check says of itself."""
     takes_no_argument(said)
-    sys.exit(finish(check()))
+    tally = Tally()
+    try:
+        for kind, faults in check():
+            tally.of(kind)
+            if faults is None:
+                tally.skip("rt", kind)
+            for fault in [""] if faults == [] else faults or ():
+                tally.check(not fault, fault)
+    except OSError as error:
+        tally.check(False, reason(error))
+    if not tally.tried.counts:
+        tally.check(False, "nothing was checked")
+    print(tally.summary())
+    sys.exit(1 if tally.failed else 0)

@@ -1,33 +1,27 @@
 """Edits, which turn one function of a crate into a wrong one: what each says, where it is, and which share a round."""
 import re
-from collections import Counter
+from collections import Counter, namedtuple
 from dataclasses import dataclass, field
 from pathlib import Path
 
 from contracts import functions_of, without_generics
 
 
+# What is in angle brackets, with those in it.
+GENERICS = r"<(?:[^<>]|<(?:[^<>]|<[^<>]*>)*>)*>"
+
+
 def pattern_of(header):
     """The pattern of what an `impl` puts into the paths of its functions: `Serial`, or `LineTrigger` of a trait, whose
     arguments follow it. The types in place of its parameters may follow the type."""
-    parameters, header = split_off_parameters(header.split(" where ")[0])
+    parameters, header = re.fullmatch(rf"\s*({GENERICS})?(.*)", header.split(" where ")[0], re.S).groups()
     names = [re.findall(r"\w+", part) for part in without_generics(header).split(" for ")]
     if len(names) == 1:
         return rf"{names[0][-1]}(?:\+\S*)?"
     trait = re.search(r"(\w+)\s*(?:<(.*)>)?\s* for ", header, re.S)
-    arguments = [it for it in re.findall(r"\w+", without_generics(trait[2] or "")) if it not in parameters]
+    arguments = [it for it in re.findall(r"\w+", without_generics(trait[2] or ""))
+                 if it not in re.findall(r"\w+", parameters or "")]
     return rf"{names[1][-1]}\w*{trait[1]}{''.join(arguments)}"
-
-
-def split_off_parameters(header):
-    """The names in the angle brackets at the start of a header, and what comes after them."""
-    depth = 0
-    for place, character in enumerate(header):
-        depth += (character == "<") - (character == ">")
-        if depth == 0 and not character.isspace():
-            return re.findall(r"\w+", header[:place] if character == ">" else ""), \
-                header[place + 1:] if character == ">" else header
-    return [], header
 
 
 def function_at(text, place):
@@ -45,22 +39,15 @@ def has_path(file, function, path):
     return name == function.name and bool(re.fullmatch(pattern, modules[-1]))
 
 
-@dataclass
-class Replacement:
-    """A text that takes the place of another in a file, in a line of it."""
-    file: str
-    line: int
-    start: int
-    end: int
-    text: str
+# A text that takes the place of another in a file, in a line of it.
+Replacement = namedtuple("Replacement", "file line start end text")
 
 
-@dataclass
+@dataclass(eq=False)
 class Edit:
     """An edit, as its entry says it. `problem` says why it cannot be tried, if it cannot."""
     crate: Path
     label: str = ""
-    sentence: str = ""
     function: str = ""
     clauses: list = field(default_factory=list)
     replacements: list = field(default_factory=list)
@@ -78,7 +65,8 @@ def read_edits(crate):
     """Reads the edits of a crate: the entries of `wrong-bodies/*.edits`, with an empty line between two."""
     edits = []
     for path in sorted(crate.glob("wrong-bodies/*.edits")):
-        edits += [read_edit(crate, entry) for entry in re.split(r"\n{2,}", path.read_text(encoding="utf-8").strip("\n"))]
+        entries = re.split(r"\n{2,}", path.read_text(encoding="utf-8").strip("\n"))
+        edits += [read_edit(crate, entry) for entry in entries]
     names = Counter(edit.label for edit in edits)
     for edit in edits:
         if names[edit.label] > 1:
@@ -89,30 +77,20 @@ def read_edits(crate):
 
 def read_edit(crate, entry):
     """Reads an entry. Each `old:` text must occur once in its file in the repository."""
-    edit, file, old = Edit(crate), "", None
-    for line in entry.splitlines():
-        key, _, value = line.partition(": ")
-        if key == "edit":
-            edit.problem = edit.problem or "no empty line parts it from the next" * bool(edit.label)
-            edit.label = edit.label or value.strip()
-        elif line.startswith("# ") and not edit.sentence:
-            edit.sentence = line[2:]
-        elif key == "function":
-            edit.function = value.strip()
-        elif key == "clause" and value.strip():
-            edit.clauses.append(value.strip())
-        elif key == "file":
+    labels, sentences, functions, clauses = (
+        re.findall(rf"^{key} *(\S.*?) *$", entry, re.M) for key in ("edit:", "#", "function:", "clause:"))
+    edit, file, old = Edit(crate, "".join(labels[:1]), "".join(functions[:1]), clauses), "", None
+    problems = ["no empty line parts it from the next"] * (len(labels) > 1)
+    for key, value in re.findall(r"^(file|old|new):(?: (.*))?$", entry, re.M):
+        if key == "file":
             file = value.strip()
-        elif key == "old":
-            old = value
-        elif key == "new" or line == "new:":
-            edit.problem = edit.problem or add_replacement(edit, file, old, value)
-            old = None
-    if not edit.replacements:
-        edit.problem = edit.problem or "it has no 'old:' and 'new:' pair"
-    for label, value in (("itself", edit.label), ("a sentence", edit.sentence), ("a function", edit.function), ("a clause", edit.clauses)):
-        if not value:
-            edit.problem = edit.problem or f"it does not name {label}"
+        elif key == "new":
+            problems += filter(None, [add_replacement(edit, file, old, value)])
+        old = value if key == "old" else None
+    problems += ["it has no 'old:' and 'new:' pair"] * (not edit.replacements)
+    named = {"itself": labels, "a sentence": sentences, "a function": functions, "a clause": clauses}
+    problems += [f"it does not name {what}" for what, values in named.items() if not values]
+    edit.problem = "".join(problems[:1])
     return edit
 
 
@@ -136,43 +114,34 @@ def add_replacement(edit, file, old, new):
     return ""
 
 
-def changed(text, replacements):
-    """A text with these replacements, which do not overlap."""
-    for it in sorted(replacements, key=lambda it: -it.start):
-        text = text[:it.start] + it.text + text[it.end:]
-    return text
-
-
 def texts_of(crate, edits):
-    """The sources of a crate that these edits change, with all of them made."""
-    files = {}
-    for it in (it for edit in edits for it in edit.replacements):
-        files.setdefault(it.file, []).append(it)
-    return {file: changed((crate / file).read_text(encoding="utf-8"), these) for file, these in files.items()}
+    """The sources of a crate that these edits change, with all their replacements made, which do not overlap."""
+    texts = {}
+    for it in sorted((it for edit in edits for it in edit.replacements), key=lambda it: -it.start):
+        text = texts.get(it.file) or (crate / it.file).read_text(encoding="utf-8")
+        texts[it.file] = text[:it.start] + it.text + text[it.end:]
+    return texts
 
 
 def may_share(edit, other):
-    """Whether two edits can be made in one copy of the crate: a function is proved from the contracts of what it calls and
-    never from their bodies, so they can if they change different functions, and nothing else."""
+    """Whether two edits can be made in one copy of the crate: a function is proved from the contracts of what it calls
+    and never from their bodies, so they can if they change different functions, and nothing else."""
     return not (edit.is_outside or other.is_outside or edit.places & other.places)
 
 
-def rounds_of(edits, may_share=may_share):
+def rounds_of(edits):
     """Packs the edits of a crate into rounds, as few as that takes and of about one size."""
-    rounds = []
+    # What sorts first has the fewest rounds to choose from.
+    ranked = sorted(edits, key=lambda edit: (-edit.is_outside, -sum(bool(edit.places & it.places) for it in edits),
+                                             edit.name))
     for number in range(1, len(edits) + 1):
         rounds = [[] for _ in range(number)]
-        if all(place_in(rounds, edit, may_share) for edit in sorted(edits, key=lambda it: rank(it, edits))):
-            return rounds
-    return rounds
+        if all(place_in(rounds, edit) for edit in ranked):
+            break
+    return rounds if edits else []
 
 
-def rank(edit, edits):
-    """What sorts first has the fewest rounds to choose from."""
-    return -edit.is_outside, -sum(bool(edit.places & other.places) for other in edits), edit.name
-
-
-def place_in(rounds, edit, may_share):
+def place_in(rounds, edit):
     free = [these for these in rounds if all(may_share(edit, other) for other in these)]
     if free:
         min(free, key=len).append(edit)

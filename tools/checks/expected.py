@@ -6,8 +6,7 @@ from saved_bytes import CLOCK, CLOCK_CONTENTS, REGISTERS, SERIAL, form, reply_to
 
 ROOM = 256                            # bytes that the output of a script's board takes
 UNREAD = "a5a5a5a5"                   # what an invalid read of a recorded call leaves
-# The first line of a script, and any line.
-REFUSE = re.compile("refuse ([0-9A-Fa-f]{16})")
+# Any line of a script but the first.
 LINE = re.compile("s[bcdeiloqst]|c[bl]|(sq|[sc]l) (HH){1,128}|[sk]r HH|[sk]w HH HH|cr H{16} H{4}|cw H{16} H{4} H{8}"
                   .replace("H", "[0-9A-Fa-f]"))
 
@@ -71,7 +70,7 @@ def script_replies(script):
     """The lines of a script that have replies, up to the first bad one, the replies, and the number of that line, or
     `None`."""
     lines = script.removesuffix("\n").split("\n") if script else []
-    refuse = REFUSE.fullmatch(lines[0]) if lines else None
+    refuse = re.fullmatch("refuse ([0-9A-Fa-f]{16})", lines[0]) if lines else None
     first = 1 if refuse else 0
     bad = next((place for place, line in enumerate(lines) if place >= first and not LINE.fullmatch(line)), None)
     board = Board(int(refuse[1], 16) if refuse else 0)

@@ -8,7 +8,7 @@ from pathlib import Path
 
 from program import TIMEOUT, NotBuilt
 
-SOURCE = Path(__file__).resolve().parents[1] / "c" / "failing_calls.c"
+SOURCE = Path(__file__).resolve().with_name("failing_calls.c")
 FLAGS = ["-std=c11", "-O2", "-Wall", "-Wextra", "-Werror", "-shared", "-fPIC"]
 
 

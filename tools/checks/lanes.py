@@ -1,7 +1,9 @@
-"""Runs tasks side by side, as many as there are processors and memory for, each once those that it waits for have ended."""
+"""Runs tasks side by side, as many as there are processors and memory for, each once what it waits for has ended."""
 import os
+import re
 from concurrent.futures import FIRST_COMPLETED, ThreadPoolExecutor, wait
 from dataclasses import dataclass
+from pathlib import Path
 from typing import Callable
 
 # What a check of a large crate takes: at most 1.8 GB was seen.
@@ -14,19 +16,10 @@ def processors():
     return int(given) if given.isdigit() and int(given) else len(os.sched_getaffinity(0))
 
 
-def free_memory():
-    """The memory in bytes that is free now."""
-    with open("/proc/meminfo", encoding="ascii") as lines:
-        for line in lines:
-            if line.startswith("MemAvailable:"):
-                return int(line.split()[1]) * 1024
-    return MEMORY_OF_A_TASK
-
-
 @dataclass
 class Task:
-    """A call that uses one processor, and returns further tasks. Of the tasks that are ready, the one with the largest cost
-    begins first."""
+    """A call that uses one processor, and returns further tasks. Of the tasks that are ready, the one with the largest
+    cost begins first."""
     key: tuple
     waits: set
     cost: int
@@ -39,7 +32,8 @@ class Lanes:
     def __init__(self):
         self.most = processors()
         if "RT_JOBS" not in os.environ:
-            self.most = max(1, min(self.most, int(free_memory() * 0.9 / MEMORY_OF_A_TASK)))
+            free = re.search(r"^MemAvailable: *(\d+) kB", Path("/proc/meminfo").read_text(encoding="ascii"), re.M)
+            self.most = max(1, min(self.most, int(int(free[1]) * 1024 * 0.9 / MEMORY_OF_A_TASK)))
 
     def run(self, tasks):
         """Runs these tasks, and those that they return."""

@@ -8,15 +8,17 @@ tools/checks/facts compares with the definitions.
 """
 import sys
 from pathlib import Path
-from typing import NamedTuple
+from typing import NamedTuple, Sequence
+
+from saved_bytes import CLOCK as OF_CLOCK, PLACES, SERIAL as OF_PORT
 
 sys.path.append(str(Path(__file__).resolve().parents[2] / "bindings" / "python"))
 from superio import SerialState  # noqa: E402
-from superio.library import FIFO_SIZE  # noqa: E402
-from superio.registers import (CLOCK, DLAB, FIFO_BITS, IDENTIFICATION, LOOPBACK, SERIAL,  # noqa: E402
-                               bits_by_name, clock_register, serial_register)
+from superio.registers import (CLOCK, DLAB, FIELDS, FIFO_BITS, FIFO_SIZE, IDENTIFICATION, LOOPBACK,  # noqa: E402
+                               SERIAL, bits_by_name, clock_register, serial_register)
 
-REGISTERS = ("DLL", "DLM", "IER", "IIR", "LCR", "LSR", "MCR", "MSR", "SCR")      # in the order of a saved state
+# In the order of a saved state.
+REGISTERS = [name for place in PLACES[OF_PORT] for name, field in FIELDS.items() if field == place]
 BY_OFFSET, WITH_LATCH = ([serial_register(offset, latch, False).name for offset in range(8)] for latch in (0, DLAB))
 FRESH = bytes(list(vars(SerialState()).values())[:len(REGISTERS)])
 # The bits of registers that are facts of their own: the two conditions, that none is pending, and data ready.
@@ -26,7 +28,9 @@ ENABLED_BY = {condition: bits_by_name(SERIAL["IER"])[condition] for condition in
 LOOPED = [(bits_by_name(SERIAL["MCR"])[output], bits_by_name(SERIAL["MSR"])[shown])
           for output, shown in (("DTR", "DSR"), ("RTS", "CTS"), ("OUT1", "RI"), ("OUT2", "DCD"))]
 
-CLOCK_FIELDS = ("LR", "MR", "IMSC", "raised", "ahead", "armed")                  # in the order of a saved state
+# In the order of a saved state. What the fields of these names hold are facts of the search.
+FACTS = {"ris": "raised", "offset": "ahead", "armed": "armed"}
+CLOCK_FIELDS = [FACTS.get(name, name.upper()) for name in PLACES[OF_CLOCK]]
 CLOCK_AT = {offset: register.name for offset in range(0x1000) if (register := clock_register(offset))}
 
 
@@ -37,7 +41,7 @@ class Fact(NamedTuple):
     accepted: bytes = b""                 # the bytes that came in and found room
     took: bool = False                    # whether it took the oldest byte
     sent: bytes = b""                     # what the writer took
-    did: list | tuple = ()                # the calls of objects, as tests/calls names them
+    did: Sequence = ()                    # the calls of objects, as tests/calls names them
     starts: bool = False                  # whether it is a start state, before which no byte is from
 
 
@@ -229,21 +233,22 @@ class Clock(Device):
         guest_time = counter if 0 <= counter < 2**32 else time
         is_reached = self.last("armed") and guest_time >= self.last("MR")
         made = {"raised": 1, "armed": False} if is_reached else {}
+        name = CLOCK_AT.get(offset, "")
+        # A register without a rule of its own keeps the number that was written last.
         writes = {} if value is None else {
             "MR": {"MR": value, "armed": value > guest_time} | ({"raised": 1} if value == guest_time else {}),
             "LR": {"LR": value, "ahead": value - time},
             "CR": {"LR": 0, "ahead": 0} if value == 1 else {},
             "IMSC": {"IMSC": value & 1},
-            "ICR": {"cleared": value}}
-        name = CLOCK_AT.get(offset, "")
-        self.past.append(Fact(made | writes.get(name, {})))
+            "ICR": {"cleared": value}}.get(name, {name: value} if name in CLOCK_FIELDS else None)
+        self.past.append(Fact(made | (writes or {})))
         if value is not None:
-            return 0 if name in writes else None
+            return None if writes is None else 0
         if name.startswith("ID"):
             return IDENTIFICATION[int(name[2:])]
         status, mask = self.raw_status(), self.last("IMSC")
-        return {"DR": guest_time, "MR": self.last("MR"), "LR": self.last("LR"), "CR": 1, "IMSC": mask, "RIS": status,
-                "MIS": status & mask}.get(name)
+        kept = self.last(name) if name in CLOCK_FIELDS else None
+        return {"DR": guest_time, "CR": 1, "RIS": status, "MIS": status & mask}.get(name, kept)
 
 
 def resets(offset, value):

@@ -1,8 +1,8 @@
 """The record of crates whose wrong bodies were all refused, so that a check has to try only some of them again.
 
 A row of `tools/refused` has a crate, how many wrong bodies it has, and a digest of all that decides whether they are
-refused: the prover's logic, the crate's sources and those below it, and the wrong bodies. A row that is out of date counts
-as missing.
+refused: the prover's logic, the crate's sources and those below it, and the wrong bodies. A row that is out of date
+counts as missing.
 """
 import hashlib
 import random
@@ -15,16 +15,13 @@ from chance import seed_of
 from rooms import PARTS, crates_of
 
 HEAD = """\
-# The crates whose wrong bodies were all refused: the crate, how many, and the digest of its sources, of those below it and of
-# the wrong bodies. `tools/checks/wrong_bodies --record` writes it.
+# The crates whose wrong bodies were all refused: the crate, how many, and the digest of its sources, of those below it
+# and of the wrong bodies. `tools/checks/wrong_bodies --record` writes it.
 """
+# The file of the record, in a repository.
+FILE = Path("tools", "refused")
 # Of how many recorded wrong bodies one is tried again.
 ONE_IN = 10
-
-
-def name_of(root):
-    """The file of the record, in a repository."""
-    return root / "tools" / "refused"
 
 
 def digest(crate):
@@ -52,9 +49,8 @@ def logic():
 
 def recorded(root):
     """The names of the crates that the record has as they are."""
-    file = name_of(root)
-    rows = [line.split() for line in file.read_text(encoding="utf-8").splitlines()] if file.is_file() else []
-    digests = {row[0]: row[2] for row in rows if row[:1] != ["#"]}
+    text = (root / FILE).read_text(encoding="utf-8") if (root / FILE).is_file() else ""
+    digests = dict(re.findall(r"^(\w+) +\d+  (\w+)$", text, re.M))
     return {name for name, crate in crates_of(root).items() if name in digests and digests[name] == digest(crate)}
 
 
@@ -62,7 +58,7 @@ def write_record(root, numbers):
     """Writes a row for each of these crates, beside the number of its wrong bodies."""
     crates = crates_of(root)
     rows = [f"{name:16}  {number:3}  {digest(crates[name])}\n" for name, number in sorted(numbers.items())]
-    name_of(root).write_text(HEAD + "".join(rows), encoding="utf-8")
+    (root / FILE).write_text(HEAD + "".join(rows), encoding="utf-8")
 
 
 def drawn(crate, edits):

@@ -1,5 +1,6 @@
 """The crates of the repository, and copies of some in a folder of their own, where `rt` works without touching it."""
 import os
+import re
 import shutil
 import subprocess
 import tempfile
@@ -7,6 +8,8 @@ from dataclasses import dataclass
 from pathlib import Path
 
 PARTS = ("src", "specs", "proofs")
+# What builds write, as .gitignore has it.
+BUILT = {"out", "target", "__pycache__", "Cargo.lock"}
 # The status of a command that cannot be started, as shells have it.
 NOT_STARTED = 127
 
@@ -17,6 +20,21 @@ def link(source, target):
         os.link(source, target)
     except OSError:
         shutil.copy2(source, target)
+
+
+def files_of(root):
+    """The files that git keeps, or would if they were added. Without a repository, those of an unpacked archive."""
+    words = ["git", "-C", root, "ls-files", "-z", "--cached", "--others", "--exclude-standard"]
+    ran = subprocess.run(words, stdout=subprocess.PIPE, stderr=subprocess.DEVNULL, text=True)
+    paths = [root / name for name in ran.stdout.split("\0") if name] or sorted(root.rglob("*"))
+    return [path for path in paths if path.is_file() and not BUILT & set(path.relative_to(root).parts)]
+
+
+def copy_files(root, folder):
+    """Copies the files that a clone of the repository would have, with those that are not committed yet."""
+    for path in files_of(root):
+        (folder / path.relative_to(root)).parent.mkdir(parents=True, exist_ok=True)
+        shutil.copy2(path, folder / path.relative_to(root), follow_symlinks=False)
 
 
 def place_for_rooms(root):
@@ -51,6 +69,10 @@ class Crate:
             found += [it for it in [*crate.below(), crate] if it not in found]
         return found
 
+    def libraries(self):
+        """The names of all that it uses, of the repository and of the kit."""
+        return set(self.line.partition(":")[2].partition("#")[0].split())
+
     def size(self):
         """How much there is to prove: its lines."""
         return sum(path.read_bytes().count(b"\n") for part in PARTS for path in (self.folder / part).rglob("*.*t"))
@@ -58,14 +80,10 @@ class Crate:
 
 def crates_of(root):
     """The crates that crates.txt lists, by name."""
-    lines = {}
-    for line in (root / "crates.txt").read_text(encoding="utf-8").splitlines():
-        head, colon, _ = line.partition(":")
-        if colon and not line.startswith("#"):
-            lines[head.split()[0]] = line
-    crates = {name: Crate(root / "crates" / name, line, []) for name, line in lines.items()}
+    lines = re.findall(r"^((\w+)[^:#\n]*:.*)", (root / "crates.txt").read_text(encoding="utf-8"), re.M)
+    crates = {name: Crate(root / "crates" / name, line, []) for line, name in lines}
     for crate in crates.values():
-        crate.uses += [crates[name] for name in crate.line.partition(":")[2].split() if name in crates]
+        crate.uses += [used for name, used in crates.items() if name in crate.libraries()]
     return crates
 
 

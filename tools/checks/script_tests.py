@@ -5,7 +5,6 @@ from itertools import groupby, zip_longest
 
 from program import side_by_side
 
-TERM = re.compile(r'("(?:[^"\\]|\\.)*")(?: \* (\d+))?')
 ENDS = {"input or output fault": 2, "out of memory": 3, "script too long": 4}
 EMPTY = "(empty)"
 
@@ -39,7 +38,7 @@ def is_end(row):
 
 def text(expression):
     """The bytes that an expression of strings stands for."""
-    found = list(TERM.finditer(expression))
+    found = list(re.finditer(r'("(?:[^"\\]|\\.)*")(?: \* (\d+))?', expression))
     if " + ".join(term[0] for term in found) != expression:
         raise ValueError(f"not a text: {expression}")
     return b"".join(json.loads(term[1]).encode("latin-1") * int(term[2] or 1) for term in found)

@@ -33,8 +33,13 @@ class Tally:
         self.of(kind)
         try:
             check(self, *arguments)
-        except (OSError, LookupError, ValueError, subprocess.CalledProcessError) as error:
+        except (OSError, LookupError, TypeError, ValueError, subprocess.CalledProcessError) as error:
             self.check(False, f"{check.__name__}: {error}")
+
+    def carry_out_all(self, checks, *arguments):
+        """Runs checks, each as a kind of its own by its name, such as `check_it`."""
+        for check in checks:
+            self.carry_out(f"checks of {check.__name__.removeprefix('check_').replace('_', ' ')}", check, *arguments)
 
     def check(self, is_good, message, number=1):
         """Counts a check, which tries so many of its kind. The message says what failed."""

@@ -33,8 +33,8 @@ def toolchains():
 
 def is_too_old(manifest):
     """Whether the Cargo of PATH does not know the edition of a manifest."""
-    ran = subprocess.run(["cargo", "metadata", "--offline", "--no-deps", "--format-version", "1", "--manifest-path", manifest],
-                         capture_output=True, text=True)
+    words = ["metadata", "--offline", "--no-deps", "--format-version", "1", "--manifest-path", manifest]
+    ran = subprocess.run(["cargo", *words], capture_output=True, text=True)
     return ran.returncode != 0 and "edition" in ran.stderr
 
 

@@ -1,33 +1,23 @@
 """What `rt check` says of a crate with wrong bodies: which edits it refuses, and for which clause."""
 import re
 from dataclasses import dataclass, field
+from typing import NamedTuple
 
 from contracts import functions_of
 from edits import has_path
 
-PLACE = re.compile(r"(note: )?(?:\./)?((?:src|specs|proofs)/[^:\s]+):(\d+):\d+: (.*)")
-UNPROVED = re.compile(r"fn (\S+): (?:not proved|no proof)\b(.*)")
-EXPECTED = re.compile(r"expected answers in (?:\./)?(proofs/\S+/)\w+\.antt")
 GOAL = re.compile(r"\((?:in )?`([^`]+)`\)|^error: `([^`]+)`: ")
-# An error of the compiler, and one of a text that the prover could not even read.
-NO_COMPILE = re.compile(r"error\[")
+# What the prover says of a text that it could not even read.
 NOT_READ = re.compile(r"is not in scope|has no field|is no name|operand is missing|expected the end|cannot continue")
-# The last line of a check of some functions.
-ONLY = re.compile(r"only=(\d+) proved=(\d+)")
-# A goal that joins clauses, with the statement of each.
-JOINED = re.compile(r"note: `([^`]+)` of (?:\./)?(proofs/\S+/)\w+\.antt must prove: record \{(.*)\}$")
+BRACKETS = re.compile(r"[(\[{][^][(){}]*[])}]")
 LINES_OF_TAIL = 5
 
 
 def fields_of(record):
     """The names of the fields of a record type, written `name : type; ..`."""
-    names, depth, start = [], 0, 0
-    for place, character in enumerate(record + ";"):
-        depth += (character in "([{") - (character in ")]}")
-        if character == ";" and depth == 0:
-            names.append(record[start:place].partition(":")[0].strip())
-            start = place + 1
-    return names
+    while BRACKETS.search(record):
+        record = BRACKETS.sub("", record)
+    return [field.partition(":")[0].strip() for field in record.split(";")]
 
 
 @dataclass
@@ -48,13 +38,9 @@ class Error:
     @property
     def is_of_text(self):
         """Whether it is an error of names, types or syntax, and so refuses no contract."""
-        if NO_COMPILE.match(self.text):
-            return True
-        if not self.text.startswith("error: "):
-            return False
-        said = re.sub(r"`[^`]*`", "", self.text)
-        return self.file.startswith(("src/", "specs/")) and not self.text.startswith("error: `") \
-            or bool(NOT_READ.search(said))
+        is_of_source = self.file.startswith(("src/", "specs/")) and not self.text.startswith("error: `")
+        is_unread = is_of_source or NOT_READ.search(re.sub(r"`[^`]*`", "", self.text))
+        return bool(self.text.startswith("error[") or self.text.startswith("error: ") and is_unread)
 
 
 @dataclass
@@ -69,8 +55,8 @@ class Said:
     tail: str = ""
 
     def clauses(self, path, function, error):
-        """The clauses that an error in a function says are not proved: all that its goal joins. A clause without a name goes
-        by `returns` or by the goal."""
+        """The clauses that an error in a function says are not proved: all that its goal joins. A clause without a name
+        goes by `returns` or by the goal."""
         for goal in error.goals:
             _, has_name, name = goal.rpartition("clause-")
             if has_name:
@@ -92,7 +78,7 @@ class Said:
 def verdict_of(lines):
     """Whether a check proved all that it was to prove, `None` if it reached no verdict."""
     for line in reversed(lines):
-        if found := ONLY.fullmatch(line):
+        if found := re.fullmatch(r"only=(\d+) proved=(\d+)", line):
             return found[1] == found[2]
         if line.startswith("logic="):
             return {"logic=proved": True, "logic=not-proved": False}.get(line.split()[0])
@@ -104,23 +90,22 @@ def read_said(lines, status):
     verdict = verdict_of(lines)
     said = Said(has_verdict=status == 1 and verdict is False, is_proved=status == 0 and verdict is True)
     for line in lines:
-        if found := UNPROVED.match(line):
+        if found := re.match(r"fn (\S+): (?:not proved|no proof)\b(.*)", line):
             said.unproved[found[1]] = found[2]
-        elif found := JOINED.match(line):
+        elif found := re.match(r"note: `([^`]+)` of (?:\./)?(proofs/\S+/)\w+\.antt must prove: record \{(.*)\}$", line):
             said.joined[found[2], found[1]] = fields_of(found[3])
-        elif found := PLACE.match(line):
+        elif found := re.match(r"(note: )?(?:\./)?((?:src|specs|proofs)/[^:\s]+):(\d+):\d+: (.*)", line):
             if found[1] and "it is not proved" in found[4] or found[4].startswith("error"):
                 said.errors.append(Error(found[2], int(found[3]), found[4]))
     said.tail = " / ".join(line for line in lines[-LINES_OF_TAIL:] if line)
     return said
 
 
-@dataclass
-class Outcome:
-    """What became of an edit: REFUSED for its clause, or what is wrong, with the words to print."""
+class Outcome(NamedTuple):
+    """What became of an edit: REFUSED for its clause, or what is wrong, with the words to print. `is_final` says that
+    no other edit in the round can be the cause."""
     kind: str
     text: str
-    # Whether no other edit in the round can be the cause.
     is_final: bool = False
 
     @property
@@ -128,27 +113,27 @@ class Outcome:
         return self.kind == "REFUSED"
 
 
-@dataclass
-class Place:
+class Place(NamedTuple):
     """Where a function is, in lines."""
     file: str
     first: int
     last: int
     function: object
 
-    def has(self, error):
-        return error.file == self.file and self.first <= error.line <= self.last
+    def has(self, it):
+        """Whether an error, or what takes the place of a text, is in these lines."""
+        return it.file == self.file and self.first <= it.line <= self.last
 
 
 def functions_of_edit(edit, texts):
-    """The places of the functions in which an edit may be refused: those that it changes and whose path it names, or all
-    with this path if it changes something outside any function."""
+    """The places of the functions in which an edit may be refused: those that it changes and whose path it names, or
+    all with this path if it changes something outside any function."""
     found = []
     for file, text in texts.items():
         for function in filter(lambda it: it.has_body, functions_of(text)):
             place = Place(file, *function.lines(text), function)
-            is_changed = any(it.file == file and place.first <= it.line <= place.last for it in edit.replacements)
-            if (edit.is_outside or is_changed) and (not edit.function or has_path(file, function, edit.function)):
+            is_changed = edit.is_outside or any(map(place.has, edit.replacements))
+            if is_changed and (not edit.function or has_path(file, function, edit.function)):
                 found.append(place)
     return found
 
@@ -173,15 +158,18 @@ def judge(edit, said, texts):
         return Outcome("BAD", f"it changes no function of the path `{edit.function}`")
     refused, clauses, unread = set(), set(), []
     for path, why in said.unproved.items():
-        proofs = {proofs_of(path), *EXPECTED.findall(why)}
+        proofs = {proofs_of(path), *re.findall(r"expected answers in (?:\./)?(proofs/\S+/)\w+\.antt", why)}
         for place in places:
             if has_path(place.file, place.function, path) and edit.function in ("", path):
-                own = [error for error in said.errors if place.has(error) or error.file.startswith(tuple(proofs))]
-                unread += [error for error in own if error.is_of_text]
-                # What cites another function's proof fails with it, whatever its own body is.
-                own = [error for error in own if not error.is_of_text and "was not admitted" not in error.text]
-                refused |= {path} if own else set()
-                clauses |= {clause for error in own for clause in said.clauses(path, place.function, error)}
+                for error in said.errors:
+                    if not place.has(error) and not error.file.startswith(tuple(proofs)):
+                        continue
+                    if error.is_of_text:
+                        unread.append(error)
+                    elif "was not admitted" not in error.text:
+                        # What cites another function's proof fails with it, whatever its own body is.
+                        refused.add(path)
+                        clauses.update(said.clauses(path, place.function, error))
     seen = f"{', '.join(sorted(refused))}: {', '.join(sorted(clauses))}"
     if unread and not set(edit.clauses) & clauses:
         return Outcome("BAD", f"a proof names what the edit takes away: {unread[0]}; refused is {seen}", is_final=True)

@@ -71,21 +71,22 @@ class Run:
         except (BlockingIOError, OSError):  # there is nothing, or the monitor has ended
             return b""
 
+    def _await(self, has_come, what):
+        """Reads what is shown until something has come."""
+        while not has_come():
+            if not select.select([self.master], [], [], LIMIT)[0]:
+                raise Wrong(f"{what} does not come after {self.shown[-200:]}; {self.said()}")
+            self.shown += self._read()
+
     def expect(self, text):
         """What is shown up to this text, which is taken away with it."""
-        while text not in self.shown:
-            if not select.select([self.master], [], [], LIMIT)[0]:
-                raise Wrong(f"{text[:60]} does not come after {self.shown[-200:]}; {self.said()}")
-            self.shown += self._read()
+        self._await(lambda: text in self.shown, text[:60])
         head, _, self.shown = self.shown.partition(text)
         return head
 
     def receive(self, count):
         """The next bytes that are shown."""
-        while len(self.shown) < count:
-            if not select.select([self.master], [], [], LIMIT)[0]:
-                raise Wrong(f"{len(self.shown)} of {count} bytes came, the last ones {self.shown[-60:]}; {self.said()}")
-            self.shown += self._read()
+        self._await(lambda: len(self.shown) >= count, f"byte {count}, after {len(self.shown)},")
         head, self.shown = self.shown[:count], self.shown[count:]
         return head
 

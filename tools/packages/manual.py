@@ -23,9 +23,6 @@ cc \\&... $(pkg\\-config \\-\\-cflags \\-\\-libs superio)
 .SH THE VERSION
 {rest}
 """
-# A heading within the header's declarations, and one within a comment.
-RULE = re.compile(r"/\* -+ \*/\n/\* (.+?) +\*/\n/\* -+ \*/")
-UNDERLINED = re.compile(r"(.+)\n-+")
 BULLET = "\\(bu"
 CHARACTERS = str.maketrans({"\\": "\\e", "-": "\\-", "'": "\\(aq", "`": "\\(ga", "^": "\\(ha"})
 
@@ -52,7 +49,7 @@ def sentences(text):
 def prose(comment):
     """Paragraphs, lists and examples of a comment as roff."""
     for paragraph in comment.split("\n\n"):
-        if heading := UNDERLINED.fullmatch(paragraph):
+        if heading := re.fullmatch(r"(.+)\n-+", paragraph):
             yield f".SH {heading[1].upper()}"
         elif paragraph.startswith("    "):
             yield example(textwrap.dedent(paragraph))
@@ -77,7 +74,7 @@ def manual(version):
     body = text[text.index("/* The version of the library that"):text.index("\n\n/* The structs have the sizes")]
     synopsis, rest = [], []
     for part in AT_LEAST.sub(r"\1", ATTRIBUTE.sub("", body)).split("\n\n"):
-        if heading := RULE.fullmatch(part):
+        if heading := re.fullmatch(r"/\* -+ \*/\n/\* (.+?) +\*/\n/\* -+ \*/", part):
             rest.append(f".SH {heading[1].upper()}")
             continue
         comment, declared = comment_and_code(part)

@@ -11,8 +11,9 @@ import zipfile
 from pathlib import Path
 
 from libraries import PREBUILT, ROOT, SHARED, TARGETS, digest
+from rooms import copy_files, files_of
 from tally import run
-from texts import ABI, VERSION, files
+from texts import ABI, VERSION
 
 # A user whom the system does not know, as far as programs can tell.
 STRANGER = ["unshare", "--user"]
@@ -39,9 +40,7 @@ SPDX = {
 
 def checkout(folder):
     """Puts the files as they are now into a repository of their own, with a commit whose digest is always the same."""
-    for path in files():
-        (folder / path.relative_to(ROOT)).parent.mkdir(parents=True, exist_ok=True)
-        shutil.copy(path, folder / path.relative_to(ROOT))
+    copy_files(ROOT, folder)
     environment = {**os.environ, "GIT_CONFIG_GLOBAL": "/dev/null"}
     for name in ("AUTHOR", "COMMITTER"):
         environment.update({f"GIT_{name}_NAME": "a", f"GIT_{name}_EMAIL": "a", f"GIT_{name}_DATE": f"{MOMENT} +0000"})
@@ -148,7 +147,7 @@ def check_contents(tally, made):
     tally.check(listed == {path.name for path in made.iterdir()} - {"SHA256SUMS"}, f"SHA256SUMS has {sorted(listed)}")
     with tarfile.open(made / ARCHIVE) as sources:
         names = {member.name.partition("/")[2] for member in sources.getmembers() if member.isfile()}
-    tally.check(names == {path.relative_to(ROOT).as_posix() for path in files()}, "the sources are not whole")
+    tally.check(names == {path.relative_to(ROOT).as_posix() for path in files_of(ROOT)}, "the sources are not whole")
     for target in TARGETS:
         library = (PREBUILT / target / SHARED).read_bytes()
         with tarfile.open(made / f"superio-{VERSION}-{target}.tar.gz") as archive:

@@ -1,9 +1,8 @@
 """What files say: the licenses, the version and the number of the binary interface, and addresses that lead nowhere."""
 import re
-import subprocess
 
 from libraries import ROOT, SHARED, digest
-from tally import run
+from rooms import files_of
 
 VERSION, ABI = (ROOT / "VERSION").read_text(encoding="ascii").strip(), SHARED.rpartition(".")[2]
 # The sums of the licenses: the one as Debian and REUSE have it, the other with the holders that LICENSE names.
@@ -20,25 +19,15 @@ PLACES = [
     ("debian/changelog", r"\Asuperio \((.+)-\d+\) ", VERSION),
     ("include/superio.h", r'^#define SUPERIO_VERSION "(.+)"$', VERSION),
     # The same for the number of the binary interface, which the name of the shared library ends with.
-    ("bindings/js/superio.mjs", r"^const ABI = (\d+);$", ABI),
+    ("bindings/js/module.mjs", r"^export const ABI = (\d+);$", ABI),
     ("bindings/python/superio/library.py", r"^ABI = (\d+)$", ABI),
     ("bindings/rust/capi/src/lib.rs", r"^const ABI: u32 = (\d+);$", ABI),
     ("crates/superio_c/src/lib.rt", r"^const ABI: u32 = (\d+);$", ABI),
     ("debian/control", r"^Package: libsuperio(\d+)$", ABI),
     ("include/superio.h", r"^#define SUPERIO_ABI (\d+)$", ABI),
 ]
-# What builds write, as .gitignore has it.
-BUILT = {"out", "target", "__pycache__", "Cargo.lock"}
 # The names that no one can own, by RFC 2606.
 PLACEHOLDER = re.compile(r"(?://|@)(?:(?:[\w-]+\.)+(?:example|invalid)|(?:[\w-]+\.)*example\.(?:com|net|org))(?![\w-])")
-
-
-def files():
-    """The files that git keeps, or would if they were added. Without a repository, those of the unpacked archive."""
-    words = ["git", "-C", ROOT, "ls-files", "-z", "--cached", "--others", "--exclude-standard"]
-    ran = subprocess.run(words, stdout=subprocess.PIPE, stderr=subprocess.DEVNULL, text=True)
-    paths = [ROOT / name for name in ran.stdout.split("\0") if name] or sorted(ROOT.rglob("*"))
-    return [path for path in paths if path.is_file() and not BUILT & set(path.relative_to(ROOT).parts)]
 
 
 def check_texts(tally):
@@ -63,7 +52,7 @@ def check_addresses(tally):
     """Counts whether a text has an address that only stands for one. A test may need a host that is nowhere."""
     if not tally.has("git", "addresses that lead nowhere"):
         return
-    texts = {path: path.read_bytes() for path in files() if ROOT / "tools" / "test" not in path.parents}
+    texts = {path: path.read_bytes() for path in files_of(ROOT) if ROOT / "tools" / "test" not in path.parents}
     texts = {path: text.decode(errors="replace") for path, text in texts.items() if b"\0" not in text}
     found = [f"{path}: {it[0]}" for path, text in texts.items() for it in PLACEHOLDER.finditer(text)]
     tally.check(len(texts) > 500, f"addresses were looked for in only {len(texts)} files")

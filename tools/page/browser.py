@@ -17,7 +17,7 @@ KEYS = {"Tab": 9, "Enter": 13, " ": 32, "ArrowLeft": 37, "ArrowRight": 39, "End"
 COMPLAINTS = ("Runtime.exceptionThrown", "Runtime.consoleAPICalled", "Log.entryAdded")
 
 
-class BrowserError(Exception):
+class BrowserError(OSError):
     """The browser ended, or a command or an expression failed."""
 
 

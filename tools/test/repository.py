@@ -3,6 +3,7 @@ import contextlib
 import importlib.machinery
 import importlib.util
 import io
+import os
 import re
 import shutil
 import subprocess
@@ -180,9 +181,10 @@ class CopyTest(FolderTest):
         self.assertEqual((lost, other), ([], []))
         return ran[1]
 
-    def run_tool(self, name, *arguments, **options):
+    def run_tool(self, name, *arguments, env=os.environ, **options):
         """The status, the output and the errors of a tool of the copy, which may not end in a traceback."""
+        # What Python compiled of a file would be taken for that of another one of its size, of the same second.
         ran = subprocess.run([sys.executable, self.root / name, *arguments], capture_output=True, text=True,
-                             timeout=120, **options)
+                             timeout=120, env={**env, "PYTHONDONTWRITEBYTECODE": "1"}, **options)
         self.assertNotIn("Traceback", ran.stderr)
         return ran.returncode, ran.stdout, ran.stderr

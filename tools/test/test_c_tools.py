@@ -20,7 +20,7 @@ STUCK = [
     ("", "", 0, 0), ("if (offset == IIR && (done.byte & NONE_PENDING))", "if (offset == IIR && 0)", 1, 3),
     ("PASTES = 10000", "PASTES = 9990", 1, 0),
 ]
-HEADER, CALLER = "include/superio.h", "tools/compare/src/library.rs"
+HEADER = "include/superio.h"
 # A change of a declaration, and what is said of it.
 UNKNOWN = (HEADER, "superio_abi(void);", "superio_abi(void), superio_zero(void);", "tools/c/header.py does not know")
 DECLARATIONS = [
@@ -35,10 +35,8 @@ DECLARATIONS = [
      "superio_rtc_read: the header has the function"),
     ("bindings/rust/src/core/serial/effects.rs", "    pub sends: bool,\n", "",
      "superio_serial_write_effects: the header has"),
-    (CALLER, "    resets: bool,", "    resets: u16,", "superio_i8042_write_effects: the header has the size 1"),
     ("tools/c/tests/replay.c", "superio_i8042_read((uint8_t)number(1))", "0",
      "replay.c does not call ['superio_i8042_read']"),
-    (CALLER, "    safe fn superio_rtc_line(clock: &Clock) -> bool;\n", "", "tools/compare None"),
 ]
 # In place of the kit: `rt doc` names a page of the kit, `rt lib` writes a library that says what it is for, and the
 # linker one that says what it was linked of.

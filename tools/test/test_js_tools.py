@@ -1,7 +1,7 @@
 """Tests of tools/js and tools/page: faults of what is built and generated are found, without compiler and browser."""
 from repository import NOTHING_ELSE, ROOT, CopyTest
 
-MODULE, PACKAGE, PAGE = "wasm32/superio.wasm", "bindings/js/package.json", "bindings/js/page/page.html"
+MODULE, PAGE = "wasm32/superio.wasm", "bindings/js/page/page.html"
 REGISTERS, SUPERIO = "bindings/js/registers.mjs", "bindings/js/superio.mjs"
 ICON = '<link rel="icon" href="{}">'
 # A file, a text of it, the one in its place, and what the check says.
@@ -10,8 +10,7 @@ OF_JS = [
      "the module was built from other sources"),
     (REGISTERS, "", "[].toSorted();", "registers.mjs has .toSorted(, which Node 18 lacks"),
     (SUPERIO, "", "'i'.toLocaleUpperCase();", "superio.mjs has toLocale, which differs with the user's language"),
-    (PACKAGE, '"version": "', '"version": "9', "package.json has version 9"),
-    (SUPERIO, "const ABI = ", "const ABI = 9", "superio.mjs is for the binary interface 9"),
+    ("bindings/python/superio/registers.py", '"SCR", 7', '"SCR", 8', "module.mjs has other bytes or tables"),
     (f"prebuilt/{MODULE}", None, (ROOT / "prebuilt" / MODULE).read_bytes()[:-1],
      f"prebuilt/SHA256SUMS has another sum than {MODULE}", "module.mjs has other bytes")]
 OF_PAGE = [
@@ -28,7 +27,7 @@ class Checked(CopyTest):
         printed = self.judge("tools/js/check", OF_JS, env=NOTHING_ELSE)
         for missing in ("node", "deno", "rustc"):
             self.assertRegex(printed, f"skipped: .*{missing}.* not there")
-        self.assertRegex(printed, r", 6 skipped\n$")
+        self.assertRegex(printed, r", 5 skipped\n$")
 
     def test_faults_of_the_page_are_found(self):
         printed = self.judge("tools/page/check", OF_PAGE, env=NOTHING_ELSE)

@@ -17,8 +17,8 @@ CAT = shutil.which("cat")
 CALLS_OF, NONE = "tests/calls/calls.txt.xz", "/nowhere/at/all is not there"
 LIBRARY, DEVICE = "prebuilt/aarch64-linux/libsuperio_c.a", "bindings/rust/src/core/serial.rs"
 SAVED, SOME = "docs/SAVED-STATES.md", "some"
-# A tool with its arguments, the parts of the repository that it has beside tools/ and the Python package, how a line of
-# it ends, and what it passes and fails.
+# A tool with its arguments, the parts of the repository that it has beside tools/, the Python package and SAVED, how a
+# line of it ends, and what it passes and fails.
 MISSING = [
     ("checks/calls", [CAT], [], "calls/clocks.txt is not there", (0, SOME)),
     ("checks/excerpts", [], [], "nothing was checked", (0, SOME)),
@@ -30,9 +30,7 @@ MISSING = [
      (SOME, 1)),
     *((f"checks/{name}", ["/nowhere/at/all"], [], NONE, (0, SOME)) for name in ("scripts", "hostile")),
     ("checks/calls", ["/nowhere/at/all"], ["tests/calls"], NONE, (SOME, SOME)),
-    ("checks/saved_forms", [CAT, "--random", "0"], ["include", "prebuilt"], f"{SAVED}: No such file or directory",
-     (0, 1)),
-    ("checks/saved_forms", [CAT, "--random", "0"], ["include", SAVED], "returned non-zero exit status 1.", (0, 1)),
+    ("checks/saved_forms", [CAT, "--random", "0"], ["include"], "returned non-zero exit status 1.", (0, 1)),
 ]
 # The programs that a machine may lack: the kit, compilers and Cargo.
 LACKING = re.compile(r"(.*-)?(rt|cc|c89|c99|tcc|gcc|g\+\+|c\+\+|cpp|clang|clang\+\+|cargo|rustc)(-[\d.]+)?")
@@ -47,7 +45,7 @@ WITH_OLD_CARGO = dict.fromkeys(("random_calls", "calls", "counts"), OLD)
 
 @unittest.skipUnless(CAT and shutil.which("cc"), "cat and cc are needed")
 class MissingFiles(CopyTest):
-    parts = "tools", "bindings/python/superio"
+    parts = "tools", "bindings/python/superio", SAVED
 
     def judge_sums(self, tool, *arguments, says, sums, **options):
         """A tool of the copy passes and fails so much, or some. One of its lines ends so."""
@@ -79,14 +77,21 @@ class MissingFiles(CopyTest):
         self.judge_sums("checks/wrong_bodies", "--root", self.root, says="No such file or directory: 'rt'", sums=(0, 1),
                         env=NOTHING_ELSE)
 
-    def test_a_damaged_recording_and_a_document_without_an_example(self):
+    def test_a_damaged_recording_and_a_document_without_what_is_read(self):
         self.take("tests", "include", "prebuilt")
         self.write(CALLS_OF, (self.root / CALLS_OF).read_bytes()[:-1000])
         says = "end-of-stream marker was reached"
         self.judge_sums("checks/calls", CAT, says=says, sums=(SOME, SOME), env=NOTHING_ELSE)
-        self.write(SAVED, "Without an example.\n")
-        says = "one good example of each device is wanted, and these are there: {}"
-        self.judge_sums("checks/saved_forms", CAT, "--random", "0", says=says, sums=(0, 1))
+        text = (self.root / SAVED).read_text(encoding="utf-8")
+        for document, says in (
+                (text.replace("53494f53", "-"), "one good example of each device is wanted, and these are there: {}"),
+                (text.replace("| `lr`", "| lr"), "SAVED-STATES.md: the fields of a clock are not one after the other"),
+                ("Without a table.\n", "SAVED-STATES.md has no version of the form"),
+                (None, "SAVED-STATES.md: No such file or directory")):
+            (self.root / SAVED).unlink()
+            if document:
+                self.write(SAVED, document)
+            self.judge_sums("checks/saved_forms", CAT, "--random", "0", says=says, sums=(0, 1))
 
 
 class MissingPrograms(CopyTest):

@@ -61,6 +61,7 @@ HIDING = [
     "pub static mut CALLS: u64 = 0;",
     "thread_local! { pub CALLS: u64 = 0; }",
     "fn calls() -> usize { std::env::vars().count() }",
+    "fn calls() -> usize { <std::fmt::Error as std::env::Args>::len() }",
     'fn count() { std::fs::write("calls", "1") }',
     "fn is_late() -> bool { std::time::Instant::now() > START }",
     "fn is_odd(it: &u8) -> bool { (it as *const u8 as usize) % 2 == 1 }",

@@ -5,9 +5,10 @@ import shutil
 import subprocess
 import sys
 import unittest
+from unittest import mock
 
-from repository import ROOT, CopyTest
-from texts import PLACEHOLDER
+import texts
+from repository import ROOT, CopyTest, silently, tally_of
 
 TARGETS = ("aarch64-linux", "x86_64-linux")
 HEADER, TABLE, CHANGES = "include/superio.h", "include/superio.abi", "CHANGELOG.md"
@@ -57,7 +58,15 @@ def can_mount():
 
 class Addresses(unittest.TestCase):
     def test_what_leads_nowhere(self):
-        self.assertEqual([(text, len(PLACEHOLDER.findall(text))) for text, _ in ADDRESSES], ADDRESSES)
+        self.assertEqual([(text, len(texts.PLACEHOLDER.findall(text))) for text, _ in ADDRESSES], ADDRESSES)
+
+
+class Versions(unittest.TestCase):
+    def test_each_place_is_compared(self):
+        for name, form, wanted in texts.PLACES:
+            with mock.patch.object(texts, "PLACES", [(name, form, f"9{wanted}")]):
+                tally = tally_of(texts.check_versions)
+            self.assertEqual((tally.passed, tally.failed), (1, 1), name)
 
 
 class Interface(CopyTest):

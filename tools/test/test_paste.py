@@ -50,8 +50,9 @@ class Pasting(CopyTest):
         """What the blocks of a document pass, fail and skip, and what is printed."""
         self.write("README.md", text)
         with mock.patch.object(paste, "PLAIN_PATH", str(self.root / "bin")):
-            counts, said = silently(paste.paste, self.root, [Path("README.md")], None, paste.Tried())
-        return tuple(counts[outcome] for outcome in ("passed", "failed", "skipped")), said
+            tally = paste.Tally()
+            _, said = silently(paste.paste, self.root, [Path("README.md")], None, tally)
+        return (tally.passed, tally.failed, tally.skipped), said
 
     def test_what_each_document_passes_fails_and_skips(self):
         for text, wanted in DOCUMENTS:

@@ -101,4 +101,4 @@ class Running(CopyTest):
         self.change("examples/linux-boot/console.recording", 'received "hi"', 'received "ho"')
         status, printed, _ = self.run_tool("tools/replay", self.program)
         self.assertEqual((status, printed.splitlines()[-1]), (1, "3 passed, 1 failed"))
-        self.assertIn("console.recording, piece 0: line 7, 'sr 00': expected '6f' and got '69'\n", printed)
+        self.assertIn("console.recording, piece 0: reply 7 is b'69' instead of b'6f', of b'sw 01 01", printed)

@@ -96,7 +96,7 @@ class RandomCalls(unittest.TestCase):
     def setUpClass(cls):
         folder = tempfile.TemporaryDirectory()
         cls.addClassCleanup(folder.cleanup)
-        cls.comparison = cargo.Comparison(Path(folder.name), "library")
+        cls.comparison = cargo.Comparison(Path(folder.name))
 
     def test_a_shell_that_is_right_or_that_has_moved_is_not_counted_as_refused(self):
         for old, new, wanted, says in ((
@@ -110,12 +110,12 @@ class RandomCalls(unittest.TestCase):
         source = self.comparison.copy / "src" / "random.rs"
         text = source.read_text(encoding="utf-8")
         self.addCleanup(source.write_text, text, encoding="utf-8")
-        self.assertEqual(text.count("Action::SerialTimeout"), 1)
-        source.write_text(text.replace("Action::SerialTimeout", "Action::SerialCoherence"), encoding="utf-8")
+        self.assertEqual(text.count('"si"'), 1)
+        source.write_text(text.replace('"si"', '"sf"'), encoding="utf-8")
         self.comparison.take(cargo.BINDINGS)
         tally = tally_of(random_calls.check_calls, self.comparison, 400_000, 1)
         self.assertEqual((tally.passed, tally.failed > 0), (1, True))
-        self.assertIn("0 different, 2 cases too seldom", tally.printed)
+        self.assertIn("2 cases too seldom", tally.printed)
 
     def test_each_edit_is_tried_as_one_of_its_kind(self):
         with mock.patch.object(random_calls, "check_wrong_shell") as tries:

@@ -7,7 +7,7 @@ import subprocess
 import sys
 import unittest
 from dataclasses import replace
-from itertools import chain, islice, product, repeat
+from itertools import chain, islice, repeat
 from pathlib import Path
 from unittest import mock
 
@@ -27,8 +27,7 @@ from toolchains import Toolchain
 
 failing_io, first_crate, hostile, refused_memory, saved_forms = (
     module_of(f"checks/{name}") for name in ("failing_io", "first_crate", "hostile", "refused_memory", "saved_forms"))
-rust_check, js_check, kvm_check, page_check, packages_check = (
-    module_of(f"{name}/check") for name in ("rust", "js", "kvm", "page", "packages"))
+rust_check, js_check, kvm_check, page_check = (module_of(f"{name}/check") for name in ("rust", "js", "kvm", "page"))
 # A program that prints its script, and others that differ from it in one thing.
 RIGHT, STATUS = "cat", "cat; exit 1"
 WRONG = ("sed 's/4$/5/'", "cat; echo", "sed '$d'", "cat; echo fault >&2", STATUS, "true")
@@ -45,7 +44,7 @@ DIFFERS = {"C": "sh = 001", **{library: f"sr 07 = 00\ngot:      sr 07 = {got}" f
 
 @unittest.skipUnless(shutil.which("sed") and shutil.which("cc"), "sed and cc are needed")
 class Programs(CopyTest):
-    parts = "tools", "bindings/python", "include", "prebuilt", "tests/calls"
+    parts = "tools", "bindings/python", "docs/SAVED-STATES.md", "include", "prebuilt", "tests/calls"
     # Where the checks find cc, and Cargo if that is beside it.
     tools = {"PATH": str(Path(shutil.which("cc") or "").parent)}
 
@@ -97,9 +96,10 @@ class Programs(CopyTest):
             printed = self.run_tool("tools/checks/calls", program(self.root / "program", text), env=environment)[1]
             return (*sum_of(printed)[:2], printed)
         passed, failed, _ = calls(OF_CALLS, self.tools)
-        self.assertIn((passed, failed), [(36, 0), (45, 0)])  # with Cargo beside cc there is a library more
+        self.assertIn((passed, failed), [(37, 0), (48, 0)])  # with Cargo beside cc there is a library more
         self.assertEqual(calls(f"{OF_CALLS}sys.exit(1)\n", NOTHING_ELSE)[:2], (18, 9))
-        for path in folder.glob("*.txt*"):
+        further = ("c/tests/shared.txt", "compare/panics.txt")
+        for path in (*folder.glob("*.txt*"), *(self.root / "tools" / it for it in further)):
             pack, unpack = (lzma.compress, lzma.decompress) if path.suffix == ".xz" else (bytes, bytes)
             before, equals, after = unpack(path.read_bytes()).rpartition(b" = ")
             path.write_bytes(pack(before + equals + b"0" + after))
@@ -108,7 +108,7 @@ class Programs(CopyTest):
         wrong = OF_CALLS.replace("print(reply)", "print('08' if line == 'sr 07\\n' else reply)")
         passed, failed, printed = calls(wrong, os.environ)
         lost = [it for it, says in DIFFERS.items() if f"{it}, line.txt: recorded: {says}\n" not in printed]
-        self.assertIn((passed, failed, lost), [(0, 36, ["Rust"]), (0, 45, [])], printed)
+        self.assertIn((passed, failed, lost), [(0, 37, ["Rust"]), (0, 48, [])], printed)
 
     def test_saved_forms(self):
         self.take("bindings", "docs/SAVED-STATES.md")
@@ -186,26 +186,18 @@ class Runs(FolderTest):
             with mock.patch.object(refused_memory, "MOST", {"other": most}):
                 self.assertEqual(different(lines), faults)
 
-    def test_loads_through_a_library_and_through_scripts(self):
-        """One returns another status, size or text. The runs of all scripts but the first are right."""
-        tried, right = list(saved_forms.chosen_bytes(random.Random(1))), []
-        for data, kind in product(tried, saved_forms.LINES):
-            status = saved_forms.status(kind, data)
-            text = data if status == saved_forms.OK else b""
-            right.append((kind, data, status, len(text), text))
-        place = next(place for place, it in enumerate(right) if it[2] == saved_forms.OK)
-        kind, data, status, size, text = right[place]
-        for wrong, failed in ((right[place], 0), ((kind, data, status + 1, 0, b""), 1),
-                              ((kind, data, status, size, b""), 1)):
-            with mock.patch.object(saved_forms, "replies", return_value=[*right[:place], wrong, *right[place + 1:]]):
-                result, _ = silently(saved_forms.through_library, "", tried[:1])
-            self.assertEqual(result, (len(right) - failed, failed))
-        for printed, failed in ((f"{2 * len(right)} calls did the same, 0 did not\n", 0), ("", len(right)),
-                                (f"{2 * len(right) - 1} calls did the same, 1 did not\n", len(right))):
+    def test_loads_through_a_player_and_through_scripts(self):
+        """One load differs, or a status is never returned. The runs of all scripts but the first are right."""
+        tried = list(saved_forms.chosen_bytes(random.Random(1)))
+        loads = len(saved_forms.LINES) * len(tried)
+        for printed, failed in ((f"{2 * loads} calls did the same, 0 did not\n", 0), ("", loads),
+                                (f"{2 * loads - 1} calls did the same, 1 did not\n", loads)):
             with mock.patch("subprocess.run", return_value=ended(0, printed)), \
                     mock.patch.object(saved_forms, "CHUNK", len(tried)):
-                result, _ = silently(saved_forms.through_c, "", tried)
-            self.assertEqual(result, (len(right) - failed, failed))
+                result, _ = silently(saved_forms.through_player, [""], tried)
+            self.assertEqual(result, (loads - failed, failed))
+        with mock.patch("subprocess.run", return_value=ended(0, "4 calls did the same, 0 did not\n")):
+            self.assertGreater(silently(saved_forms.through_player, [""], [b""])[0][1], 0)
         right = [(0, replies.encode(), b"") for _, replies in saved_forms.scripts(tried)]
         for wrong in (right[0], (1, *right[0][1:]), (0, right[0][1][:-2] + b"0\n", b""), (*right[0][:2], b"0"), None):
             with mock.patch.object(saved_forms, "run_all", return_value=[wrong, *right[1:]]):
@@ -233,10 +225,8 @@ class Runs(FolderTest):
             tally = tally_of(lambda it: it.run("it", command, expected))
             self.assertEqual((tally.passed, tally.failed), (is_good, not is_good))
         ends_by_an_error = mock.Mock(__name__="check_it", side_effect=OSError)
-        for carry_out in (lambda it: it.carry_out("it", ends_by_an_error),
-                          lambda it: packages_check.run(it, ends_by_an_error)):
-            tally = tally_of(carry_out)
-            self.assertEqual((tally.passed, tally.failed), (0, 1))
+        tally = tally_of(lambda it: it.carry_out("it", ends_by_an_error))
+        self.assertEqual((tally.passed, tally.failed), (0, 1))
 
     def test_calls_tests_and_programs_of_javascript(self):
         """One fails or does another number, or a program prints something else, or its document does not say what."""
@@ -400,7 +390,7 @@ class Failing(FolderTest):
 
 
 class Proving(CopyTest):
-    parts = ("tools",)
+    parts = ("tools", "docs/SAVED-STATES.md")
 
     def test_ci_runs_all_in_a_copy_and_ends_as_it_does(self):
         tiny.make(self.root, [])

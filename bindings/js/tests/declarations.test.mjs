@@ -2,7 +2,7 @@
 import assert from "node:assert/strict";
 import { readFileSync } from "node:fs";
 import test from "node:test";
-import text from "../module.mjs";
+import text, { ABI as own } from "../module.mjs";
 import * as superio from "../superio.mjs";
 
 const read = (name) => readFileSync(new URL(`../${name}`, import.meta.url), "utf8");
@@ -95,9 +95,8 @@ test("the module needs nothing", () => {
 test("a module of another binary interface is refused", async () => {
   const here = (_, name) => `"${new URL(`..${name}`, import.meta.url)}"`;
   const source = read("superio.mjs").replace(/"\.(\/\w+\.mjs)"/g, here);
-  const own = Number(/^const ABI = (\d+);$/m.exec(source)[1]);
   for (const other of [own - 1, own + 1, own + 256]) {
-    const changed = Buffer.from(source.replace(/^const ABI = .*$/m, `const ABI = ${other};`)).toString("base64");
+    const changed = Buffer.from(`const ABI = ${other};${source.replace("{ ABI, ", "{ ")}`).toString("base64");
     const message = `the module has the binary interface ${own}, and this package is for ${other}`;
     await assert.rejects(import(`data:text/javascript;base64,${changed}`), { message });
   }

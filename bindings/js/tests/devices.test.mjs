@@ -24,8 +24,19 @@ const PORT = {
 };
 const REGISTERS = Object.keys(PORT).filter((name) => name !== "inBuffer");
 const PORT_SAVED = "53494f5301010c0011220306446108b577a1a2a3";
-const CLOCK = { lr: 0x01020304, mr: 0x05060708, imsc: 1, ris: 0x0a0b0c0d, offset: -2n, armed: true };
-const CLOCK_SAVED = "53494f53020119000403020108070605010000000d0c0b0afeffffffffffffff01";
+const numbersOf = (state) => Object.keys(state).filter((name) => typeof state[name] === "number");
+const CLOCK = { ...new Rtc().state, offset: -2n, armed: true,
+  ...Object.fromEntries(numbersOf(new Rtc().state).map((name, place) => [name, 0x01020304 + 0x11111111 * place])) };
+
+/** The saved form of a clock by docs/SAVED-STATES.md: four bytes for a number, eight for an offset, one for an alarm. */
+function savedClock(state) {
+  const sizes = { number: 4, bigint: 8, boolean: 1 };
+  const contents = Object.values(state).flatMap((value) => Array.from({ length: sizes[typeof value] },
+    (_, place) => Number((BigInt(value) >> BigInt(8 * place)) & 0xffn)));
+  return [..."SIOS".split("").map((letter) => letter.charCodeAt(0)), 2, new Serial().toBytes()[5], contents.length, 0, ...contents];
+}
+
+const CLOCK_SAVED = savedClock(CLOCK).map((one) => one.toString(16).padStart(2, "0")).join("");
 
 test("a write's offset comes before its value", () => {
   const port = new Serial();
@@ -147,14 +158,12 @@ test("after each of many calls the state is that of the saved form, and no form 
     const { inBuffer, ...registers } = port.state;
     for (const own of [ofPort, ofClock, inBuffer]) assert.equal(own.buffer.byteLength, own.length);
     assert.deepEqual([...Object.values(registers), ...inBuffer], [...ofPort.subarray(8)]);
-    const { lr, mr, imsc, ris, offset: ahead, armed } = clock.state;
-    const view = new DataView(ofClock.buffer, 8);
-    assert.deepEqual([lr, mr, imsc, ris], [0, 4, 8, 12].map((place) => view.getUint32(place, true)));
-    assert.deepEqual([ahead, armed], [view.getBigInt64(16, true), ofClock[32] === 1]);
+    assert.deepEqual([...ofClock], savedClock(clock.state));
     const same = [Serial.fromState(port.state), Rtc.fromState(clock.state)];
     assert.deepEqual(same.map((one) => one.toBytes()), forms);
     assert.deepEqual(told(port, clock, now), told(...same, now));
-    const key = [lr, mr, imsc, ris, ahead].join();
+    const { armed, ...others } = clock.state;
+    const key = Object.values(others).join();
     seen.set(key, (seen.get(key) ?? 0) | (armed ? 2 : 1));
   }
   assert.ok([...seen.values()].filter((both) => both === 3).length > 50);
@@ -246,8 +255,9 @@ test("a class of a monitor's own makes plain devices, which lack none of its fie
 test("saved bytes that are refused change nothing, and say why", () => {
   const long = ["53494f5301014a00" + "00".repeat(74), "53494f530101ffff" + "00".repeat(0xffff),
     "53494f530101ffff" + "00".repeat(0x1ffff)];
-  for (const [kind, device, good, least, most] of [[1, Serial, PORT_SAVED, 9, 73], [2, Rtc, CLOCK_SAVED, 25, 25]]) {
+  for (const [kind, device, good] of [[1, Serial, PORT_SAVED], [2, Rtc, CLOCK_SAVED]]) {
     const form = fromHex(good);
+    const [least, most] = kind === 1 ? [9, 73] : [form.length - 8, form.length - 8];
     const forms = [...form.keys()].flatMap((place) => [form.slice(0, place), ...Array.from({ length: 256 },
       (_, value) => within(form.map((one, other) => (other === place ? value : one))))]);
     for (const saved of [...forms, ...long.map(fromHex)]) {
@@ -271,11 +281,11 @@ function statusOf(kind, saved, least, most) {
   if (saved.length < 8) return "too short";
   if (!"SIOS".split("").every((letter, place) => letter.charCodeAt(0) === saved[place])) return "not a saved state";
   if (saved[4] !== kind) return "other device";
-  if (saved[5] !== 1) return "unknown version";
+  if (saved[5] !== new Serial().toBytes()[5]) return "unknown version";
   const count = saved[6] + 256 * saved[7];
   if (count !== saved.length - 8 || count < least || (kind === 2 && count > most)) return "wrong length";
   if (count > most) return "too many bytes";
-  return kind === 2 && saved[32] > 1 ? "invalid armed" : null;
+  return kind === 2 && saved.at(-1) > 1 ? "invalid armed" : null;
 }
 
 /** A call that has to be refused, with the error and a text that its message has. */
@@ -322,7 +332,7 @@ const NUMBERS = [
   ["value", OF_BYTE, (it) => new I8042().write(4, it)],
   ["offset", [-(2n ** 63n), 2n ** 63n - 1n], (it) => Rtc.fromState({ ...CLOCK, offset: it })],
   ...REGISTERS.map((name) => [name, OF_BYTE, (it) => Serial.fromState({ ...PORT, [name]: it })]),
-  ...Object.keys(CLOCK).slice(0, 4).map((name) => [name, OF_WORD, (it) => Rtc.fromState({ ...CLOCK, [name]: it })]),
+  ...numbersOf(CLOCK).map((name) => [name, OF_WORD, (it) => Rtc.fromState({ ...CLOCK, [name]: it })]),
 ];
 
 test("each number is taken at its edges, and refused beyond them by its name, its value and the range", () => {

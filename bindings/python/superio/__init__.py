@@ -9,8 +9,8 @@ from .board import Board, Call
 from .devices import (EnqueueEffects, I8042, I8042WriteEffects, ReadEffects, Rtc, RtcReadEffects, RtcWriteEffects,
                       Serial, WriteEffects)
 from .library import LibraryError
-from .registers import RegisterError
-from .saved import AlarmIsSetError, LoadStatus, RtcState, SavedStateError, SerialState
+from .registers import AlarmIsSetError, RegisterError, RtcState, SerialState
+from .saved import LoadStatus, SavedStateError
 from .script import Command, ScriptError, parse
 
 __all__ = ["AlarmIsSetError", "Board", "Call", "Command", "EnqueueEffects", "I8042", "I8042WriteEffects",

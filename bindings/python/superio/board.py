@@ -5,10 +5,10 @@ It replies to each line as the program `superio` does.
 from dataclasses import replace
 from typing import Callable, Dict, List, NamedTuple, Optional, Tuple, Union
 
+from .arguments import check_kind
 from .devices import I8042, Rtc, Serial, clock_state, serial_state
-from .library import check_kind
-from .registers import DLAB, SERIAL, bits_by_name
-from .saved import RtcState, SavedStateError, SerialState, script_words
+from .registers import DLAB, SERIAL, RtcState, SerialState, bits_by_name
+from .saved import SavedStateError, script_words
 from .script import Command
 
 OUTPUT_SIZE = 256

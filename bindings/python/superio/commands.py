@@ -1,12 +1,12 @@
 """What a line of a session can begin with: what `help` says of it, what its fields can be, and what it does."""
 import os
 import shlex
-from typing import TYPE_CHECKING, Callable, Dict, NamedTuple, Tuple
+from typing import TYPE_CHECKING, Callable, Dict
 
 from .devices import Rtc, Serial
 from .faults import BadLine, Leave, opened, write_text
 from .registers import CLOCK
-from .script import Command, ScriptError, shown, text_of
+from .script import LINES, Command, Help, ScriptError, shown, text_of
 from .tell import changes, clock_registers, registers
 
 if TYPE_CHECKING:
@@ -14,15 +14,6 @@ if TYPE_CHECKING:
 
 _DEEPEST = 10
 _CLOCK_NAMES = ", ".join(name for name in CLOCK if not name.startswith("ID"))
-
-
-class Help(NamedTuple):
-    """What `help` says of a command, and what each of its fields can be, for the shell to complete it."""
-
-    usage: str
-    about: str
-    more: str = ""
-    fields: Tuple[str, ...] = ()
 
 
 _GROUPS: Dict[str, Dict[str, Help]] = {
@@ -74,28 +65,7 @@ _GROUPS: Dict[str, Dict[str, Help]] = {
         "help": Help("help [NAME]", "this list, or more about one command", "", ("command",)),
         "quit": Help("quit", "ends, as exit and Ctrl-D do"),
     },
-    "Lines of a script, with hexadecimal fields": {
-        "sr": Help("sr OO", "the guest reads at offset OO", "", ("serial",)),
-        "sw": Help("sw OO VV", "the guest writes VV at offset OO", "", ("serial", "bits")),
-        "sq": Help("sq HH..", "1 to 128 bytes arrive; sq alone: none"),
-        "si": Help("si", "the line is idle: raises RDA again if bytes wait"),
-        "sc": Help("sc", "how many more bytes fit"),
-        "sd": Help("sd", "the guest's driver reads what is held"),
-        "ss": Help("ss", "saves the port and restores it"),
-        "sb": Help("sb", "the port's saved state"),
-        "sl": Help("sl HH..", "loads the port from a saved state"),
-        "so": Help("so", "the bytes that the port wrote"),
-        "st": Help("st", "how often the interrupt line was called"),
-        "se": Help("se", "reads of RBR, bytes out, lost, reads that left none"),
-        "cr": Help("cr MOMENT OOOO", "the guest reads the clock at offset OOOO", "", ("now", "clock")),
-        "cw": Help("cw MOMENT OOOO VVVVVVVV", "the guest writes the clock", "", ("now", "clock")),
-        "cb": Help("cb", "the clock's saved state"),
-        "cl": Help("cl HH..", "loads the clock from a saved state"),
-        "kr": Help("kr OO", "the guest reads the controller"),
-        "kw": Help("kw OO VV", "the guest writes the controller; kw 04 fe resets"),
-        "refuse": Help("refuse MASK", "the calls that the interrupt line refuses",
-                       "Only before every other call. The line refuses call k, from 0, if bit k of the mask is set."),
-    },
+    "Lines of a script, with hexadecimal fields": LINES,
 }
 
 HELP: Dict[str, Help] = {

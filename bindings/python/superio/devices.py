@@ -7,10 +7,11 @@ changes.
 from functools import lru_cache
 from typing import NamedTuple, Optional, Union
 
-from .library import (FIFO_SIZE, RTC_SAVED_SIZE, SERIAL_SAVED_MAX, RtcStruct, SerialStruct, byte_string, check_kind,
-                      load, number)
-from .registers import CLOCK, FIELDS, SERIAL, Register, bit_names, clock_offset, serial_offset
-from .saved import RtcState, Saved, SerialState
+from .arguments import byte_string, check_kind, number
+from .library import RTC_SAVED_SIZE, SERIAL_SAVED_MAX, RtcStruct, SerialStruct, load
+from .registers import (CLOCK, FIELDS, FIFO_SIZE, SERIAL, Register, RtcState, SerialState, bit_names, clock_offset,
+                        serial_offset)
+from .saved import Saved
 
 _NEVER = 2 ** 64 - 1
 _STATES = 1024

@@ -1,17 +1,13 @@
-"""The shared library of the devices: it is found and checked, and so is what its calls are passed.
-
-The structs and functions are those of superio.h. A message about an argument names it, its value and what is wanted.
-"""
+"""The shared library of the devices, which is found and checked. Its structs and functions are those of superio.h."""
 import ctypes
 import os
-import reprlib
-from ctypes import POINTER, Structure, c_bool, c_char_p, c_int64, c_size_t, c_uint8, c_uint16, c_uint32, c_uint64
+from ctypes import POINTER, Structure, c_bool, c_char_p, c_size_t, c_uint8, c_uint16, c_uint32, c_uint64
+from dataclasses import fields
 from functools import lru_cache
-from operator import index
 from pathlib import Path
 from typing import Any, Iterator, Tuple
 
-from .registers import FIELDS
+from .registers import FIELDS, FIFO_SIZE, RtcState
 
 ABI = 3
 """The binary interface of superio.h that this package is written for."""
@@ -21,14 +17,8 @@ FILE_NAME = f"libsuperio.so.{ABI}"
 VARIABLE = "SUPERIO_LIBRARY"
 """The environment variable that can name the library's file."""
 
-FIFO_SIZE = 64
-"""How many received bytes a serial port holds at most."""
-
 SERIAL_SAVED_MAX = 81
 """The length of the longest saved state of a serial port."""
-
-RTC_SAVED_SIZE = 33
-"""The length of the saved state of a clock."""
 
 
 def _struct(name: str, **fields: Any) -> Any:
@@ -37,8 +27,10 @@ def _struct(name: str, **fields: Any) -> Any:
 
 SerialStruct = _struct("superio_serial", **dict.fromkeys(FIELDS.values(), c_uint8), head=c_uint8, len=c_uint8,
                        bytes=c_uint8 * FIFO_SIZE)
-RtcStruct = _struct("superio_rtc", lr=c_uint32, mr=c_uint32, imsc=c_uint32, ris=c_uint32, offset=c_int64,
-                    armed=c_uint64)
+RtcStruct = _struct("superio_rtc", **{field.name: field.metadata["kind"] for field in fields(RtcState)})
+RTC_SAVED_SIZE = 8 + RtcStruct.armed.offset + 1
+"""The length of the saved state of a clock: a header, the fields of the struct, and one byte for the alarm."""
+
 _Read = _struct("superio_serial_read_effects", byte=c_uint8, buffer_read=c_bool, in_buffer_empty=c_bool)
 _Write = _struct("superio_serial_write_effects", sends=c_bool, interrupts=c_uint8)
 _Enqueue = _struct("superio_serial_enqueue_effects", taken=c_size_t, full=c_bool, interrupts=c_uint8)
@@ -147,51 +139,3 @@ def open_library() -> Library:
 def load() -> Library:
     """The library that all devices share. It is looked for and checked at the first call."""
     return open_library()
-
-
-def _refusal(name: str, value: Any, wanted: str) -> str:
-    """Why an argument is refused. A long value is cut."""
-    try:
-        shown = reprlib.repr(value)
-    except ValueError:  # a number of more digits than Python converts
-        shown = "too large to show"
-    return f"{name} is {shown}, of type {type(value).__name__}: {wanted} is wanted"
-
-
-def number(name: str, value: Any, bits: int, is_signed: bool = False, instead: str = "") -> int:
-    """A number of so many bits. `instead` is what may stand in its place, as the message adds it.
-
-    Raises `TypeError` if it is no whole number, and `ValueError` if it is out of range.
-    """
-    try:
-        whole = int(index(value))  # a Boolean is its own index
-    except TypeError:
-        raise TypeError(_refusal(name, value, _numbers(bits, is_signed) + instead)) from None
-    if (whole + (1 << bits - 1) if is_signed else whole) >> bits:
-        raise ValueError(_refusal(name, value, _numbers(bits, is_signed) + instead))
-    return whole
-
-
-def _numbers(bits: int, is_signed: bool) -> str:
-    if is_signed:
-        return f"an int from -2**{bits - 1} to 2**{bits - 1} - 1"
-    return f"an int from 0 to {(1 << bits) - 1 if bits <= 16 else f'2**{bits} - 1'}"
-
-
-def byte_string(name: str, value: Any) -> bytes:
-    """The bytes of `bytes`, a `bytearray` or another object that has its contents in memory.
-
-    Raises `TypeError` for any other, among them the numbers, from which `bytes` would make as many zeros.
-    """
-    if isinstance(value, bytes):
-        return value
-    try:
-        return bytes(memoryview(value))
-    except TypeError:
-        raise TypeError(_refusal(name, value, "a bytes-like object")) from None
-
-
-def check_kind(name: str, value: Any, kind: type) -> None:
-    """Raises `TypeError` if an argument is no object of this class."""
-    if not isinstance(value, kind):
-        raise TypeError(_refusal(name, value, kind.__name__))

@@ -13,7 +13,7 @@ from typing import Callable, Iterable, Iterator, List, NamedTuple, Optional, Seq
 
 from .board import Board, Call
 from .faults import BadLine
-from .library import FIFO_SIZE
+from .registers import FIFO_SIZE
 from .script import ScriptError, parse
 from .tell import CONDITIONS
 

@@ -1,5 +1,12 @@
-"""The registers of the serial port and of the clock: names, offsets and bits."""
-from typing import Dict, List, NamedTuple, Optional, Tuple
+"""The registers of the serial port and of the clock, by names, offsets and bits, and the states that they make."""
+from ctypes import c_int64, c_uint32, c_uint64, sizeof
+from dataclasses import dataclass, field, fields
+from typing import Any, Dict, List, Mapping, NamedTuple, Optional, Sequence, Tuple
+
+from .arguments import byte_string, number
+
+FIFO_SIZE = 64
+"""How many received bytes a serial port holds at most."""
 
 DLAB = 0x80
 """The bit of LCR that puts the divisor at the offsets 0 and 1."""
@@ -141,3 +148,102 @@ def bit_names(register: Register, value: int) -> List[str]:
     if register.name == "IIR" and not names and value & 0x01:
         names = ["none"]
     return names
+
+
+# The fields of a clock in vm-superio, in its order.
+_FIVE = ("lr", "offset", "mr", "imsc", "ris")
+
+
+class AlarmIsSetError(ValueError):
+    """vm-superio's state of a clock was asked of one with an alarm set, which its five fields cannot hold."""
+
+    def __init__(self) -> None:
+        super().__init__("an alarm is set, and the five fields of vm-superio's RtcState cannot hold it")
+
+    def __reduce__(self) -> Tuple[Any, ...]:
+        return type(self), ()
+
+
+def _check_names(named: Mapping[str, Any], wanted: Sequence[str]) -> None:
+    if set(named) != set(wanted):
+        raise ValueError(f"the fields are {', '.join(map(str, named))}: {', '.join(wanted)} are wanted")
+
+
+@dataclass(frozen=True)
+class SerialState:
+    """The state of a serial port: nine registers, and the bytes that it received and the guest has not read.
+
+    The defaults are those of a new port. `dataclasses.replace` makes another state of one.
+    """
+
+    baud_divisor_low: int = 0x0C
+    baud_divisor_high: int = 0x00
+    interrupt_enable: int = 0x00
+    interrupt_identification: int = 0x01
+    line_control: int = 0x03
+    line_status: int = 0x60
+    modem_control: int = 0x08
+    modem_status: int = 0xB0
+    scratch: int = 0x00
+    in_buffer: bytes = b""  # the received bytes, oldest first: at most 64
+
+    def __post_init__(self) -> None:
+        for field in fields(self)[:9]:
+            object.__setattr__(self, field.name, number(field.name, getattr(self, field.name), 8))
+        object.__setattr__(self, "in_buffer", byte_string("in_buffer", self.in_buffer))
+        if len(self.in_buffer) > FIFO_SIZE:
+            raise ValueError(f"in_buffer has {len(self.in_buffer)} bytes, and a port holds at most {FIFO_SIZE}")
+
+    def to_vm_superio(self) -> Dict[str, Any]:
+        """The ten fields as serde's JSON has them. `json.dumps` makes the text."""
+        return {**vars(self), "in_buffer": list(self.in_buffer)}
+
+    @classmethod
+    def from_vm_superio(cls, named: Mapping[str, Any]) -> "SerialState":
+        """The state of ten fields, as `json.loads` reads them.
+
+        Raises `ValueError` if the names are others or a value is out of range, and `TypeError` if one is no number.
+        """
+        _check_names(named, [field.name for field in fields(cls)])
+        return cls(**{**named, "in_buffer": bytes(list(named["in_buffer"]))})
+
+
+def _kept(kind: Any, default: Any = 0) -> Any:
+    """A field of a state, of this kind in the struct of superio.h, whose fields have the same order."""
+    return field(default=default, metadata={"kind": kind})
+
+
+@dataclass(frozen=True)
+class RtcState:
+    """The state of a clock. The defaults are those of a new one."""
+
+    lr: int = _kept(c_uint32)     # the value that was loaded last, or 0
+    mr: int = _kept(c_uint32)     # the guest time that an alarm waits for
+    imsc: int = _kept(c_uint32)   # the interrupt mask
+    ris: int = _kept(c_uint32)    # the raw interrupt status
+    offset: int = _kept(c_int64)  # how far guest time is ahead of the host's, in seconds
+    armed: bool = _kept(c_uint64, False)  # whether an alarm is set
+
+    def __post_init__(self) -> None:
+        for one in fields(self):
+            value, kind = getattr(self, one.name), one.metadata["kind"]
+            checked = bool(value) if one.type is bool else number(one.name, value, 8 * sizeof(kind), kind is c_int64)
+            object.__setattr__(self, one.name, checked)
+
+    def to_vm_superio(self) -> Dict[str, Any]:
+        """The five fields as serde's JSON has them, which know no alarm. `json.dumps` makes the text.
+
+        Raises `AlarmIsSetError` if an alarm is set. `dataclasses.replace(state, armed=False)` gives it up.
+        """
+        if self.armed:
+            raise AlarmIsSetError
+        return {name: getattr(self, name) for name in _FIVE}
+
+    @classmethod
+    def from_vm_superio(cls, named: Mapping[str, Any]) -> "RtcState":
+        """The state of five fields, as `json.loads` reads them, with no alarm set.
+
+        Raises `ValueError` if the names are others or a value is out of range, and `TypeError` if one is no number.
+        """
+        _check_names(named, _FIVE)
+        return cls(**named)

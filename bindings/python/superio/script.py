@@ -6,7 +6,7 @@ import re
 from functools import lru_cache
 from typing import Dict, NamedTuple, Optional, Tuple, Union
 
-from .library import byte_string
+from .arguments import byte_string
 
 MAXIMUM = 65_536
 """A script has at most this many bytes."""
@@ -63,6 +63,40 @@ FORMS: Dict[str, Tuple[Field, ...]] = {
     "kr": (OFFSET,), "kw": (OFFSET, VALUE),
 }
 """The fields of each line, by its name. Bytes may be left out."""
+
+
+class Help(NamedTuple):
+    """What `help` says of a command, and what each of its fields can be, for the shell to complete it."""
+
+    usage: str
+    about: str
+    more: str = ""
+    fields: Tuple[str, ...] = ()
+
+
+LINES: Dict[str, Help] = {
+    "sr": Help("sr OO", "the guest reads at offset OO", "", ("serial",)),
+    "sw": Help("sw OO VV", "the guest writes VV at offset OO", "", ("serial", "bits")),
+    "sq": Help("sq HH..", "1 to 128 bytes arrive; sq alone: none"),
+    "si": Help("si", "the line is idle: raises RDA again if bytes wait"),
+    "sc": Help("sc", "how many more bytes fit"),
+    "sd": Help("sd", "the guest's driver reads what is held"),
+    "ss": Help("ss", "saves the port and restores it"),
+    "sb": Help("sb", "the port's saved state"),
+    "sl": Help("sl HH..", "loads the port from a saved state"),
+    "so": Help("so", "the bytes that the port wrote"),
+    "st": Help("st", "how often the interrupt line was called"),
+    "se": Help("se", "reads of RBR, bytes out, lost, reads that left none"),
+    "cr": Help("cr MOMENT OOOO", "the guest reads the clock at offset OOOO", "", ("now", "clock")),
+    "cw": Help("cw MOMENT OOOO VVVVVVVV", "the guest writes the clock", "", ("now", "clock")),
+    "cb": Help("cb", "the clock's saved state"),
+    "cl": Help("cl HH..", "loads the clock from a saved state"),
+    "kr": Help("kr OO", "the guest reads the controller"),
+    "kw": Help("kw OO VV", "the guest writes the controller; kw 04 fe resets"),
+    "refuse": Help("refuse MASK", "the calls that the interrupt line refuses",
+                   "Only before every other call. The line refuses call k, from 0, if bit k of the mask is set."),
+}
+"""What the shell says of each line."""
 
 
 class Command(NamedTuple):

@@ -5,10 +5,9 @@ from typing import Dict, List, NamedTuple, Optional
 
 from .board import OUTPUT_SIZE, Board, Call, Snapshot
 from .devices import Rtc, Serial
-from .library import FIFO_SIZE, SerialStruct
-from .registers import (CLOCK, FIELDS, FIFO_BITS, LOOPBACK, SERIAL, Register, bit_names, bits_by_name, clock_register,
-                        serial_register)
-from .saved import RtcState, SerialState
+from .library import SerialStruct
+from .registers import (CLOCK, FIELDS, FIFO_BITS, FIFO_SIZE, LOOPBACK, SERIAL, Register, RtcState, SerialState,
+                        bit_names, bits_by_name, clock_register, serial_register)
 from .script import Command, text_of
 
 CONDITIONS = bits_by_name(SERIAL["IIR"])

@@ -14,7 +14,7 @@ from support import ROOT
 from header import HEADER, read_header
 
 import superio
-from superio import LibraryError, LoadStatus, library
+from superio import LibraryError, LoadStatus, library, registers
 
 DECLARED = read_header(ctypes.sizeof(ctypes.c_size_t))
 TYPES = {"bool": ctypes.c_bool, "void": None, "size_t": ctypes.c_size_t, "const uint8_t *": ctypes.c_char_p,
@@ -70,7 +70,7 @@ class Layout(unittest.TestCase):
         changes = (ROOT / "CHANGELOG.md").read_text(encoding="utf-8")
         self.assertEqual(superio.__version__, re.search(r"^## (\d+\.\d+\.\d+)$", changes, re.M)[1])
         named = {"VERSION": superio.__version__, "ABI": library.ABI, "SERIAL_SAVED_MAX": library.SERIAL_SAVED_MAX,
-                 "RTC_SAVED_SIZE": library.RTC_SAVED_SIZE, "SERIAL_FIFO_SIZE": library.FIFO_SIZE,
+                 "RTC_SAVED_SIZE": library.RTC_SAVED_SIZE, "SERIAL_FIFO_SIZE": registers.FIFO_SIZE,
                  **{f"LOAD_{status.name}": status.value for status in LoadStatus}}
         for name, value in named.items():
             self.assertEqual(value, DECLARED.constants[f"SUPERIO_{name}"], name)

@@ -5,10 +5,7 @@ use std::io::{self, ErrorKind, Sink};
 use vm_superio::serial::line::InterruptLine;
 use vm_superio::serial::timeout::CharacterTimeout;
 use vm_superio::serial::{Error, NoEvents};
-use vm_superio::{Serial, SerialState, Trigger};
-
-const RDA: u8 = 0x04;
-const THRE: u8 = 0x02;
+use vm_superio::{Serial, Trigger};
 
 type PortError = Error<io::Error>;
 
@@ -191,22 +188,4 @@ fn an_unmasked_condition_raises_the_level_alone() {
         (while_masked, board.is_interrupted())
     });
     assert_eq!(interrupted, [(true, false), (false, true)]);
-}
-
-#[test]
-fn the_line_is_up_exactly_while_an_enabled_condition_is_pending() {
-    let mut ups = 0;
-    for (enabled, identification) in (0..=255).flat_map(|ier| (0..=255).map(move |iir| (ier, iir))) {
-        let state = SerialState {
-            interrupt_enable: enabled,
-            interrupt_identification: identification,
-            ..SerialState::default()
-        };
-        let port = Serial::from_state(&state, NoPulse, NoEvents, io::sink()).unwrap();
-        let is_up =
-            identification & THRE != 0 && enabled & 0x02 != 0 || identification & RDA != 0 && enabled & 0x01 != 0;
-        assert_eq!(port.interrupt_line(), is_up, "{enabled:#x} {identification:#x}");
-        ups += u32::from(is_up);
-    }
-    assert_eq!(ups, 256 * 256 * 7 / 16);
 }

@@ -1,17 +1,20 @@
-//! The programs to copy succeed at any size. A body that gives up above one, as without memory, meets each contract.
+//! The programs to copy succeed at any size, and for any value of a register. A body that gives up above a size or in
+//! some states, as without memory, meets each contract.
 use crate::objects::{Log, Object, PortObjects, port};
+use std::alloc::{AllocError, Global};
 use std::io::Write;
 use std::test::Fail;
 use superio_examples::driver::{receive_all, run_polled};
-use superio_examples::first_claims::read_back;
+use superio_examples::first_claims::{read_back, restored_reads_same};
 use superio_examples::input::Input;
 use superio_examples::interrupt_driver::{receive_all_by_interrupts, receive_all_in_pieces};
-use superio_examples::migration::{restore, restore_input, save};
+use superio_examples::migration::{Saved, restore, restore_input, save};
 use superio_examples::monitor::{Event, Monitor};
 use superio_examples::output::Output;
-use superio_examples::saved_monitor::run_on_two;
+use superio_examples::saved_monitor::{SavedMonitor, restore_monitor, run_on_two, save_monitor};
 use superio_script::drain;
 use vm_superio::Rtc;
+use vm_superio::SerialState;
 use vm_superio::rtc_pl031::saved_form::SAVED_SIZE;
 use vm_superio::run::Call;
 
@@ -116,6 +119,73 @@ fn devices_move_however_many_bytes_are_held(rt: HostRuntime) -> Result<(), Fail>
         let moved = restored.ok().expect(&rt, "restored devices");
         assert!(rt; save(alloc, &moved.serial, &moved.clock, &input)? == saved);
         assert!(rt; serial.enqueue_raw_bytes(b"a").is_ok() == (count < 64));
+    }
+    Ok(())
+}
+
+/// How many registers a saved port has, a byte each, after the eight bytes that its form begins with.
+const REGISTERS: usize = 9;
+
+/// The devices of a machine: the port is new, but for the register at this place of its byte form, and holds so many
+/// bytes.
+fn devices_with(alloc: Global, place: usize, value: u8, held: usize) -> Result<Saved, AllocError> {
+    let mut state = SerialState::default(alloc);
+    for _ in 0..held {
+        state.in_buffer.push(value)?;
+    }
+    let mut serial = state.to_bytes().unwrap().as_bytes().to_vec(alloc)?;
+    serial[8 + place] = value;
+    Ok(Saved {
+        serial,
+        clock: Rtc::new().state().to_bytes().to_vec(alloc)?,
+        input: b"ab".to_vec(alloc)?,
+    })
+}
+
+/// An access of each register, each other event of a machine, and a second write of this value.
+fn events_with(alloc: Global, value: u8) -> Result<Vec<Event>, AllocError> {
+    let mut events = Vec::new(alloc);
+    for offset in 0..8u16 {
+        events.push(Event::PortRead(0x3F8 + offset))?;
+        events.push(Event::PortWrite(0x3F8 + offset, value))?;
+    }
+    events.extend_from_slice(&[Event::Typed(value), Event::Refused, Event::Timer])?;
+    Ok(events)
+}
+
+#[test]
+fn no_value_of_a_register_is_refused(rt: HostRuntime) -> Result<(), Fail> {
+    let alloc = rt.alloc();
+    let log = Log::new();
+    let object = Object(&log);
+    for place in 0..REGISTERS {
+        for value in 0..=255u8 {
+            let devices = devices_with(alloc, place, value, usize::from(value % 65))?;
+            let restored = restore(alloc, &devices, object, object, object, object);
+            let mut moved = restored.ok().expect(&rt, "restored devices");
+            let offset = value % 8;
+            let calls = vec![in alloc; Call::Read(offset), Call::Write(offset, value)]?;
+            assert!(rt; run_polled(alloc, &mut moved.serial, calls)?.len() == 2);
+            let reads = restored_reads_same(alloc, &mut moved.serial, object, object, object, 5);
+            assert!(rt; reads.is_ok(), "register {place} is {value}");
+            let saved = SavedMonitor {
+                devices,
+                input_limit: 2,
+                output: b"c".to_vec(alloc)?,
+                output_limit: 3,
+                dropped: u64::from(value),
+                moment: u64::from(value),
+                is_refused: value & 1 == 1,
+                is_early: value & 2 == 2,
+                is_ready: value & 4 == 4,
+            };
+            let made = restore_monitor(alloc, &saved).ok();
+            let mut monitor = made.expect(&rt, "a restored monitor");
+            assert!(rt; save_monitor(alloc, &monitor)? == saved);
+            let events = events_with(alloc, value)?;
+            let moved = run_on_two(alloc, &mut monitor, &events, &events)?;
+            assert!(rt; moved.before.len() == events.len() && moved.after.len() == events.len());
+        }
     }
     Ok(())
 }

@@ -1,15 +1,22 @@
-//! The devices of one of the two crates, with objects that keep a log.
+//! The devices of one of the two crates, with objects that keep a log, and the calls that both crates have.
+use std::error::Error as StdError;
+use std::io;
 use std::mem;
 use std::panic::{AssertUnwindSafe, catch_unwind};
 use std::sync::Arc;
 
-use super::objects::{Object, Refused};
+use super::objects::Object;
 use super::superio::I8042Device;
 use super::superio::rtc_pl031::{Rtc, RtcState};
 use super::superio::serial::{Error, Serial, SerialState};
-use crate::call::{Action, Behaviour, Call, Clock, Observed, Port, Reply, UNREAD};
+use crate::line::{Behaviour, Observed, bytes_of, number, text_of_bytes};
+use crate::moment;
 
-pub type Outcome = Result<Reply, Error<Refused>>;
+/// The text of a reply.
+pub type Outcome = Result<String, Error<io::Error>>;
+
+/// The bytes before a clock read, which an invalid one leaves as they were.
+pub const UNREAD: [u8; 4] = [0xA5; 4];
 
 pub struct Devices {
     pub object: Object,
@@ -29,60 +36,60 @@ impl Devices {
         }
     }
 
-    pub fn guest_time(&mut self) -> u32 {
-        let mut bytes = [0; 4];
-        self.clock.read(0, &mut bytes);
-        u32::from_le_bytes(bytes)
-    }
-
-    /// What is seen of a call that is carried out so.
-    pub fn observe(&mut self, call: &Call, carry_out: impl FnOnce(&mut Devices, &Action) -> Outcome) -> Observed {
-        self.object.prepare(call.behaviour);
-        let reply = match catch_unwind(AssertUnwindSafe(|| carry_out(self, &call.action))) {
-            Ok(reply) => reply.unwrap_or_else(|error| Reply::Error(error.to_string())),
-            Err(_) => Reply::Error("panics".to_string()),
+    /// Makes the call of a line in this way.
+    pub fn make(&mut self, call: &str, carry_out: impl FnOnce(&mut Devices, &[&str]) -> Outcome) -> Observed {
+        let mut words: Vec<&str> = call.split(' ').collect();
+        self.object.prepare(Behaviour::taken_off(&mut words));
+        let reply = match catch_unwind(AssertUnwindSafe(|| carry_out(self, &words))) {
+            Ok(Ok(reply)) => reply,
+            Ok(Err(error)) => self.name_of(&error).into(),
+            Err(_) => "panics".into(),
         };
         self.object.prepare(Behaviour::default());
-        Observed {
-            reply,
-            events: self.object.take_events(),
-            serial: saved_port(self.serial.state()),
-            capacity: self.serial.fifo_capacity(),
-            clock: saved_clock(self.clock.state()),
-            is_armed: false,
-        }
+        let RtcState { ris, offset, .. } = self.clock.state();
+        let held = 64 - self.serial.fifo_capacity();
+        Observed { reply, events: self.object.take_events(), held, ris, offset, is_armed: false }
     }
 
-    /// Carries out a call that both crates have.
-    pub fn carry_out(&mut self, action: &Action) -> Outcome {
-        match action {
-            Action::SerialRead(offset) => Ok(Reply::Number(self.serial.read(*offset).into())),
-            Action::SerialWrite(offset, value) => self.serial.write(*offset, *value).map(|()| Reply::DONE),
-            Action::SerialEnqueue(bytes) => {
-                self.serial.enqueue_raw_bytes(bytes).map(|count| Reply::Number(count as u64))
+    /// The reply of a call that fails, if its error and its text are those that its object gave.
+    fn name_of(&self, error: &Error<io::Error>) -> &'static str {
+        let (name, text, is_given) = match error {
+            Error::Trigger(it) => ("trigger", format!("Failed to trigger interrupt: {it}"), self.object.gave(it, true)),
+            Error::IOError(it) => {
+                let text = format!("Couldn't write/flush to the given destination: {it}");
+                ("io", text, self.object.gave(it, false))
             }
-            Action::SerialCapacity => Ok(Reply::Number(self.serial.fifo_capacity() as u64)),
-            Action::SerialRestore(None) => self.restore(&self.serial.state()),
-            Action::SerialRestore(Some(port)) => self.restore(&state_of_port(port)),
-            Action::ClockRead(offset) => {
+            Error::FullFifo => ("full", "No space left in FIFO".into(), true),
+        };
+        if is_given && error.to_string() == text && error.source().is_none() { name } else { "another error" }
+    }
+
+    /// Makes a call that both crates have.
+    pub fn carry_out(&mut self, words: &[&str]) -> Outcome {
+        let byte = |place: usize| number(words[place]) as u8;
+        match words[0] {
+            "sr" => Ok(format!("{:02x}", self.serial.read(byte(1)))),
+            "sw" => self.serial.write(byte(1), byte(2)).map(|()| "ok".into()),
+            "sq" => self.serial.enqueue_raw_bytes(&bytes_of(words[1])).map(|count| format!("{count:02x}")),
+            "sc" => Ok(format!("{:02x}", self.serial.fifo_capacity())),
+            "ss" => self.restore(&self.serial.state()),
+            "sl" => self.restore(&port_of(&bytes_of(words[1]), bytes_of(words[2]))),
+            "cr" => {
+                moment::set(number(words[1]));
                 let mut bytes = UNREAD;
-                self.clock.read(*offset, &mut bytes);
-                Ok(Reply::Number(u32::from_le_bytes(bytes).into()))
+                self.clock.read(number(words[2]) as u16, &mut bytes);
+                Ok(format!("{:08x}", u32::from_le_bytes(bytes)))
             }
-            Action::ClockWrite(offset, value) => {
-                self.clock.write(*offset, &value.to_le_bytes());
-                Ok(Reply::DONE)
+            "cw" => {
+                moment::set(number(words[1]));
+                self.clock.write(number(words[2]) as u16, &(number(words[3]) as u32).to_le_bytes());
+                Ok("ok".into())
             }
-            Action::ClockRestore(clock) => {
-                let state = clock.map_or_else(|| self.clock.state(), state_of_clock);
-                self.clock = Rtc::from_state(&state, Arc::clone(self.clock.events()));
-                Ok(Reply::DONE)
-            }
-            Action::ControllerRead(offset) => Ok(Reply::Number(self.controller.read(*offset).into())),
-            Action::ControllerWrite(offset, value) => {
-                self.controller.write(*offset, *value).map(|()| Reply::DONE).map_err(Error::Trigger)
-            }
-            _ => unreachable!("the Rust crate has no such call"),
+            "cs" => Ok(self.restore_clock(&self.clock.state())),
+            "cl" => Ok(self.restore_clock(&clock_of(words))),
+            "kr" => Ok(format!("{:02x}", self.controller.read(byte(1)))),
+            "kw" => self.controller.write(byte(1), byte(2)).map(|()| "ok".into()).map_err(Error::Trigger),
+            name => panic!("no call has the name {name}"),
         }
     }
 
@@ -94,29 +101,34 @@ impl Devices {
         let _ = (left.writer(), left.interrupt_evt());
         let _ = left.writer_mut();
         let _ = left.into_writer();
-        Ok(Reply::DONE)
+        let (state, room) = (self.serial.state(), self.serial.fifo_capacity());
+        Ok(format!("{} {} {room:02x}", text_of_bytes(&registers_of(&state)), text_of_bytes(&state.in_buffer)))
+    }
+
+    /// The same of a clock, which has no alarm then.
+    fn restore_clock(&mut self, state: &RtcState) -> String {
+        self.clock = Rtc::from_state(state, Arc::clone(self.clock.events()));
+        text_of_clock(&self.clock.state())
     }
 }
 
-fn saved_port(state: SerialState) -> Port {
-    Port {
-        registers: [
-            state.baud_divisor_low,
-            state.baud_divisor_high,
-            state.interrupt_enable,
-            state.interrupt_identification,
-            state.line_control,
-            state.line_status,
-            state.modem_control,
-            state.modem_status,
-            state.scratch,
-        ],
-        in_buffer: state.in_buffer,
-    }
+fn registers_of(state: &SerialState) -> [u8; 9] {
+    [
+        state.baud_divisor_low,
+        state.baud_divisor_high,
+        state.interrupt_enable,
+        state.interrupt_identification,
+        state.line_control,
+        state.line_status,
+        state.modem_control,
+        state.modem_status,
+        state.scratch,
+    ]
 }
 
-fn state_of_port(port: &Port) -> SerialState {
-    let [baud_divisor_low, baud_divisor_high, interrupt_enable, interrupt_identification, rest @ ..] = port.registers;
+fn port_of(registers: &[u8], in_buffer: Vec<u8>) -> SerialState {
+    let registers: [u8; 9] = registers.try_into().expect("nine registers");
+    let [baud_divisor_low, baud_divisor_high, interrupt_enable, interrupt_identification, rest @ ..] = registers;
     let [line_control, line_status, modem_control, modem_status, scratch] = rest;
     SerialState {
         baud_divisor_low,
@@ -128,16 +140,18 @@ fn state_of_port(port: &Port) -> SerialState {
         modem_control,
         modem_status,
         scratch,
-        in_buffer: port.in_buffer.clone(),
+        in_buffer,
     }
 }
 
-fn saved_clock(state: RtcState) -> Clock {
+pub fn text_of_clock(state: &RtcState) -> String {
     let RtcState { lr, offset, mr, imsc, ris } = state;
-    Clock { lr, offset, mr, imsc, ris }
+    format!("{lr:08x} {offset} {mr:08x} {imsc:08x} {ris:08x}")
 }
 
-fn state_of_clock(clock: Clock) -> RtcState {
-    let Clock { lr, offset, mr, imsc, ris } = clock;
-    RtcState { lr, offset, mr, imsc, ris }
+/// The state of a line's words.
+pub fn clock_of(words: &[&str]) -> RtcState {
+    let register = |place: usize| number(words[place]) as u32;
+    let offset = words[2].parse().expect("a decimal number");
+    RtcState { lr: register(1), offset, mr: register(3), imsc: register(4), ris: register(5) }
 }

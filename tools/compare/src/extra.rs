@@ -5,66 +5,81 @@ use ours::serial::line::InterruptLine;
 use ours::serial::timeout::CharacterTimeout;
 use ours::serial::{Error, SerialState};
 
-use crate::by_ours::devices::{Devices, Outcome};
-use crate::call::{Action, Call, Observed, Reply, UNREAD};
+use crate::by_ours::devices::{Devices, Outcome, UNREAD, clock_of, text_of_clock};
+use crate::line::{Behaviour, Observed, bytes_of, number, text_of_bytes};
 
-/// The status in C of an error of a load.
-pub fn status(error: SavedStateError) -> u32 {
-    match error {
-        SavedStateError::TooShort => 1,
-        SavedStateError::NotASavedState => 2,
-        SavedStateError::OtherDevice => 3,
-        SavedStateError::UnknownVersion(_) => 4,
-        SavedStateError::WrongLength => 5,
-        SavedStateError::TooManyBytes => 6,
-        SavedStateError::InvalidArmed => 7,
-    }
-}
-
-fn fault(error: SavedStateError) -> Reply {
-    Reply::Fault(status(error))
+/// What a load says of these bytes.
+fn fault(error: SavedStateError) -> String {
+    let text = match error {
+        SavedStateError::TooShort => "too short",
+        SavedStateError::NotASavedState => "not a saved state",
+        SavedStateError::OtherDevice => "other device",
+        SavedStateError::UnknownVersion(version) => return format!("unknown version {version:02x}"),
+        SavedStateError::WrongLength => "wrong length",
+        SavedStateError::TooManyBytes => "too many bytes",
+        SavedStateError::InvalidArmed => "invalid armed",
+    };
+    text.into()
 }
 
 impl Devices {
     /// Makes any call.
-    pub fn make_any(&mut self, call: &Call, moment: u64) -> Observed {
-        let observed = self.observe(call, |devices, action| devices.carry_out_any(action, moment));
+    pub fn make_any(&mut self, call: &str) -> Observed {
+        let observed = self.make(call, Devices::carry_out_any);
         Observed { is_armed: self.clock.is_armed(), ..observed }
     }
 
-    fn carry_out_any(&mut self, action: &Action, moment: u64) -> Outcome {
-        Ok(match action {
-            Action::SerialTimeout => return self.serial.character_timeout().map(|()| Reply::DONE),
-            Action::SerialRetry => {
-                return self.serial.retry_interrupts().map(|()| Reply::DONE).map_err(Error::Trigger);
-            }
-            Action::SerialLine => Reply::Number(self.serial.interrupt_line().into()),
-            Action::SerialCoherence => Reply::Number(self.serial.state().is_coherent().into()),
-            Action::SerialSave => self.serial.state().to_bytes().map_or_else(fault, Reply::Form),
-            Action::SerialLoad(bytes) => match SerialState::from_bytes(bytes) {
-                Ok(state) => return self.restore(&state),
-                Err(error) => fault(error),
-            },
-            Action::ClockReadAt(offset) => {
-                let mut bytes = UNREAD;
-                self.clock.read_at(*offset, &mut bytes, moment);
-                Reply::Number(u32::from_le_bytes(bytes).into())
-            }
-            Action::ClockWriteAt(offset, value) => {
-                self.clock.write_at(*offset, &value.to_le_bytes(), moment);
-                Reply::DONE
-            }
-            Action::ClockLine => Reply::Number(self.clock.line().into()),
-            Action::ClockDue => Reply::Number(self.clock.due(moment).unwrap_or(u64::MAX)),
-            Action::ClockSave => Reply::Form(self.clock.snapshot().to_bytes()),
-            Action::ClockLoad(bytes) => match RtcSnapshot::from_bytes(bytes) {
+    fn carry_out_any(&mut self, words: &[&str]) -> Outcome {
+        Ok(match (words[0], words.len()) {
+            ("si", _) => return self.serial.character_timeout().map(|()| "ok".into()),
+            ("sp", _) => return self.serial.retry_interrupts().map(|()| "ok".into()).map_err(Error::Trigger),
+            ("sh", _) => format!("{:02x}", u8::from(self.serial.interrupt_line())),
+            ("sf", _) => format!("{:02x}", u8::from(self.serial.state().is_coherent())),
+            ("sb", _) => self.serial.state().to_bytes().map_or_else(fault, |bytes| text_of_bytes(&bytes)),
+            ("sl", 2) => self.load(&bytes_of(words[1]))?,
+            ("ch", _) => format!("{:02x}", u8::from(self.clock.line())),
+            ("cd", _) => self.clock.due(number(words[1])).map_or("never".into(), |seconds| format!("{seconds:08x}")),
+            ("cb", _) => text_of_bytes(&self.clock.snapshot().to_bytes()),
+            ("cs", _) if self.clock.is_armed() => self.take_snapshot(&self.clock.snapshot()),
+            ("cl", 7) => self.take_snapshot(&RtcSnapshot { state: clock_of(words), armed: true }),
+            ("cl", 2) => match RtcSnapshot::from_bytes(&bytes_of(words[1])) {
                 Ok(snapshot) => {
-                    self.clock = Rtc::from_snapshot(&snapshot, self.clock.events().clone());
-                    Reply::DONE
+                    self.take_snapshot(&snapshot);
+                    "ok".into()
                 }
                 Err(error) => fault(error),
             },
-            action => return self.carry_out(action),
+            ("cr" | "cw", _) if number(words[1]) % 2 == 1 => self.access_at(number(words[1]), words),
+            _ => return self.carry_out(words),
         })
+    }
+
+    /// A port is made of a saved form. What its interrupts call is left out, since no one calls the trigger in C.
+    fn load(&mut self, form: &[u8]) -> Outcome {
+        self.object.prepare(Behaviour::default());
+        let state = match SerialState::from_bytes(form) {
+            Ok(state) => state,
+            Err(error) => return Ok(fault(error)),
+        };
+        self.restore(&state)?;
+        self.object.take_events();
+        Ok("ok".into())
+    }
+
+    fn take_snapshot(&mut self, snapshot: &RtcSnapshot) -> String {
+        self.clock = Rtc::from_snapshot(snapshot, self.clock.events().clone());
+        text_of_clock(&self.clock.state()) + if self.clock.is_armed() { " armed" } else { "" }
+    }
+
+    /// An access whose caller passes the moment, in place of one that asks the host for it.
+    fn access_at(&mut self, now: u64, words: &[&str]) -> String {
+        let offset = number(words[2]) as u16;
+        if let Some(value) = words.get(3) {
+            self.clock.write_at(offset, &(number(value) as u32).to_le_bytes(), now);
+            return "ok".into();
+        }
+        let mut bytes = UNREAD;
+        self.clock.read_at(offset, &mut bytes, now);
+        format!("{:08x}", u32::from_le_bytes(bytes))
     }
 }

@@ -1,31 +1,25 @@
-//! Drives the devices of bindings/rust, beside those of the C library or of the Rust crate vm-superio 0.8.2:
+//! Makes calls on the devices of bindings/rust, or of the Rust crate vm-superio 0.8.2, as lines of text:
 //!
-//!     compare library CALLS SEED     random calls on bindings/rust and on the C library
-//!     compare original CALLS SEED    random calls on the Rust crate and on bindings/rust; some objects panic
-//!     compare record CALLS SEED      records calls of the Rust crate
-//!     compare replay                 makes recorded calls, which come on standard input, over bindings/rust
-//!     compare forms                  reads saved forms by bindings/rust
+//!     compare replay                      makes calls that come on standard input over bindings/rust, and compares
+//!     compare draw CALLS SEED             makes random calls over bindings/rust, and prints them and what they did
+//!     compare record CALLS SEED [panics]  the same over vm-superio, after each setting of the port; objects may panic
+//!     compare texts                       compares what no call reaches in the two crates
 //!
-//! `library` needs the feature of its name, and `original` and `record` the feature `original`.
-//!
-//! A comparison is of what each call did: its reply, the calls of a trigger, an events object and a writer in order,
-//! and the states after it. It prints the first calls that differ, how often each case was reached, and in the last line
-//! how many calls differ. It exits with 1 if one does.
-#![cfg_attr(not(all(feature = "library", feature = "original")), allow(dead_code, unused))] // what the other modes need
+//! `record` and `texts` need the feature `original`. What one of them prints, another player takes: the C library's is
+//! tools/c/tests/replay.c. The last lines of `draw` and `record` say how often each case was reached. A player prints
+//! the first calls that differ, and in the last line how many do. It exits with 1 if one does, and `draw` if a case was
+//! reached too seldom.
+#![cfg_attr(not(feature = "original"), allow(dead_code))] // what the other modes need
 #![allow(clippy::duplicate_mod)] // of the two crates, below
 #![allow(clippy::arc_with_non_send_sync)] // the crates have events behind an `Arc`, and none behind an `Rc`
 
-mod call;
 mod cases;
+mod errors;
 mod extra;
-mod forms;
-#[cfg(feature = "library")]
-mod library;
+mod line;
 mod moment;
 mod random;
-#[cfg(feature = "original")]
 mod record;
-mod text;
 
 /// These files are compiled for either crate: what compiles with one has to compile with the other.
 #[path = "."]
@@ -51,108 +45,17 @@ use std::io::{self, BufRead};
 use std::process::ExitCode;
 
 use by_ours::devices::Devices;
-use call::{Call, Observed};
-use cases::{Cases, Seen};
-
-/// How many calls that differ are shown. After them the devices have little in common.
-const SHOWN: u64 = 3;
-
-/// What is compared, so far.
-struct Comparison {
-    cases: Cases,
-    before: Observed,
-    moment: u64,
-    calls: u64,
-    different: u64,
-}
-
-impl Comparison {
-    fn new() -> Comparison {
-        let before = Devices::new().observe(&Call::NONE, Devices::carry_out);
-        Comparison { cases: Cases::new(), before, moment: 0, calls: 0, different: 0 }
-    }
-
-    /// Compares what a call did. Returns whether to go on.
-    fn compare(&mut self, call: &Call, moment: u64, expected: Observed, got: Observed) -> bool {
-        let (before, last_moment) = (&self.before, self.moment);
-        self.cases.count(&Seen { action: &call.action, last_moment, moment, before, after: &expected });
-        if got != expected {
-            println!(
-                "different: call {} at {moment}, {call:?}\n  expected: {expected:?}\n  bindings: {got:?}",
-                self.calls
-            );
-            self.different += 1;
-        }
-        (self.before, self.moment) = (expected, moment);
-        self.calls += 1;
-        self.different < SHOWN
-    }
-
-    /// Prints what was found, with the cases that were reached too seldom.
-    fn end(&self, seed: u64, seldom: &[&str]) -> ExitCode {
-        self.cases.reached().for_each(|line| println!("{line}"));
-        seldom.iter().for_each(|case| println!("too seldom: {case}"));
-        let (calls, different) = (self.calls, self.different);
-        println!("{calls} calls of seed {seed}: {different} different, {} cases too seldom", seldom.len());
-        ExitCode::from(u8::from(different > 0 || !seldom.is_empty()))
-    }
-}
-
-#[cfg(feature = "library")]
-fn compare_library(calls: u64, seed: u64) -> ExitCode {
-    let mut random = random::Random::new(seed);
-    let (mut ours, mut library) = (Devices::new(), library::Devices::new());
-    let mut comparison = Comparison::new();
-    for _ in 0..calls {
-        let (moment, call) = (random.any_moment(), random.any_call());
-        moment::set(moment);
-        let (got, expected) = (ours.make_any(&call, moment), library.make(&call, moment));
-        if !comparison.compare(&call, moment, expected, got) {
-            break;
-        }
-    }
-    let seldom: Vec<_> = comparison.cases.seldom(calls).collect();
-    comparison.end(seed, &seldom)
-}
-
-/// Compares also what no random call reaches: texts of devices, and other objects.
-#[cfg(feature = "original")]
-fn compare_original(calls: u64, seed: u64) -> ExitCode {
-    std::panic::set_hook(Box::new(|_| ())); // the objects' panics are caught, and compared
-    let mut random = random::Random::new(seed);
-    let (mut ours, mut original) = (Devices::new(), by_original::devices::Devices::new());
-    let mut comparison = Comparison::new();
-    for _ in 0..calls {
-        let moment = random.moment();
-        moment::set(moment);
-        let guest_time = original.guest_time();
-        assert_eq!(guest_time, ours.guest_time(), "guest time before a call");
-        let call = random.call(guest_time);
-        let (got, expected) =
-            (ours.make_any(&call, moment), original.observe(&call, by_original::devices::Devices::carry_out));
-        if !comparison.compare(&call, moment, expected, got) {
-            break;
-        }
-    }
-    for (expected, got) in by_original::surface::texts().iter().zip(by_ours::surface::texts()) {
-        if *expected != got {
-            comparison.different += 1;
-            println!("different:\n  original: {expected}\n  bindings: {got}");
-        }
-    }
-    comparison.end(seed, &[])
-}
+use record::Recorder;
 
 /// Prints the first ten lines that differ, and how many calls did the same.
-fn replay() -> io::Result<ExitCode> {
+fn replay() -> io::Result<bool> {
     let mut devices = Devices::new();
     let (mut same, mut different) = (0u32, 0u32);
     for line in io::stdin().lock().lines() {
         let line = line?;
-        let Some((before, _)) = line.split_once(" = ") else { continue };
-        let (call, now) = text::call_of_text(before);
-        moment::set(now);
-        let got = format!("{before} = {}", text::text_of_reply(&call, &devices.make_any(&call, now)));
+        let Some((call, _)) = line.split_once(" = ") else { continue };
+        let made = devices.make_any(call);
+        let got = format!("{call} = {}{}", made.reply, made.events);
         if got == line {
             same += 1;
             continue;
@@ -163,23 +66,61 @@ fn replay() -> io::Result<ExitCode> {
         }
     }
     println!("{same} calls did the same, {different} did not");
-    Ok(ExitCode::from(u8::from(different > 0 || same == 0)))
+    Ok(different == 0 && same > 0)
+}
+
+/// Draws calls. Says which cases they reached too seldom.
+fn draw(calls: u64, seed: u64) -> io::Result<bool> {
+    let mut devices = Devices::new();
+    let mut recorder = Recorder::new(|call| devices.make_any(call));
+    recorder.record_all(calls, seed)?;
+    let cases = recorder.end()?;
+    cases.reached().for_each(|line| eprintln!("{line}"));
+    cases.seldom(calls).for_each(|case| eprintln!("too seldom: {case}"));
+    let seldom = cases.seldom(calls).count();
+    eprintln!("{calls} calls of seed {seed}: {seldom} cases too seldom");
+    Ok(seldom == 0)
+}
+
+#[cfg(feature = "original")]
+fn record(calls: u64, seed: u64, has_panics: bool) -> io::Result<bool> {
+    use by_original::devices::Devices;
+    let mut devices = Devices::new();
+    let mut recorder = Recorder::new(|call| devices.make(call, Devices::carry_out));
+    recorder.record_settings()?;
+    recorder.record_shared(calls, seed, has_panics)?;
+    recorder.end().map(|_| true)
+}
+
+/// Compares texts of devices, and other objects.
+#[cfg(feature = "original")]
+fn compare_texts() -> bool {
+    let (expected, got) = (by_original::surface::texts(), by_ours::surface::texts());
+    for (expected, got) in expected.iter().zip(&got).filter(|(expected, got)| expected != got) {
+        println!("different:\n  original: {expected}\n  bindings: {got}");
+    }
+    expected == got
 }
 
 fn main() -> io::Result<ExitCode> {
     assert!(moment::is_seen(), "this system's clock cannot be replaced");
+    std::panic::set_hook(Box::new(|panic| {
+        // Those of objects are caught, and compared.
+        if !panic.to_string().contains("an object panics") {
+            eprintln!("{panic}");
+        }
+    }));
     let words: Vec<String> = env::args().skip(1).collect();
     let number =
         |place: usize| -> u64 { words.get(place).and_then(|it| it.parse().ok()).expect("a number is missing") };
-    match words.first().map_or("", |word| word) {
-        #[cfg(feature = "library")]
-        "library" => Ok(compare_library(number(1), number(2))),
-        #[cfg(feature = "original")]
-        "original" => Ok(compare_original(number(1), number(2))),
-        #[cfg(feature = "original")]
-        "record" => record::record(number(1), number(2)).map(|()| ExitCode::SUCCESS),
+    let is_good = match words.first().map_or("", |word| word) {
         "replay" => replay(),
-        "forms" => forms::answer().map(|()| ExitCode::SUCCESS),
+        "draw" => draw(number(1), number(2)),
+        #[cfg(feature = "original")]
+        "record" => record(number(1), number(2), words.len() > 3),
+        #[cfg(feature = "original")]
+        "texts" => Ok(compare_texts()),
         mode => panic!("this build has no mode '{mode}'"),
-    }
+    }?;
+    Ok(ExitCode::from(u8::from(!is_good)))
 }

@@ -1,27 +1,28 @@
 //! The trigger, the events object and the writer of one of the two crates, which behave as a call says, and keep a log.
 use std::cell::{Cell, RefCell};
-use std::fmt;
 use std::io::{self, ErrorKind, Write};
 use std::rc::Rc;
 
 use super::superio::Trigger;
 use super::superio::rtc_pl031::RtcEvents;
 use super::superio::serial::SerialEvents;
-use crate::call::{Behaviour, Event, Writing};
+use crate::errors::{OF_WRITE_ALL, made, seen};
+use crate::line::Behaviour;
 
 /// What the objects of all devices share: how they are to behave, and what they were asked.
 #[derive(Debug, Default)]
 struct Script {
     behaviour: Cell<Behaviour>,
-    events: RefCell<Vec<Event>>,
+    events: RefCell<String>,
+    /// The number of the next error, and of the last ones of a trigger and a writer.
+    errors: Cell<u32>,
+    refusal: Cell<u32>,
+    fault: Cell<u32>,
 }
 
 /// A trigger, an events object and a writer in one.
 #[derive(Clone, Debug, Default)]
 pub struct Object(Rc<Script>);
-
-#[derive(Debug)]
-pub struct Refused;
 
 impl Object {
     /// Prepares a call.
@@ -29,14 +30,27 @@ impl Object {
         self.0.behaviour.set(behaviour);
     }
 
-    /// The calls of objects since the last one of this.
-    pub fn take_events(&self) -> Vec<Event> {
+    /// The signs of the calls of objects since the last call of this, with a space before each.
+    pub fn take_events(&self) -> String {
         self.0.events.take()
     }
 
+    /// Whether an error is in every respect the last one of a trigger or of a writer.
+    pub fn gave(&self, error: &io::Error, is_refusal: bool) -> bool {
+        let number = if is_refusal { &self.0.refusal } else { &self.0.fault };
+        seen(error) == seen(&made(number.get()))
+    }
+
+    /// The next error.
+    fn fail(&self, number: &Cell<u32>) -> io::Error {
+        number.set(self.0.errors.get());
+        self.0.errors.set(number.get() + 1);
+        made(number.get())
+    }
+
     /// Notes a call of an object, and panics if it is the one that is to.
-    pub fn note(&self, event: Event) {
-        self.0.events.borrow_mut().push(event);
+    fn note(&self, sign: &str) {
+        self.0.events.borrow_mut().extend([" ", sign]);
         let behaviour = self.0.behaviour.get();
         let left = behaviour.panics_after;
         self.0.behaviour.set(Behaviour { panics_after: left.and_then(|calls| calls.checked_sub(1)), ..behaviour });
@@ -44,73 +58,74 @@ impl Object {
     }
 }
 
-impl fmt::Display for Refused {
-    fn fmt(&self, f: &mut fmt::Formatter) -> fmt::Result {
-        f.write_str("refused")
-    }
-}
-
-impl std::error::Error for Refused {}
-
 impl Trigger for Object {
-    type E = Refused;
+    type E = io::Error;
 
-    fn trigger(&self) -> Result<(), Refused> {
+    fn trigger(&self) -> io::Result<()> {
         let behaviour = self.0.behaviour.get();
         let [refuses, next] = behaviour.refuses;
         self.0.behaviour.set(Behaviour { refuses: [next, false], ..behaviour });
-        self.note(if refuses { Event::Refusal } else { Event::Trigger });
-        if refuses { Err(Refused) } else { Ok(()) }
+        self.note(if refuses { "R" } else { "T" });
+        if refuses { Err(self.fail(&self.0.refusal)) } else { Ok(()) }
     }
 }
 
 impl SerialEvents for Object {
     fn buffer_read(&self) {
-        self.note(Event::BufferRead);
+        self.note("b");
     }
 
     fn out_byte(&self) {
-        self.note(Event::OutByte);
+        self.note("o");
     }
 
     fn tx_lost_byte(&self) {
-        self.note(Event::TxLostByte);
+        self.note("l");
     }
 
     fn in_buffer_empty(&self) {
-        self.note(Event::InBufferEmpty);
+        self.note("e");
     }
 }
 
 impl RtcEvents for Object {
     fn invalid_read(&self) {
-        self.note(Event::InvalidRead);
+        self.note("i");
     }
 
     fn invalid_write(&self) {
-        self.note(Event::InvalidWrite);
+        self.note("j");
     }
 }
 
 impl Write for Object {
     fn write(&mut self, bytes: &[u8]) -> io::Result<usize> {
-        bytes.iter().for_each(|byte| self.note(Event::Write(*byte)));
+        bytes.iter().for_each(|byte| self.note(&format!("W{byte:02x}")));
         let behaviour = self.0.behaviour.get();
         match behaviour.writing {
-            Writing::TakesNone => Ok(0),
-            Writing::Fails => Err(ErrorKind::BrokenPipe.into()),
-            Writing::IsInterruptedOnce => {
-                self.0.behaviour.set(Behaviour { writing: Writing::Takes, ..behaviour });
+            Some('n') => {
+                self.0.fault.set(OF_WRITE_ALL);
+                Ok(0)
+            }
+            Some('f') => loop {
+                // A write that is interrupted is made again.
+                let error = self.fail(&self.0.fault);
+                if error.kind() != ErrorKind::Interrupted {
+                    break Err(error);
+                }
+            },
+            Some('i') => {
+                self.0.behaviour.set(Behaviour { writing: None, ..behaviour });
                 Err(ErrorKind::Interrupted.into())
             }
-            Writing::Takes | Writing::FailsToFlush => Ok(bytes.len()),
+            _ => Ok(bytes.len()),
         }
     }
 
     fn flush(&mut self) -> io::Result<()> {
-        self.note(Event::Flush);
+        self.note("F");
         match self.0.behaviour.get().writing {
-            Writing::FailsToFlush => Err(ErrorKind::WouldBlock.into()),
+            Some('u') => Err(self.fail(&self.0.fault)),
             _ => Ok(()),
         }
     }

@@ -2,7 +2,7 @@
 use ours::values::RtcState;
 use ours::values::rtc_pl031::saved_form::SAVED_SIZE;
 
-use crate::call::{Action, Behaviour, Call, Clock, Port, Writing};
+use crate::line::{Behaviour, text_of_bytes};
 
 /// Numbers by the generator SplitMix64.
 pub struct Random(u64);
@@ -37,12 +37,11 @@ impl Random {
 
     fn behaviour(&mut self) -> Behaviour {
         let refused = self.below(16) as u8;
-        let writing = [Writing::TakesNone, Writing::IsInterruptedOnce, Writing::Fails, Writing::FailsToFlush];
-        let writing = self.one_of(&writing);
+        let writing = self.one_of(&['n', 'i', 'f', 'u']);
         let panics_after = self.below(4) as u32;
         Behaviour {
             refuses: [refused & 3 == 3, refused & 12 == 12],
-            writing: if self.below(3) == 0 { writing } else { Writing::Takes },
+            writing: (self.below(3) == 0).then_some(writing),
             panics_after: (self.below(8) == 0).then_some(panics_after),
         }
     }
@@ -52,7 +51,11 @@ impl Random {
         self.one_of(&[0, 0, 0, 0, 1, 2, 2, 3, 4, 5, 5, 6, 7, any])
     }
 
-    fn serial_write(&mut self) -> Action {
+    fn serial_read(&mut self) -> String {
+        format!("sr {:02x}", self.serial_offset())
+    }
+
+    fn serial_write(&mut self) -> String {
         let any = self.byte();
         let offset = self.serial_offset();
         let value = match offset {
@@ -61,17 +64,17 @@ impl Random {
             4 => self.one_of(&[0x08, 0x08, 0x10, any]),
             _ => any,
         };
-        Action::SerialWrite(offset, value)
+        format!("sw {offset:02x} {value:02x}")
     }
 
-    fn enqueue(&mut self) -> Action {
+    fn enqueue(&mut self) -> String {
         let count = self.below(80);
         let count = self.one_of(&[0, 1, 1, 2, 3, 63, 64, 65, count]);
-        Action::SerialEnqueue(self.bytes(count))
+        format!("sq {}", text_of_bytes(&self.bytes(count)))
     }
 
     /// The state of a port to restore: its own, one whose registers calls could have led to, or any.
-    fn port(&mut self) -> Option<Port> {
+    fn port(&mut self) -> Option<([u8; 9], Vec<u8>)> {
         let mut registers: [u8; 9] = std::array::from_fn(|_| self.byte());
         match self.below(3) {
             0 => return None,
@@ -80,7 +83,7 @@ impl Random {
         }
         let count = self.below(72);
         let count = self.one_of(&[0, 1, 64, 65, 300, count]);
-        Some(Port { registers, in_buffer: self.bytes(count) })
+        Some((registers, self.bytes(count)))
     }
 
     /// How far guest time is ahead in a clock's state.
@@ -95,12 +98,12 @@ impl Random {
         self.one_of(&[0x00, 0x00, 0x04, 0x08, 0x08, 0x0C, 0x10, 0x14, 0x18, 0x1C, any % 0x24, 0xFDC + any % 0x28, any])
     }
 
-    fn controller(&mut self) -> Action {
+    fn controller(&mut self) -> String {
         let (offset, value) = (self.byte(), self.byte());
         let offset = self.one_of(&[4, 4, offset]);
         match self.below(3) {
-            0 => Action::ControllerRead(offset),
-            _ => Action::ControllerWrite(offset, self.one_of(&[0xFE, 0xFE, value])),
+            0 => format!("kr {offset:02x}"),
+            _ => format!("kw {offset:02x} {:02x}", self.one_of(&[0xFE, 0xFE, value])),
         }
     }
 }
@@ -112,20 +115,21 @@ impl Random {
         self.one_of(&[moment, 1_000 + moment % 100, u64::from(u32::MAX) - 1 + moment % 4])
     }
 
-    /// A call, when the clock shows this guest time.
-    pub fn call(&mut self, guest_time: u32) -> Call {
-        let action = match self.below(20) {
-            0..=5 => Action::SerialRead(self.serial_offset()),
+    /// A call at a moment, when the clock shows this guest time.
+    pub fn call(&mut self, now: u64, guest_time: u32, has_panics: bool) -> String {
+        let call = match self.below(20) {
+            0..=5 => self.serial_read(),
             6..=11 => self.serial_write(),
             12 | 13 => self.enqueue(),
-            14 => Action::SerialCapacity,
-            15 => Action::SerialRestore(self.port()),
-            16 => Action::ClockRead(self.clock_offset()),
-            17 => self.clock_write(guest_time),
-            18 => Action::ClockRestore(self.clock()),
+            14 => "sc".into(),
+            15 => self.port().map_or("ss".into(), |(registers, bytes)| text_of_port(registers, &bytes)),
+            16 => format!("cr {now:x} {:04x}", self.clock_offset()),
+            17 => self.clock_write(now, guest_time),
+            18 => self.clock(),
             _ => self.controller(),
         };
-        Call { action, behaviour: self.behaviour() }
+        let behaviour = self.behaviour();
+        Behaviour { panics_after: behaviour.panics_after.filter(|_| has_panics), ..behaviour }.added_to(call)
     }
 
     fn word(&mut self) -> u32 {
@@ -134,46 +138,50 @@ impl Random {
     }
 
     /// A write of the clock. A match is past, since any other is an alarm in one crate alone.
-    fn clock_write(&mut self, guest_time: u32) -> Action {
-        match self.clock_offset() {
-            0x04 if guest_time == 0 => Action::ClockRead(0x04),
-            0x04 => Action::ClockWrite(0x04, self.word() % guest_time),
-            offset => Action::ClockWrite(offset, self.word()),
-        }
+    fn clock_write(&mut self, now: u64, guest_time: u32) -> String {
+        let offset = self.clock_offset();
+        let value = match offset {
+            0x04 if guest_time == 0 => return format!("cr {now:x} 0004"),
+            0x04 => self.word() % guest_time,
+            _ => self.word(),
+        };
+        format!("cw {now:x} {offset:04x} {value:08x}")
     }
 
     /// The state of a clock to restore: its own, or any.
-    fn clock(&mut self) -> Option<Clock> {
+    fn clock(&mut self) -> String {
         if self.below(2) == 0 {
-            return None;
+            return "cs".into();
         }
         let offset = self.ahead();
-        Some(Clock { lr: self.word(), offset, mr: self.word(), imsc: self.word(), ris: self.word() })
+        let [lr, mr, imsc, ris] = std::array::from_fn(|_| self.word());
+        format!("cl {lr:08x} {offset} {mr:08x} {imsc:08x} {ris:08x}")
     }
 }
 
 /// Calls that bindings/rust and the C library have.
 impl Random {
     /// A moment, which may be before the last one: 0, near the start, where the seconds reach 32 bits, or any.
-    pub fn any_moment(&mut self) -> u64 {
+    fn any_moment(&mut self) -> u64 {
         let moment = self.number();
         let near = 1_000 + moment % 100;
         self.one_of(&[0, near, near, near, u64::from(u32::MAX) - 20 + moment % 40, moment])
     }
 
     /// A call in which no object panics.
-    pub fn any_call(&mut self) -> Call {
-        let action = match self.below(40) {
-            0..=12 => Action::SerialRead(self.serial_offset()),
+    pub fn any_call(&mut self) -> String {
+        let now = self.any_moment();
+        let call = match self.below(40) {
+            0..=12 => self.serial_read(),
             13..=23 => self.serial_write(),
             24..=26 => self.enqueue(),
-            27 => Action::SerialTimeout,
+            27 => "si".into(),
             28..=30 => self.serial_call(),
-            31..=36 => self.clock_access(),
-            37 | 38 => self.clock_call(),
+            31..=36 => self.clock_access(now),
+            37 | 38 => self.clock_call(now),
             _ => self.controller(),
         };
-        Call { action, behaviour: Behaviour { panics_after: None, ..self.behaviour() } }
+        Behaviour { panics_after: None, ..self.behaviour() }.added_to(call)
     }
 
     /// A value of the clock: often close to where guest time is, or the last one.
@@ -182,41 +190,38 @@ impl Random {
         self.one_of(&[1_000 + word % 120, 1_000 + word % 120, word % 4, u32::MAX - word % 40, u32::MAX, word])
     }
 
-    fn serial_call(&mut self) -> Action {
+    fn serial_call(&mut self) -> String {
         match self.below(9) {
-            0 => Action::SerialCapacity,
-            1 => Action::SerialRetry,
-            2 => Action::SerialCoherence,
-            3 => Action::SerialSave,
-            4 => Action::SerialLine,
+            place @ 0..=4 => ["sc", "sp", "sf", "sb", "sh"][place as usize].into(),
             _ => self.serial_load(),
         }
     }
 
-    /// A port is made of its own state, or of a saved form. That may be spoilt.
-    fn serial_load(&mut self) -> Action {
-        let Some(mut port) = self.port() else { return Action::SerialRestore(None) };
-        port.registers[5] ^= self.byte() & 1;
-        Action::SerialLoad(self.form(1, &[&port.registers[..], &port.in_buffer].concat()))
+    /// A port is made of its own state, of another, or of a saved form. That may be spoilt.
+    fn serial_load(&mut self) -> String {
+        let Some((mut registers, bytes)) = self.port() else { return "ss".into() };
+        registers[5] ^= self.byte() & 1;
+        if self.below(4) == 0 {
+            return text_of_port(registers, &bytes);
+        }
+        format!("sl {}", text_of_bytes(&self.form(1, &[&registers[..], &bytes].concat())))
     }
 
-    fn clock_access(&mut self) -> Action {
+    fn clock_access(&mut self, now: u64) -> String {
         let (offset, value) = (self.clock_offset(), self.near_word());
         let offset = self.one_of(&[offset, offset, offset, 0x04]); // a match sets an alarm
-        match self.below(6) {
-            0 | 1 => Action::ClockReadAt(offset),
-            2 | 3 => Action::ClockWriteAt(offset, if offset == 0x0C { value & 1 } else { value }),
-            4 => Action::ClockRead(offset),
-            _ => Action::ClockWrite(offset, value),
+        if self.below(2) == 0 {
+            return format!("cr {now:x} {offset:04x}");
         }
+        format!("cw {now:x} {offset:04x} {:08x}", if offset == 0x0C { value & 1 } else { value })
     }
 
-    fn clock_call(&mut self) -> Action {
+    fn clock_call(&mut self, now: u64) -> String {
         match self.below(8) {
-            0 => Action::ClockLine,
-            1..=3 => Action::ClockDue,
-            4 => Action::ClockSave,
-            _ => Action::ClockLoad(self.clock_form()),
+            0 => "ch".into(),
+            1..=3 => format!("cd {now:016x}"),
+            4 => "cb".into(),
+            _ => format!("cl {}", text_of_bytes(&self.clock_form())),
         }
     }
 
@@ -244,4 +249,8 @@ impl Random {
         }
         form
     }
+}
+
+fn text_of_port(registers: [u8; 9], bytes: &[u8]) -> String {
+    format!("sl {} {}", text_of_bytes(&registers), text_of_bytes(bytes))
 }

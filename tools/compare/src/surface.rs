@@ -5,7 +5,7 @@ use std::fmt::Debug;
 use std::io::Write;
 use std::sync::Arc;
 
-use super::objects::{Object, Refused};
+use super::objects::Object;
 use super::superio::I8042Device;
 use super::superio::rtc_pl031::{self, Rtc, RtcEvents, RtcState};
 use super::superio::serial::{Error, NoEvents, Serial, SerialEvents, SerialState};
@@ -72,8 +72,8 @@ fn controllers() -> Vec<String> {
 
 /// The errors, and what stands behind each.
 fn errors() -> Vec<String> {
-    let io = std::io::Error::other("gone");
-    let made: [Error<Refused>; 3] = [Error::Trigger(Refused), Error::IOError(io), Error::FullFifo];
+    let [refused, gone] = ["refused", "gone"].map(std::io::Error::other);
+    let made: [Error<std::io::Error>; 3] = [Error::Trigger(refused), Error::IOError(gone), Error::FullFifo];
     made.iter().map(|error| format!("{error:?} {error} {:?}", error.source().map(ToString::to_string))).collect()
 }
 

@@ -25,10 +25,10 @@ fn a_state_of_the_clock_and_its_snapshot() {
     let text = json!({ "lr": 1, "offset": -2, "mr": u32::MAX, "imsc": 1, "ris": 3 });
     assert_eq!(to_value(state).unwrap(), text);
     assert_eq!(from_value::<RtcState>(text.clone()).unwrap(), state);
-    let snapshot = RtcSnapshot { state, armed: true };
-    let text = json!({ "state": text, "armed": true });
-    assert_eq!(to_value(snapshot).unwrap(), text);
-    assert_eq!(from_value::<RtcSnapshot>(text).unwrap(), snapshot);
+    let snapshot = RtcSnapshot { armed: true, ..RtcSnapshot::from(state) };
+    let whole = to_value(snapshot).unwrap();
+    assert_eq!((&whole["state"], &whole["armed"]), (&text, &json!(true)));
+    assert_eq!(from_value::<RtcSnapshot>(whole).unwrap(), snapshot);
 }
 
 /// A state without one of its fields is refused, as vm-superio refuses it.

@@ -1,0 +1,82 @@
+//! The errors of triggers and writers, of which a call has to return the very one that its object gave.
+use std::error::Error;
+use std::fmt;
+use std::io::{self, ErrorKind, Write};
+use std::iter::successors;
+
+/// The largest error number of Linux, whose numbers have all kinds that the operating system has. Those around them
+/// have none.
+const LARGEST: u32 = 133;
+
+/// The other kinds of the standard library.
+const OTHER_KINDS: [ErrorKind; 6] = [
+    ErrorKind::InvalidData,
+    ErrorKind::WriteZero,
+    ErrorKind::UnexpectedEof,
+    ErrorKind::Unsupported,
+    ErrorKind::OutOfMemory,
+    ErrorKind::Other,
+];
+
+/// Texts: none, a byte, characters of several bytes, and several lines.
+const TEXTS: [&str; 5] =
+    ["", "x", "a text of its own", "l'hôte a fermé la connexion: 接続が切れました", "two\nlines\0"];
+
+/// The number of the error that `write_all` makes of a writer that takes nothing.
+pub const OF_WRITE_ALL: u32 = u32::MAX;
+
+/// An error of a monitor's own, with others as its sources.
+#[derive(Debug)]
+struct Own {
+    number: u32,
+    source: Option<Box<Own>>,
+}
+
+impl fmt::Display for Own {
+    fn fmt(&self, f: &mut fmt::Formatter) -> fmt::Result {
+        write!(f, "failure {}", self.number)
+    }
+}
+
+impl Error for Own {
+    fn source(&self) -> Option<&(dyn Error + 'static)> {
+        self.source.as_ref().map(|source| source.as_ref() as _)
+    }
+}
+
+/// The error of a number: by turns a number of the system, a kind alone, a kind with a text, and one with an error that
+/// has sources.
+pub fn made(number: u32) -> io::Error {
+    if number == OF_WRITE_ALL {
+        return [0; 0].as_mut_slice().write_all(b"x").expect_err("no room");
+    }
+    let place = number / 4;
+    let of_system = io::Error::from_raw_os_error((place % (LARGEST + 4)) as i32 - 1);
+    let kind = match OTHER_KINDS.get(place as usize % 16) {
+        Some(kind) => *kind,
+        None => of_system.kind(),
+    };
+    match number % 4 {
+        0 => of_system,
+        1 => kind.into(),
+        2 => io::Error::new(kind, TEXTS[place as usize % TEXTS.len()]),
+        _ => {
+            let source = (0..place % 3).fold(None, |source, at| Some(Box::new(Own { number: at, source })));
+            io::Error::new(kind, Own { number, source })
+        }
+    }
+}
+
+/// What can be seen of an error: its number, its kind, its texts, the number of its own error, and its sources.
+pub fn seen(error: &io::Error) -> (Option<i32>, ErrorKind, String, String, Option<u32>, Vec<String>) {
+    let own = error.get_ref().and_then(|inner| inner.downcast_ref::<Own>());
+    let sources = successors(error.source(), |&source| source.source());
+    (
+        error.raw_os_error(),
+        error.kind(),
+        error.to_string(),
+        format!("{error:?}"),
+        own.map(|it| it.number),
+        sources.map(ToString::to_string).collect(),
+    )
+}
