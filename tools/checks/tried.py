@@ -152,7 +152,8 @@ def write_floors(table, path=FLOORS):
     """Writes the table, below the comment at its head."""
     head = [line for line in path.read_text(encoding="utf-8").splitlines() if line.startswith("#")]
     width = max(map(len, table))
-    digits = max(len(str(number)) for rows in table.values() for number in rows.values())
+    # So many that a number that goes moves no other row.
+    digits = max(8, *(len(str(number)) for rows in table.values() for number in rows.values()))
     blocks = ["\n".join(f"{check:{width}}  {number:{digits}}  {kind}" for kind, number in rows.items())
               for check, rows in table.items()]
     path.write_text("\n".join(head) + "\n\n" + "\n\n".join(blocks) + "\n", encoding="utf-8")
