@@ -8,7 +8,7 @@ import unittest
 from unittest import mock
 
 import texts
-from repository import ROOT, CopyTest, silently, tally_of
+from repository import ROOT, CopyTest, tally_of
 
 TARGETS = ("aarch64-linux", "x86_64-linux")
 HEADER, TABLE, CHANGES = "include/superio.h", "include/superio.abi", "CHANGELOG.md"
