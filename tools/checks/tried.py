@@ -153,7 +153,7 @@ def write_floors(table, path=FLOORS):
     head = [line for line in path.read_text(encoding="utf-8").splitlines() if line.startswith("#")]
     width = max(map(len, table))
     # So many that a number that goes moves no other row.
-    digits = max(8, *(len(str(number)) for rows in table.values() for number in rows.values()))
+    digits = max(7, *(len(str(number)) for rows in table.values() for number in rows.values()))
     blocks = ["\n".join(f"{check:{width}}  {number:{digits}}  {kind}" for kind, number in rows.items())
               for check, rows in table.items()]
     path.write_text("\n".join(head) + "\n\n" + "\n\n".join(blocks) + "\n", encoding="utf-8")
