@@ -3,16 +3,17 @@
 
     tools/bench/bench.py [--turns N] [--processor P]
 
-Five programs make the same lists of accesses: `crates/superio_harness` and `original`, each over the devices themselves,
-`through_c.c` over either behind C functions, and `original` over bindings/rust. In each turn each program makes each
-list, one after the other, on processor P. An access costs the processor time of a run of many rounds, less that of a run
-without a round, divided by the number of accesses. The least of three runs counts for a turn, and the median of the N turns
-for the table. What the list `nothing` costs is subtracted from the others. The programs must print the same sums.
+Five programs make the same lists of accesses: `crates/superio_harness` and `original`, each over the devices
+themselves, `through_c.c` over either behind C functions, and `original` over bindings/rust. In each turn each program
+makes each list, one after the other, on processor P. An access costs the processor time of a run of many rounds, less
+that of a run without a round, divided by the number of accesses. The least of three runs counts for a turn, and the
+median of the N turns for the table. What the list `nothing` costs is subtracted from the others. The programs must
+print the same sums.
 
-Prints a table in Markdown, in nanoseconds, and the noise. For one measurement that is the range of the middle half of its
-turns, divided by their median; the noise is the median over all measurements. Exits 1 if a program fails, or if the sums
-differ. Needs rt, gcc and Cargo. If Cargo has no copy of vm-superio 0.8.2, the environment variable VM_SUPERIO can name the
-folder of its package.
+Prints a table in Markdown, in nanoseconds, and the noise. For one measurement that is the range of the middle half of
+its turns, divided by their median; the noise is the median over all measurements. Exits 1 if a program fails, or if the
+sums differ. Needs rt, gcc and Cargo. If Cargo has no copy of vm-superio 0.8.2, the environment variable VM_SUPERIO can
+name the folder of its package.
 """
 import argparse
 import os
@@ -39,7 +40,8 @@ def build(folder):
     bindings, crate = build_in_rust(BINDINGS, folder / "bindings"), build_in_rust(original(), folder / "original_crate")
     through_c = []
     for name, words in (("ours", [library]), ("original", ["-DORIGINAL", crate.with_name("liboriginal.a")])):
-        subprocess.run(["gcc", "-O2", f"-march={PROCESSOR}", f"-I{ROOT / 'include'}", FOLDER / "through_c.c", *words, "-o",
+        subprocess.run(["gcc", "-O2", f"-march={PROCESSOR}", f"-I{ROOT / 'include'}", FOLDER / "through_c.c", *words,
+                        "-o",
                         folder / name], check=True)
         through_c.append((folder / name,))
     return [(ours, "bench"), (crate,), *through_c, (bindings,)]
@@ -93,7 +95,8 @@ def spread(costs):
 
 
 def row(measurement, loop, programs):
-    """The row of a table: each cost, and after those of ours their ratio to the Rust crate's across the same boundary."""
+    """The row of a table: each cost, and after those of ours their ratio to the Rust crate's across the same
+    boundary."""
     costs = [median(measurement.costs[program]) for program in programs]
     if measurement is loop:
         ratios = ["", "", ""]

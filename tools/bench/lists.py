@@ -37,7 +37,8 @@ def row_of(line):
     before, unit = bytes_of(found["before"] or ""), bytes_of(found["repeated"])
     length = len(unit) // 3
     units = max(1, LIST_LENGTH // length)
-    return Row(found["name"], found["kind"], int(found["count"]), len(before) // 3, length, units, before + unit * units)
+    return Row(found["name"], found["kind"], int(found["count"]), len(before) // 3, length, units,
+               before + unit * units)
 
 
 def read_rows():
@@ -46,9 +47,11 @@ def read_rows():
 
 
 def build_in_rust(crate, target):
-    """Builds the package `original` over the crate in a folder, or the registry's if it is `None`. Returns the program."""
+    """Builds the package `original` over the crate in a folder, or the registry's if it is `None`. Returns the
+    program."""
     patch = ["--offline", "--config", f'patch.crates-io.vm-superio.path="{crate}"'] if crate else []
     environment = dict(os.environ, RUSTFLAGS=f"-C target-cpu={PROCESSOR}", CARGO_TARGET_DIR=str(target))
-    subprocess.run(["cargo", "build", "--release", "--quiet", "--manifest-path", FOLDER / "original/Cargo.toml", *patch],
+    subprocess.run(["cargo", "build", "--release", "--quiet", "--manifest-path",
+                    FOLDER / "original/Cargo.toml", *patch],
                    env=environment, check=True)
     return target / "release" / "original"

@@ -119,7 +119,8 @@ def build(machine, compiler, place, program, file="monitor.c"):
 
 
 def check_driven_demo(tally, machine, folder):
-    """Counts whether the demo does what a guest and its host may expect, and whether each wrong one does something else."""
+    """Counts whether the demo does what a guest and its host may expect, and whether each wrong one does something
+    else."""
     tally.of("cases of the demo")
     compiler = machine.compilers[0]
     if not machine.is_host or not tally.has(compiler.name, "the demo"):

@@ -42,8 +42,8 @@ class Header(NamedTuple):
 
 
 def layout(fields, constants=()):
-    """The place and the size of each field of a struct, and the size of all, by the rules of C: each field is aligned to
-    its size. A length may be one of these constants."""
+    """The place and the size of each field of a struct, and the size of all, by the rules of C: each field is aligned
+    to its size. A length may be one of these constants."""
     places, end = [], 0
     for kind, _, length in fields:
         start, size = end + -end % BYTES[kind], BYTES[kind] * int(dict(constants).get(length, length or 1))

@@ -1,5 +1,5 @@
-"""The libraries that the repository holds, and that which Cargo makes of bindings/rust/capi: here, and for processors that no
-folder of prebuilt has."""
+"""The libraries that the repository holds, and that which Cargo makes of bindings/rust/capi: here, and for processors
+that no folder of prebuilt has."""
 import re
 import tempfile
 from dataclasses import replace
@@ -7,7 +7,8 @@ from pathlib import Path
 
 from declarations import FROM_SOURCE, PROVED, differences, versions
 from header import read_header
-from libraries import (DEMO, PREBUILT, ROOT, SHARED, STATIC, TARGETS, TESTS, BuildError, build, host_target, library_sums,
+from libraries import (DEMO, PREBUILT, ROOT, SHARED, STATIC, TARGETS, TESTS, BuildError, build, host_target,
+                       library_sums,
                        source_line, sums_of)
 from machines import emulated, machine
 from programs import OF_SOURCE, check_machine
@@ -34,7 +35,8 @@ def check_prebuilt(tally):
     try:
         sums, lines = ((PREBUILT / name).read_text(encoding="ascii").splitlines() for name in ("SHA256SUMS", "SOURCES"))
         files = [path.relative_to(PREBUILT).as_posix() for path in PREBUILT.glob("*/*")]
-        tally.check(sorted(sums) == sorted(sums_of(PREBUILT, files)), "prebuilt/SHA256SUMS has other sums than the files")
+        tally.check(sorted(sums) == sorted(sums_of(PREBUILT, files)),
+                    "prebuilt/SHA256SUMS has other sums than the files")
         tally.check(set(library_sums(PREBUILT)) <= set(sums), "prebuilt/SHA256SUMS lacks a library")
         tally.check(source_line() in lines, "prebuilt was built from other sources: run tools/c/prebuild")
     except OSError as error:
@@ -132,7 +134,8 @@ def build_from_source(tally, target, folder, words):
 
 def check_own(tally, folder, target):
     """Counts what the shared library of the crate has and needs."""
-    if (built := build_from_source(tally, target, folder, ["build"])) and tally.has("nm", "the symbols of the library from source"):
+    built = build_from_source(tally, target, folder, ["build"])
+    if built and tally.has("nm", "the symbols of the library from source"):
         check_symbols_of(tally, built / "release" / "libsuperio_c.so", NEEDED_FROM_SOURCE)
 
 

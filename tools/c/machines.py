@@ -26,8 +26,8 @@ class Compiler:
 
 @dataclass
 class Machine:
-    """A processor: its folder of `prebuilt`, its compilers, and the words before a program that run it. The library is that
-    of the folder, unless another is named."""
+    """A processor: its folder of `prebuilt`, its compilers, and the words before a program that run it. The library is
+    that of the folder, unless another is named."""
     target: str
     compilers: list
     runner: list

@@ -63,8 +63,8 @@ def watched(machine):
 
 @lru_cache(maxsize=None)
 def recorded(folder):
-    """A file of calls, and how many they are: those that are C's own, which begin with new devices, the recording, which
-    begins with such a clock, and the others."""
+    """A file of calls, and how many they are: those that are C's own, which begin with new devices, the recording,
+    which begins with such a clock, and the others."""
     calls = ROOT / "tests" / "calls"
     own, shared, *others = [path.read_text(encoding="ascii") for path in (
         TESTS / "own.txt", TESTS / "shared.txt", *calls.glob("*.txt"))]
@@ -96,7 +96,8 @@ def check_calls(tally, machine, folder):
 
 def check_random_calls(tally, machine, folder):
     """Counts whether a million random calls do what a search of the past says."""
-    compiler = next((it for it in machine.compilers if it.language == C and shutil.which(it.name)), machine.compilers[0])
+    compiler = next((it for it in machine.compilers if it.language == C and shutil.which(it.name)),
+                    machine.compilers[0])
     if machine.can(tally, compiler, "random calls"):
         build = machine.program(compiler, [TESTS / "replay.c"], folder / "random", watched(machine))
         if tally.run("replay.c is built", build, number=0):
@@ -126,7 +127,8 @@ def check_pastes(tally, machine, folder):
         if tally.run(f"{tally.kind} under {compiler.name} are built", build, number=0):
             for options in ([], ["--without-timeout"]):
                 ran = run([*machine.runner, program, *options, seed])
-                tally.check(ran.returncode == 0, f"{tally.kind} under {' '.join([compiler.name, *options])}:\n{ran.stdout}",
+                tally.check(ran.returncode == 0,
+                            f"{tally.kind} under {' '.join([compiler.name, *options])}:\n{ran.stdout}",
                             sum(map(int, re.findall(r"(\d+) pastes", ran.stdout))))
 
 

@@ -1,7 +1,8 @@
-"""Second monitors like those of examples/c and examples/rust, over the devices of `oracle.py`, and random scripts for both.
+"""Second monitors like those of examples/c and examples/rust, over the devices of `oracle.py`, and random scripts for
+both.
 
-They take the lines of tests/demo.c, and say what these print. They were written from docs/DEVICES.md and from the duties of
-docs/THREATS.md.
+They take the lines of tests/demo.c, and say what these print. They were written from docs/DEVICES.md and from the
+duties of docs/THREATS.md.
 """
 import random
 import subprocess
@@ -173,14 +174,15 @@ class Monitor:
 
     def g(self):
         self.is_down = self.was_refused = self.is_interrupted = False
-        self.printed.append(f"moved a clock, a port of {17 + len(self.port.held())} bytes, and {len(self.input)} of input")
+        held, waiting = len(self.port.held()), len(self.input)
+        self.printed.append(f"moved a clock, a port of {17 + held} bytes, and {waiting} of input")
         self.ask(self.port.due())
         self.follow_clock()
 
 
 class Edges(Monitor):
-    """The monitor of lines.c whose line has edges: a port alone, whose input is what fits. After each line it prints what
-    went out, whether the guest is interrupted, and how much room there is."""
+    """The monitor of lines.c whose line has edges: a port alone, whose input is what fits. After each line it prints
+    what went out, whether the guest is interrupted, and how much room there is."""
 
     most = 16
 
@@ -297,8 +299,8 @@ class Script:
             self.add("r", COM1)
 
     def clock(self):
-        """A write, then or instead some time passes, and then perhaps the alarm's timer goes off. At times the host's time
-        and the match are at an edge."""
+        """A write, then or instead some time passes, and then perhaps the alarm's timer goes off. At times the host's
+        time and the match are at an edge."""
         if not self.random.randrange(8):
             self.add("n", self.random.choice(EDGES))
             self.add("m", 0x004, self.random.choice(EDGES))
@@ -325,8 +327,8 @@ class Script:
         return self.add("h")
 
     def host(self):
-        """The interrupt line takes nothing, or takes requests again; the machine moves; input comes early; or the guest resets
-        the machine, and the next one finds its port."""
+        """The interrupt line takes nothing, or takes requests again; the machine moves; input comes early; or the guest
+        resets the machine, and the next one finds its port."""
         if self.has_port_alone:
             return self.refuse()
         choices = {("d", 1): 4, ("d", 0): 4, ("g",): 2, ("w", 0x64, 0xFE): 2, ("e",): 1}

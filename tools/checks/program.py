@@ -50,9 +50,9 @@ def run_rt(crate, command, arguments, log, task):
 
 
 def build(*steps):
-    """Builds a crate by commands of rt, each in a crate's folder and with arguments for the program, the lowest first: rt
-    passes over the sources of a crate once more if it has to build the libraries too. If one fails, the error names a file
-    with what they printed."""
+    """Builds a crate by commands of rt, each in a crate's folder and with arguments for the program, the lowest first:
+    rt passes over the sources of a crate once more if it has to build the libraries too. If one fails, the error names
+    a file with what they printed."""
     crate = steps[-1][0]
     handle, name = tempfile.mkstemp(prefix=f"{crate}-", suffix=".log")
     log = os.fdopen(handle, "w", encoding="utf-8")
@@ -63,8 +63,8 @@ def build(*steps):
             except OSError as error:
                 raise NotBuilt(f"{crate} was not built: {error}") from error
             if ended != 0:
-                raise NotBuilt(f"{crate} was not built: `rt {command}` in crates/{folder} ended with status {ended}, and "
-                               f"{name} has what it printed")
+                raise NotBuilt(f"{crate} was not built: `rt {command}` in crates/{folder} ended with status {ended}, "
+                               f"and {name} has what it printed")
     os.unlink(name)
 
 
@@ -121,7 +121,8 @@ def lost_or_new(folder, pattern, names):
     """A message for each of these files that a folder lacks, and for each other one that it has."""
     found = {path.name for path in folder.glob(pattern)}
     for name in sorted(found ^ set(names)):
-        yield f"{folder.name}/{name} is not there" if name in names else f"{folder.name}/{name} is not in the tool's list"
+        lack = "there" if name in names else "in the tool's list"
+        yield f"{folder.name}/{name} is not {lack}"
 
 
 def reason(error):
@@ -130,9 +131,9 @@ def reason(error):
 
 
 def report(results, generated=()):
-    """Prints each message, what was tried of each kind, and then `N passed, M failed`. A result is its kind and a message,
-    or `None` for a pass. The cases of the kinds in `generated` are one check together. Returns the exit status: 1 if
-    something failed, if a file cannot be used or a program not built, or if nothing was checked."""
+    """Prints each message, what was tried of each kind, and then `N passed, M failed`. A result is its kind and a
+    message, or `None` for a pass. The cases of the kinds in `generated` are one check together. Returns the exit
+    status: 1 if something failed, if a file cannot be used or a program not built, or if nothing was checked."""
     tried, failures, faults = Tried(), Counter(), 0
     try:
         for kind, message in results:

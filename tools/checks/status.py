@@ -1,4 +1,5 @@
-"""A status line for tools that take minutes: what runs now, what has passed and failed so far, and the time since the start.
+"""A status line for tools that take minutes: what runs now, what has passed and failed so far, and the time since the
+start.
 
     with Status("tools/check") as status:
         with status.task("rt ci") as task:
@@ -6,9 +7,9 @@
         status.count(passed=7)
         status.print("a line that stays")
 
-On a terminal it is one line on standard error, which is rewritten each second and gone at the end. Without a terminal it
-is a plain line each minute, so that the reader of a log sees that the work goes on. Lines that stay go through `print`,
-which takes the status line away first. A `Status` may be used from several threads.
+On a terminal it is one line on standard error, which is rewritten each second and gone at the end. Without a terminal
+it is a plain line each minute, so that the reader of a log sees that the work goes on. Lines that stay go through
+`print`, which takes the status line away first. A `Status` may be used from several threads.
 """
 import os
 import re

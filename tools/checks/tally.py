@@ -66,8 +66,8 @@ class Tally:
         return False
 
     def run(self, what, command, expected=None, number=1, **options):
-        """Counts whether a command succeeds and, if a text is expected, prints that. It tries so many of its kind. Returns
-        whether it does."""
+        """Counts whether a command succeeds and, if a text is expected, prints that. It tries so many of its kind.
+        Returns whether it does."""
         ran = run(command, **options)
         return self.check(ran.returncode == 0 and expected in (None, ran.stdout),
                           f"{what}: status {ran.returncode}\n{ran.stdout}", number)

@@ -5,8 +5,8 @@ A check prints a line for each kind, in any place before its last line. Lines of
     tried: 42 scripts of serial_output.txt
     not tried: random calls for aarch64-linux
 
-The second form names a kind of which something cannot run here, which the check counts as skipped. `tools/floors` has a row
-for each kind: the check, the number, and the kind.
+The second form names a kind of which something cannot run here, which the check counts as skipped. `tools/floors` has a
+row for each kind: the check, the number, and the kind.
 """
 import re
 from collections import Counter
@@ -129,8 +129,8 @@ def read_floors(path=FLOORS):
 
 
 def shortfalls(floors, tried, skipped):
-    """A message for each kind of which a check tried too little, by its rows of the table, `None` if it has none. Where a
-    part cannot run here, its kind has no floor, but then the check has to count something as skipped."""
+    """A message for each kind of which a check tried too little, by its rows of the table, `None` if it has none. Where
+    a part cannot run here, its kind has no floor, but then the check has to count something as skipped."""
     if floors is None:
         return ["the table of floors has no row of this check"]
     found = [f"{kind}: {tried.counts[kind]} tried, of {least} at least" for kind, least in floors.items()

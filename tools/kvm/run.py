@@ -7,7 +7,8 @@ import tempfile
 import termios
 import time
 
-# How long a wait may take, in seconds. Some hosts emulate guests, a thousand times more slowly than processors run them.
+# How long a wait may take, in seconds. Some hosts emulate guests, a thousand times more slowly than processors run
+# them.
 LIMIT = 120
 
 
