@@ -20,6 +20,8 @@ pub enum Writing {
     TakesNone,
     /// Is interrupted so many times.
     IsInterrupted(u64, io::Error),
+    /// Is interrupted once, and then fails.
+    IsInterruptedAndFails(io::Error),
     /// Takes so many bytes, and then fails.
     Fails(usize, io::Error),
     FailsToFlush(io::Error),
@@ -155,6 +157,10 @@ impl Write for Object<'_> {
         match self.0.writing.get() {
             Writing::TakesNone => Ok(0),
             Writing::IsInterrupted(times, fault) if number <= times => Err(fault),
+            Writing::IsInterruptedAndFails(_) if number == 1 => {
+                Err(io::Error::from(io::ErrorKind::Interrupted))
+            }
+            Writing::IsInterruptedAndFails(fault) => Err(fault),
             Writing::Fails(0, fault) => Err(fault),
             Writing::Fails(room, fault) => {
                 let count = buf.len().min(room);

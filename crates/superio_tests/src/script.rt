@@ -80,7 +80,7 @@ fn a_fault_of_any_kind_is_io(rt: HostRuntime) {
         let (fault, end) = (io::Error::from(kind), Err(ScriptFault::Io));
         // `write_all` retries an interrupted write.
         let (writing, written) = match kind {
-            ErrorKind::Interrupted => (Writing::IsInterrupted(1, fault), (Ok(()), [2, 2, 1])),
+            ErrorKind::Interrupted => (Writing::IsInterrupted(300, fault), (Ok(()), [2, 301, 1])),
             _ => (Writing::Fails(0, fault), (end, [2, 1, 0])),
         };
         for (bytes, read_fault, writing, expected) in [

@@ -20,9 +20,13 @@ use vm_superio::{I8042Device, Serial, SerialState, Trigger};
 
 // ---- faults
 
-/// The largest error number of the operating system, and numbers that it does not have.
+/// The largest error number of the operating system, and the largest that a kernel returns. Of the numbers between, some
+/// drivers use some.
 const LARGEST: i32 = 133;
 
+const LARGEST_OF_DRIVERS: i32 = 4_095;
+
+/// Numbers that no system has.
 const OTHER_NUMBERS: [i32; 6] = [0, -1, LARGEST + 1, 4_095, i32::MIN, i32::MAX];
 
 /// The kinds that no number has.
@@ -66,7 +70,8 @@ fn faults(alloc: Global) -> Result<Vec<io::Error>, Fail> {
         faults.push(fault)?;
         push_kind(&mut faults, fault.kind())?;
     }
-    for number in OTHER_NUMBERS {
+    let of_drivers = (LARGEST + 1..LARGEST_OF_DRIVERS).step_by(16);
+    for number in of_drivers.chain(OTHER_NUMBERS) {
         faults.push(io::Error::from_raw_os_error(number))?;
     }
     for kind in OTHER_KINDS {
@@ -84,14 +89,22 @@ fn shown(alloc: Global, fault: &io::Error) -> Result<String, Fail> {
 /// What a call returned that sent a byte.
 type Sent = Result<(), Error<LineRefused>>;
 
-/// How a byte is lost with this fault: its `write` fails or takes nothing, or its `flush` fails. After interruptions it
-/// is written again.
-fn losses(fault: io::Error) -> [Writing; 3] {
-    let written = match fault.kind() {
-        ErrorKind::Interrupted => Writing::IsInterrupted(300, fault),
-        _ => Writing::Fails(0, fault),
+/// How a byte is lost with this fault: its `write` fails or takes nothing, at once or after an interruption, or its
+/// `flush` fails. After interruptions it is written again.
+fn losses(fault: io::Error) -> [Writing; 4] {
+    let [written, again] = match fault.kind() {
+        ErrorKind::Interrupted => [Writing::IsInterrupted(300, fault), Writing::Takes],
+        _ => [
+            Writing::Fails(0, fault),
+            Writing::IsInterruptedAndFails(fault),
+        ],
     };
-    [written, Writing::TakesNone, Writing::FailsToFlush(fault)]
+    [
+        written,
+        again,
+        Writing::TakesNone,
+        Writing::FailsToFlush(fault),
+    ]
 }
 
 /// Whether a call returned the fault of its writer, with its text, and called `write` and `flush` no more than it has to,
@@ -102,6 +115,7 @@ fn is_right(alloc: Global, log: &Log, writing: Writing, found: &Sent) -> Result<
         Writing::Takes => (None, [1, 1]),
         Writing::TakesNone => (none.as_mut_slice().write_all(b"x").err(), [1, 0]),
         Writing::IsInterrupted(times, _) => (None, [times.saturating_add(1), 1]),
+        Writing::IsInterruptedAndFails(fault) => (Some(fault), [2, 0]),
         Writing::Fails(room, fault) => (Some(fault), [1 + u64::from(room > 0), 0]),
         Writing::FailsToFlush(fault) => (Some(fault), [1, 1]),
     };
@@ -174,20 +188,32 @@ struct Machine<'a> {
 
 /// A machine with ports in any state.
 fn any_machine<'a>(alloc: Global, log: &'a Log, numbers: &mut u64) -> Result<Machine<'a>, Fail> {
+    let choice = next(numbers);
+    let mut input = Input::new(alloc, 3)?;
+    input.push(&b"abc"[..(choice % 4) as usize]);
     Ok(Machine {
         bus: Bus {
-            base: [COM1, COM2, COM3, COM4][(next(numbers) % 4) as usize],
-            keyboard: Keyboard::Silent,
+            base: match choice >> 2 & 7 {
+                0..=3 => [COM1, COM2, COM3, COM4][(choice >> 5 & 3) as usize],
+                _ => 0x200 + 8 * (choice >> 5 & 0x1FF) as u16,
+            },
+            keyboard: match choice >> 14 & 1 {
+                0 => Keyboard::Silent,
+                _ => Keyboard::Absent,
+            },
             serial: any_port(alloc, log, numbers)?,
             controller: I8042Device::new(Object(log)),
         },
         console: Console {
             serial: any_port(alloc, log, numbers)?,
-            input: Input::new(alloc, 0)?,
-            output: Output::new(alloc, (next(numbers) % 4) as usize)?,
-            is_refused: false,
-            is_early: false,
-            is_ready: false,
+            input,
+            output: Output::new(
+                alloc,
+                [0, 1, 3, 4, 64, 1_000, 2, 65][(choice >> 15 & 7) as usize],
+            )?,
+            is_refused: choice >> 18 & 1 == 1,
+            is_early: choice >> 19 & 1 == 1,
+            is_ready: choice >> 20 & 1 == 1,
         },
     })
 }
@@ -264,7 +290,7 @@ fn a_fault_of_the_writer_is_returned_as_it_is(rt: HostRuntime) -> Result<(), Fai
     Ok(())
 }
 
-/// In a run a byte goes to each of two writers, with a restore between.
+/// In a run a byte goes to each of two writers, with a restore between, as the fourth call and as the ninth.
 #[test]
 fn a_run_returns_the_fault_of_each_writer(rt: HostRuntime) -> Result<(), Fail> {
     let alloc = rt.alloc();
@@ -277,13 +303,19 @@ fn a_run_returns_the_fault_of_each_writer(rt: HostRuntime) -> Result<(), Fail> {
             second.start(second_loses);
             let object = Object(&second);
             let calls: Vec<Call<PortObjects>> = vec![in alloc;
+                Call::Read(7),
+                Call::Read(7),
+                Call::Read(7),
                 Call::Write(0, any_byte(&mut numbers)),
                 Call::Restore(Three::with_writer(object, object, object)),
+                Call::Read(7),
+                Call::Read(7),
+                Call::Read(7),
                 Call::Write(0, any_byte(&mut numbers)),
             ]?;
             let done = any_port(alloc, &first, &mut numbers)?.run(alloc, calls)?;
             let is_as_expected = match done.as_slice() {
-                [before, _, after] => match (&before.reply, &after.reply) {
+                [_, _, _, before, _, _, _, _, after] => match (&before.reply, &after.reply) {
                     (Reply::Wrote(before), Reply::Wrote(after)) => {
                         is_right(alloc, &first, first_loses, before)?
                             && is_right(alloc, &second, second_loses, after)?
@@ -312,20 +344,29 @@ fn an_event_is_one_write_and_returns_its_fault(rt: HostRuntime) -> Result<(), Fa
                 assert!(rt; is_right(rt.alloc(), &log, writing, &found)?, "{fault:?}");
             }
         }
+        log.start(Writing::TakesNone);
+        let found = event.trigger().map_err(Error::IOError);
+        assert!(rt; is_right(rt.alloc(), &log, Writing::TakesNone, &found)?);
         log.start(Writing::Takes);
         assert!(rt; event.trigger().is_ok() && log.calls() == [0, 0, 1, 0]);
     }
+    log.start(Writing::IsInterrupted(300, io::Error::from(ErrorKind::Interrupted)));
+    assert!(rt; event.trigger().is_ok() && log.calls() == [0, 0, 301, 0]);
     Ok(())
 }
 
-/// Any number of bytes waits, at any place of the ring.
+/// Any number of bytes waits, at any place of the ring. With the half of the faults a byte was dropped before.
 #[test]
 fn a_drained_output_is_one_write_and_returns_its_fault(rt: HostRuntime) -> Result<(), Fail> {
     let alloc = rt.alloc();
     let log = Log::new();
-    let mut output = Output::new(alloc, 320)?;
     let bytes = b"waiting ".repeat(alloc, 40)?;
+    let mut outputs = [
+        Output::restored(alloc, &[], 320, 0)?,
+        Output::restored(alloc, &[], 320, 1)?,
+    ];
     for (number, fault) in faults(alloc)?.iter().enumerate() {
+        let output = &mut outputs[number % 2];
         for step in 0..4usize {
             let waiting = &bytes[..(number + 80 * step) % 321];
             assert!(rt; output.write(waiting).ok() == Some(waiting.len()));
@@ -334,7 +375,8 @@ fn a_drained_output_is_one_write_and_returns_its_fault(rt: HostRuntime) -> Resul
             let drained = output.drain_into(&mut Object(&log));
             let found = drained.map(|_| ()).map_err(Error::IOError);
             assert!(rt; is_right(alloc, &log, writing, &found)?, "{fault:?}");
-            assert!(rt; output.waiting(alloc)?.as_slice() == waiting && output.dropped() == 0);
+            assert!(rt; output.waiting(alloc)?.as_slice() == waiting);
+            assert!(rt; output.dropped() == (number % 2) as u64);
             log.start(Writing::Takes);
             assert!(rt; output.drain_into(&mut Object(&log)).ok() == Some(waiting.len()));
             assert!(rt; log.calls() == [0, 0, 1, 0]);

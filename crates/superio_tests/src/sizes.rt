@@ -5,7 +5,7 @@ use std::alloc::{AllocError, Global};
 use std::io::Write;
 use std::test::Fail;
 use superio_examples::driver::{receive_all, run_polled};
-use superio_examples::first_claims::{read_back, restored_reads_same};
+use superio_examples::first_claims::{interleaved_in_order, read_back, restored_reads_same};
 use superio_examples::input::Input;
 use superio_examples::interrupt_driver::{receive_all_by_interrupts, receive_all_in_pieces};
 use superio_examples::migration::{Saved, restore, restore_input, save};
@@ -13,10 +13,10 @@ use superio_examples::monitor::{Event, Monitor};
 use superio_examples::output::Output;
 use superio_examples::saved_monitor::{SavedMonitor, restore_monitor, run_on_two, save_monitor};
 use superio_script::drain;
-use vm_superio::Rtc;
-use vm_superio::SerialState;
 use vm_superio::rtc_pl031::saved_form::SAVED_SIZE;
 use vm_superio::run::Call;
+use vm_superio::serial::Three;
+use vm_superio::{Rtc, RtcState, SerialState};
 
 /// Sizes about the FIFO's, and above any that a body could have in mind.
 const SIZES: [usize; 7] = [0, 1, 63, 64, 65, 1_000, 100_000];
@@ -36,11 +36,24 @@ const ARRIVALS: [&[usize]; 3] = [
 #[test]
 fn guests_get_all_input(rt: HostRuntime) -> Result<(), Fail> {
     let alloc = rt.alloc();
-    let log = Log::new();
+    let (log, noted) = (Log::new(), Log::new());
     let object = Object(&log);
-    let input = b"guest's ".repeat(alloc, 12_500)?;
+    let mut input = Vec::new(alloc);
+    let mut turns = Vec::new(alloc);
+    for number in 0..100_000u32 {
+        input.push((number % 256) as u8)?;
+        turns.push((number % 3 > 0).then_some((number % 256) as u8))?;
+    }
+    for bound in 1..=64 {
+        let got = receive_all_in_pieces(alloc, bound, &input[..300], &[1, 65])?;
+        assert!(rt; got.as_slice() == &input[..300], "{bound}");
+    }
     for size in SIZES {
         let part = &input[..size];
+        let passed = interleaved_in_order(alloc, &mut port(alloc, &noted)?, &turns[..size])?;
+        assert!(rt;
+            passed.read.len() <= passed.enqueued.len() && passed.read.len() + 1 >= size / 3
+        );
         let read = read_back(alloc, object, object, part)?;
         assert!(rt; read.as_slice() == &part[..size.min(64)]);
         assert!(rt; receive_all(alloc, object, object, part)?.as_slice() == part);
@@ -57,7 +70,9 @@ fn guests_get_all_input(rt: HostRuntime) -> Result<(), Fail> {
         for _ in 0..size {
             calls.push(Call::Read(5))?;
         }
-        assert!(rt; run_polled(alloc, &mut serial, calls)?.len() == size + 1);
+        calls.push(Call::CharacterTimeout)?;
+        calls.push(Call::Restore(Three::with_writer(object, object, object)))?;
+        assert!(rt; run_polled(alloc, &mut serial, calls)?.len() == size + 3);
     }
     // Nothing was sent, and no interrupt was enabled.
     assert!(rt; log.calls() == [0; 4]);
@@ -111,8 +126,15 @@ fn devices_move_however_many_bytes_are_held(rt: HostRuntime) -> Result<(), Fail>
     let log = Log::new();
     let object = Object(&log);
     let mut serial = port(alloc, &log)?;
-    let (clock, input) = (Rtc::with_events(object), Input::new(alloc, 0)?);
+    // The ring of the input begins in its middle, and goes on at its start.
+    let mut input = Input::new(alloc, 100)?;
+    input.push(&[b'a'; 80]);
+    assert!(rt; input.feed(&mut port(alloc, &log)?).ok() == Some(64));
+    assert!(rt; input.push(&[b'b'; 84]) == 84 && input.waiting(alloc)?.len() == 100);
     for count in 0..=64usize {
+        // The alarm's line is up, or down.
+        let state = RtcState::from_five(0, 0, 0, 1, (count % 2) as u32);
+        let clock = Rtc::from_state(&state, object);
         let saved = save(alloc, &serial, &clock, &input)?;
         assert!(rt; saved.serial.len() == 17 + count && saved.clock.len() == SAVED_SIZE);
         let restored = restore(alloc, &saved, object, object, object, object);
@@ -166,23 +188,33 @@ fn no_value_of_a_register_is_refused(rt: HostRuntime) -> Result<(), Fail> {
             let offset = value % 8;
             let calls = vec![in alloc; Call::Read(offset), Call::Write(offset, value)]?;
             assert!(rt; run_polled(alloc, &mut moved.serial, calls)?.len() == 2);
-            let reads = restored_reads_same(alloc, &mut moved.serial, object, object, object, 5);
+            let at = value % 9;
+            let reads = restored_reads_same(alloc, &mut moved.serial, object, object, object, at);
             assert!(rt; reads.is_ok(), "register {place} is {value}");
-            let saved = SavedMonitor {
+            let limit = usize::from(value % 4);
+            let mut saved = SavedMonitor {
                 devices,
                 input_limit: 2,
                 output: b"c".to_vec(alloc)?,
-                output_limit: 3,
+                output_limit: limit,
                 dropped: u64::from(value),
-                moment: u64::from(value),
+                moment: u64::from(value) << (8 * (value % 8)),
                 is_refused: value & 1 == 1,
                 is_early: value & 2 == 2,
                 is_ready: value & 4 == 4,
             };
             let made = restore_monitor(alloc, &saved).ok();
             let mut monitor = made.expect(&rt, "a restored monitor");
+            saved.output_limit = limit.max(1);
             assert!(rt; save_monitor(alloc, &monitor)? == saved);
             let events = events_with(alloc, value)?;
+            for event in events
+                .iter()
+                .skip(usize::from(value) % events.len())
+                .take(1)
+            {
+                assert!(rt; monitor.run(alloc, &[*event; 5])?.len() == 5, "{event:?}");
+            }
             let moved = run_on_two(alloc, &mut monitor, &events, &events)?;
             assert!(rt; moved.before.len() == events.len() && moved.after.len() == events.len());
         }
