@@ -220,6 +220,15 @@ fn any_board(alloc: Global, source: &mut Source, length: usize) -> Result<Board,
     Ok(board)
 }
 
+/// Any mask of refused calls. In half of the cases most of its bits are ones.
+fn any_mask(source: &mut Source) -> u64 {
+    let mask = source.number();
+    match source.byte() {
+        0..=127 => mask,
+        _ => mask | source.number() | source.number() | source.number(),
+    }
+}
+
 fn text(alloc: Global, text: &str) -> Result<String, AllocError> {
     String::from_str(alloc, text)
 }
@@ -288,7 +297,7 @@ pub fn prepare<'a>(
         15 => Prepared::ReadThenWritten(any_bytes(alloc, source, length)?),
         16 => Prepared::ToPortAndBack(any_state(alloc, source, length % 65)?),
         17 => Prepared::ToStateAndBack(any_value(alloc, source, length)?),
-        18 => Prepared::NewBoard(source.number()),
+        18 => Prepared::NewBoard(any_mask(source)),
         19 => Prepared::Board(any_board(alloc, source, length)?, text(alloc, "sb")?),
         20 => Prepared::Board(any_board(alloc, source, length)?, text(alloc, "ss")?),
         21 => {
