@@ -12,6 +12,7 @@ from functools import cache
 from pathlib import Path
 
 from chance import seed_of
+from edits import may_share
 from rooms import PARTS, crates_of
 
 HEAD = """\
@@ -48,19 +49,26 @@ def logic():
 
 
 def recorded(root):
-    """The names of the crates that the record has as they are."""
+    """The crates that the record has as they are, each with the number of its wrong bodies."""
     text = (root / FILE).read_text(encoding="utf-8") if (root / FILE).is_file() else ""
-    digests = dict(re.findall(r"^(\w+) +\d+  (\w+)$", text, re.M))
-    return {name for name, crate in crates_of(root).items() if name in digests and digests[name] == digest(crate)}
+    crates = crates_of(root)
+    return {name: int(number) for name, number, known in re.findall(r"^(\w+) +(\d+)  (\w+)$", text, re.M)
+            if name in crates and known == digest(crates[name])}
 
 
 def write_record(root, numbers):
-    """Writes a row for each of these crates, beside the number of its wrong bodies."""
-    crates = crates_of(root)
+    """Writes a row for each of these crates, of which each has so many wrong bodies, and for those recorded already."""
+    crates, numbers = crates_of(root), {**recorded(root), **numbers}
     rows = [f"{name:16}  {number:3}  {digest(crates[name])}\n" for name, number in sorted(numbers.items())]
     (root / FILE).write_text(HEAD + "".join(rows), encoding="utf-8")
 
 
 def drawn(crate, edits):
-    """The edits of a recorded crate to try again: one in ten, and other ones with each commit."""
-    return random.Random(f"{seed_of(crate.folder)} {crate.name}").sample(edits, -(-len(edits) // ONE_IN))
+    """The edits of a recorded crate to try again: one in ten, and other ones with each commit. After the first each is of a
+    function of its own, so that they share a round."""
+    first, *others = random.Random(f"{seed_of(crate.folder)} {crate.name}").sample(edits, len(edits))
+    chosen = []
+    for edit in others:
+        if not edit.is_outside and all(may_share(edit, it) for it in [first, *chosen] if not it.is_outside):
+            chosen.append(edit)
+    return [first, *chosen][:-(-len(edits) // ONE_IN)]

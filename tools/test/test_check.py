@@ -103,8 +103,8 @@ class Running(FolderTest):
 
     def run_all(self, scripts, floors):
         """The status of all checks that are these shell scripts, and the last line that is printed."""
-        checks = [check.Check(str(number), "it works", f"sh {script_at(self.folder / str(number), text)}", number == 1)
-                  for number, text in enumerate(scripts)]
+        checks = [check.Check(name, "it works", f"sh {script_at(self.folder / name, text)}", needs_ci=name != "ci")
+                  for name, text in zip(("ci", "1", "2"), scripts)]
         with mock.patch.multiple(check, CHECKS=checks, KEPT=self.folder / "kept", read_floors=lambda: floors), \
                 mock.patch("sys.argv", ["tools/check"]), mock.patch("sys.stderr", io.StringIO()):
             ended, printed = silently(check.main)
@@ -112,13 +112,19 @@ class Running(FolderTest):
 
     def test_one_check_that_fails_is_enough(self):
         good = "echo 'tried: 1 cases'; echo '1 passed, 0 failed, 1 skipped'"
-        floors = {str(number): {"cases": 1} for number in range(3)}
+        floors = {name: {"cases": 1} for name in ("ci", "1", "2")}
         self.assertEqual(self.run_all([good] * 3, floors), (0, "6 passed, 0 failed, 3 skipped"))
         for place in range(3):
             scripts = [good.replace("1 passed, 0", "0 passed, 1") if number == place else good for number in range(3)]
             self.assertEqual(self.run_all(scripts, floors), (1, "5 passed, 1 failed, 3 skipped"))
-        for wrong in ({"0": {"cases": 2}}, {"0": {"cases": 1, "more": 1}}, {}, {"0": {"cases": 1}, "1": {"cases": 1}}):
+        for wrong in ({"ci": {"cases": 2}}, {"ci": {"cases": 1, "more": 1}}, {}, {"ci": {"cases": 1}, "1": {"cases": 1}}):
             self.assertEqual(self.run_all([good], wrong)[0], 1)
+
+    def test_what_needs_what_ci_builds_begins_after_it(self):
+        built = self.folder / "built"
+        scripts = [f"sleep 0.5; {THREE}touch {built}; echo '3 passed, 0 failed'",
+                   f"test -f {built} && {THREE}echo '3 passed, 0 failed'"]
+        self.assertEqual(self.run_all(scripts, {"ci": {"cases": 3}, "1": {"cases": 3}}), (0, "8 passed, 0 failed"))
 
     def test_without_the_kit_it_is_not_found_and_all_else_is(self):
         kit, links = self.folder / "kit", self.folder / "links"

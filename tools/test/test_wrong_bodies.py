@@ -6,6 +6,7 @@ import unittest
 from unittest import mock
 
 import tiny
+from edits import Edit, rounds_of
 from record import drawn, recorded, write_record
 from repository import TOOLS, FolderTest
 from rooms import crates_of
@@ -48,18 +49,33 @@ class Recorded(FolderTest):
                 path = self.folder / name
                 kept = path.read_text(encoding="utf-8") if old else ""
                 path.parent.mkdir(parents=True, exist_ok=True)
-                self.assertEqual(recorded(self.folder), {"tiny"})
+                self.assertEqual(recorded(self.folder), {"tiny": 1})
                 path.write_text(kept.replace(old, new) if old else new, encoding="utf-8")
-                self.assertEqual(recorded(self.folder), set())
+                self.assertEqual(recorded(self.folder), {})
                 path.write_text(kept, encoding="utf-8") if old else path.unlink()
         with mock.patch("record.logic", lambda: b"another"):
-            self.assertEqual(recorded(self.folder), set())
-        self.assertEqual(recorded(self.folder), {crate.name})
+            self.assertEqual(recorded(self.folder), {})
+        self.assertEqual(recorded(self.folder), {crate.name: 1})
+
+    def test_a_row_stays_until_its_crate_changes(self):
+        tiny.make(self.folder, [REFUSED])
+        (self.folder / "crates.txt").write_text("low:\ntiny:\n", encoding="utf-8")
+        for numbers in ({"low": 2, "tiny": 1}, {"low": 3}, {}):
+            write_record(self.folder, numbers)
+            self.assertEqual(recorded(self.folder), {"low": numbers.get("low", 3), "tiny": 1})
+        (self.folder / "crates/tiny/src/lib.rt").write_text("", encoding="utf-8")
+        write_record(self.folder, {"low": 4})
+        self.assertEqual(recorded(self.folder), {"low": 4})
 
     def test_one_in_ten_is_drawn_and_never_none(self):
+        """Of functions of their own, so that they share a round; only the first may be outside any function."""
         tiny.make(self.folder, [])
         crate = crates_of(self.folder)["tiny"]
-        self.assertEqual([len(drawn(crate, range(number))) for number in (1, 10, 11, 99)], [1, 1, 2, 10])
+        for number, most in ((1, 1), (10, 1), (11, 2), (99, 10)):
+            for outside in (0, number):
+                edits = [Edit(crate.folder, str(it), places={it // 2}, is_outside=it < outside) for it in range(number)]
+                chosen = drawn(crate, edits)
+                self.assertEqual((len(chosen), len(rounds_of(chosen))), (1 if outside else most, 1))
 
     def run_tool(self, *words):
         """What the tool prints, how many edits each round has, and its status."""
