@@ -3,16 +3,15 @@
 
     tools/bench/bench.py [--turns N] [--processor P]
 
-Five programs make the same lists of accesses: `crates/superio_harness` and `original`, each over the devices
-themselves, `through_c.c` over either behind C functions, and `original` over bindings/rust. In each turn each program
-makes each list, one after the other, on processor P. An access costs the processor time of a run of many rounds, less
+Four programs make the same lists of accesses: `original` over bindings/rust and over the Rust crate, and `through_c.c`
+over either behind C functions. In each turn each program makes each list, one after the other, on processor P. An access costs the processor time of a run of many rounds, less
 that of a run without a round, divided by the number of accesses. The least of three runs counts for a turn, and the
 median of the N turns for the table. What the list `nothing` costs is subtracted from the others. The programs must
 print the same sums.
 
 Prints a table in Markdown, in nanoseconds, and the noise. For one measurement that is the range of the middle half of
 its turns, divided by their median; the noise is the median over all measurements. Exits 1 if a program fails, or if the
-sums differ. Needs rt, gcc and Cargo. If Cargo has no copy of vm-superio 0.8.2, the environment variable VM_SUPERIO can
+sums differ. Needs gcc and Cargo. If Cargo has no copy of vm-superio 0.8.2, the environment variable VM_SUPERIO can
 name the folder of its package.
 """
 import argparse
@@ -27,7 +26,6 @@ from lists import FOLDER, PROCESSOR, ROOT, build_in_rust, read_rows
 
 sys.path.insert(0, str(ROOT / "tools" / "checks"))
 from cargo import BINDINGS, original  # noqa: E402
-from program import built_library, built_program  # noqa: E402
 
 # How many nanoseconds of processor time a run takes at least, and how many runs make a measurement.
 RUN = 10_000_000
@@ -35,8 +33,8 @@ RUNS = 3
 
 
 def build(folder):
-    """Builds the five programs, and returns their commands in the order of the table's columns."""
-    ours, library = built_program((), "superio_harness"), built_library()
+    """Builds the four programs, and returns their commands in the order of the table's columns."""
+    library = ROOT / "prebuilt" / "x86_64-linux" / "libsuperio_c.a"
     bindings, crate = build_in_rust(BINDINGS, folder / "bindings"), build_in_rust(original(), folder / "original_crate")
     through_c = []
     for name, words in (("ours", [library]), ("original", ["-DORIGINAL", crate.with_name("liboriginal.a")])):
@@ -44,7 +42,7 @@ def build(folder):
                         "-o",
                         folder / name], check=True)
         through_c.append((folder / name,))
-    return [(ours, "bench"), (crate,), *through_c, (bindings,)]
+    return [(bindings,), (crate,), *through_c]
 
 
 def processor_time(program, rounds, prepared, path):
@@ -99,12 +97,12 @@ def row(measurement, loop, programs):
     boundary."""
     costs = [median(measurement.costs[program]) for program in programs]
     if measurement is loop:
-        ratios = ["", "", ""]
+        ratios = ["", ""]
     else:
         costs = [cost - measurement.row.length * median(loop.costs[program]) for cost, program in zip(costs, programs)]
-        ratios = [ratio(costs[0], costs[1]), ratio(costs[2], costs[3]), ratio(costs[4], costs[1])]
-    ours, original, ours_in_c, original_in_c, bindings = [f"{cost:.1f}" for cost in costs]
-    cells = [ours, original, ratios[0], ours_in_c, original_in_c, ratios[1], bindings, ratios[2]]
+        ratios = [ratio(costs[0], costs[1]), ratio(costs[2], costs[3])]
+    ours, original, ours_in_c, original_in_c = [f"{cost:.1f}" for cost in costs]
+    cells = [ours, original, ratios[0], ours_in_c, original_in_c, ratios[1]]
     return "| " + " | ".join([measurement.row.name, *cells]) + " |"
 
 
@@ -127,8 +125,8 @@ def main():
         for _ in range(options.turns):
             for measurement in measurements:
                 measurement.take_turn(programs)
-    print("| | devices | Rust crate | ratio | in C | Rust crate in C | ratio | bindings | ratio |")
-    print("|---|---|---|---|---|---|---|---|---|")
+    print("| | `bindings/rust` | Rust crate | ratio | in C | Rust crate in C | ratio |")
+    print("|---|---|---|---|---|---|---|")
     for measurement in measurements:
         print(row(measurement, measurements[0], programs))
     noise = median(spread(costs) for measurement in measurements for costs in measurement.costs.values())

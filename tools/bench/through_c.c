@@ -1,5 +1,5 @@
 /*
- * Makes a list of accesses of the devices behind C functions again and again, as crates/superio_harness does without them.
+ * Makes a list of accesses of the devices behind C functions again and again, as `original` does without them.
  * With ORIGINAL the devices are those of the Rust crate vm-superio, which c.rs has behind C functions.
  */
 #include <inttypes.h>

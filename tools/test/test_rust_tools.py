@@ -17,10 +17,9 @@ SERIAL = "src/serial.rs"
 
 
 class Counts(FolderTest):
-    def compare(self, found, own=None):
+    def compare(self, found):
         """How many of these counts are over their limits, and the rows of the table."""
-        with mock.patch.object(counts, "counts", return_value=found), mock.patch.object(counts, "build_in_rust"), \
-                mock.patch.object(counts, "own_counts", return_value=own or [None] * len(found)):
+        with mock.patch.object(counts, "counts", return_value=found), mock.patch.object(counts, "build_in_rust"):
             tally = tally_of(counts.compare, Path(), Path())
         return tally.failed, tally.result
 
@@ -44,19 +43,18 @@ class Counts(FolderTest):
 
     def test_each_number_of_the_document_is_compared(self):
         names = [row.name for row in counts.ROWS[1:]]
-        rows = self.compare(list(range(10, 10 + len(names))), list(range(100, 100 + len(names))))[1]
-        lines = [f"| {name} | {count} | {' | '.join(fixed)} | {own} |" for name, count, fixed, own in rows]
+        rows = self.compare(list(range(10, 10 + len(names))))[1]
+        lines = [f"| {name} | {count} | {' | '.join(fixed)} |" for name, count, fixed in rows]
         text = "\n".join(["rustc 1.2.3", *lines])
         self.assertEqual(self.compare_document(rows, text), (len(rows), 0, 0))
-        name, count, (original, limit), own = rows[0]
-        for planted in ((f"{name}s", count, original, limit, own), (name, count + 2, original, limit, own),
-                        (name, count, f"{original}0", limit, own), (name, count, original, f"{limit}0", own),
-                        (name, count, original, limit, own - 2), (name, count, original, limit)):
+        name, count, (original, limit) = rows[0]
+        for planted in ((f"{name}s", count, original, limit), (name, count + 2, original, limit),
+                        (name, count, f"{original}0", limit), (name, count, original, f"{limit}0"),
+                        (name, count, original)):
             printed = self.compare_document(rows, text.replace(lines[0], f"| {' | '.join(map(str, planted))} |"))
             self.assertEqual(printed, (len(rows) - 1, 1, 0), planted)
-        self.assertEqual(self.compare_document([(*row[:3], None) for row in rows], text), (len(rows), 0, 0))
         # A document of another compiler is skipped.
-        self.assertEqual(self.compare_document([("x", 1, ["1", "2"], None)], "rustc 1.2.3", "1.2.4"), (0, 0, 1))
+        self.assertEqual(self.compare_document([("x", 1, ["1", "2"])], "rustc 1.2.3", "1.2.4"), (0, 0, 1))
 
     def test_rows_of_the_table_are_read(self):
         rows = {row.name: row for row in counts.ROWS}

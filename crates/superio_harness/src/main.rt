@@ -1,7 +1,6 @@
 //! What checks run on the proved devices, as modes of one program. The first argument is the mode.
 #![tactic(auto)]
 
-mod bench;
 mod boot;
 mod calls;
 mod fields;
@@ -14,7 +13,6 @@ fn main(rt: HostRuntime) -> Result<()> {
     let mut arguments = env::args(&rt)?.skip(1);
     let mode = arguments.next().context("no mode")?;
     match mode.as_str() {
-        "bench" => bench::run(&rt, arguments.next(), arguments.next()),
         "boot" => boot::run(&rt),
         "calls" => calls::run(&rt),
         "refusals" => refusals::run(&rt),

@@ -1,4 +1,4 @@
-//! Makes a list of accesses of the devices again and again, as `crates/superio_harness` does of Rattle's.
+//! Makes a list of accesses of the devices again and again.
 //!
 //!     original ROUNDS PREPARED < LIST
 //!
