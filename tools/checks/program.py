@@ -14,7 +14,7 @@ CRATES = Path(__file__).resolve().parents[2] / "crates"
 # The programs and the library, each with the crates whose sources it is built of, the lowest last.
 SOURCES = {
     "superio": ["superio", "superio_script", "vm_superio", "superio_core"],
-    "superio_harness": ["superio_harness", "superio_examples", "superio_script", "vm_superio", "superio_core"],
+    "superio_harness": ["superio_harness", "superio_script", "vm_superio", "superio_core"],
     "superio_c": ["superio_c", "superio_core"],
 }
 

@@ -48,11 +48,11 @@ class Programs(CopyTest):
     # Where the checks find cc, and Cargo if that is beside it.
     tools = {"PATH": str(Path(shutil.which("cc") or "").parent)}
 
-    def judge_programs(self, tool, count, wrong=WRONG, programs=1):
+    def judge_programs(self, tool, count, wrong=WRONG):
         """All cases pass with the right program, and none with another."""
         for command in (RIGHT, *wrong):
             with self.subTest(f"{tool} with {command}"):
-                status, printed, _ = self.run_tool(tool, *[program(self.root / "program", command)] * programs)
+                status, printed, _ = self.run_tool(tool, program(self.root / "program", command))
                 self.assertEqual((status, sum_of(printed)), (0, (count, 0)) if command == RIGHT else (1, (0, count)))
 
     def test_scripts(self):
@@ -74,7 +74,7 @@ class Programs(CopyTest):
     def test_replay(self):
         for name in ("boot", "console"):
             self.write(f"examples/linux-boot/{name}.recording", "kr 04  kr 04\n\n2 kr 04  kr 04\n")
-        self.judge_programs("tools/replay", 6, programs=2)
+        self.judge_programs("tools/replay", 4)
 
     def test_hostile(self):
         """Each script differs, and the first run of each piece of work."""

@@ -1,7 +1,6 @@
 //! What checks run on the proved devices, as modes of one program. The first argument is the mode.
 #![tactic(auto)]
 
-mod boot;
 mod calls;
 mod fields;
 mod refusals;
@@ -13,7 +12,6 @@ fn main(rt: HostRuntime) -> Result<()> {
     let mut arguments = env::args(&rt)?.skip(1);
     let mode = arguments.next().context("no mode")?;
     match mode.as_str() {
-        "boot" => boot::run(&rt),
         "calls" => calls::run(&rt),
         "refusals" => refusals::run(&rt),
         _ => bail!("no such mode"),
