@@ -7,6 +7,7 @@
  *   FAIL_MARKED      the number of the one that is refused after each write that begins with '+', up to the next write
  *   FAIL_READ        the number of the read that fails, by the error FAULT
  *   FAIL_WRITE       the number of the write that fails, by the error FAULT
+ *   FAIL_MESSAGES    if set, each write of standard error fails, by the error FAULT
  *   READ_PIECE       the most bytes that a read gives
  *   READ_LINES       if set, a read gives no more than the bytes up to the next LF
  *   WRITE_PIECE      the most bytes that a write takes
@@ -25,7 +26,8 @@ void *__libc_malloc(size_t size);
 void *__libc_realloc(void *block, size_t size);
 
 static struct {
-    size_t fail_allocation, fail_marked, fail_read, fail_write, read_piece, read_lines, write_piece, write_room;
+    size_t fail_allocation, fail_marked, fail_read, fail_write, fail_messages;
+    size_t read_piece, read_lines, write_piece, write_room;
     int fault, calls;
 } set = {.calls = -1};
 
@@ -45,6 +47,7 @@ __attribute__((constructor)) static void prepare(void)
     set.fail_marked = number("FAIL_MARKED", 0);
     set.fail_read = number("FAIL_READ", 0);
     set.fail_write = number("FAIL_WRITE", 0);
+    set.fail_messages = number("FAIL_MESSAGES", 0);
     set.fault = (int)number("FAULT", EIO);
     set.read_piece = number("READ_PIECE", SIZE_MAX);
     set.read_lines = number("READ_LINES", 0);
@@ -134,6 +137,8 @@ static ssize_t write_piece(const char *bytes, size_t size)
 
 ssize_t write(int file, const void *bytes, size_t size)
 {
+    if (file == STDERR_FILENO && set.fail_messages)
+        return fail();
     if (file != STDOUT_FILENO)
         return syscall(SYS_write, file, bytes, size);
     is_marked = size && *(const char *)bytes == '+';

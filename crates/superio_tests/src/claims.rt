@@ -138,6 +138,9 @@ fn claims_about_one_object_hold(rt: HostRuntime) -> Result<(), Fail> {
     assert!(rt; port.read(2) == 0xC2);
     assert!(rt; write_in_order(&mut port, 0, b'!').is_ok());
     assert!(rt; port.retry_interrupts().is_ok());
+    for byte in (0..=255).chain(b'!'..=b'!') {
+        assert!(rt; write_in_order(&mut port, 0, byte).is_ok(), "{byte}");
+    }
     assert!(rt; port.into_objects().at_interrupt == Some(b'!'));
     Ok(())
 }

@@ -7,6 +7,8 @@ mod claims;
 #[cfg(test)]
 mod dropped;
 #[cfg(test)]
+mod faults;
+#[cfg(test)]
 mod monitor;
 #[cfg(test)]
 mod objects;

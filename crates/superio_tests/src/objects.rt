@@ -12,19 +12,79 @@ use vm_superio::rtc_pl031::RtcEvents;
 use vm_superio::serial::{Error, Refused, SerialEvents, Three, WriterOut};
 use vm_superio::{Serial, Trigger};
 
-/// What a writer does.
+/// What a writer answers once it has no room left and is not interrupted.
 #[derive(Clone, Copy)]
-pub enum Writing {
+pub enum Then {
     Takes,
     /// Takes no byte, and fails none.
     TakesNone,
-    /// Is interrupted so many times.
-    IsInterrupted(u64, io::Error),
-    /// Is interrupted once, and then fails.
-    IsInterruptedAndFails(io::Error),
-    /// Takes so many bytes, and then fails.
-    Fails(usize, io::Error),
-    FailsToFlush(io::Error),
+    Fails(io::Error),
+}
+
+/// What a writer does: it takes so many bytes, then is interrupted so many times, and then goes on like this. Its flush
+/// fails if there is a fault for it.
+#[derive(Clone, Copy)]
+pub struct Writing {
+    pub room: usize,
+    pub interruptions: u64,
+    pub interruption: io::Error,
+    pub then: Then,
+    pub flush: Option<io::Error>,
+}
+
+impl Writing {
+    /// Takes all bytes.
+    pub fn takes() -> Writing {
+        Writing {
+            room: 0,
+            interruptions: 0,
+            interruption: io::Error::from(io::ErrorKind::Interrupted),
+            then: Then::Takes,
+            flush: None,
+        }
+    }
+
+    /// Takes no byte, and fails none.
+    pub fn takes_none() -> Writing {
+        Writing {
+            then: Then::TakesNone,
+            ..Writing::takes()
+        }
+    }
+
+    /// Fails by this fault, or is interrupted by it 300 times, if that is its kind.
+    pub fn failing(fault: io::Error) -> Writing {
+        let writing = Writing::takes();
+        match fault.kind() {
+            io::ErrorKind::Interrupted => Writing {
+                interruptions: 300,
+                interruption: fault,
+                ..writing
+            },
+            _ => Writing {
+                then: Then::Fails(fault),
+                ..writing
+            },
+        }
+    }
+}
+
+/// What std's own `write_all` returns of a writer that does this, piece by piece, and then `flush`, if that is to be
+/// called; and how often they call its `write` and `flush`.
+pub fn by_std(writing: Writing, pieces: &[&[u8]], flushes: bool) -> (io::Result<()>, [u64; 2]) {
+    let log = Log::new();
+    log.start(writing);
+    let mut writer = Object(&log);
+    let mut result = Ok(());
+    for piece in pieces {
+        if result.is_ok() {
+            result = writer.write_all(piece);
+        }
+    }
+    if flushes && result.is_ok() {
+        result = writer.flush();
+    }
+    (result, [log.writes.get(), log.flushes.get()])
 }
 
 /// What objects do, and how often they were called.
@@ -48,7 +108,7 @@ impl Log {
             writes: Cell::new(0),
             flushes: Cell::new(0),
             refused: Cell::new(0),
-            writing: Cell::new(Writing::Takes),
+            writing: Cell::new(Writing::takes()),
         }
     }
 
@@ -153,29 +213,31 @@ impl RtcEvents for Object<'_> {
 
 impl Write for Object<'_> {
     fn write(&mut self, buf: &[u8]) -> io::Result<usize> {
-        let number = counted(&self.0.writes);
-        match self.0.writing.get() {
-            Writing::TakesNone => Ok(0),
-            Writing::IsInterrupted(times, fault) if number <= times => Err(fault),
-            Writing::IsInterruptedAndFails(_) if number == 1 => {
-                Err(io::Error::from(io::ErrorKind::Interrupted))
+        counted(&self.0.writes);
+        let mut writing = self.0.writing.get();
+        let answer = if writing.room > 0 {
+            let count = buf.len().min(writing.room);
+            writing.room -= count;
+            Ok(count)
+        } else if writing.interruptions > 0 {
+            writing.interruptions -= 1;
+            Err(writing.interruption)
+        } else {
+            match writing.then {
+                Then::Takes => Ok(buf.len()),
+                Then::TakesNone => Ok(0),
+                Then::Fails(fault) => Err(fault),
             }
-            Writing::IsInterruptedAndFails(fault) => Err(fault),
-            Writing::Fails(0, fault) => Err(fault),
-            Writing::Fails(room, fault) => {
-                let count = buf.len().min(room);
-                self.0.writing.set(Writing::Fails(room - count, fault));
-                Ok(count)
-            }
-            _ => Ok(buf.len()),
-        }
+        };
+        self.0.writing.set(writing);
+        answer
     }
 
     fn flush(&mut self) -> io::Result<()> {
         counted(&self.0.flushes);
-        match self.0.writing.get() {
-            Writing::FailsToFlush(fault) => Err(fault),
-            _ => Ok(()),
+        match self.0.writing.get().flush {
+            Some(fault) => Err(fault),
+            None => Ok(()),
         }
     }
 }

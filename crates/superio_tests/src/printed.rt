@@ -1,9 +1,11 @@
 //! What errors print, and values for debugging. No contract has the text of a derived `Debug`.
 ghost use Rattle.vm_superio.specs.Links.Unspecified.{Unspecified, Unspecified-nil, Unspecified-append};
 
+use crate::faults::faults;
 use std::alloc::{AllocError, Global};
 use std::error::Error as StdError;
 use std::test::Fail;
+use superio_examples::bus::BusError;
 use superio_script::LineRefused;
 use vm_superio::run::{Act, Asked, Call, Done, Reply, Sent};
 use vm_superio::saved::Fault;
@@ -59,6 +61,22 @@ fn errors_print_what_failed_and_why(rt: HostRuntime) -> Result<(), Fail> {
         assert!(rt; text(alloc, &saved::Error::from(fault))?.as_str() == printed);
     }
     assert!(rt; text(alloc, &saved::Error::Memory)?.as_str() == "Out of memory");
+    Ok(())
+}
+
+/// The text of a writer's fault is part of its error's.
+#[test]
+fn a_fault_is_printed_as_it_is(rt: HostRuntime) -> Result<(), Fail> {
+    let alloc = rt.alloc();
+    for fault in faults(alloc)?.iter() {
+        let error: Error<LineRefused> = Error::IOError(*fault);
+        let expected = format!(in alloc; "Couldn't write/flush to the given destination: {fault}")?;
+        assert!(rt; text(alloc, &error)? == expected, "{fault:?}");
+        assert!(rt; format!(in alloc; "{error:#}")? == expected, "{fault:?}");
+        let expected = format!(in alloc; "Serial(IOError({fault:?}))")?;
+        let error: BusError<LineRefused, LineRefused> = BusError::Serial(error);
+        assert!(rt; format!(in alloc; "{error:?}")? == expected, "{fault:?}");
+    }
     Ok(())
 }
 

@@ -1,9 +1,10 @@
 //! What neither a script nor `tools/checks/failing_io` shows of a run: when its writer is flushed, reads of no byte,
 //! and faults of kinds that no operating system reports.
-use crate::objects::{Log, Object, Writing};
+use crate::faults::{interruptions, plain_faults};
+use crate::objects::{Log, Object, Writing, by_std};
 use std::alloc::Global;
 use std::io;
-use std::io::{ErrorKind, Read};
+use std::io::Read;
 use std::process::Abort;
 use std::test::Fail;
 use superio_script::{ScriptFault, run_script};
@@ -12,7 +13,7 @@ use superio_script::{ScriptFault, run_script};
 #[derive(Drop)]
 struct Input<'a> {
     bytes: &'a [u8],
-    fault: Option<ErrorKind>,
+    fault: Option<io::Error>,
     reads: u64,
 }
 
@@ -20,7 +21,7 @@ impl Read for Input<'_> {
     fn read(&mut self, buf: &mut [u8]) -> io::Result<usize> {
         self.reads = self.reads.saturating_add(1);
         match self.fault {
-            Some(kind) if self.bytes.is_empty() => Err(io::Error::from(kind)),
+            Some(fault) if self.bytes.is_empty() => Err(fault),
             _ => self.bytes.read(buf),
         }
     }
@@ -34,7 +35,7 @@ fn expect_run(
     rt: &impl Abort,
     alloc: Global,
     bytes: &[u8],
-    read_fault: Option<ErrorKind>,
+    read_fault: Option<io::Error>,
     writing: Writing,
     expected: Run,
 ) {
@@ -61,40 +62,80 @@ fn a_script_calls_its_streams_no_more_than_it_has_to(rt: HostRuntime) -> Result<
         (&too_long, (Err(ScriptFault::TooLong), [1, 0, 0])),
     ];
     for (bytes, expected) in runs {
-        expect_run(&rt, rt.alloc(), bytes, None, Writing::Takes, expected);
+        expect_run(&rt, rt.alloc(), bytes, None, Writing::takes(), expected);
     }
     Ok(())
 }
 
-/// The first read of a script fails, then its last one, then its write, then its flush.
+/// Scripts, and their replies.
+const SCRIPTS: [(&[u8], &[&[u8]]); 3] = [
+    (b"kr 04\nkw 04 fe\nkr 04\n", &[b"00\n", b"reset\n", b"00\n"]),
+    (b"refuse 0000000000000001\n", &[]),
+    (b"", &[]),
+];
+
+/// Runs a script over a writer that does this: each reply is written as by std's `write_all`, and then all is flushed.
+fn expect_written(rt: &impl Abort, alloc: Global, script: usize, writing: Writing) {
+    let (bytes, replies) = SCRIPTS[script];
+    let (result, [writes, flushes]) = by_std(writing, replies, true);
+    let end = result.map_err(|_| ScriptFault::Io);
+    let reads = 1 + u64::from(!bytes.is_empty());
+    expect_run(
+        rt,
+        alloc,
+        bytes,
+        None,
+        writing,
+        (end, [reads, writes, flushes]),
+    );
+}
+
+/// A read fails after any part of a script, a write at once, or between two bytes of a reply and after interruptions,
+/// and then the flush, also of no reply.
 #[test]
-fn a_fault_of_any_kind_is_io(rt: HostRuntime) {
-    let numbers = (1..=133).map(|number| io::Error::from_raw_os_error(number).kind());
-    let others = [
-        ErrorKind::InvalidData,
-        ErrorKind::WriteZero,
-        ErrorKind::UnexpectedEof,
-        ErrorKind::Other,
-    ];
-    for kind in numbers.chain(others) {
-        let (fault, end) = (io::Error::from(kind), Err(ScriptFault::Io));
-        // `write_all` retries an interrupted write.
-        let (writing, written) = match kind {
-            ErrorKind::Interrupted => (Writing::IsInterrupted(300, fault), (Ok(()), [2, 301, 1])),
-            _ => (Writing::Fails(0, fault), (end, [2, 1, 0])),
+fn a_fault_of_any_kind_is_io(rt: HostRuntime) -> Result<(), Fail> {
+    let alloc = rt.alloc();
+    let interruptions = interruptions(alloc)?;
+    for (place, fault) in plain_faults(alloc)?.iter().enumerate() {
+        let (script, _) = SCRIPTS[0];
+        let read = &script[..place % (script.len() + 1)];
+        let reads = 1 + u64::from(!read.is_empty());
+        let end = (Err(ScriptFault::Io), [reads, 0, 0]);
+        expect_run(&rt, alloc, read, Some(*fault), Writing::takes(), end);
+        let fails = Writing::failing(*fault);
+        expect_written(&rt, alloc, 0, fails);
+        let later = Writing {
+            room: [1, 2, 4, 5, 6, 7, 8, 10, 11][place % 9],
+            interruptions: 1 + (place % 3) as u64,
+            interruption: interruptions[place % 8],
+            ..fails
         };
-        for (bytes, read_fault, writing, expected) in [
-            (b"".as_slice(), Some(kind), Writing::Takes, (end, [1, 0, 0])),
-            (b"kr 04\n", Some(kind), Writing::Takes, (end, [2, 0, 0])),
-            (b"kr 04\n", None, writing, written),
-            (
-                b"kr 04\n",
-                None,
-                Writing::FailsToFlush(fault),
-                (end, [2, 1, 1]),
-            ),
-        ] {
-            expect_run(&rt, rt.alloc(), bytes, read_fault, writing, expected);
+        expect_written(&rt, alloc, 0, later);
+        let unflushed = Writing {
+            flush: Some(*fault),
+            ..Writing::takes()
+        };
+        expect_written(&rt, alloc, 0, unflushed);
+        if fault.raw_os_error().is_none() {
+            expect_written(&rt, alloc, 1, unflushed);
+            expect_written(&rt, alloc, 2, unflushed);
         }
     }
+    for room in 0..12usize {
+        expect_written(
+            &rt,
+            alloc,
+            0,
+            Writing {
+                room,
+                ..Writing::takes_none()
+            },
+        );
+    }
+    let interrupted = Writing {
+        interruptions: 100_000,
+        ..Writing::takes()
+    };
+    expect_written(&rt, alloc, 0, interrupted);
+    Ok(())
 }

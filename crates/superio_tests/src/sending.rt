@@ -1,11 +1,11 @@
 //! What a data write asks of the writer: one `write`, and one `flush` if that succeeded. Its fault is returned as it is,
 //! in whatever state the port is, and whichever call makes the write. No contract says how often the writer is called,
-//! and of which text its fault is. tests/calls/sending.txt has one fault, over each number of held bytes and what is
-//! pending.
-use crate::objects::{Log, Object, Port, PortObjects, Writing, port};
+//! and which fault it has. tests/calls/sending.txt has one fault, over each number of held bytes and what is pending.
+use crate::faults::{faults, faults_of_drivers, interruptions, is_same, plain_faults};
+use crate::objects::{Log, Object, Port, PortObjects, Then, Writing, by_std, port};
 use std::alloc::{AllocError, Global};
 use std::io;
-use std::io::{ErrorKind, Write};
+use std::io::Write;
 use std::test::Fail;
 use superio_examples::bus::{Bus, BusError, COM1, COM2, COM3, COM4, Keyboard};
 use superio_examples::console::Console;
@@ -18,116 +18,46 @@ use vm_superio::run::{Call, Reply};
 use vm_superio::serial::{Error, Refused, Three};
 use vm_superio::{I8042Device, Serial, SerialState, Trigger};
 
-// ---- faults
-
-/// The largest error number of the operating system, and the largest that a kernel returns. Of the numbers between, some
-/// drivers use some.
-const LARGEST: i32 = 133;
-
-const LARGEST_OF_DRIVERS: i32 = 4_095;
-
-/// Numbers that no system has.
-const OTHER_NUMBERS: [i32; 6] = [0, -1, LARGEST + 1, 4_095, i32::MIN, i32::MAX];
-
-/// The kinds that no number has.
-const OTHER_KINDS: [ErrorKind; 6] = [
-    ErrorKind::InvalidData,
-    ErrorKind::WriteZero,
-    ErrorKind::UnexpectedEof,
-    ErrorKind::Unsupported,
-    ErrorKind::OutOfMemory,
-    ErrorKind::Other,
-];
-
-/// Texts: none, a byte, characters of several bytes, and as many bytes as an error keeps, or more.
-const TEXTS: [&str; 6] = [
-    "",
-    "x",
-    "it has a text of its own",
-    "l'hôte a fermé la connexion: 接続が切れました",
-    "the line of the terminal that takes what the guest sends has been hung up by now",
-    "the line of the terminal that takes what the guest sends has been hung up by now, it seems",
-];
-
-/// Adds the errors of a kind without a number, with each text, unless they are there.
-fn push_kind(faults: &mut Vec<io::Error>, kind: ErrorKind) -> Result<(), Fail> {
-    let mut known = faults.iter().filter(|fault| fault.raw_os_error().is_none());
-    if known.any(|fault| fault.kind() == kind) {
-        return Ok(());
-    }
-    faults.push(io::Error::from(kind))?;
-    for text in TEXTS {
-        faults.push(io::Error::new(kind, text))?;
-    }
-    Ok(())
-}
-
-/// Errors in each way that std can make one: of each number, and of each kind by its kind alone, and with a text.
-fn faults(alloc: Global) -> Result<Vec<io::Error>, Fail> {
-    let mut faults = Vec::new(alloc);
-    for number in 1..=LARGEST {
-        let fault = io::Error::from_raw_os_error(number);
-        faults.push(fault)?;
-        push_kind(&mut faults, fault.kind())?;
-    }
-    let of_drivers = (LARGEST + 1..LARGEST_OF_DRIVERS).step_by(16);
-    for number in of_drivers.chain(OTHER_NUMBERS) {
-        faults.push(io::Error::from_raw_os_error(number))?;
-    }
-    for kind in OTHER_KINDS {
-        push_kind(&mut faults, kind)?;
-    }
-    Ok(faults)
-}
-
-/// All that a caller sees of a fault: its number, its kind, its text, and how it is printed for debugging.
-fn shown(alloc: Global, fault: &io::Error) -> Result<String, Fail> {
-    let (number, kind) = (fault.raw_os_error(), fault.kind());
-    Ok(format!(in alloc; "{number:?} {kind:?} {fault} {fault:?}")?)
-}
-
 /// What a call returned that sent a byte.
 type Sent = Result<(), Error<LineRefused>>;
 
-/// How a byte is lost with this fault: its `write` fails or takes nothing, at once or after an interruption, or its
-/// `flush` fails. After interruptions it is written again.
-fn losses(fault: io::Error) -> [Writing; 4] {
-    let [written, again] = match fault.kind() {
-        ErrorKind::Interrupted => [Writing::IsInterrupted(300, fault), Writing::Takes],
-        _ => [
-            Writing::Fails(0, fault),
-            Writing::IsInterruptedAndFails(fault),
-        ],
+/// How a byte is lost with this fault: its `write` fails or takes nothing, at once or after so many interruptions, or
+/// its `flush` fails. After interruptions it is written again.
+fn losses(fault: io::Error, interruption: io::Error, interruptions: u64) -> [Writing; 5] {
+    let interrupted = Writing {
+        interruptions,
+        interruption,
+        ..Writing::takes()
     };
+    let fails = Writing::failing(fault);
     [
-        written,
-        again,
-        Writing::TakesNone,
-        Writing::FailsToFlush(fault),
+        fails,
+        Writing {
+            then: fails.then,
+            ..interrupted
+        },
+        Writing {
+            then: Then::TakesNone,
+            ..interrupted
+        },
+        Writing::takes_none(),
+        Writing {
+            flush: Some(fault),
+            ..interrupted
+        },
     ]
 }
 
-/// Whether a call returned the fault of its writer, with its text, and called `write` and `flush` no more than it has to,
-/// if the writer does this.
+/// Whether a call that sends a byte to a writer that does this returned its fault, and called `write` and `flush` no
+/// more than it has to.
 fn is_right(alloc: Global, log: &Log, writing: Writing, found: &Sent) -> Result<bool, Fail> {
-    let mut none = [0; 0];
-    let (fault, calls) = match writing {
-        Writing::Takes => (None, [1, 1]),
-        Writing::TakesNone => (none.as_mut_slice().write_all(b"x").err(), [1, 0]),
-        Writing::IsInterrupted(times, _) => (None, [times.saturating_add(1), 1]),
-        Writing::IsInterruptedAndFails(fault) => (Some(fault), [2, 0]),
-        Writing::Fails(room, fault) => (Some(fault), [1 + u64::from(room > 0), 0]),
-        Writing::FailsToFlush(fault) => (Some(fault), [1, 1]),
+    let found = match found {
+        Ok(()) => Ok(()),
+        Err(Error::IOError(fault)) => Err(*fault),
+        Err(_) => return Ok(false),
     };
-    let is_its_fault = match (found, fault) {
-        (Ok(()), None) => true,
-        (Err(lost @ Error::IOError(found)), Some(fault)) => {
-            let text = format!(in alloc; "Couldn't write/flush to the given destination: {fault}")?;
-            lost.to_string(alloc)? == text && shown(alloc, found)? == shown(alloc, &fault)?
-        }
-        _ => false,
-    };
-    Ok(is_its_fault && [log.writes.get(), log.flushes.get()] == calls)
+    let (expected, calls) = by_std(writing, &[b"x"], true);
+    Ok(is_same(alloc, &found, &expected)? && [log.writes.get(), log.flushes.get()] == calls)
 }
 
 // ---- calls that send a byte
@@ -267,6 +197,7 @@ fn go_on(serial: &mut Port, numbers: &mut u64) {
 #[test]
 fn a_fault_of_the_writer_is_returned_as_it_is(rt: HostRuntime) -> Result<(), Fail> {
     let mut numbers = 1;
+    let interruptions = interruptions(rt.alloc())?;
     for fault in faults(rt.alloc())?.iter() {
         let log = Log::new();
         let mut machine = any_machine(rt.alloc(), &log, &mut numbers)?;
@@ -278,7 +209,8 @@ fn a_fault_of_the_writer_is_returned_as_it_is(rt: HostRuntime) -> Result<(), Fai
             Way::Console,
             Way::NewPort,
         ] {
-            for writing in losses(*fault) {
+            let interruption = interruptions[(next(&mut numbers) % 8) as usize];
+            for writing in losses(*fault, interruption, next(&mut numbers) % 4) {
                 log.start(writing);
                 let found = sent(rt.alloc(), &log, &mut machine, way, &mut numbers);
                 assert!(rt; is_right(rt.alloc(), &log, writing, &found)?, "{fault:?}");
@@ -297,7 +229,10 @@ fn a_run_returns_the_fault_of_each_writer(rt: HostRuntime) -> Result<(), Fail> {
     let mut numbers = 1;
     let faults = faults(alloc)?;
     for (fault, other) in faults.iter().zip(faults.iter().skip(1)) {
-        for (first_loses, second_loses) in losses(*fault).into_iter().zip(losses(*other)) {
+        for (first_loses, second_loses) in losses(*fault, *fault, 0)
+            .into_iter()
+            .zip(losses(*other, *fault, 0))
+        {
             let (first, second) = (Log::new(), Log::new());
             first.start(first_loses);
             second.start(second_loses);
@@ -330,77 +265,197 @@ fn a_run_returns_the_fault_of_each_writer(rt: HostRuntime) -> Result<(), Fail> {
     Ok(())
 }
 
-/// Of its eight bytes some were taken before. After an interruption they are written again.
+/// Each byte is lost by each number and each kind, and some byte by each number of drivers.
 #[test]
-fn an_event_is_one_write_and_returns_its_fault(rt: HostRuntime) -> Result<(), Fail> {
+fn no_byte_changes_the_fault_of_its_put(rt: HostRuntime) -> Result<(), Fail> {
+    let alloc = rt.alloc();
     let log = Log::new();
-    let mut event = EventFd { file: Object(&log) };
-    for fault in faults(rt.alloc())?.iter() {
-        for taken in 0..8usize {
-            if fault.kind() != ErrorKind::Interrupted {
-                let writing = Writing::Fails(taken, *fault);
-                log.start(writing);
-                let found = event.trigger().map_err(Error::IOError);
-                assert!(rt; is_right(rt.alloc(), &log, writing, &found)?, "{fault:?}");
-            }
+    let mut serial = port(alloc, &log)?;
+    let (plain, of_drivers) = (plain_faults(alloc)?, faults_of_drivers(alloc)?);
+    for (place, fault) in plain.iter().chain(of_drivers.iter()).enumerate() {
+        let last = (place % 256) as u8;
+        let bytes = match place < plain.len() {
+            true => 0..=255,
+            false => last..=last,
+        };
+        for byte in bytes {
+            let writing = Writing::failing(*fault);
+            log.start(writing);
+            let found = serial.write(0, byte);
+            assert!(rt; is_right(alloc, &log, writing, &found)?, "{byte} {fault:?}");
         }
-        log.start(Writing::TakesNone);
-        let found = event.trigger().map_err(Error::IOError);
-        assert!(rt; is_right(rt.alloc(), &log, Writing::TakesNone, &found)?);
-        log.start(Writing::Takes);
-        assert!(rt; event.trigger().is_ok() && log.calls() == [0, 0, 1, 0]);
+        let writing = Writing {
+            flush: Some(*fault),
+            ..Writing::takes()
+        };
+        log.start(writing);
+        let found = serial.write(0, last);
+        assert!(rt; is_right(alloc, &log, writing, &found)?, "{fault:?}");
     }
-    log.start(Writing::IsInterrupted(300, io::Error::from(ErrorKind::Interrupted)));
-    assert!(rt; event.trigger().is_ok() && log.calls() == [0, 0, 301, 0]);
     Ok(())
 }
 
-/// Any number of bytes waits, at any place of the ring. With the half of the faults a byte was dropped before.
+/// Whether an event returns the fault that a descriptor gives which does this, and calls it no more than it has to.
+fn is_right_event(alloc: Global, writing: Writing) -> Result<bool, Fail> {
+    let log = Log::new();
+    log.start(writing);
+    let found = EventFd { file: Object(&log) }.trigger();
+    let (expected, calls) = by_std(writing, &[&[0; 8]], false);
+    Ok(is_same(alloc, &found, &expected)? && log.calls() == [0, 0, calls[0], 0])
+}
+
+/// Of its eight bytes some were taken before. After an interruption the others are written again.
+#[test]
+fn an_event_is_one_write_and_returns_its_fault(rt: HostRuntime) -> Result<(), Fail> {
+    let alloc = rt.alloc();
+    assert!(rt; is_right_event(alloc, Writing::takes())?);
+    let interruptions = interruptions(alloc)?;
+    for (place, fault) in faults(alloc)?.iter().enumerate() {
+        for room in 0..8usize {
+            let interruption = interruptions[(place + room) % 8];
+            // An event flushes nothing.
+            let [fails, later, takes_none, ..] = losses(*fault, interruption, room as u64 % 3);
+            for writing in [fails, later, takes_none] {
+                assert!(rt;
+                    is_right_event(alloc, Writing { room, ..writing })?,
+                    "{room} {fault:?}"
+                );
+            }
+        }
+    }
+    for fault in faults_of_drivers(alloc)?.iter() {
+        assert!(rt;
+            is_right_event(alloc, Writing::failing(*fault))?,
+            "{fault:?}"
+        );
+    }
+    Ok(())
+}
+
+/// Some bytes wait in an output, which passes them to a sink that does this, and the others to one that takes all.
+fn drains_twice(
+    alloc: Global,
+    output: &mut Output,
+    waiting: &[u8],
+    writing: Writing,
+) -> Result<bool, Fail> {
+    let dropped = output.dropped();
+    Ok(
+        output.write(waiting).ok() == Some(waiting.len())
+            && is_drained(alloc, output, writing)?
+            && is_drained(alloc, output, Writing::takes())?
+            && output.is_empty()
+            && output.dropped() == dropped,
+    )
+}
+
+/// None, one or any number of bytes wait, at any place of the ring, or as many as may wait; with or without a byte that
+/// was dropped before. The sink fails, takes some of the bytes first, or takes none.
 #[test]
 fn a_drained_output_is_one_write_and_returns_its_fault(rt: HostRuntime) -> Result<(), Fail> {
     let alloc = rt.alloc();
-    let log = Log::new();
-    let bytes = b"waiting ".repeat(alloc, 40)?;
-    let mut outputs = [
-        Output::restored(alloc, &[], 320, 0)?,
-        Output::restored(alloc, &[], 320, 1)?,
-    ];
-    for (number, fault) in faults(alloc)?.iter().enumerate() {
-        let output = &mut outputs[number % 2];
-        for step in 0..4usize {
-            let waiting = &bytes[..(number + 80 * step) % 321];
-            assert!(rt; output.write(waiting).ok() == Some(waiting.len()));
-            let writing = Writing::Fails(0, *fault);
-            log.start(writing);
-            let drained = output.drain_into(&mut Object(&log));
-            let found = drained.map(|_| ()).map_err(Error::IOError);
-            assert!(rt; is_right(alloc, &log, writing, &found)?, "{fault:?}");
-            assert!(rt; output.waiting(alloc)?.as_slice() == waiting);
-            assert!(rt; output.dropped() == (number % 2) as u64);
-            log.start(Writing::Takes);
-            assert!(rt; output.drain_into(&mut Object(&log)).ok() == Some(waiting.len()));
-            assert!(rt; log.calls() == [0, 0, 1, 0]);
+    let bytes = b"waiting ".repeat(alloc, 625)?;
+    let mut wide = Output::restored(alloc, &[], 5_000, 0)?;
+    let mut narrow = Output::restored(alloc, &[], 320, 1)?;
+    for (place, fault) in faults(alloc)?.iter().enumerate() {
+        let fails = Writing::failing(*fault);
+        for length in [0, 1, place * 13 % 5_000, 5_000] {
+            let waiting = &bytes[..length];
+            assert!(rt;
+                drains_twice(alloc, &mut wide, waiting, fails)?,
+                "{length} {fault:?}"
+            );
         }
+        for length in [0, place % 320, 320] {
+            let waiting = &bytes[..length];
+            assert!(rt;
+                drains_twice(alloc, &mut narrow, waiting, fails)?,
+                "{length} {fault:?}"
+            );
+        }
+        let takes_some = Writing {
+            room: 1 + place % 320,
+            ..fails
+        };
+        let waiting = &bytes[..320 + place];
+        assert!(rt;
+            drains_twice(alloc, &mut wide, waiting, takes_some)?,
+            "{fault:?}"
+        );
+    }
+    for fault in faults_of_drivers(alloc)?.iter() {
+        let fails = Writing::failing(*fault);
+        assert!(rt;
+            drains_twice(alloc, &mut narrow, b"byte", fails)?,
+            "{fault:?}"
+        );
+    }
+    for length in 0..321usize {
+        let none = Writing::takes_none();
+        assert!(rt;
+            drains_twice(alloc, &mut narrow, &bytes[..length], none)?,
+            "{length}"
+        );
     }
     Ok(())
+}
+
+/// Whether an output passes what waits to a sink that does this by one `write`, returns what that does, and keeps what
+/// it did not take.
+fn is_drained(alloc: Global, output: &mut Output, writing: Writing) -> Result<bool, Fail> {
+    let (log, other) = (Log::new(), Log::new());
+    log.start(writing);
+    other.start(writing);
+    let waiting = output.waiting(alloc)?;
+    let expected = Object(&other).write(&waiting);
+    let found = output.drain_into(&mut Object(&log));
+    let taken = expected.ok().unwrap_or(0);
+    Ok(
+        found.ok().unwrap_or(0) == taken
+            && is_same(alloc, &found.map(|_| ()), &expected.map(|_| ()))?
+            && output.waiting(alloc)?.as_slice() == &waiting[taken..]
+            && log.calls() == [0, 0, 1, 0],
+    )
 }
 
 #[test]
 fn the_writer_is_asked_once_for_each_byte(rt: HostRuntime) -> Result<(), Fail> {
     let fault = io::Error::from_raw_os_error(5);
-    for (writing, flushes) in [
-        (Writing::Takes, 100_000),
-        (Writing::Fails(0, fault), 0),
-        (Writing::FailsToFlush(fault), 100_000),
+    let takes = Writing::takes();
+    let fails_to_flush = Writing {
+        flush: Some(fault),
+        ..takes
+    };
+    for (writing, is_taken, flushes) in [
+        (takes, true, 100_000),
+        (Writing::failing(fault), false, 0),
+        (fails_to_flush, false, 100_000),
     ] {
         let log = Log::new();
         log.start(writing);
         let mut serial = port(rt.alloc(), &log)?;
         for number in 0..100_000u32 {
-            let is_taken = serial.write(0, (number % 251) as u8).is_ok();
-            assert!(rt; is_taken == matches!(writing, Writing::Takes), "{number}");
+            assert!(rt;
+                serial.write(0, (number % 251) as u8).is_ok() == is_taken,
+                "{number}"
+            );
         }
         assert!(rt; [log.writes.get(), log.flushes.get()] == [100_000, flushes]);
     }
+    Ok(())
+}
+
+#[test]
+fn an_interrupted_write_is_made_again_however_often(rt: HostRuntime) -> Result<(), Fail> {
+    let writing = Writing {
+        interruptions: 100_000,
+        ..Writing::takes()
+    };
+    let log = Log::new();
+    let mut serial = port(rt.alloc(), &log)?;
+    log.start(writing);
+    let found = serial.write(0, b'x');
+    assert!(rt; is_right(rt.alloc(), &log, writing, &found)?);
+    assert!(rt; is_right_event(rt.alloc(), Writing { room: 3, ..writing })?);
     Ok(())
 }

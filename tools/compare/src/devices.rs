@@ -18,6 +18,15 @@ pub type Outcome = Result<String, Error<io::Error>>;
 /// The bytes before a clock read, which an invalid one leaves as they were.
 pub const UNREAD: [u8; 4] = [0xA5; 4];
 
+/// An error as a derived `Debug` prints it.
+#[derive(Debug)]
+#[allow(dead_code)] // what `Debug` alone reads
+enum Derived<'a> {
+    Trigger(&'a io::Error),
+    IOError(&'a io::Error),
+    FullFifo,
+}
+
 pub struct Devices {
     pub object: Object,
     pub serial: Serial<Object, Arc<Object>, Object>,
@@ -51,17 +60,22 @@ impl Devices {
         Observed { reply, events: self.object.take_events(), held, ris, offset, is_armed: false }
     }
 
-    /// The reply of a call that fails, if its error and its text are those that its object gave.
+    /// The reply of a call that fails, if its error and what it prints are those that its object gave.
     fn name_of(&self, error: &Error<io::Error>) -> &'static str {
-        let (name, text, is_given) = match error {
-            Error::Trigger(it) => ("trigger", format!("Failed to trigger interrupt: {it}"), self.object.gave(it, true)),
+        let (name, text, derived, is_given) = match error {
+            Error::Trigger(it) => {
+                let text = format!("Failed to trigger interrupt: {it}");
+                ("trigger", text, Derived::Trigger(it), self.object.gave(it, true))
+            }
             Error::IOError(it) => {
                 let text = format!("Couldn't write/flush to the given destination: {it}");
-                ("io", text, self.object.gave(it, false))
+                ("io", text, Derived::IOError(it), self.object.gave(it, false))
             }
-            Error::FullFifo => ("full", "No space left in FIFO".into(), true),
+            Error::FullFifo => ("full", "No space left in FIFO".into(), Derived::FullFifo, true),
         };
-        if is_given && error.to_string() == text && error.source().is_none() { name } else { "another error" }
+        let printed = format!("{error} {error:#} {error:?} {error:#?}");
+        let is_printed = printed == format!("{text} {text} {derived:?} {derived:#?}");
+        if is_given && is_printed && error.source().is_none() { name } else { "another error" }
     }
 
     /// Makes a call that both crates have.

@@ -8,6 +8,9 @@ use std::iter::successors;
 /// have none.
 const LARGEST: u32 = 133;
 
+/// That of a call that is interrupted.
+const INTERRUPTED: i32 = 4;
+
 /// The other kinds of the standard library.
 const OTHER_KINDS: [ErrorKind; 6] = [
     ErrorKind::InvalidData,
@@ -22,6 +25,11 @@ const OTHER_KINDS: [ErrorKind; 6] = [
 const TEXTS: [&str; 5] =
     ["", "x", "a text of its own", "l'hôte a fermé la connexion: 接続が切れました", "two\nlines\0"];
 
+/// How many numbers of the system are tried, and how many errors have each of these, and each kind in each way.
+const NUMBERS: u32 = LARGEST + 4;
+
+pub const ERRORS: u32 = 4 * (NUMBERS + OTHER_KINDS.len() as u32);
+
 /// The number of the error that `write_all` makes of a writer that takes nothing.
 pub const OF_WRITE_ALL: u32 = u32::MAX;
 
@@ -34,7 +42,7 @@ struct Own {
 
 impl fmt::Display for Own {
     fn fmt(&self, f: &mut fmt::Formatter) -> fmt::Result {
-        write!(f, "failure {}", self.number)
+        write!(f, "{}failure {}", if f.alternate() { "alternate " } else { "" }, self.number)
     }
 }
 
@@ -50,12 +58,23 @@ pub fn made(number: u32) -> io::Error {
     if number == OF_WRITE_ALL {
         return [0; 0].as_mut_slice().write_all(b"x").expect_err("no room");
     }
-    let place = number / 4;
-    let of_system = io::Error::from_raw_os_error((place % (LARGEST + 4)) as i32 - 1);
-    let kind = match OTHER_KINDS.get(place as usize % 16) {
-        Some(kind) => *kind,
+    let place = number % ERRORS / 4;
+    let of_system = io::Error::from_raw_os_error(place as i32 - 1);
+    let kind = match place.checked_sub(NUMBERS) {
+        Some(other) => OTHER_KINDS[other as usize],
         None => of_system.kind(),
     };
+    by_turns(number, of_system, kind)
+}
+
+/// An error by which a write is interrupted.
+pub fn interruption(number: u32) -> io::Error {
+    by_turns(number, io::Error::from_raw_os_error(INTERRUPTED), ErrorKind::Interrupted)
+}
+
+/// By turns this number of the system, and this kind alone, with a text, and with an error that has sources.
+fn by_turns(number: u32, of_system: io::Error, kind: ErrorKind) -> io::Error {
+    let place = number / 4;
     match number % 4 {
         0 => of_system,
         1 => kind.into(),

@@ -3,6 +3,7 @@
 //!     compare replay                      makes calls that come on standard input over bindings/rust, and compares
 //!     compare draw CALLS SEED             makes random calls over bindings/rust, and prints them and what they did
 //!     compare record CALLS SEED [panics]  the same over vm-superio, after each setting of the port; objects may panic
+//!     compare lose                        loses each byte by each error, over bindings/rust
 //!     compare texts                       compares what no call reaches in the two crates
 //!
 //! `record` and `texts` need the feature `original`. What one of them prints, another player takes: the C library's is
@@ -82,6 +83,22 @@ fn draw(calls: u64, seed: u64) -> io::Result<bool> {
     Ok(seldom == 0)
 }
 
+/// Loses each byte by each error of a writer's write and flush, and prints how many were lost. Each has to be returned.
+fn lose() -> bool {
+    let mut devices = Devices::new();
+    let (mut lost, mut other) = (0u32, 0u32);
+    for sign in ["f", "u"] {
+        for byte in 0..=u8::MAX {
+            for _ in 0..errors::ERRORS {
+                let made = devices.make_any(&format!("sw 00 {byte:02x} {sign}"));
+                *if made.reply == "io" { &mut lost } else { &mut other } += 1;
+            }
+        }
+    }
+    println!("{lost} bytes were lost by the writer's error, {other} were not");
+    other == 0
+}
+
 #[cfg(feature = "original")]
 fn record(calls: u64, seed: u64, has_panics: bool) -> io::Result<bool> {
     use by_original::devices::Devices;
@@ -116,6 +133,7 @@ fn main() -> io::Result<ExitCode> {
     let is_good = match words.first().map_or("", |word| word) {
         "replay" => replay(),
         "draw" => draw(number(1), number(2)),
+        "lose" => Ok(lose()),
         #[cfg(feature = "original")]
         "record" => record(number(1), number(2), words.len() > 3),
         #[cfg(feature = "original")]

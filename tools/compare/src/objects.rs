@@ -6,7 +6,7 @@ use std::rc::Rc;
 use super::superio::Trigger;
 use super::superio::rtc_pl031::RtcEvents;
 use super::superio::serial::SerialEvents;
-use crate::errors::{OF_WRITE_ALL, made, seen};
+use crate::errors::{OF_WRITE_ALL, interruption, made, seen};
 use crate::line::Behaviour;
 
 /// What the objects of all devices share: how they are to behave, and what they were asked.
@@ -18,6 +18,9 @@ struct Script {
     errors: Cell<u32>,
     refusal: Cell<u32>,
     fault: Cell<u32>,
+    /// How many writes the calls of the writer noted, and how often the next one is interrupted, which no line shows.
+    writes: Cell<u32>,
+    interruptions: Cell<u32>,
 }
 
 /// A trigger, an events object and a writer in one.
@@ -98,8 +101,23 @@ impl RtcEvents for Object {
     }
 }
 
+/// How often a writer is interrupted after so many writes: not at all, a few times, or very often.
+fn interruptions_after(writes: u32) -> u32 {
+    match (writes % 5_000, writes % 8) {
+        (0, _) => 100_000,
+        (_, 0) => 1 + writes / 8 % 9,
+        _ => 0,
+    }
+}
+
 impl Write for Object {
     fn write(&mut self, bytes: &[u8]) -> io::Result<usize> {
+        if let Some(left) = self.0.interruptions.get().checked_sub(1) {
+            self.0.interruptions.set(left);
+            return Err(interruption(left));
+        }
+        self.0.writes.set(self.0.writes.get() + 1);
+        self.0.interruptions.set(interruptions_after(self.0.writes.get()));
         bytes.iter().for_each(|byte| self.note(&format!("W{byte:02x}")));
         let behaviour = self.0.behaviour.get();
         match behaviour.writing {
@@ -116,7 +134,7 @@ impl Write for Object {
             },
             Some('i') => {
                 self.0.behaviour.set(Behaviour { writing: None, ..behaviour });
-                Err(ErrorKind::Interrupted.into())
+                Err(interruption(self.0.writes.get()))
             }
             _ => Ok(bytes.len()),
         }
