@@ -4,7 +4,8 @@
  *
  *   CALLS            the file that takes a line for each call: its name, the bytes asked for, the bytes given or -1
  *   FAIL_ALLOCATION  the number of the allocation that is refused
- *   FAIL_MARKED      the number of the one that is refused after each write that begins with '+', up to the next write
+ *   FAIL_MARKED      the number of the one that is refused after each write that begins with '+', up to the next write.
+ *                    If it is set, only the allocations there have a line
  *   FAIL_READ        the number of the read that fails, by the error FAULT
  *   FAIL_WRITE       the number of the write that fails, by the error FAULT
  *   FAIL_MESSAGES    if set, each write of standard error fails, by the error FAULT
@@ -28,7 +29,7 @@ void *__libc_realloc(void *block, size_t size);
 static struct {
     size_t fail_allocation, fail_marked, fail_read, fail_write, fail_messages;
     size_t read_piece, read_lines, write_piece, write_room;
-    int fault, calls;
+    int has_marks, fault, calls;
 } set = {.calls = -1};
 
 static size_t allocations, marked, reads, writes, written;
@@ -44,6 +45,7 @@ __attribute__((constructor)) static void prepare(void)
 {
     const char *calls = getenv("CALLS");
     set.fail_allocation = number("FAIL_ALLOCATION", 0);
+    set.has_marks = getenv("FAIL_MARKED") != NULL;
     set.fail_marked = number("FAIL_MARKED", 0);
     set.fail_read = number("FAIL_READ", 0);
     set.fail_write = number("FAIL_WRITE", 0);
@@ -75,7 +77,8 @@ static int is_refused(void)
 
 static void *noted_block(size_t size, void *block)
 {
-    note("allocate", size, block ? (ssize_t)size : -1);
+    if (is_marked || !set.has_marks)
+        note("allocate", size, block ? (ssize_t)size : -1);
     if (!block)
         errno = ENOMEM;
     return block;

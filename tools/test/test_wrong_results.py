@@ -169,19 +169,22 @@ class Runs(FolderTest):
 
     def test_calls_in_any_state(self):
         """A call says that memory was refused exactly if it was, and takes as much as it may. Each function is called,
-        and runs differ in states."""
+        and runs differ in states. A run without a refusal ends with the number of its calls."""
         lines = [("+ more", 1), ("one: refused", -1), ("other: not refused", 1)]
 
-        def different(lines, status=0, functions=("one", "other")):
+        def different(lines, status=0, functions=("one", "other"), unrefused=b"2\n"):
             calls = [call for _, given in lines for call in (Call("allocate", 1, given), Call("write", 1, 1))]
             ran = Ran(status, "".join(f"{line}\n" for line, _ in lines).encode(), b"", calls)
-            failing = mock.Mock(run_all=lambda cases: [ran for _ in {line for line, _ in cases}])
+            failing = mock.Mock(run_all=lambda cases: [
+                Ran(0, unrefused, b"") if b" " in line else ran for line in {line for line, _ in cases}])
             with mock.patch.object(refused_memory, "functions_that_take_memory", lambda: functions):
                 return faults_in(silently(refused_memory.any_state_results, failing)[0])
-        runs = refused_memory.UNREFUSED + refused_memory.MOST_OF_A_CALL
+        runs, unrefused = refused_memory.MOST_OF_A_CALL + len(refused_memory.LATER), refused_memory.UNREFUSED
         turned = [(line, -given if ":" in line else given) for line, given in lines]
         self.assertEqual([different(lines), different(turned), different(lines, status=1),
-                          different(lines, functions=("one", "other", "third"))], [0, 2 * runs, 1, 1])
+                          different(lines, functions=("one", "other", "third"))], [0, 2 * runs, 1 + 2, 1])
+        self.assertEqual([different(lines, unrefused=printed) for printed in (b"one: refused\n2\n", b"", b"one\n")],
+                         [unrefused] * 3)
         for most, faults in ((1, 0), (0, 1), (2, 1)):
             with mock.patch.object(refused_memory, "MOST", {"other": most}):
                 self.assertEqual(different(lines), faults)

@@ -1,7 +1,7 @@
 //! Calls that allocate memory, made after any calls in states of any registers, coherent or not, with lists of a length
 //! that is given.
 use super::any_lines::{any_line, any_script};
-use super::source::Source;
+use super::source::{Favourite, Source};
 use crate::calls::objects::{Log, Object};
 use crate::fields::port_state;
 use std::alloc::{AllocError, Global};
@@ -76,16 +76,36 @@ pub enum Prepared<'a> {
     Script(Vec<u8>),
 }
 
-/// The registers of a new port.
-const FRESH: [u8; 9] = [0x0C, 0, 0, 1, 3, 0x60, 8, 0xB0, 0];
+/// What each register holds mostly, in the order of the byte form: in a new port, after a driver, or at an end.
+const REGISTERS: [[u8; 8]; 9] = [
+    [0x0C, 0x01, 0x02, 0x03, 0x06, 0x18, 0x60, 0x00],
+    [0x00, 0x01, 0x03, 0x04, 0x06, 0x09, 0x17, 0xFF],
+    [0x00, 0x01, 0x02, 0x03, 0x05, 0x07, 0x0D, 0x0F],
+    [0x01, 0x02, 0x04, 0x06, 0x00, 0x03, 0x05, 0x07],
+    [0x03, 0x83, 0x80, 0x00, 0x07, 0x1B, 0x9B, 0xBF],
+    [0x60, 0x61, 0x20, 0x40, 0x00, 0x01, 0x63, 0xFF],
+    [0x08, 0x0B, 0x03, 0x00, 0x0F, 0x10, 0x1E, 0x1F],
+    [0xB0, 0x00, 0x10, 0x20, 0x30, 0x80, 0xBB, 0xFF],
+    [0x00, 0xAE, 0x55, 0xAA, 0x5A, 0xA5, 0x7F, 0xFF],
+];
 
-/// Any registers, half of them as those of a new port, and so many received bytes.
-fn any_state(alloc: Global, source: &mut Source, length: usize) -> Result<SerialState, AllocError> {
-    let mut registers = FRESH;
-    for register in &mut registers {
-        if source.byte() < 128 {
-            *register = source.typical();
-        }
+/// Any registers, most of them as those of a port in use, and so many received bytes. In half of the states LSR shows
+/// whether there are any.
+pub fn any_state(
+    alloc: Global,
+    source: &mut Source,
+    length: usize,
+) -> Result<SerialState, AllocError> {
+    let mut registers = [0; 9];
+    for (register, values) in registers.iter_mut().zip(REGISTERS.iter()) {
+        *register = match source.byte() {
+            0..=63 => values[0],
+            64..=191 => values[usize::from(source.byte()) % 8],
+            _ => source.byte(),
+        };
+    }
+    if source.byte() < 128 {
+        registers[5] = registers[5] & 0xFE | u8::from(length > 0);
     }
     let mut held = Vec::new(alloc);
     for _ in 0..length {
@@ -106,21 +126,22 @@ fn any_saved(alloc: Global, source: &mut Source, length: usize) -> Result<Serial
 
 /// Any objects, whose line takes the first two calls.
 fn any_objects(source: &mut Source) -> PortObjects {
-    Three::with_writer(any_line_of_interrupts(source), Counts::new(), Output::new())
-}
-
-fn any_line_of_interrupts(source: &mut Source) -> Line {
-    Line::new(source.number() & !3)
+    Three::with_writer(
+        Line::new(any_mask(source) & !3),
+        Counts::new(),
+        Output::new(),
+    )
 }
 
 /// A port after any calls, made with at most 64 bytes.
 fn any_port(alloc: Global, source: &mut Source, length: usize) -> Result<Port, AllocError> {
     let state = any_state(alloc, source, length % 65)?;
-    let line = any_line_of_interrupts(source);
-    let made = Serial::from_state(alloc, &state, line, Counts::new(), Output::new());
+    let made = Serial::from_state(alloc, &state, Line::new(0), Counts::new(), Output::new());
     let Ok(mut port) = made else {
         return Err(AllocError);
     };
+    *port.interrupt_evt_mut() = Line::new(any_mask(source));
+    port.run(alloc, any_turn(alloc, source)?)?;
     let count = source.count();
     port.run(alloc, any_calls(alloc, source, count)?)?;
     Ok(port)
@@ -132,6 +153,7 @@ fn any_one_port(alloc: Global, source: &mut Source, length: usize) -> Result<One
     let Ok(mut port) = PortOverOne::from_state(alloc, &state, any_objects(source)) else {
         return Err(AllocError);
     };
+    port.run(alloc, any_turn(alloc, source)?)?;
     let count = source.count();
     port.run(alloc, any_calls(alloc, source, count)?)?;
     Ok(port)
@@ -141,23 +163,30 @@ fn any_one_port(alloc: Global, source: &mut Source, length: usize) -> Result<One
 fn any_value(alloc: Global, source: &mut Source, length: usize) -> Result<SerialPort, AllocError> {
     let state = any_state(alloc, source, length % 65)?;
     let mut port = state.to_port().unwrap_or(SerialPort::new());
+    if source.byte() < 64 {
+        port.enqueue_raw_bytes(&[b'a'; 64]);
+        for _ in 0..source.byte() % 65 {
+            port.read(0);
+        }
+        port.enqueue_raw_bytes(&[b'b'; 64]);
+    }
     for _ in 0..source.count() {
-        let (offset, value) = (source.byte() % 8, source.byte());
-        match value % 4 {
+        let (offset, value) = (source.offset(), source.typical());
+        match source.byte() & 3 {
             0 => port.write(offset, value).interrupts,
             1 => port.enqueue_raw_bytes(&[value, value, value]).interrupts,
+            2 => port.read(offset).byte,
             _ => port.read(0).byte,
         };
     }
     Ok(port)
 }
 
-/// Any call of a run, or in half of the cases the favourite one. Few of them are restores, since every restore
-/// allocates.
+/// Any call of a run, or mostly the favourite one. Few of them are restores, since every restore allocates.
 fn any_call(
     alloc: Global,
     source: &mut Source,
-    favourite: u8,
+    favourite: Favourite,
 ) -> Result<Call<PortObjects>, AllocError> {
     let (offset, value) = (source.offset(), source.typical());
     Ok(match source.choice(favourite) {
@@ -165,9 +194,29 @@ fn any_call(
         81..=180 => Call::Write(offset, value),
         181..=220 => Call::CharacterTimeout,
         221..=253 => Call::Enqueue(any_state(alloc, source, usize::from(offset))?.in_buffer),
-        254 => Call::Enqueue(any_state(alloc, source, usize::from(value))?.in_buffer),
-        255 => Call::Restore(any_objects(source)),
+        254 => {
+            let length = source.limit();
+            Call::Enqueue(any_state(alloc, source, length)?.in_buffer)
+        }
+        255 => Call::Restore(Three::with_writer(
+            Line::new(any_mask(source)),
+            Counts::new(),
+            Output::new(),
+        )),
     })
+}
+
+/// Calls after which the ring of a full FIFO may begin anywhere, or mostly none.
+fn any_turn(alloc: Global, source: &mut Source) -> Result<Vec<Call<PortObjects>>, AllocError> {
+    let mut calls = Vec::new(alloc);
+    if source.byte() < 64 {
+        calls.push(Call::Enqueue(any_state(alloc, source, 64)?.in_buffer))?;
+        for _ in 0..source.byte() % 65 {
+            calls.push(Call::Read(0))?;
+        }
+        calls.push(Call::Enqueue(any_state(alloc, source, 64)?.in_buffer))?;
+    }
+    Ok(calls)
 }
 
 fn any_calls(
@@ -176,41 +225,61 @@ fn any_calls(
     length: usize,
 ) -> Result<Vec<Call<PortObjects>>, AllocError> {
     let mut calls = Vec::new(alloc);
-    let favourite = source.byte();
+    let favourite = source.favourite();
     for _ in 0..length {
         calls.push(any_call(alloc, source, favourite)?)?;
     }
     Ok(calls)
 }
 
-/// The bytes of a saved state, or some that are none.
+/// Bytes as they are, or at times with another byte, fewer or more.
+fn any_damage(source: &mut Source, mut bytes: Vec<u8>) -> Result<Vec<u8>, AllocError> {
+    let place = usize::from(source.byte()) % bytes.len().max(1);
+    match source.byte() {
+        0..=15 => {
+            if let Some(byte) = bytes.get_mut(place) {
+                *byte = source.typical();
+            }
+        }
+        16..=23 => bytes.truncate(place.max(1)),
+        24..=31 => bytes.push(source.typical())?,
+        _ => {}
+    }
+    Ok(bytes)
+}
+
+/// The bytes of a saved state, at times damaged, or some that are none.
 fn any_bytes(alloc: Global, source: &mut Source, length: usize) -> Result<Vec<u8>, AllocError> {
     let state = any_state(alloc, source, length % 65)?;
     match state.to_bytes() {
-        Ok(form) if source.byte() < 224 => form.as_bytes().to_vec(alloc),
+        Ok(form) if source.byte() < 240 => any_damage(source, form.as_bytes().to_vec(alloc)?),
         _ => Ok(any_state(alloc, source, length)?.in_buffer),
     }
 }
 
-/// A line that loads any registers and at most 40 bytes, as many as there is room for.
-fn any_load(alloc: Global, source: &mut Source, length: usize) -> Result<String, AllocError> {
-    let state = any_state(alloc, source, length % 41)?;
-    match state.to_bytes() {
-        Ok(form) => format!(in alloc; "sl {}", hex::encode(alloc, form.as_bytes())?),
-        Err(_) => Err(AllocError),
+/// A line that loads any registers and at most 64 bytes, at times damaged.
+pub fn any_load(alloc: Global, source: &mut Source, length: usize) -> Result<String, AllocError> {
+    let state = any_state(alloc, source, length % 65)?;
+    let Ok(form) = state.to_bytes() else {
+        return Err(AllocError);
+    };
+    let bytes = any_damage(source, form.as_bytes().to_vec(alloc)?)?;
+    if source.byte() < 32 {
+        return format!(in alloc; "sl {}", hex::encode_upper(alloc, &bytes)?);
     }
+    format!(in alloc; "sl {}", hex::encode(alloc, &bytes)?)
 }
 
 /// A board after any lines, of any mask.
 fn any_board(alloc: Global, source: &mut Source, length: usize) -> Result<Board, AllocError> {
-    let Ok(mut board) = Board::new(alloc, source.number() & !3) else {
+    let Ok(mut board) = Board::new(alloc, any_mask(source)) else {
         return Err(AllocError);
     };
     let load = any_load(alloc, source, length)?;
     if board.line(alloc, load.as_bytes()).is_err() {
         return Err(AllocError);
     }
-    let favourite = source.byte();
+    let favourite = source.favourite();
     for _ in 0..source.count() {
         let line = any_line(alloc, source, favourite)?;
         if board.line(alloc, line.as_bytes()).is_err() {
@@ -220,12 +289,16 @@ fn any_board(alloc: Global, source: &mut Source, length: usize) -> Result<Board,
     Ok(board)
 }
 
-/// Any mask of refused calls. In half of the cases most of its bits are ones.
-fn any_mask(source: &mut Source) -> u64 {
+/// Any mask of refused calls: any bits, mostly ones, one bit, the lowest ones, none or all.
+pub fn any_mask(source: &mut Source) -> u64 {
     let mask = source.number();
     match source.byte() {
-        0..=127 => mask,
-        _ => mask | source.number() | source.number() | source.number(),
+        0..=95 => mask,
+        96..=159 => mask | source.number() | source.number() | source.number(),
+        160..=191 => 1 << (mask >> 58),
+        192..=223 => mask >> 60,
+        224..=239 => 0,
+        240..=255 => u64::MAX,
     }
 }
 
@@ -233,16 +306,20 @@ fn text(alloc: Global, text: &str) -> Result<String, AllocError> {
     String::from_str(alloc, text)
 }
 
-/// A run of restores, at most 64. If memory is refused for its records, it may call no object.
+/// A run of restores, at most 64, of a port that holds any bytes. If memory is refused for its records, it may call no
+/// object.
 fn any_restores<'a>(
     alloc: Global,
     log: &'a Log,
+    source: &mut Source,
     length: usize,
 ) -> Result<Prepared<'a>, AllocError> {
     let object = Object(log);
-    let Ok(port) = Serial::with_events(alloc, object, object, object) else {
+    let Ok(mut port) = Serial::with_events(alloc, object, object, object) else {
         return Err(AllocError);
     };
+    let held = source.length();
+    let _ = port.enqueue_raw_bytes(&any_state(alloc, source, held)?.in_buffer);
     let mut calls = Vec::new(alloc);
     for _ in 0..length.min(64) {
         calls.push(Call::Restore(Three::with_writer(object, object, object)))?;
@@ -258,7 +335,7 @@ fn prepare_port<'a>(
     source: &mut Source,
     length: usize,
 ) -> Result<Prepared<'a>, AllocError> {
-    let line = Line::new(source.number());
+    let line = Line::new(any_mask(source));
     Ok(match call {
         0 => Prepared::New(line),
         1 => Prepared::WithEvents(line),
@@ -268,7 +345,7 @@ fn prepare_port<'a>(
             any_port(alloc, source, length)?,
             any_calls(alloc, source, length)?,
         ),
-        5 => any_restores(alloc, log, length)?,
+        5 => any_restores(alloc, log, source, length)?,
         6 => Prepared::NewOne(any_objects(source)),
         7 => Prepared::OneFromState(any_saved(alloc, source, length)?, any_objects(source)),
         8 => Prepared::StateOfOne(any_one_port(alloc, source, length)?),
@@ -293,9 +370,9 @@ pub fn prepare<'a>(
         11 => Prepared::Copy(any_state(alloc, source, length)?),
         12 => Prepared::FromBytes(any_bytes(alloc, source, length)?),
         13 => Prepared::FromPort(any_value(alloc, source, length)?),
-        14 => Prepared::WrittenThenRead(any_state(alloc, source, length % 65)?),
+        14 => Prepared::WrittenThenRead(any_saved(alloc, source, length)?),
         15 => Prepared::ReadThenWritten(any_bytes(alloc, source, length)?),
-        16 => Prepared::ToPortAndBack(any_state(alloc, source, length % 65)?),
+        16 => Prepared::ToPortAndBack(any_saved(alloc, source, length)?),
         17 => Prepared::ToStateAndBack(any_value(alloc, source, length)?),
         18 => Prepared::NewBoard(any_mask(source)),
         19 => Prepared::Board(any_board(alloc, source, length)?, text(alloc, "sb")?),
