@@ -4,8 +4,9 @@ What a case expects was worked out from docs/DEVICES.md and from the duties of d
 What a random script expects is what a second monitor does, that of `twin.py`.
 """
 import random
+import subprocess
 
-from header import read_header
+from header import other_library, read_header
 from libraries import DEMO, TESTS
 from planted import read_bugs
 from twin import COM1, Edges, Level, Monitor, different_scripts, random_cases, shown
@@ -26,6 +27,8 @@ CASES = [
     ("a request that is refused three times, and is not made again once it was taken",
      ["w 3f9 1", "d 1", "i 1 78", "t", "t", "d 0", "t", "t", "h"],
      ["interrupt refused"] * 3 + ["interrupt", "received 1"], 0),
+    ("a request that is refused a thousand times", ["w 3f9 1", "d 1", "i 1 78", *["t"] * 999, "d 0", "t", "t", "h"],
+     ["interrupt refused"] * 1000 + ["interrupt", "received 1"], 0),
     ("two requests of which the first is refused, and then a byte that is left",
      ["e", "i 1 78", "d 1", "w 3f9 3", "d 0", "t", "r 3fa", "t", "r 3fa"],
      ["interrupt refused", "interrupt", "interrupt", "c6", "interrupt", "c4"], 0),
@@ -89,9 +92,11 @@ def cases_of_loads():
 
 # The same of lines.c as a level: masked and unmasked, which asks for no interrupt, THRE takes the line down and up.
 CASES_OF_LEVEL = [
-    ("the line moves without being asked for", ["w 3f9 2", "w 3f9 0", "w 3f9 2"], [" 1 64", " 0 64", " 1 64"], 0),
+    ("the line moves without being asked for", ["w 3f9 2", "w 3f9 0", "w 3f9 2"], ["! 1 64", " 0 64", " 1 64"], 0),
 ]
-# Its own main, over a library of an older or a newer interface.
+# Its own main, over a library of an older or a newer interface, as driver and as it is. That main says this.
+OTHERS = (1, -1, 256)
+SAYS = {"monitor.c": "the comparison of header and library failed\n", "lines.c": ""}
 CASES_OF_OTHERS = [("a library of another interface", [], ["the comparison of header and library failed"], 1)]
 
 # Beside each monitor its driver, and the options of the linker.
@@ -102,7 +107,7 @@ def ways(file):
     """How a monitor is driven: the words of the command, the second monitor, the cases, and how many random scripts."""
     if file == "lines.c":
         return [([], Edges, [], SCRIPTS_OF_LINES), (["level"], Level, CASES_OF_LEVEL, SCRIPTS_OF_LINES)]
-    others = [([difference], Monitor, CASES_OF_OTHERS, 0) for difference in ("1", "-1", "256")]
+    others = [([str(difference)], Monitor, CASES_OF_OTHERS, 0) for difference in OTHERS]
     return [([], Monitor, [*CASES, *cases_of_loads()], SCRIPTS), *others]
 
 
@@ -116,6 +121,21 @@ def build(machine, compiler, place, program, file="monitor.c"):
     """The words that build the driver over the monitor of a folder."""
     driver, options = DRIVERS[file]
     return machine.program(compiler, [TESTS / driver], program, ["-O1", "-I", place, *options])
+
+
+def over_others(compiler, source, folder):
+    """What a monitor does over a library of another interface, each call of which ends it, if it does not end
+    itself."""
+    library, built, program = (folder / name for name in ("library.c", "library.o", "over-another"))
+    for difference in OTHERS:
+        number = (read_header().constants["SUPERIO_ABI"] + difference) % 2**32
+        library.write_text(other_library(number), encoding="ascii")
+        # Its calls have other types than the compiler knows.
+        subprocess.run(compiler.command([library], ["-w", "-c", "-o", built]), check=True)
+        subprocess.run(compiler.command([source, "-xnone", built], ["-o", program]), check=True)
+        ran = subprocess.run([program], capture_output=True, text=True)
+        if (ran.returncode, ran.stderr) != (1, SAYS[source.name]):
+            yield f"{source.name} over interface {number}: status {ran.returncode}, {ran.stderr}"
 
 
 def check_driven_demo(tally, machine, folder):
@@ -135,6 +155,8 @@ def check_driven_demo(tally, machine, folder):
             found = list(differences(file, program, random.randrange(10**9)))
             tally.check(not found, "\n".join(found[:3]), sum(len(fixed) for _, _, fixed, _ in ways(file)))
             tally.tried.add("random scripts of the demo", sum(scripts for *_, scripts in ways(file)))
+            found = list(over_others(compiler, DEMO / file, folder))
+            tally.check(not found, "\n".join(found), len(OTHERS))
     tally.of("wrong demos")
     for number, bug in enumerate(read_bugs(TESTS / "wrong-demos.edits", "monitor.c")):
         source, wrong = (DEMO / bug.file).read_text(encoding="utf-8"), place / str(number)
@@ -144,4 +166,5 @@ def check_driven_demo(tally, machine, folder):
         command = build(machine, compiler, wrong, program, bug.file)
         if tally.check(stands == 1, f"{bug.name}: its text stands {stands} times in {bug.file}", 0) \
                 and tally.run(f"the wrong demo is built: {bug.name}", command, number=0):
-            tally.check(any(differences(bug.file, program)), f"the wrong demo is not refused: {bug.name}")
+            found = any(differences(bug.file, program)) or any(over_others(compiler, wrong / bug.file, wrong))
+            tally.check(found, f"the wrong demo is not refused: {bug.name}")

@@ -84,3 +84,10 @@ def read_header(word=8):
         {name: Function(returned.strip(), declared(parameters, ","), ATTRIBUTE.findall(attributes))
          for returned, name, parameters, attributes, *_ in functions},
         {name: value(text.strip()) for name, text in constants.items() if name not in own})
+
+
+def other_library(number):
+    """The source of a library of another interface. A program must not call it, and each call but one ends it."""
+    calls = [name for name in read_header().functions if name != "superio_abi"]
+    return "\n".join(["unsigned superio_abi(void) {", f"    return {number}u;", "}", "void abort(void);",
+                      *(f"void {name}(void);\nvoid {name}(void) {{ abort(); }}" for name in calls), ""])

@@ -64,6 +64,10 @@ class Monitor:
         """Shows a byte that goes out."""
         self.printed.append(shown(byte))
 
+    def reply(self, text):
+        """Prints what a line gives."""
+        self.printed.append(text)
+
     def call(self, name, *arguments):
         """The reply of a call of the port, its events, and how many requests it asks for. Prints what it sends."""
         start = len(self.port.past)
@@ -122,7 +126,7 @@ class Monitor:
                 self.feed()
 
     def r(self, port):
-        self.printed.append(f"{self.read(port):02x}")
+        self.reply(f"{self.read(port):02x}")
 
     def m(self, offset, value):
         if 0 <= offset < 0x1000:
@@ -157,7 +161,7 @@ class Monitor:
         self.received = 0
         while self.is_interrupted:
             self.handle()
-        self.printed.append(f"received {self.received}")
+        self.reply(f"received {self.received}")
 
     def handle(self):
         """The guest's handler."""
@@ -182,9 +186,11 @@ class Monitor:
 
 class Edges(Monitor):
     """The monitor of lines.c whose line has edges: a port alone, whose input is what fits. After each line it prints
-    what went out, whether the guest is interrupted, and how much room there is."""
+    what went out, with a mark where the monitor was asked for interrupts, whether the guest is interrupted, and how much
+    room there is."""
 
     most = 16
+    mark = "!"  # what is printed for the requests of a call
 
     def __init__(self):
         super().__init__()
@@ -198,8 +204,13 @@ class Edges(Monitor):
     def show(self, byte):
         self.out += chr(byte)
 
+    def reply(self, text):
+        self.printed.append(self.out + text)
+        self.out = ""
+
     def ask(self, times):
         self.is_interrupted = self.is_interrupted or times > 0
+        self.out += self.mark * (times > 0)
 
     def feed(self):
         reply, _, times = self.call("enqueue", self.input)
@@ -219,7 +230,7 @@ class Echo(Edges):
     printed once."""
 
     feeds_after = (MCR,)
-    may_refuse = True
+    may_refuse, mark = True, ""
 
     def __init__(self):
         super().__init__()
@@ -315,8 +326,10 @@ class Script:
             self.add("a")
 
     def type(self):
-        room = MOST_INPUT - len(self.monitor.input)
-        self.add("i", min(self.random.choice((1, 1, 2, 40, 64, 65, 127)), room), self.random.choice(b"xy"))
+        """Of monitor.c the input is a string, so no byte of it is 0."""
+        room, least = MOST_INPUT - len(self.monitor.input), 0 if self.has_port_alone else 1
+        byte = self.random.choice((*b"xy", self.random.choice((least, self.random.randrange(least, 256)))))
+        self.add("i", min(self.random.choice((1, 1, 2, 40, 64, 65, 127)), room), byte)
 
     def serve(self):
         if self.random.randrange(2) and not self.has_port_alone:
@@ -334,13 +347,28 @@ class Script:
         choices = {("d", 1): 4, ("d", 0): 4, ("g",): 2, ("w", 0x64, 0xFE): 2, ("e",): 1}
         word, *numbers = self.random.choices(list(choices), choices.values())[0]
         self.add(word, *numbers)
+        if numbers == [1] and self.random.randrange(2):
+            self.disturb()
         if word == "w":
             self.add("w", COM1 + IER, self.random.choice((1, 2, 3)))
             self.add("t")
 
+    def disturb(self):
+        """While the line takes nothing, both conditions come and go, and it takes requests again."""
+        enable, send, look = ("w", COM1 + IER, 3), ("w", COM1 + RBR, ord("?")), ("r", COM1 + IIR)
+        turn = ("i", 0, ord("x")) if self.has_port_alone else ("t",)
+        type_one = ("i", 1, ord("x"))
+        for line in self.random.choices((enable, send, look, look, type_one, turn), k=self.random.randrange(13)):
+            self.add(*(line if line != type_one or len(self.monitor.input) < MOST_INPUT else turn))
+        self.add("d", 0)
+        self.add(*turn)
+
     def refuse(self):
         """The line takes nothing, or takes requests again. The guest's next looks at IIR ask for one, if bytes wait."""
-        self.add("d", self.random.randrange(2))
+        is_down = self.random.randrange(2)
+        self.add("d", is_down)
+        if is_down and self.random.randrange(2):
+            self.disturb()
         for _ in range(self.random.randrange(4)):
             self.add("r", COM1 + IIR)
 

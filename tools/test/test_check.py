@@ -53,7 +53,9 @@ CHECKS = [
 LEAST = [
     ("kvm/check", "PASTED", 100_000), ("kvm/check", "FLOOD", 100_000), ("kvm/check", "KEPT_EXITS", 1000),
     ("kvm/check", "FEWEST_ECHOED", 200), ("checks/first_crate", "PROVED", 3), ("c/programs.py", "SANITIZERS", 4),
-    ("c/programs.py", "CALLS", 1_000_000), ("rust/random_calls", "CALLS", 5_000_000),
+    ("c/programs.py", "CALLS", 1_000_000), ("rust/random_calls", "CALLS", 5_000_000), ("c/demo.py", "OTHERS", 3),
+    ("kvm/without_kvm.py", "OTHERS", 3), ("kvm/without_kvm.py", "HELD", 3), ("kvm/hosted.py", "WAYS", 4),
+    ("kvm/hosted.py", "REFUSALS", 1000), ("kvm/hosted.py", "MOST_LINES", 60), ("c/twin.py", "MOST_LINES", 80),
 ]
 # The tests of a file, and what their last line is.
 TEST = "class It(TestCase):\n    def test_it(self): {}"

@@ -18,6 +18,7 @@ import programs
 import texts
 import tiny
 import twin
+import without_kvm
 from failing import Call, Ran
 from machines import machines
 from repository import (NOTHING_ELSE, OF_CALLS, ROOT, CopyTest, FolderTest, ended, module_of, program, silently,
@@ -299,6 +300,31 @@ class Runs(FolderTest):
                 tally = tally_of(kvm_check.check_wrong, place, Path("right"), place)
             self.assertEqual((tally.failed, sum(tally.tried.counts.values())), (failed * len(wrong), len(wrong)))
 
+    def test_a_monitor_without_kvm(self):
+        """It differs in each way, or no wrong one differs in any."""
+        wrong = len(list(without_kvm.read_bugs(without_kvm.HERE / "wrong-monitors.edits")))
+        ways = len(without_kvm.HELD) + 3
+        for number, (found, failed) in enumerate((([], wrong), (["it"], ways))):
+            snapshot = mock.Mock(changes=["it"], **{"differences.return_value": found})
+            (self.folder / str(number)).mkdir()
+            with mock.patch.multiple(without_kvm, has_sanitizers=lambda _: True, differences_of=lambda *_: found,
+                                     Snapshot=lambda *_: snapshot), \
+                    mock.patch.multiple(without_kvm.Build, program=lambda *_: "it", over_others=lambda _: found):
+                tally = tally_of(without_kvm.check_without_kvm, self.folder / str(number))
+            self.assertEqual((tally.failed, tally.passed), (failed, ways + wrong - failed))
+
+    def test_a_monitor_over_a_library_of_another_interface(self):
+        """It has to end itself, and to say why."""
+        said = demo.SAYS["monitor.c"]
+        for module, monitor, status, right in (
+                (demo, lambda: demo.over_others(machines()[0].compilers[0], demo.DEMO / "monitor.c", self.folder), 1, said),
+                (without_kvm, without_kvm.Build(self.folder).over_others, 1, "another interface")):
+            for got, errors in ((status, right), (0, right), (-6, ""), (status, "it")):
+                ran = mock.Mock(returncode=got, stdout="", stderr=errors)
+                with mock.patch("subprocess.run", lambda *_, **__: ran):
+                    found = len(list(monitor()))
+                self.assertEqual(found, 0 if (got, errors) == (status, right) else len(module.OTHERS))
+
     def test_warnings_of_misuse(self):
         """A compiler warns of a right call, or not of a mistake."""
         wanted = {misuse.RIGHT: [""] * len(misuse.COMPILERS), **{it: words for _, it, words in misuse.MISTAKES}}
@@ -363,7 +389,7 @@ class Failing(FolderTest):
                 self.assertGreaterEqual(tally.failed, len(built))
 
     def test_a_wrong_demo_that_differs_in_nothing(self):
-        with mock.patch.object(demo, "differences", lambda *_: []), \
+        with mock.patch.multiple(demo, differences=lambda *_: [], over_others=lambda *_: []), \
                 mock.patch("subprocess.run", lambda *_, **__: ended(0)):
             tally = tally_of(demo.check_driven_demo, machines()[0], self.folder)
         self.assertEqual(tally.failed, tally.tried.counts["wrong demos"])

@@ -1,6 +1,7 @@
 /*
  * Drives examples/c/lines.c from standard input, in place of its `main`, by the lines w, r, i and h of demo.c. After each it
- * prints whether the guest is interrupted, by edges, or, with an argument, by a level, and how much room there is.
+ * prints whether the guest is interrupted, by edges, or, with an argument, by a level, and how much room there is. What goes
+ * out is printed at once, and so is a mark for the interrupts that a call asks for.
  */
 #define main lines_main
 #include "lines.c"
@@ -8,6 +9,14 @@
 #include <string.h>
 
 enum { COM1 = 0x3F8 };
+
+static void (*way)(unsigned times);
+
+static void mark(unsigned times) {
+    if (times > 0)
+        putchar('!');
+    way(times);
+}
 
 static void serve(char word, unsigned first, unsigned second) {
     uint8_t bytes[128], offset = (uint8_t)(first - COM1);
@@ -30,7 +39,8 @@ int main(int count, char **arguments) {
     char line[80], word;
     (void)arguments;
     port = superio_serial_new();
-    interrupt = count > 1 ? set_level : raise_edges;
+    way = count > 1 ? set_level : raise_edges;
+    interrupt = mark;
     while (fgets(line, sizeof line, stdin)) {
         unsigned first = 0, second = 0;
         if (sscanf(line, "%c %x %x", &word, &first, &second) < 1)

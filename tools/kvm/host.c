@@ -1,0 +1,403 @@
+/*
+ * A host for the monitor of examples/kvm in place of KVM: the guest, the user, the interrupt line and the time are a
+ * script. The linker gives some calls of the monitor to this file, by its option --wrap. Standard input is the script,
+ * and standard output gets what is seen. Numbers and bytes are hexadecimal:
+ *
+ *   w PORT SIZE BYTES    the guest's out of as many items of SIZE as there are
+ *   r PORT SIZE COUNT    its in of so many items, whose bytes are printed
+ *   s ADDRESS BYTES      it stores to memory where there is none
+ *   l ADDRESS COUNT      it loads from there so many bytes, which are printed
+ *   i BYTES              the user types
+ *   d DOWN               the interrupt line takes nothing, or takes requests again
+ *   n NANOSECONDS        the host sleeps for so long, and only CLOCK_MONOTONIC stands still
+ *   t                    CLOCK_MONOTONIC goes on by five milliseconds
+ *   k SECONDS            the host's time of day is set back by so much
+ *   b ROOM               the terminal takes so many more bytes of output, until the next such line
+ *   g                    a snapshot is written, and its monitor takes the place of this one
+ *
+ * After each line the event loop comes to rest. A guest at its start shows its place, the first byte of its image, and
+ * a byte of its memory that it sets then. It says so if it has to wait, which it does for no time.
+ */
+#include <err.h>
+#include <errno.h>
+#include <fcntl.h>
+#include <linux/kvm.h>
+#include <poll.h>
+#include <pthread.h>
+#include <stdarg.h>
+#include <stdbool.h>
+#include <stdint.h>
+#include <stdio.h>
+#include <stdlib.h>
+#include <string.h>
+#include <sys/epoll.h>
+#include <sys/eventfd.h>
+#include <sys/ioctl.h>
+#include <sys/mman.h>
+#include <sys/syscall.h>
+#include <sys/timerfd.h>
+#include <time.h>
+#include <unistd.h>
+
+enum { RUN_SIZE = 8192, DATA = 4096, IMAGE = 0x7C00, MARK = 0x600, TIMERS = 4, PATIENCE = 40000, MOST = 1 << 17 };
+enum { SECOND = 1000000000, MILLISECOND = 1000000 };
+/* What is known of threads is the monitor's lock alone. */
+#define UNSEEN __attribute__((no_sanitize("thread")))
+
+/* The script, what is seen, and the ends of what the monitor reads and writes, by their descriptors. */
+static int script, seen, keys, screen;
+static off_t shown;     /* how much of the output was */
+static size_t room = SIZE_MAX; /* for more of it */
+static bool is_early;   /* an option of the monitor */
+static struct kvm_run *run;
+static uint8_t *memory;
+static uint64_t place;  /* of the guest: one more for each access that is complete */
+static bool is_started, is_access, is_read, is_down, is_moving, is_up;
+static volatile unsigned long rests; /* how often the event loop has found nothing to do */
+static volatile bool may_go, is_held; /* whether it may look, since the guest makes no access; it waits until it may */
+extern pthread_mutex_t lock; /* of the monitor, as is this: */
+extern bool has_ended;
+
+/* Of the host, in nanoseconds, since it started and since 1970. */
+static struct times {
+    int64_t awake, since_start, of_day;
+} now = {777 * (int64_t)SECOND, 5000 * (int64_t)SECOND, 1700000000 * (int64_t)SECOND + 300 * MILLISECOND};
+
+static struct timer {
+    int fd, clock;
+    int64_t at; /* 0: never */
+} timers[TIMERS];
+
+int __real_open(const char *path, int flags, ...);
+int __real_ioctl(int fd, unsigned long request, ...);
+int __real_epoll_wait(int epoll, struct epoll_event *events, int most, int timeout);
+ssize_t __real_write(int fd, const void *bytes, size_t count);
+int __wrap_open(const char *path, int flags, ...);
+int __wrap_ioctl(int fd, unsigned long request, ...);
+int __wrap_epoll_wait(int epoll, struct epoll_event *events, int most, int timeout);
+int __wrap_clock_gettime(clockid_t clock, struct timespec *time);
+int __wrap_eventfd_write(int fd, eventfd_t value);
+int __wrap_poll(struct pollfd *files, nfds_t count, int timeout);
+int __wrap_pthread_cond_clockwait(pthread_cond_t *it, pthread_mutex_t *lock, clockid_t clock, const struct timespec *until);
+ssize_t __wrap_write(int fd, const void *bytes, size_t count);
+int __wrap_timerfd_create(int clock, int flags);
+int __wrap_timerfd_settime(int fd, int flags, const struct itimerspec *new, struct itimerspec *old);
+
+/* Prints bytes. */
+UNSEEN static void show(const char *what, const uint8_t *bytes, size_t count) {
+    static char text[2 * MOST + 1];
+    for (size_t i = 0; i < count; i++) {
+        text[2 * i] = "0123456789abcdef"[bytes[i] >> 4];
+        text[2 * i + 1] = "0123456789abcdef"[bytes[i] & 15];
+    }
+    text[2 * count] = 0;
+    dprintf(seen, "%s%s\n", what, text);
+}
+
+/* What the user sees of the output now. */
+UNSEEN static void show_output(void) {
+    static uint8_t bytes[MOST];
+    ssize_t count = pread(screen, bytes, sizeof bytes, shown);
+    shown += count;
+    if (count > 0)
+        show("output ", bytes, (size_t)count);
+}
+
+static void fail(const char *what) {
+    dprintf(seen, "%s\n", what);
+    _exit(3);
+}
+
+/* Takes the place of standard input and output. A monitor of a snapshot gets them, and the host's time, from before. */
+__attribute__((constructor)) static void begin(int count, char **words) {
+    const char *before = getenv("HOST");
+    int both[2];
+    if (before)
+        sscanf(before, "%d %d %ld %ld %ld", &script, &seen, &now.awake, &now.since_start, &now.of_day);
+    else
+        script = dup(STDIN_FILENO), seen = dup(STDOUT_FILENO);
+    screen = memfd_create("screen", MFD_CLOEXEC);
+    if (script < 0 || seen < 0 || screen < 0 || pipe2(both, O_CLOEXEC) < 0)
+        fail("the host cannot start");
+    keys = both[1];
+    dup2(both[0], STDIN_FILENO);
+    dup2(screen, STDOUT_FILENO);
+    is_early = strcmp(words[count - 1], "--early-input") == 0;
+}
+
+__attribute__((destructor)) static void end(void) {
+    show_output();
+}
+
+/* Each call of a monitor that runs is made with its lock. */
+UNSEEN static void need_lock(void) {
+    if (is_started && !has_ended && pthread_mutex_trylock(&lock) == 0)
+        fail("a call without the lock");
+}
+
+/* A descriptor of so many bytes of memory. */
+static int make(off_t size) {
+    int fd = memfd_create("host", MFD_CLOEXEC);
+    return ftruncate(fd, size) < 0 ? -1 : fd;
+}
+
+int __wrap_open(const char *path, int flags, ...) {
+    return strcmp(path, "/dev/kvm") == 0 ? make(0) : __real_open(path, flags);
+}
+
+/* The terminal is standard output, which no file takes the place of. */
+UNSEEN ssize_t __wrap_write(int fd, const void *bytes, size_t count) {
+    if (fd != STDOUT_FILENO)
+        return __real_write(fd, bytes, count);
+    need_lock();
+    count = count < room ? count : room;
+    room -= count;
+    errno = EAGAIN;
+    return count > 0 ? syscall(SYS_write, fd, bytes, count) : -1;
+}
+
+int __wrap_poll(struct pollfd *files, nfds_t count, int timeout) {
+    (void)files, (void)timeout;
+    return count > 0 && room > 0;
+}
+
+/* The time is up at once. */
+int __wrap_pthread_cond_clockwait(pthread_cond_t *it, pthread_mutex_t *lock, clockid_t clock,
+                                  const struct timespec *until) {
+    (void)it, (void)lock, (void)clock, (void)until;
+    dprintf(seen, "waits\n");
+    return ETIMEDOUT;
+}
+
+/* The event loop. A poll that finds nothing is a rest. */
+UNSEEN int __wrap_epoll_wait(int epoll, struct epoll_event *events, int most, int timeout) {
+    (void)timeout;
+    for (int count;; usleep(20)) {
+        is_held = !may_go && !has_ended;
+        if (!is_held && (count = __real_epoll_wait(epoll, events, most, 0)) != 0)
+            return count;
+        rests += !is_held;
+    }
+}
+
+UNSEEN static int64_t time_of(clockid_t clock) {
+    return clock == CLOCK_BOOTTIME ? now.since_start : clock == CLOCK_REALTIME ? now.of_day : now.awake;
+}
+
+UNSEEN int __wrap_clock_gettime(clockid_t clock, struct timespec *time) {
+    *time = (struct timespec){.tv_sec = time_of(clock) / SECOND, .tv_nsec = time_of(clock) % SECOND};
+    return 0;
+}
+
+UNSEEN int __wrap_timerfd_create(int clock, int flags) {
+    struct timer *timer = timers;
+    while (timer->fd)
+        timer++;
+    *timer = (struct timer){.fd = eventfd(0, EFD_NONBLOCK | (flags & TFD_CLOEXEC)), .clock = clock};
+    return timer->fd;
+}
+
+UNSEEN int __wrap_timerfd_settime(int fd, int flags, const struct itimerspec *new, struct itimerspec *old) {
+    struct timer *timer = timers;
+    (void)old;
+    need_lock();
+    while (timer->fd != fd)
+        timer++;
+    int64_t at = new->it_value.tv_sec * (int64_t)SECOND + new->it_value.tv_nsec;
+    timer->at = at == 0 || flags & TFD_TIMER_ABSTIME ? at : time_of(timer->clock) + at;
+    return 0;
+}
+
+/* Lets the timers go off whose time has come, and returns whether there were some. */
+UNSEEN static bool go_off(void) {
+    bool any = false;
+    for (struct timer *timer = timers; timer->fd; timer++) {
+        if (timer->at == 0 || timer->at > time_of(timer->clock))
+            continue;
+        timer->at = 0;
+        dprintf(seen, "timer\n");
+        any = syscall(SYS_write, timer->fd, &(uint64_t){1}, sizeof(uint64_t)) > 0;
+    }
+    return any;
+}
+
+/* A request for the interrupt. What went out before it is seen before it. */
+UNSEEN int __wrap_eventfd_write(int fd, eventfd_t value) {
+    need_lock();
+    show_output();
+    dprintf(seen, is_down ? "interrupt refused\n" : "interrupt\n");
+    if (value != 1 || !(fcntl(fd, F_GETFL) & O_NONBLOCK))
+        fail("a request that adds other than 1, or would wait");
+    errno = EAGAIN;
+    return is_down ? -1 : 0;
+}
+
+/* Waits until the event loop rests. Returns false if the vCPU is to come back before. */
+UNSEEN static bool await_rest(void) {
+    bool is_wanted = false;
+    may_go = true;
+    for (unsigned long i = 0, start = rests; rests < start + 2 && !is_wanted; usleep(20), i++) {
+        is_wanted = *(volatile uint8_t *)&run->immediate_exit;
+        if (i == PATIENCE)
+            fail("the event loop does not rest");
+    }
+    for (may_go = is_wanted; !is_wanted && !is_held;)
+        usleep(20);
+    return !is_wanted;
+}
+
+/* Starts the monitor of the snapshot in place of this one. */
+UNSEEN static void move(void) {
+    char text[128];
+    snprintf(text, sizeof text, "%d %d %ld %ld %ld", script, seen, now.awake, now.since_start, now.of_day);
+    setenv("HOST", text, true);
+    show_output();
+    execl("/proc/self/exe", "monitor", "--restore", "snapshot", "-s", "snapshot", is_early ? "--early-input" : NULL,
+          NULL);
+    fail("the snapshot is not started");
+}
+
+/* Reads the bytes that are left of a line, and returns how many there are. */
+UNSEEN static unsigned bytes_of(const char *text, uint8_t *bytes) {
+    unsigned count = 0;
+    for (; sscanf(text, " %2hhx", bytes + count) == 1; count++)
+        text += 2 + (*text == ' ');
+    return count;
+}
+
+UNSEEN static void access_port(bool is_write, const char *line) {
+    unsigned port, size, end, count;
+    sscanf(line + 1, "%x %x%n", &port, &size, (int *)&end);
+    if (is_write)
+        count = bytes_of(line + 1 + end, (uint8_t *)run + DATA) / size;
+    else
+        sscanf(line + 1 + end, "%x", &count), memset((uint8_t *)run + DATA, 0xA5, count * size);
+    run->exit_reason = KVM_EXIT_IO;
+    run->io.direction = is_write ? KVM_EXIT_IO_OUT : KVM_EXIT_IO_IN;
+    run->io.port = (uint16_t)port;
+    run->io.size = (uint8_t)size;
+    run->io.count = count;
+    run->io.data_offset = DATA;
+}
+
+UNSEEN static void access_memory(bool is_write, const char *line) {
+    unsigned long long address;
+    int end;
+    sscanf(line + 1, "%llx%n", &address, &end);
+    run->exit_reason = KVM_EXIT_MMIO;
+    run->mmio.phys_addr = address;
+    run->mmio.is_write = is_write;
+    memset(run->mmio.data, 0xA5, sizeof run->mmio.data);
+    if (is_write)
+        run->mmio.len = bytes_of(line + 1 + end, run->mmio.data);
+    else
+        sscanf(line + 1 + end, "%x", &run->mmio.len);
+}
+
+/* Carries out a line of the host. */
+UNSEEN static void serve(const char *line) {
+    uint8_t bytes[4096];
+    int64_t number = strtoll(line + 1, NULL, 16);
+    switch (*line) {
+    case 'i': syscall(SYS_write, keys, bytes, bytes_of(line + 1, bytes)); break;
+    case 'd': is_down = number != 0; break;
+    case 'n': now.since_start += number, now.of_day += number; break;
+    case 'b': room = (size_t)number; break;
+    case 't': now.awake += 5 * MILLISECOND; break;
+    case 'k': now.of_day -= number * SECOND; break;
+    case 'g':
+        syscall(SYS_write, keys, "\1s", 2);
+        is_moving = true;
+        break;
+    default: fail("a word of no form");
+    }
+}
+
+/* The next line, or none at the end, where the host ends too. What follows is left to another program. */
+UNSEEN static const char *next_line(void) {
+    static char line[MOST];
+    ssize_t count = read(script, line, sizeof line - 1);
+    line[count > 0 ? count : 0] = 0;
+    char *end = strchr(line, '\n');
+    if (!end)
+        _exit(0);
+    lseek(script, end + 1 - (line + count), SEEK_CUR);
+    *end = 0;
+    return line;
+}
+
+/* Completes the guest's access, and prints what it read. */
+UNSEEN static void complete(void) {
+    const uint8_t *bytes = run->exit_reason == KVM_EXIT_IO ? (uint8_t *)run + DATA : run->mmio.data;
+    unsigned count = run->exit_reason == KVM_EXIT_IO ? run->io.count * run->io.size : run->mmio.len;
+    place += is_access;
+    if (is_access && is_read)
+        show("", bytes, count);
+    is_access = false;
+}
+
+/* The guest, up to its next access. */
+UNSEEN static int run_guest(void) {
+    complete();
+    errno = EINTR;
+    if (run->immediate_exit)
+        return -1;
+    if (!is_started)
+        dprintf(seen, "starts %lx %02x %02x\n", place, memory[IMAGE], memory[MARK]);
+    is_started = true;
+    memory[MARK] = 0x5A;
+    for (;;) {
+        do
+            if (!await_rest())
+                return errno = EINTR, -1;
+        while (go_off());
+        show_output();
+        if (is_moving)
+            move();
+        const char *line = next_line();
+        if (strchr("wrsl", *line)) {
+            (strchr("wr", *line) ? access_port : access_memory)(strchr("ws", *line) != NULL, line);
+            is_access = true;
+            is_read = strchr("rl", *line) != NULL;
+            return 0;
+        }
+        serve(line);
+    }
+}
+
+UNSEEN static void set_line(const struct kvm_irq_level *line) {
+    if (line->level != is_up)
+        dprintf(seen, "line %u %u\n", line->irq, line->level);
+    is_up = line->level;
+}
+
+/* KVM. Of the guest's state it knows the place. */
+UNSEEN int __wrap_ioctl(int fd, unsigned long request, ...) {
+    va_list arguments;
+    va_start(arguments, request);
+    void *argument = va_arg(arguments, void *);
+    va_end(arguments);
+    if (_IOC_TYPE(request) != KVMIO)
+        return __real_ioctl(fd, request, argument);
+    if (_IOC_DIR(request) & _IOC_READ && request != KVM_GET_SUPPORTED_CPUID && request != KVM_GET_MSR_INDEX_LIST)
+        memset(argument, 0, _IOC_SIZE(request));
+    switch (request) {
+    case KVM_CREATE_VM: return make(0);
+    case KVM_CREATE_VCPU:
+        fd = make(RUN_SIZE);
+        run = mmap(NULL, RUN_SIZE, PROT_READ | PROT_WRITE, MAP_SHARED, fd, 0);
+        return fd;
+    case KVM_GET_VCPU_MMAP_SIZE: return RUN_SIZE;
+    case KVM_GET_SUPPORTED_CPUID: ((struct kvm_cpuid2 *)argument)->nent = 0; break;
+    case KVM_GET_MSR_INDEX_LIST: ((struct kvm_msr_list *)argument)->nmsrs = 0; break;
+    case KVM_SET_USER_MEMORY_REGION:
+        if (((struct kvm_userspace_memory_region *)argument)->guest_phys_addr == 0)
+            memory = (uint8_t *)((struct kvm_userspace_memory_region *)argument)->userspace_addr;
+        break;
+    case KVM_GET_REGS: ((struct kvm_regs *)argument)->rip = place; break;
+    case KVM_SET_REGS: place = ((struct kvm_regs *)argument)->rip, is_started = false; break;
+    case KVM_IRQ_LINE: set_line(argument); break;
+    case KVM_RUN: return run_guest();
+    }
+    return 0;
+}
