@@ -8,6 +8,7 @@ package, with the module in base 64) and the recordings of examples/linux-boot, 
 machine, save how zlib packs.
 """
 import base64
+import lzma
 import re
 import sys
 import textwrap
@@ -54,7 +55,7 @@ def build():
     """The text of the page."""
     parts = {
         "CSS": (PAGE / "page.css").read_text(encoding="utf-8"),
-        **{name.upper(): packed((RECORDINGS / f"{name}.recording").read_bytes())
+        **{name.upper(): packed(lzma.decompress((RECORDINGS / f"{name}.recording.xz").read_bytes()))
            for name in ("boot", "console")},
         "SCRIPT": one_script(),
         "SIZE": f"{MODULE.stat().st_size / 1000:.1f}",

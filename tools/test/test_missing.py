@@ -23,7 +23,7 @@ MISSING = [
     ("checks/calls", [CAT], [], "calls/clocks.txt is not there", (0, SOME)),
     ("checks/excerpts", [], [], "nothing was checked", (0, SOME)),
     ("checks/failing_io", [CAT], [], "tests/whole_scripts.txt: No such file or directory", (0, SOME)),
-    ("replay", [CAT], [], "boot.recording: No such file or directory", (0, SOME)),
+    ("replay", [CAT], [], "boot.recording.xz: No such file or directory", (0, SOME)),
     ("checks/scripts", [CAT], [], "tests/clock.txt is not there", (0, SOME)),
     ("checks/transcripts", [CAT], [], "nothing was checked", (0, SOME)),
     ("checks/excerpts", [], ["README.md", "docs", "examples/c", "bindings/rust/tests"], "No such file or directory",

@@ -1,4 +1,5 @@
 """Tests of what `tools/run` and `tools/replay` print, and of their exit statuses."""
+import lzma
 import os
 
 from program import SOURCES
@@ -86,7 +87,7 @@ class Running(CopyTest):
 
     def test_a_trace_is_folded_and_unfolded(self):
         for name in ("boot", "console"):
-            self.write(f"examples/linux-boot/{name}.recording", RECORDING)
+            self.write(f"examples/linux-boot/{name}.recording.xz", lzma.compress(RECORDING.encode()))
         trace = self.write("trace", TRACE)
         self.assertEqual(self.run_tool("tools/replay", "--fold", trace), (0, RECORDING, ""))
         self.assertEqual(self.run_tool("tools/replay", "--unfold", self.root / "out"), (0, "", ""))
@@ -98,7 +99,8 @@ class Running(CopyTest):
         status, printed, _ = self.run_tool("tools/replay", self.program)
         self.assertEqual((status, printed.splitlines()[-1]), (0, "4 passed, 0 failed"))
         self.assertIn("tried: 2 pieces of console.recording\n", printed)
-        self.change("examples/linux-boot/console.recording", 'received "hi"', 'received "ho"')
+        other = RECORDING.replace('received "hi"', 'received "ho"').encode()
+        self.write("examples/linux-boot/console.recording.xz", lzma.compress(other))
         status, printed, _ = self.run_tool("tools/replay", self.program)
         self.assertEqual((status, printed.splitlines()[-1]), (1, "3 passed, 1 failed"))
         self.assertIn("console.recording, piece 0: reply 7 is b'69' instead of b'6f', of b'sw 01 01", printed)

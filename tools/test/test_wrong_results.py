@@ -74,7 +74,7 @@ class Programs(CopyTest):
 
     def test_replay(self):
         for name in ("boot", "console"):
-            self.write(f"examples/linux-boot/{name}.recording", "kr 04  kr 04\n\n2 kr 04  kr 04\n")
+            self.write(f"examples/linux-boot/{name}.recording.xz", lzma.compress(b"kr 04  kr 04\n\n2 kr 04  kr 04\n"))
         self.judge_programs("tools/replay", 4)
 
     def test_hostile(self):

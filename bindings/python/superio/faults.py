@@ -13,8 +13,8 @@ class Leave(Exception):
 class FileFault(Exception):
     """A file cannot be opened, read or written. The message has its name and the reason."""
 
-    def __init__(self, path: str, error: OSError) -> None:
-        super().__init__(f"{path}: {error.strerror or error}")
+    def __init__(self, path: str, error: Exception) -> None:
+        super().__init__(f"{path}: {getattr(error, 'strerror', None) or error}")
 
 
 class BadLine(Exception):

@@ -3,8 +3,9 @@ import cmd
 import os
 import pydoc
 import sys
+from contextlib import contextmanager
 from itertools import groupby
-from typing import IO, Callable, Dict, Optional, Sequence
+from typing import IO, Callable, Dict, Iterator, Optional, Sequence
 
 from .faults import FileFault, opened, write_text
 from .recording import Step, picture, replay
@@ -200,17 +201,33 @@ def write_table(steps: Sequence[Step], path: Optional[str]) -> None:
         sys.stdout.write(table(steps))
 
 
+@contextmanager
+def _trace(path: str) -> Iterator["IO[bytes]"]:
+    """Opens a trace, unpacked if its name ends in .xz. Raises `FileFault` if it cannot be opened or read."""
+    with opened(path) as file:
+        if not path.endswith(".xz"):
+            yield file
+            return
+        import lzma
+        try:
+            with lzma.open(file) as unpacked:
+                yield unpacked
+        except (EOFError, lzma.LZMAError) as error:
+            raise FileFault(path, error) from None
+
+
 def view(path: str, table_path: Optional[str], svg_path: Optional[str], has_colours: bool) -> None:
     """Steps through the trace in a file, or writes its table, to a file of this name or else to standard output, or its
     picture. Raises `BadLine` at a row that stands for no calls, and `ScriptError` if there is none."""
     if path == "-":
         steps = list(replay("<stdin>", sys.stdin.buffer))
     else:
-        with opened(path) as file:
+        with _trace(path) as file:
             steps = list(replay(path, file))
     if not steps:
         raise ScriptError(f"{path} has no call")
     name = os.path.basename(path)
+    name = name[:-len(".xz")] if name.endswith(".xz") else name
     if svg_path:
         write_text(svg_path, picture(steps, name))
     if table_path is not None:

@@ -21,7 +21,7 @@ from superio.library import FILE_NAME
 from superio.session import Session
 
 EXAMPLE = ROOT / "examples" / "three_devices.script"
-BOOT = ROOT / "examples" / "linux-boot" / "boot.recording"
+BOOT = ROOT / "examples" / "linux-boot" / "boot.recording.xz"
 
 LONGEST = b"cr 0000000000000000 0000\n" + b"sc\n" * 21837
 NOWHERE = "/nowhere/at/all: No such file or directory\n"

@@ -10,8 +10,8 @@ from superio.recording import entries_of, picture, replay
 from superio.session import Style
 from superio.view import Viewer, table
 
-RECORDING = ROOT / "examples" / "linux-boot" / "boot.recording"
-WITH_INPUT = RECORDING.with_name("console.recording")
+RECORDING = ROOT / "examples" / "linux-boot" / "boot.recording.xz"
+WITH_INPUT = RECORDING.with_name("console.recording.xz")
 FIGURE = ROOT / "docs" / "linux-boot.svg"
 
 TRACE = b"""\
@@ -209,6 +209,13 @@ class CommandLine(FolderTest):
         for row in ("none with another reply than recorded", ": sq 756e616d65202d73720a  0a\n",
                     "  FIFO 0 -> 10 bytes\n", ": si  ok\n", ": kw 04 fe  reset\n"):
             self.assertIn(row, output)
+
+    def test_a_damaged_recording(self):
+        for packed in (RECORDING.read_bytes()[:-100], TRACE):
+            path = self.folder / "trace.xz"
+            path.write_bytes(packed)
+            status, output, errors = run("view", path, "--table")
+            self.assertEqual((2, "", True), (status, output, f" superio: {path}: " in errors))
 
     def test_commands_come_by_a_pipe(self):
         self.path.write_bytes(TRACE)

@@ -437,7 +437,7 @@ class Documents(SessionTest):
 
     def test_stepping(self):
         for lines, expected in self.dialogues("view> "):
-            recording = ROOT / "examples" / "linux-boot" / "boot.recording"
+            recording = ROOT / "examples" / "linux-boot" / "boot.recording.xz"
             status, output, _ = run("view", recording, script="\n".join(lines).encode())
             self.assertEqual((0, expected), (status, output.splitlines()[-len(expected):]))
 
