@@ -113,7 +113,8 @@ static uint8_t port_read(struct machine *machine, uint16_t port) {
     superio_serial_read_effects done = superio_serial_read(&machine->serial, (uint8_t)(port - COM1));
     if (done.in_buffer_empty)
         feed(machine);
-    if (port == COM1 + 2 && done.byte & 0x01) /* nothing is pending: bytes that are left have to interrupt again */
+    /* Nothing is pending: bytes that are left have to interrupt again. */
+    if (port == COM1 + 2 && done.byte & 0x01)
         interrupt(machine, superio_serial_character_timeout(&machine->serial));
     return done.byte;
 }
