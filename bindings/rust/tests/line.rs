@@ -59,7 +59,7 @@ impl Board for Edges {
     fn read(&mut self, offset: u8) -> u8 {
         let value = self.port.read(offset);
         if offset == 2 && value & 0x01 != 0 && self.port.character_timeout().is_err() {
-            self.must_retry = true; // the next turn calls `retry_interrupts`
+            self.must_retry = true; // in some ms, call `retry_interrupts`
         }
         value
     }
