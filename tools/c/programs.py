@@ -5,8 +5,10 @@ import re
 import shutil
 from functools import lru_cache
 
-from declarations import assertions
 from libraries import DEMO, ROOT, TESTS
+from cases import every_answer
+from declarations import assertions
+from expected import recording_of
 from machines import C
 from random_calls import write_calls
 from tally import run
@@ -64,11 +66,12 @@ def watched(machine):
 @lru_cache(maxsize=None)
 def recorded(folder):
     """A file of calls, and how many they are: those that are C's own, which begin with new devices, the recording,
-    which begins with such a clock, and the others."""
+    which begins with such a clock, the others, and those that tools/checks/calls makes up."""
     calls = ROOT / "tests" / "calls"
     own, shared, *others = [path.read_text(encoding="ascii") for path in (
         TESTS / "own.txt", TESTS / "shared.txt", *calls.glob("*.txt"))]
-    texts = [own, lzma.decompress((calls / "calls.txt.xz").read_bytes()).decode(), shared, *others]
+    texts = [own, lzma.decompress((calls / "calls.txt.xz").read_bytes()).decode(), shared, *others,
+             recording_of(every_answer())]
     (folder / "recorded").write_text("".join(texts), encoding="ascii")
     return folder / "recorded", sum(text.count(" = ") for text in texts)
 

@@ -1,13 +1,16 @@
-"""What tools/checks/hostile tries: random scripts for the program `superio`, runs of calls for `superio_harness`."""
+"""What tools/checks/hostile tries: random scripts for the program `superio`, runs of calls for `superio_harness`. And what
+each library is given beside the recorded calls: every answer in every state."""
 import random
 from itertools import product
 
 from expected import ROOM, clock_text
-from oracle import CLOCK_FIELDS
+from oracle import CLOCK_FIELDS, FIFO_SIZE
 from saved_bytes import CLOCK, CLOCK_CONTENTS, SERIAL, form
 
 from superio.script import FORMS  # noqa: E402, of the package that oracle finds
 
+REFUSALS = ("", " 1", " 2")
+WRITING = ("", " n", " f", " u", " i")
 LINES = 24           # of a random script, at most, before those that end it
 CALLS = 40           # of a random run
 SCRIPT_READS = [f"sr {offset:02x}" for offset in (0, 1, 2, 3, 4, 5, 6, 7, 8, 255)]
@@ -282,6 +285,42 @@ def fixed_runs():
     for make in every_write, every_timeout, every_send, every_access, late_refusals:
         for place, run in enumerate(make()):
             yield f"{make.__name__}, run {place}", run
+
+
+def port_with(count, registers):
+    """A port that holds so many bytes, all different. LSR shows whether it does."""
+    held = bytes(range(0x41, 0x41 + count)).hex()
+    return f"sl {registers.replace('..', '61' if held else '60')} {held or '-'}"
+
+
+def in_every_state(calls):
+    """Each call in each state that a rule tells apart, and the state after it: what is enabled and pending, the divisor
+    latch, loopback, and no byte, one and as many as fit."""
+    states = product(range(4), (1, 2, 4, 6), ("03", "83"), ("08", "18"), (0, 1, FIFO_SIZE))
+    for enable, pending, latch, modem, count in states:
+        start = port_with(count, f"0c000{enable}0{pending}{latch}..{modem}b05a")
+        for call in calls:
+            yield from (start, call, "ss")
+
+
+def every_answer():
+    """Each kind of call in each of these states with every answer of the objects; every byte; every number of bytes;
+    whatever becomes of three bytes, with what the guest reads; and the controller at each offset and value. The rows of
+    tests/calls stand at the bounds of these."""
+    accesses = [f"{access} 1 f" for offset in (*range(9), 255) for access in (f"sr {offset:02x}", f"sw {offset:02x} 1b")]
+    sends = [f"sw 00 41{refusal}{writing}" for refusal, writing in product(REFUSALS[:2], WRITING)]
+    ask_once = product(("sw 01 00", "sw 01 01", "sw 01 02", "sq -", "sq 61", "sq 616263", "si"), REFUSALS[:2])
+    ask_twice = product(("sw 01 03", "sp", "ss", port_with(2, "0c00030603..08b077")), REFUSALS)
+    yield from in_every_state([*accesses, *sends, *map("".join, ask_once), *map("".join, ask_twice)])
+    yield port_with(0, "0c00020203..08b05a")
+    yield from (f"sw 00 {byte:02x}{writing}" for byte, writing in product(range(256), WRITING))
+    sends = [f"sw 00 41{writing}" for writing in WRITING]
+    for count in range(FIFO_SIZE + 2):
+        yield from (port_with(count, "0c00000103..08b05a"), "ss", *sends, "sq 616263", "sc", "sr 00", "ss")
+    for three in product(sends, repeat=3):
+        yield from (port_with(0, "0c00020103..08b05a"), *(line for send in three for line in (send, "sr 02")))
+    for byte, refusal in product(range(256), REFUSALS[:2]):
+        yield from (f"kr {byte:02x}{refusal}", f"kw {byte:02x} fe{refusal}", f"kw 04 {byte:02x}{refusal}")
 
 
 def random_cases(make, what, seed, count):

@@ -148,3 +148,9 @@ class Monitor:
     def kw(self, *fields):
         did = self.port.line_calls(1) if resets(*numbers(fields)) else ()
         return "trigger" if "R" in did else "ok", did
+
+
+def recording_of(calls):
+    """These calls with what they do, in the form of tests/calls."""
+    monitor = Monitor()
+    return "".join(f"{call} = {monitor.reply(call)}\n" for call in calls)

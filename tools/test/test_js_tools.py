@@ -10,7 +10,7 @@ OF_JS = [
      "the module was built from other sources"),
     (REGISTERS, "", "[].toSorted();", "registers.mjs has .toSorted(, which Node 18 lacks"),
     (SUPERIO, "", "'i'.toLocaleUpperCase();", "superio.mjs has toLocale, which differs with the user's language"),
-    ("bindings/python/superio/registers.py", '"SCR", 7', '"SCR", 8', "module.mjs has other bytes or tables"),
+    ("bindings/python/superio/registers.py", '"ICR", 0x01C', '"ICR", 0x020', "module.mjs has other bytes or tables"),
     (f"prebuilt/{MODULE}", None, (ROOT / "prebuilt" / MODULE).read_bytes()[:-1],
      f"prebuilt/SHA256SUMS has another sum than {MODULE}", "module.mjs has other bytes")]
 OF_PAGE = [

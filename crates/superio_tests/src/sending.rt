@@ -1,6 +1,6 @@
 //! What a data write asks of the writer: one `write`, and one `flush` if that succeeded. Its fault is returned as it is,
 //! in whatever state the port is, and whichever call makes the write. No contract says how often the writer is called,
-//! and which fault it has. tests/calls/sending.txt has one fault, over each number of held bytes and what is pending.
+//! and which fault it has. tools/checks/calls has one fault, over each number of held bytes and what is pending.
 use crate::faults::{faults, faults_of_drivers, interruptions, is_same, plain_faults};
 use crate::objects::{Log, Object, Port, PortObjects, Then, Writing, by_std, port};
 use std::alloc::{AllocError, Global};
