@@ -54,7 +54,8 @@ class Monitor:
         # The requests of a call are made by the monitor, after it.
         self.port, self.clock = Port(lambda _: False, lambda: ""), Clock()
         self.input, self.now, self.printed = b"", 1000, []
-        self.is_down = self.was_refused = self.is_interrupted = self.is_ready = self.feeds_early = False
+        self.down = 0  # or one more than the interrupt line still takes
+        self.was_refused = self.is_interrupted = self.is_ready = self.feeds_early = False
 
     def serve(self, word, *numbers):
         """Carries out a line."""
@@ -77,13 +78,19 @@ class Monitor:
             self.show(byte)
         return reply, did, did.count("T")
 
+    def refuses(self, _=None):
+        """Whether the interrupt line refuses a request."""
+        is_refused, self.down = self.down == 1, self.down - (self.down > 1)
+        return is_refused
+
     def ask(self, times):
         """Makes requests up to a refusal, which is remembered."""
         for _ in range(times):
-            self.printed.append("interrupt refused" if self.is_down else "interrupt")
-            if self.is_down:
+            if self.refuses():
+                self.printed.append("interrupt refused")
                 self.was_refused = True
                 return
+            self.printed.append("interrupt")
             self.is_interrupted = True
 
     def feed(self):
@@ -141,8 +148,8 @@ class Monitor:
     def e(self):
         self.feeds_early = True
 
-    def d(self, is_down):
-        self.is_down = is_down != 0
+    def d(self, down):
+        self.down = down
 
     def n(self, now):
         self.now = now
@@ -177,7 +184,7 @@ class Monitor:
         self.received += byte == ord("x")
 
     def g(self):
-        self.is_down = self.was_refused = self.is_interrupted = False
+        self.down = self.was_refused = self.is_interrupted = False
         held, waiting = len(self.port.held()), len(self.input)
         self.printed.append(f"moved a clock, a port of {17 + held} bytes, and {waiting} of input")
         self.ask(self.port.due())
@@ -234,7 +241,7 @@ class Echo(Edges):
 
     def __init__(self):
         super().__init__()
-        self.port = Port(lambda _: self.is_down, lambda: "")
+        self.port = Port(self.refuses, lambda: "")
         self.feeds_early, self.was_interrupted = True, False
 
     def call(self, name, *arguments):
@@ -364,10 +371,15 @@ class Script:
         self.add(*turn)
 
     def refuse(self):
-        """The line takes nothing, or takes requests again. The guest's next looks at IIR ask for one, if bytes wait."""
-        is_down = self.random.randrange(2)
-        self.add("d", is_down)
-        if is_down and self.random.randrange(2):
+        """The line takes nothing, one more request, or all again. The guest's next looks at IIR ask for one, if bytes
+        wait."""
+        down = self.random.randrange(3)
+        if down == 2:
+            self.add("w", COM1 + IER, 0)
+        self.add("d", down)
+        if down == 2:
+            self.add("w", COM1 + IER, 3)
+        if down and self.random.randrange(2):
             self.disturb()
         for _ in range(self.random.randrange(4)):
             self.add("r", COM1 + IIR)

@@ -8,15 +8,20 @@
  *   s ADDRESS BYTES      it stores to memory where there is none
  *   l ADDRESS COUNT      it loads from there so many bytes, which are printed
  *   i BYTES              the user types
- *   d DOWN               the interrupt line takes nothing, or takes requests again
- *   n NANOSECONDS        the host sleeps for so long, and only CLOCK_MONOTONIC stands still
- *   t                    CLOCK_MONOTONIC goes on by five milliseconds
- *   k SECONDS            the host's time of day is set back by so much
+ *   d DOWN               the interrupt line takes one request less than this, and then none; if it is 0, all of them
  *   b ROOM               the terminal takes so many more bytes of output, until the next such line
+ *   e ERROR              the next write to the terminal fails so
+ *   n NANOSECONDS        the host sleeps for so long, and only CLOCK_MONOTONIC stands still
+ *   t NANOSECONDS        CLOCK_MONOTONIC goes on by so much
+ *   k SECONDS            the host's time of day is set back by so much
  *   g                    a snapshot is written, and its monitor takes the place of this one
+ *   f CALL               a snapshot is asked for, and the opening (1) of its file, a write to it (2), its end (3) or
+ *                        its name (4) fails
+ *   x REASON             the vCPU gives up for a reason of KVM's, or, if it is 0, KVM fails
  *
  * After each line the event loop comes to rest. A guest at its start shows its place, the first byte of its image, and
- * a byte of its memory that it sets then. It says so if it has to wait, which it does for no time.
+ * a byte of its memory that it sets then. It says so if it has to wait, which it does for no time. Each second KVM_RUN,
+ * wait for events and read of what was typed fails, as after a signal, and has to be made again.
  */
 #include <err.h>
 #include <errno.h>
@@ -45,14 +50,16 @@ enum { SECOND = 1000000000, MILLISECOND = 1000000 };
 #define UNSEEN __attribute__((no_sanitize("thread")))
 
 /* The script, what is seen, and the ends of what the monitor reads and writes, by their descriptors. */
-static int script, seen, keys, screen;
+static int script, seen, keys, screen, vcpu;
 static off_t shown;     /* how much of the output was */
 static size_t room = SIZE_MAX; /* for more of it */
+static int64_t down;    /* 0, or one more than the interrupt line still takes */
+static int error, failing; /* of the next write, and the call of a snapshot's file that fails */
 static bool is_early;   /* an option of the monitor */
 static struct kvm_run *run;
 static uint8_t *memory;
 static uint64_t place;  /* of the guest: one more for each access that is complete */
-static bool is_started, is_access, is_read, is_down, is_moving, is_up;
+static bool is_started, is_access, is_read, is_moving, is_up, is_running;
 static volatile unsigned long rests; /* how often the event loop has found nothing to do */
 static volatile bool may_go, is_held; /* whether it may look, since the guest makes no access; it waits until it may */
 extern pthread_mutex_t lock; /* of the monitor, as is this: */
@@ -72,14 +79,25 @@ int __real_open(const char *path, int flags, ...);
 int __real_ioctl(int fd, unsigned long request, ...);
 int __real_epoll_wait(int epoll, struct epoll_event *events, int most, int timeout);
 ssize_t __real_write(int fd, const void *bytes, size_t count);
+ssize_t __real_read(int fd, void *bytes, size_t count);
+FILE *__real_fopen(const char *path, const char *mode);
+size_t __real_fwrite(const void *bytes, size_t size, size_t count, FILE *file);
+int __real_fclose(FILE *file);
+int __real_rename(const char *from, const char *to);
 int __wrap_open(const char *path, int flags, ...);
 int __wrap_ioctl(int fd, unsigned long request, ...);
 int __wrap_epoll_wait(int epoll, struct epoll_event *events, int most, int timeout);
 int __wrap_clock_gettime(clockid_t clock, struct timespec *time);
 int __wrap_eventfd_write(int fd, eventfd_t value);
 int __wrap_poll(struct pollfd *files, nfds_t count, int timeout);
-int __wrap_pthread_cond_clockwait(pthread_cond_t *it, pthread_mutex_t *lock, clockid_t clock, const struct timespec *until);
+int __wrap_pthread_cond_clockwait(pthread_cond_t *it, pthread_mutex_t *lock, clockid_t clock,
+                                  const struct timespec *until);
 ssize_t __wrap_write(int fd, const void *bytes, size_t count);
+ssize_t __wrap_read(int fd, void *bytes, size_t count);
+FILE *__wrap_fopen(const char *path, const char *mode);
+size_t __wrap_fwrite(const void *bytes, size_t size, size_t count, FILE *file);
+int __wrap_fclose(FILE *file);
+int __wrap_rename(const char *from, const char *to);
 int __wrap_timerfd_create(int clock, int flags);
 int __wrap_timerfd_settime(int fd, int flags, const struct itimerspec *new, struct itimerspec *old);
 
@@ -120,13 +138,25 @@ __attribute__((constructor)) static void begin(int count, char **words) {
     if (script < 0 || seen < 0 || screen < 0 || pipe2(both, O_CLOEXEC) < 0)
         fail("the host cannot start");
     keys = both[1];
+    unlink("exits");
     dup2(both[0], STDIN_FILENO);
     dup2(screen, STDOUT_FILENO);
     is_early = strcmp(words[count - 1], "--early-input") == 0;
 }
 
+/* What is left to see: of the output, and of the vCPU's last exits. */
 __attribute__((destructor)) static void end(void) {
+    static char text[MOST];
+    FILE *file = __real_fopen("exits", "r");
     show_output();
+    if (file)
+        dprintf(seen, "%.*s", (int)fread(text, 1, sizeof text, file), text);
+}
+
+/* Whether a call is the first of two, and fails, as it may at any time. */
+UNSEEN static bool is_interrupted(unsigned *calls, int other) {
+    errno = *calls & 2 ? other : EINTR;
+    return (*calls)++ % 2 == 0;
 }
 
 /* Each call of a monitor that runs is made with its lock. */
@@ -150,10 +180,39 @@ UNSEEN ssize_t __wrap_write(int fd, const void *bytes, size_t count) {
     if (fd != STDOUT_FILENO)
         return __real_write(fd, bytes, count);
     need_lock();
-    count = count < room ? count : room;
+    count = error ? 0 : count < room ? count : room;
     room -= count;
-    errno = EAGAIN;
+    errno = error ? error : EAGAIN;
+    error = 0;
     return count > 0 ? syscall(SYS_write, fd, bytes, count) : -1;
+}
+
+UNSEEN ssize_t __wrap_read(int fd, void *bytes, size_t count) {
+    static unsigned calls;
+    return is_interrupted(&calls, EAGAIN) ? -1 : __real_read(fd, bytes, count);
+}
+
+/* Whether the calls of a snapshot's file that have this number fail. */
+UNSEEN static bool fails(int number) {
+    errno = failing == number ? ENOSPC : errno;
+    return failing == number;
+}
+
+FILE *__wrap_fopen(const char *path, const char *mode) {
+    return fails(1) ? NULL : __real_fopen(path, mode);
+}
+
+size_t __wrap_fwrite(const void *bytes, size_t size, size_t count, FILE *file) {
+    return fails(2) ? 0 : __real_fwrite(bytes, size, count, file);
+}
+
+int __wrap_fclose(FILE *file) {
+    int result = __real_fclose(file);
+    return fails(3) ? EOF : result;
+}
+
+int __wrap_rename(const char *from, const char *to) {
+    return fails(4) ? -1 : __real_rename(from, to);
 }
 
 int __wrap_poll(struct pollfd *files, nfds_t count, int timeout) {
@@ -171,7 +230,10 @@ int __wrap_pthread_cond_clockwait(pthread_cond_t *it, pthread_mutex_t *lock, clo
 
 /* The event loop. A poll that finds nothing is a rest. */
 UNSEEN int __wrap_epoll_wait(int epoll, struct epoll_event *events, int most, int timeout) {
+    static unsigned calls;
     (void)timeout;
+    if (is_interrupted(&calls, EINTR))
+        return -1;
     for (int count;; usleep(20)) {
         is_held = !may_go && !has_ended;
         if (!is_held && (count = __real_epoll_wait(epoll, events, most, 0)) != 0)
@@ -225,11 +287,13 @@ UNSEEN static bool go_off(void) {
 UNSEEN int __wrap_eventfd_write(int fd, eventfd_t value) {
     need_lock();
     show_output();
-    dprintf(seen, is_down ? "interrupt refused\n" : "interrupt\n");
+    bool is_taken = down != 1;
+    down -= down > 1;
+    dprintf(seen, is_taken ? "interrupt\n" : "interrupt refused\n");
     if (value != 1 || !(fcntl(fd, F_GETFL) & O_NONBLOCK))
         fail("a request that adds other than 1, or would wait");
     errno = EAGAIN;
-    return is_down ? -1 : 0;
+    return is_taken ? 0 : -1;
 }
 
 /* Waits until the event loop rests. Returns false if the vCPU is to come back before. */
@@ -252,8 +316,8 @@ UNSEEN static void move(void) {
     snprintf(text, sizeof text, "%d %d %ld %ld %ld", script, seen, now.awake, now.since_start, now.of_day);
     setenv("HOST", text, true);
     show_output();
-    execl("/proc/self/exe", "monitor", "--restore", "snapshot", "-s", "snapshot", is_early ? "--early-input" : NULL,
-          NULL);
+    execl("/proc/self/exe", "monitor", "--restore", "snapshot", "-s", "snapshot", "--exits", "exits", "--reboot",
+          is_early ? "--early-input" : NULL, NULL);
     fail("the snapshot is not started");
 }
 
@@ -300,14 +364,19 @@ UNSEEN static void serve(const char *line) {
     int64_t number = strtoll(line + 1, NULL, 16);
     switch (*line) {
     case 'i': syscall(SYS_write, keys, bytes, bytes_of(line + 1, bytes)); break;
-    case 'd': is_down = number != 0; break;
-    case 'n': now.since_start += number, now.of_day += number; break;
+    case 'd': down = number; break;
     case 'b': room = (size_t)number; break;
-    case 't': now.awake += 5 * MILLISECOND; break;
+    case 'e': error = (int)number; break;
+    case 'n': now.since_start += number, now.of_day += number; break;
+    case 't': now.awake += number; break;
     case 'k': now.of_day -= number * SECOND; break;
+    case 'f':
+        unlink("snapshot");
+        /* fall through */
     case 'g':
         syscall(SYS_write, keys, "\1s", 2);
-        is_moving = true;
+        failing = (int)number;
+        is_moving = *line == 'g';
         break;
     default: fail("a word of no form");
     }
@@ -316,7 +385,7 @@ UNSEEN static void serve(const char *line) {
 /* The next line, or none at the end, where the host ends too. What follows is left to another program. */
 UNSEEN static const char *next_line(void) {
     static char line[MOST];
-    ssize_t count = read(script, line, sizeof line - 1);
+    ssize_t count = __real_read(script, line, sizeof line - 1);
     line[count > 0 ? count : 0] = 0;
     char *end = strchr(line, '\n');
     if (!end)
@@ -336,11 +405,19 @@ UNSEEN static void complete(void) {
     is_access = false;
 }
 
+UNSEEN static int give_up(uint32_t reason) {
+    run->exit_reason = reason;
+    run->internal.suberror = 0;
+    errno = EFAULT;
+    return reason ? 0 : -1;
+}
+
 /* The guest, up to its next access. */
 UNSEEN static int run_guest(void) {
+    static unsigned calls;
     complete();
     errno = EINTR;
-    if (run->immediate_exit)
+    if (run->immediate_exit || is_interrupted(&calls, EAGAIN))
         return -1;
     if (!is_started)
         dprintf(seen, "starts %lx %02x %02x\n", place, memory[IMAGE], memory[MARK]);
@@ -354,12 +431,17 @@ UNSEEN static int run_guest(void) {
         show_output();
         if (is_moving)
             move();
+        if (failing && access("snapshot", F_OK) == 0)
+            fail("a snapshot that could not be written is there");
+        failing = 0;
         const char *line = next_line();
         if (strchr("wrsl", *line)) {
             (strchr("wr", *line) ? access_port : access_memory)(strchr("ws", *line) != NULL, line);
             is_access = true;
             is_read = strchr("rl", *line) != NULL;
             return 0;
+        } else if (*line == 'x') {
+            return give_up((uint32_t)strtoul(line + 1, NULL, 16));
         }
         serve(line);
     }
@@ -379,6 +461,8 @@ UNSEEN int __wrap_ioctl(int fd, unsigned long request, ...) {
     va_end(arguments);
     if (_IOC_TYPE(request) != KVMIO)
         return __real_ioctl(fd, request, argument);
+    if (is_running && fd == vcpu)
+        fail("KVM holds a vCPU that runs");
     if (_IOC_DIR(request) & _IOC_READ && request != KVM_GET_SUPPORTED_CPUID && request != KVM_GET_MSR_INDEX_LIST)
         memset(argument, 0, _IOC_SIZE(request));
     switch (request) {
@@ -386,7 +470,7 @@ UNSEEN int __wrap_ioctl(int fd, unsigned long request, ...) {
     case KVM_CREATE_VCPU:
         fd = make(RUN_SIZE);
         run = mmap(NULL, RUN_SIZE, PROT_READ | PROT_WRITE, MAP_SHARED, fd, 0);
-        return fd;
+        return vcpu = fd;
     case KVM_GET_VCPU_MMAP_SIZE: return RUN_SIZE;
     case KVM_GET_SUPPORTED_CPUID: ((struct kvm_cpuid2 *)argument)->nent = 0; break;
     case KVM_GET_MSR_INDEX_LIST: ((struct kvm_msr_list *)argument)->nmsrs = 0; break;
@@ -397,7 +481,11 @@ UNSEEN int __wrap_ioctl(int fd, unsigned long request, ...) {
     case KVM_GET_REGS: ((struct kvm_regs *)argument)->rip = place; break;
     case KVM_SET_REGS: place = ((struct kvm_regs *)argument)->rip, is_started = false; break;
     case KVM_IRQ_LINE: set_line(argument); break;
-    case KVM_RUN: return run_guest();
+    case KVM_RUN:
+        is_running = true;
+        fd = run_guest();
+        is_running = false;
+        return fd;
     }
     return 0;
 }

@@ -3,6 +3,8 @@ do.
 
 It was written from docs/DEVICES.md, docs/MONITOR.md and the duties of docs/THREATS.md.
 """
+import errno
+import os
 import random
 
 from oracle import CLOCK, SERIAL, Clock, Port, resets, start_fact
@@ -11,8 +13,13 @@ from twin import COM1, EDGES, IS_MASKED, Monitor, different_scripts, seconds_due
 SECOND, BASE, CTRL_A = 10**9, 0xD0000, 0x01
 # Where the guest starts, and what the memory there and elsewhere has.
 START, IMAGE, FRESH, USED = 0x7C00, 0xF4, 0, 0x5A
-# The host's time since its start and of the day, as host.c has it.
-SINCE_START, OF_DAY = 5000 * SECOND, 1700000000 * SECOND + SECOND * 3 // 10
+# The host's time without sleep, since its start and of the day, as host.c has it, and after which a refused request is
+# made again.
+AWAKE, SINCE_START, OF_DAY = 777 * SECOND, 5000 * SECOND, 1700000000 * SECOND + SECOND * 3 // 10
+PAUSE = 5_000_000
+RETRY = f"t {PAUSE:x}"
+# The guest enables both interrupts while a byte is held, and the second of the two requests is refused.
+SECOND_OF_TWO = (f"w {COM1 + 1:x} 1 00", "i 78", "d 2", f"w {COM1 + 1:x} 1 03", RETRY)
 MOST_LINES, MOST_WAITING = 60, 60_000
 # In how many ways there is too much output, or input, and how often a request is refused.
 WAYS, REFUSALS = 4, 1000
@@ -21,8 +28,17 @@ QUEUE, LEVEL, PIECE = 65536, 65536 - 4096, 4096
 EVER, LONG = 2**63 - 1, 100
 # Up to where moments are tried. In nanoseconds twice as much has more than 63 bits.
 FAR = 2**32 * SECOND
-WRITTEN = b"\r\nmonitor: snapshot: written\r\n"
+SNAPSHOT, CALLS_OF_A_FILE = "\r\nmonitor: snapshot: {}\r\n", 4
 RESET, LEFT = "monitor: the guest reset the machine", "monitor: left by Ctrl-A x"
+# Why KVM gives up, the numbers of accesses among that, and how many exits of the vCPU are kept.
+IO, MEMORY, SHUTDOWN, INTERNAL_ERROR, KEPT = 2, 6, 8, 17, 1000
+SHUT_DOWN, GIVES_UP = "monitor: the guest ended by a triple fault", "monitor: the guest cannot go on"
+REGISTERS = """rip {:016x}  rsp 0000000000000000  rflags 0  cs 0  halted 0
+cr0 0  cr2 0  cr3 0  cr4 0  efer 0
+interrupts from 0: asked 00, masked 00, in service 00
+interrupts from 8: asked 00, masked 00, in service 00"""
+# The errors of a write after which it is made again, and another.
+PASSING, LASTING = (errno.EINTR, errno.EAGAIN), errno.EPIPE
 
 
 class Hosted(Monitor):
@@ -32,7 +48,8 @@ class Hosted(Monitor):
         super().__init__()
         self.feeds_early, self.out, self.is_up, self.is_after = is_early, b"", 0, False
         self.since_start, self.of_day, self.place = SINCE_START, OF_DAY, START
-        self.ahead, self.goes_off, self.retries = OF_DAY - SINCE_START, None, False
+        self.ahead, self.goes_off, self.awake, self.retry_at = OF_DAY - SINCE_START, None, AWAKE, None
+        self.exits, self.status, self.error = [], 0, 0  # the last is that of the next write
         self.is_restored = self.is_reset = False
         self.has_ended = ""  # or what the monitor says then
         self.backlog, self.is_watched = b"", True  # what was typed and not read, and whether it is to be
@@ -63,6 +80,11 @@ class Hosted(Monitor):
         self.flush()
 
     def flush(self):
+        if self.error and self.waits_for_terminal:
+            if self.error not in PASSING:
+                self.dropped, self.waits_for_terminal = self.dropped + len(self.waits_for_terminal), b""
+            self.error = 0
+            return
         taken = self.waits_for_terminal[:self.takes]
         self.out, self.waits_for_terminal = self.out + taken, self.waits_for_terminal[len(taken):]
         self.takes -= len(taken)
@@ -75,12 +97,22 @@ class Hosted(Monitor):
 
     def end(self):
         """What the terminal does not take at the end is dropped too."""
-        self.flush()
+        while self.waits_for_terminal and self.takes:
+            self.flush()
         self.dropped += len(self.waits_for_terminal)
         if self.dropped:
             self.printed.append(f"monitor: {self.dropped} bytes of output were dropped")
         self.printed.append(self.has_ended)
         self.show_output()
+        if self.status:
+            self.show_exits()
+
+    def show_exits(self):
+        """The vCPU's last exits, with the microseconds between two, and its registers."""
+        kept = self.exits[-KEPT:]
+        for (before, *_), (moment, reason, access) in zip(kept[:1] + kept, kept):
+            self.printed.append(f"{(moment - before) // 1000:9}  reason {reason}{access}")
+        self.printed.append(REGISTERS.format(self.place))
 
     def feed(self):
         super().feed()
@@ -89,12 +121,18 @@ class Hosted(Monitor):
     def read_input(self):
         """The event loop reads what was typed, while there is room for it."""
         while self.is_watched and self.backlog and not self.has_ended:
+            self.fail_to_read()
             count = min(PIECE, QUEUE - len(self.input))
             data, self.backlog, self.is_watched = self.backlog[:count], self.backlog[count:], False
             self.input += bytes(self.typed(data))
             self.feed()
             if not self.has_ended:
                 self.turn()
+
+    def fail_to_read(self):
+        """The first of two reads fails, so the event loop makes one more turn."""
+        self.feed()
+        self.turn()
 
     def typed(self, data):
         """The bytes for the guest. The others are commands."""
@@ -116,7 +154,8 @@ class Hosted(Monitor):
             self.show_output()
         self.was_refused = False
         super().ask(times)
-        self.retries |= self.was_refused
+        if self.was_refused:
+            self.retry_at = self.awake + PAUSE
 
     def turn(self):
         """The event loop has served an event."""
@@ -143,15 +182,25 @@ class Hosted(Monitor):
             self.access_clock(IS_MASKED)
             self.turn()
             self.read_input()
+        if self.retry_at is not None and self.retry_at <= self.awake:
+            self.printed.append("timer")
+            self.retry_at = None
+            self.ask(self.port.due())
+            self.turn()
         self.end() if self.has_ended else self.show_output()
 
     # The words of host.c.
 
     def serve(self, line):
         word, *numbers = line.split()
-        data = bytes.fromhex(numbers.pop()) if word in "wsi" else None
-        getattr(self, word)(*(int(number, 16) for number in numbers), *([] if data is None else [data]))
-        self.place += word in "wrsl"
+        data = [bytes.fromhex(numbers.pop())] if word in "wsi" else []
+        numbers = [int(number, 16) for number in numbers]
+        read = getattr(self, word)(*numbers, *data)
+        if word in "rl":
+            self.printed.append(read.hex())
+        if word in "wrsl":
+            self.place += 1
+            self.keep(word, *numbers[:2], *data or [read])
         if self.is_reset and self.is_restored:
             self.has_ended = RESET
         elif self.is_reset:
@@ -160,6 +209,12 @@ class Hosted(Monitor):
             self.start(FRESH)
         self.is_reset = False
         self.end() if self.has_ended else self.rest()
+
+    def keep(self, word, address, *size_and_data):
+        """Keeps an exit: its moment and reason, and the first item of the access."""
+        data = size_and_data[-1][:size_and_data[0] if word in "wr" else None]
+        access = f"  {'write' if word in 'ws' else 'read'} {address:x}  {data[::-1].hex()}"
+        self.exits.append((self.awake, IO if word in "wr" else MEMORY, access))
 
     def w(self, port, size, data):
         for place, byte in enumerate(data):
@@ -177,7 +232,7 @@ class Hosted(Monitor):
                 super().w(at, byte)
 
     def r(self, port, size, count):
-        self.printed.append(bytes(self.read((port + place % size) % 2**16) for place in range(size * count)).hex())
+        return bytes(self.read((port + place % size) % 2**16) for place in range(size * count))
 
     def s(self, address, data):
         if 0 <= address - BASE < 0x1000 and len(data) == 4:
@@ -187,10 +242,8 @@ class Hosted(Monitor):
         offset = address - BASE
         within = offset % 4 if count != 4 else 0
         if not 0 <= offset < 0x1000 or within + count > 4:
-            self.printed.append("ff" * count)
-        else:
-            whole = self.access_clock(offset - within).to_bytes(4, "little")
-            self.printed.append(whole[within:within + count].hex())
+            return b"\xFF" * count
+        return self.access_clock(offset - within).to_bytes(4, "little")[within:within + count]
 
     def i(self, data):
         self.backlog += data
@@ -198,8 +251,8 @@ class Hosted(Monitor):
     def b(self, room):
         self.takes = room
 
-    def d(self, is_down):
-        self.is_down = is_down != 0
+    def e(self, error):
+        self.error = error
 
     def n(self, nanoseconds):
         self.since_start += nanoseconds
@@ -208,25 +261,37 @@ class Hosted(Monitor):
     def k(self, seconds):
         self.of_day -= seconds * SECOND
 
-    def t(self):
-        if self.retries:
-            self.printed.append("timer")
-            self.retries = False
-            self.ask(self.port.due())
-            self.turn()
+    def t(self, nanoseconds):
+        self.awake += nanoseconds
+
+    def x(self, reason):
+        if reason:
+            self.exits.append((self.awake, reason, ""))
+        if reason not in (0, SHUTDOWN):
+            self.printed.append(f"monitor: KVM gives up, for reason {reason}, error 0")
+        self.has_ended = {0: f"monitor: {os.strerror(errno.EFAULT)}", SHUTDOWN: SHUT_DOWN}.get(reason, GIVES_UP)
+        self.status = 1
+
+    def say_of_snapshot(self, what):
+        self.fail_to_read()
+        self.feed()
+        for byte in SNAPSHOT.format(what).encode():
+            self.show(byte)
+
+    def f(self, _call):
+        self.say_of_snapshot(os.strerror(errno.ENOSPC))
+        self.turn()
 
     def g(self):
         """After the snapshot the monitor makes its turn, of which the next one knows nothing."""
-        self.feed()
-        for byte in WRITTEN:
-            self.show(byte)
+        self.say_of_snapshot("written")
         saved, moment = list(self.port.past), self.moment
         self.turn()
         self.show_output()
         self.port.past, self.is_restored = saved, True
         self.ahead = max(self.of_day, moment * SECOND) - self.since_start
-        self.is_down = self.retries = self.is_stalled = False
-        self.is_up = self.dropped = 0
+        self.is_stalled, self.retry_at, self.exits = False, None, []
+        self.down = self.is_up = self.dropped = self.error = 0
         self.waits_for_terminal, self.takes = b"", EVER
         self.feed()
         self.ask(self.port.due())
@@ -246,12 +311,16 @@ class Script:
             (self.flood, self.fill)[number // WAYS](number % WAYS)
         elif number == 2 * WAYS:
             self.insist()
+        elif number == 2 * WAYS + 1:
+            self.outlast()
         for line in (f"w {COM1 + 1:x} 1 0{chance.choice((1, 1, 1, 2, 3))}", f"s {BASE + 0x010:x} 01000000"):
             if chance.randrange(4) and not self.monitor.has_ended:
                 self.add(line)
         makers = [self.write, self.read, self.type, self.store, self.load, self.wait, self.host]
         while len(self.lines) < length and not self.monitor.has_ended:
             chance.choices(makers, (8, 12, 8, 6, 2, 4, 9))[0]()
+        if not self.monitor.has_ended and chance.randrange(3) == 0:
+            self.add(f"x {chance.choice((0, SHUTDOWN, INTERNAL_ERROR)):x}")
 
     def flood(self, number):
         """As much output as the terminal and the queue have no room for, or not quite, and then the end."""
@@ -280,8 +349,14 @@ class Script:
 
     def insist(self):
         """Both interrupts are refused, again and again."""
-        for line in ("d 1", f"w {COM1 + 1:x} 1 01", "i 78", f"w {COM1 + 1:x} 1 03", *["t"] * REFUSALS, "d 0", "t", "t"):
+        for line in ("d 1", f"w {COM1 + 1:x} 1 01", "i 78", f"w {COM1 + 1:x} 1 03", *[RETRY] * REFUSALS, "d 0", RETRY, RETRY):
             self.add(line)
+
+    def outlast(self):
+        """More exits than are kept, and the end."""
+        for number in range(KEPT + self.random.randrange(10)):
+            self.add(f"r {COM1 + 1 + number % 7:x} 1 1")
+        self.add(f"x {SHUTDOWN:x}")
 
     def add(self, line):
         self.lines.append(line)
@@ -359,10 +434,20 @@ class Script:
     def host(self):
         """The line takes nothing, or requests again, or a refused one is made again; the machine is reset, and input
         comes to a guest that may not be ready; or it moves, mostly to a host of another time of day."""
-        self.random.choices((self.refuse, self.reset, self.move), (8, 1, 2))[0]()
+        self.random.choices((self.refuse, self.reset, self.move, self.fail), (8, 1, 2, 2))[0]()
 
     def refuse(self):
-        self.add(self.random.choice(("d 1", "d 1", "d 0", "t", "t")))
+        """At times the line refuses the second of two requests."""
+        lines = self.random.choice((("d 1",), ("d 1",), ("d 0",), (RETRY,), (RETRY,), (f"t {PAUSE - 1:x}",), ("t 1",), SECOND_OF_TWO))
+        for line in lines:
+            self.add(line)
+
+    def fail(self):
+        """The next write to the terminal fails, or a snapshot."""
+        if self.random.randrange(3) or not self.monitor.is_watched:
+            self.add(f"e {self.random.choice((*PASSING, LASTING)):x}")
+        else:
+            self.add(f"f {self.random.randrange(CALLS_OF_A_FILE) + 1}")
 
     def reset(self):
         self.add(f"w 64 1 {self.random.choice(('fe', 'fe', 'fe', 'fd'))}")
@@ -396,5 +481,7 @@ def command_of(program, *options):
 def differences_of(program, scripts):
     """The scripts in which a monitor with this host does something else."""
     for script in scripts:
-        command = command_of(program, "-f", "image", "-m", "2", "--reboot", *["--early-input"] * script.is_early)
-        yield from different_scripts(command, [(str(script.lines)[:2000], script.lines, script.monitor.printed, 0)])
+        command = command_of(program, "-f", "image", "-m", "2", "--reboot", "--exits", "exits",
+                             *["--early-input"] * script.is_early)
+        wanted = script.monitor.printed, script.monitor.status
+        yield from different_scripts(command, [(str(script.lines)[:2000], script.lines, *wanted)])

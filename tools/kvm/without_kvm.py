@@ -15,8 +15,8 @@ from twin import run_bounded
 
 ROOT, HERE = Path(__file__).resolve().parents[2], Path(__file__).resolve().parent
 EXAMPLE, LIBRARY = ROOT / "examples" / "kvm", ROOT / "prebuilt" / "x86_64-linux" / "libsuperio_c.a"
-WRAPPED = ["open", "ioctl", "epoll_wait", "clock_gettime", "eventfd_write", "poll", "pthread_cond_clockwait",
-           "timerfd_create", "timerfd_settime", "write"]
+WRAPPED = ["open", "ioctl", "epoll_wait", "clock_gettime", "eventfd_write", "poll", "pthread_cond_clockwait", "read",
+           "timerfd_create", "timerfd_settime", "write", "fopen", "fwrite", "fclose", "rename"]
 # What notices an access beside what it is to, and what an access without the lock. One program cannot have both. Where
 # a port's bytes would be is computed for each exit, and means nothing for some.
 MEMORY, THREADS = ["-fsanitize=address,undefined", "-fno-sanitize=pointer-overflow"], ["-fsanitize=thread"]
