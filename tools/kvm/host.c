@@ -8,6 +8,7 @@
  *   s ADDRESS BYTES      it stores to memory where there is none
  *   l ADDRESS COUNT      it loads from there so many bytes, which are printed
  *   i BYTES              the user types
+ *   z                    the user types no more
  *   d DOWN               the interrupt line takes one request less than this, and then none; if it is 0, all of them
  *   b ROOM               the terminal takes so many more bytes of output, until the next such line
  *   e ERROR              the next write to the terminal fails so
@@ -18,10 +19,11 @@
  *   f CALL               a snapshot is asked for, and the opening (1) of its file, a write to it (2), its end (3) or
  *                        its name (4) fails
  *   x REASON             the vCPU gives up for a reason of KVM's, or, if it is 0, KVM fails
+ *   q SIGNAL             the monitor is to end
  *
  * After each line the event loop comes to rest. A guest at its start shows its place, the first byte of its image, and
- * a byte of its memory that it sets then. It says so if it has to wait, which it does for no time. Each second KVM_RUN,
- * wait for events and read of what was typed fails, as after a signal, and has to be made again.
+ * two bytes of its memory that it sets then. It says for how long it has to wait, and does so for no time. The first of
+ * two KVM_RUN, waits for events or for room and reads fails, as it may at any time, and has to be made again.
  */
 #include <err.h>
 #include <errno.h>
@@ -29,6 +31,7 @@
 #include <linux/kvm.h>
 #include <poll.h>
 #include <pthread.h>
+#include <signal.h>
 #include <stdarg.h>
 #include <stdbool.h>
 #include <stdint.h>
@@ -44,7 +47,8 @@
 #include <time.h>
 #include <unistd.h>
 
-enum { RUN_SIZE = 8192, DATA = 4096, IMAGE = 0x7C00, MARK = 0x600, TIMERS = 4, PATIENCE = 40000, MOST = 1 << 17 };
+enum { RUN_SIZE = 8192, DATA = 4096, IMAGE = 0x7C00, MARK = 0x600, CLOCK = 0xD0000, MOST = 1 << 17 };
+enum { TIMERS = 4, PATIENCE = 40000, STATES = 12 /* parts of a guest's */ };
 enum { SECOND = 1000000000, MILLISECOND = 1000000 };
 /* What is known of threads is the monitor's lock alone. */
 #define UNSEEN __attribute__((no_sanitize("thread")))
@@ -54,12 +58,14 @@ static int script, seen, keys, screen, vcpu;
 static off_t shown;     /* how much of the output was */
 static size_t room = SIZE_MAX; /* for more of it */
 static int64_t down;    /* 0, or one more than the interrupt line still takes */
+static int given;          /* of a guest's state, a bit for each part */
 static int error, failing; /* of the next write, and the call of a snapshot's file that fails */
 static bool is_early;   /* an option of the monitor */
 static struct kvm_run *run;
-static uint8_t *memory;
+static struct kvm_irqfd line;
+static uint8_t *memory, *last;
 static uint64_t place;  /* of the guest: one more for each access that is complete */
-static bool is_started, is_access, is_read, is_moving, is_up, is_running;
+static bool is_started, is_access, is_read, is_moving, is_up, is_running, is_restored;
 static volatile unsigned long rests; /* how often the event loop has found nothing to do */
 static volatile bool may_go, is_held; /* whether it may look, since the guest makes no access; it waits until it may */
 extern pthread_mutex_t lock; /* of the monitor, as is this: */
@@ -130,6 +136,7 @@ static void fail(const char *what) {
 __attribute__((constructor)) static void begin(int count, char **words) {
     const char *before = getenv("HOST");
     int both[2];
+    is_restored = before;
     if (before)
         sscanf(before, "%d %d %ld %ld %ld", &script, &seen, &now.awake, &now.since_start, &now.of_day);
     else
@@ -216,15 +223,24 @@ int __wrap_rename(const char *from, const char *to) {
 }
 
 int __wrap_poll(struct pollfd *files, nfds_t count, int timeout) {
-    (void)files, (void)timeout;
+    (void)files;
+    if (timeout != SECOND / MILLISECOND)
+        fail("the end waits for another time");
     return count > 0 && room > 0;
+}
+
+UNSEEN static int64_t time_of(clockid_t clock) {
+    return clock == CLOCK_BOOTTIME ? now.since_start : clock == CLOCK_REALTIME ? now.of_day : now.awake;
 }
 
 /* The time is up at once. */
 int __wrap_pthread_cond_clockwait(pthread_cond_t *it, pthread_mutex_t *lock, clockid_t clock,
                                   const struct timespec *until) {
-    (void)it, (void)lock, (void)clock, (void)until;
-    dprintf(seen, "waits\n");
+    static unsigned calls;
+    (void)it, (void)lock;
+    if (is_interrupted(&calls, 0))
+        return 0;
+    dprintf(seen, "waits %ld\n", until->tv_sec * (int64_t)SECOND + until->tv_nsec - time_of(clock));
     return ETIMEDOUT;
 }
 
@@ -240,10 +256,6 @@ UNSEEN int __wrap_epoll_wait(int epoll, struct epoll_event *events, int most, in
             return count;
         rests += !is_held;
     }
-}
-
-UNSEEN static int64_t time_of(clockid_t clock) {
-    return clock == CLOCK_BOOTTIME ? now.since_start : clock == CLOCK_REALTIME ? now.of_day : now.awake;
 }
 
 UNSEEN int __wrap_clock_gettime(clockid_t clock, struct timespec *time) {
@@ -290,8 +302,8 @@ UNSEEN int __wrap_eventfd_write(int fd, eventfd_t value) {
     bool is_taken = down != 1;
     down -= down > 1;
     dprintf(seen, is_taken ? "interrupt\n" : "interrupt refused\n");
-    if (value != 1 || !(fcntl(fd, F_GETFL) & O_NONBLOCK))
-        fail("a request that adds other than 1, or would wait");
+    if (value != 1 || !(fcntl(fd, F_GETFL) & O_NONBLOCK) || (uint32_t)fd != line.fd || line.gsi != 4)
+        fail("a request that adds other than 1, would wait, or is another line's");
     errno = EAGAIN;
     return is_taken ? 0 : -1;
 }
@@ -364,6 +376,8 @@ UNSEEN static void serve(const char *line) {
     int64_t number = strtoll(line + 1, NULL, 16);
     switch (*line) {
     case 'i': syscall(SYS_write, keys, bytes, bytes_of(line + 1, bytes)); break;
+    case 'z': close(keys); break;
+    case 'q': kill(getpid(), (int)number); break;
     case 'd': down = number; break;
     case 'b': room = (size_t)number; break;
     case 'e': error = (int)number; break;
@@ -420,9 +434,11 @@ UNSEEN static int run_guest(void) {
     if (run->immediate_exit || is_interrupted(&calls, EAGAIN))
         return -1;
     if (!is_started)
-        dprintf(seen, "starts %lx %02x %02x\n", place, memory[IMAGE], memory[MARK]);
+        dprintf(seen, "starts %lx %02x %02x%02x\n", place, memory[IMAGE], memory[MARK], *last);
+    if (is_restored && given != (1 << STATES) - 1)
+        fail("a restored guest lacks a part of its state");
     is_started = true;
-    memory[MARK] = 0x5A;
+    memory[MARK] = *last = 0x5A;
     for (;;) {
         do
             if (!await_rest())
@@ -447,6 +463,22 @@ UNSEEN static int run_guest(void) {
     }
 }
 
+/* Notes what a restored guest is given, and finds its memory. */
+UNSEEN static void set(unsigned long request, const void *argument) {
+    static const unsigned long requests[STATES] = {
+        KVM_SET_MP_STATE, KVM_SET_SREGS, KVM_SET_REGS, KVM_SET_XSAVE, KVM_SET_XCRS, KVM_SET_DEBUGREGS, KVM_SET_LAPIC,
+        KVM_SET_MSRS, KVM_SET_VCPU_EVENTS, KVM_SET_PIT2, KVM_SET_CLOCK, KVM_SET_IRQCHIP};
+    for (int i = 0; i < STATES; i++)
+        given |= (requests[i] == request) << i;
+    if (request == KVM_SET_USER_MEMORY_REGION) {
+        const struct kvm_userspace_memory_region *region = argument;
+        if (region->guest_phys_addr <= CLOCK && region->guest_phys_addr + region->memory_size > CLOCK)
+            fail("memory where the clock is");
+        memory = region->guest_phys_addr ? memory : (uint8_t *)region->userspace_addr;
+        last = (uint8_t *)region->userspace_addr + region->memory_size - 1;
+    }
+}
+
 UNSEEN static void set_line(const struct kvm_irq_level *line) {
     if (line->level != is_up)
         dprintf(seen, "line %u %u\n", line->irq, line->level);
@@ -463,8 +495,10 @@ UNSEEN int __wrap_ioctl(int fd, unsigned long request, ...) {
         return __real_ioctl(fd, request, argument);
     if (is_running && fd == vcpu)
         fail("KVM holds a vCPU that runs");
-    if (_IOC_DIR(request) & _IOC_READ && request != KVM_GET_SUPPORTED_CPUID && request != KVM_GET_MSR_INDEX_LIST)
+    uint32_t chip = request == KVM_GET_IRQCHIP ? ((struct kvm_irqchip *)argument)->chip_id : 0;
+    if (_IOC_DIR(request) == _IOC_READ || request == KVM_GET_IRQCHIP)
         memset(argument, 0, _IOC_SIZE(request));
+    set(request, argument);
     switch (request) {
     case KVM_CREATE_VM: return make(0);
     case KVM_CREATE_VCPU:
@@ -473,12 +507,20 @@ UNSEEN int __wrap_ioctl(int fd, unsigned long request, ...) {
         return vcpu = fd;
     case KVM_GET_VCPU_MMAP_SIZE: return RUN_SIZE;
     case KVM_GET_SUPPORTED_CPUID: ((struct kvm_cpuid2 *)argument)->nent = 0; break;
-    case KVM_GET_MSR_INDEX_LIST: ((struct kvm_msr_list *)argument)->nmsrs = 0; break;
-    case KVM_SET_USER_MEMORY_REGION:
-        if (((struct kvm_userspace_memory_region *)argument)->guest_phys_addr == 0)
-            memory = (uint8_t *)((struct kvm_userspace_memory_region *)argument)->userspace_addr;
+    case KVM_GET_MSR_INDEX_LIST:
+        ((struct kvm_msr_list *)argument)->nmsrs = 1;
+        ((struct kvm_msr_list *)argument)->indices[0] = 0x10;
         break;
-    case KVM_GET_REGS: ((struct kvm_regs *)argument)->rip = place; break;
+    case KVM_GET_MSRS: case KVM_SET_MSRS: return 1;
+    case KVM_IRQFD: line = *(struct kvm_irqfd *)argument; break;
+    case KVM_GET_REGS: *(struct kvm_regs *)argument = (struct kvm_regs){.rip = place, .rsp = 1, .rflags = 2}; break;
+    case KVM_GET_SREGS:
+        *(struct kvm_sregs *)argument = (struct kvm_sregs){.cs.selector = 3, .cr0 = 4, .cr2 = 5, .cr3 = 6, .cr4 = 7, .efer = 8};
+        break;
+    case KVM_GET_MP_STATE: ((struct kvm_mp_state *)argument)->mp_state = KVM_MP_STATE_HALTED; break;
+    case KVM_GET_IRQCHIP:
+        ((struct kvm_irqchip *)argument)->chip.pic = (struct kvm_pic_state){.irr = chip + 9, .imr = chip + 16, .isr = chip + 32};
+        break;
     case KVM_SET_REGS: place = ((struct kvm_regs *)argument)->rip, is_started = false; break;
     case KVM_IRQ_LINE: set_line(argument); break;
     case KVM_RUN:

@@ -6,6 +6,7 @@ It was written from docs/DEVICES.md, docs/MONITOR.md and the duties of docs/THRE
 import errno
 import os
 import random
+import signal
 
 from oracle import CLOCK, SERIAL, Clock, Port, resets, start_fact
 from twin import COM1, EDGES, IS_MASKED, Monitor, different_scripts, seconds_due
@@ -33,10 +34,11 @@ RESET, LEFT = "monitor: the guest reset the machine", "monitor: left by Ctrl-A x
 # Why KVM gives up, the numbers of accesses among that, and how many exits of the vCPU are kept.
 IO, MEMORY, SHUTDOWN, INTERNAL_ERROR, KEPT = 2, 6, 8, 17, 1000
 SHUT_DOWN, GIVES_UP = "monitor: the guest ended by a triple fault", "monitor: the guest cannot go on"
-REGISTERS = """rip {:016x}  rsp 0000000000000000  rflags 0  cs 0  halted 0
-cr0 0  cr2 0  cr3 0  cr4 0  efer 0
-interrupts from 0: asked 00, masked 00, in service 00
-interrupts from 8: asked 00, masked 00, in service 00"""
+REGISTERS = """rip {:016x}  rsp 0000000000000001  rflags 2  cs 3  halted 1
+cr0 4  cr2 5  cr3 6  cr4 7  efer 8
+interrupts from 0: asked 09, masked 10, in service 20
+interrupts from 8: asked 0a, masked 11, in service 21"""
+SIGNALS = signal.SIGHUP, signal.SIGINT, signal.SIGQUIT, signal.SIGTERM
 # The errors of a write after which it is made again, and another.
 PASSING, LASTING = (errno.EINTR, errno.EAGAIN), errno.EPIPE
 
@@ -52,12 +54,13 @@ class Hosted(Monitor):
         self.exits, self.status, self.error = [], 0, 0  # the last is that of the next write
         self.is_restored = self.is_reset = False
         self.has_ended = ""  # or what the monitor says then
+        self.is_closed, self.has_input = False, True  # as the user does, and as the monitor knows it
         self.backlog, self.is_watched = b"", True  # what was typed and not read, and whether it is to be
         self.waits_for_terminal, self.dropped, self.takes, self.is_stalled = b"", 0, EVER, False
         self.start(FRESH)
 
     def start(self, mark):
-        self.printed.append(f"starts {self.place:x} {IMAGE:02x} {mark:02x}")
+        self.printed.append(f"starts {self.place:x} {IMAGE:02x} {mark:02x}{mark:02x}")
 
     @property
     def moment(self):
@@ -92,7 +95,7 @@ class Hosted(Monitor):
 
     def await_room(self):
         if len(self.waits_for_terminal) >= LEVEL and not self.is_stalled:
-            self.printed.append("waits")
+            self.printed.append(f"waits {SECOND}")
             self.is_stalled = True
 
     def end(self):
@@ -116,14 +119,15 @@ class Hosted(Monitor):
 
     def feed(self):
         super().feed()
-        self.is_watched |= len(self.input) < QUEUE
+        self.is_watched |= self.has_input and len(self.input) < QUEUE
 
     def read_input(self):
         """The event loop reads what was typed, while there is room for it."""
-        while self.is_watched and self.backlog and not self.has_ended:
+        while self.is_watched and (self.backlog or self.is_closed) and not self.has_ended:
             self.fail_to_read()
             count = min(PIECE, QUEUE - len(self.input))
             data, self.backlog, self.is_watched = self.backlog[:count], self.backlog[count:], False
+            self.has_input = bool(data)
             self.input += bytes(self.typed(data))
             self.feed()
             if not self.has_ended:
@@ -248,6 +252,13 @@ class Hosted(Monitor):
     def i(self, data):
         self.backlog += data
 
+    def z(self):
+        self.is_closed = True
+
+    def q(self, number):
+        self.turn()  # since the first read of the signal fails
+        self.has_ended, self.status = f"monitor: {signal.strsignal(number)}", 128 + number
+
     def b(self, room):
         self.takes = room
 
@@ -319,13 +330,13 @@ class Script:
         makers = [self.write, self.read, self.type, self.store, self.load, self.wait, self.host]
         while len(self.lines) < length and not self.monitor.has_ended:
             chance.choices(makers, (8, 12, 8, 6, 2, 4, 9))[0]()
-        if not self.monitor.has_ended and chance.randrange(3) == 0:
-            self.add(f"x {chance.choice((0, SHUTDOWN, INTERNAL_ERROR)):x}")
+        if not self.monitor.has_ended and chance.randrange(2):
+            self.add(chance.choice((*(f"x {it:x}" for it in (0, SHUTDOWN, INTERNAL_ERROR)), f"q {chance.choice(SIGNALS):x}")))
 
     def flood(self, number):
         """As much output as the terminal and the queue have no room for, or not quite, and then the end."""
         self.add(f"b {(0, 1, 5000, 5000)[number]:x}")
-        left = (LEVEL, QUEUE, QUEUE, QUEUE + 5000)[number] + self.random.randrange(-2, 3)
+        left = (LEVEL, QUEUE, QUEUE, QUEUE + 5003)[number] + self.random.randrange(-2, 3)
         while left > 0:
             count = min(left, PIECE - self.random.randrange(2))
             self.add(f"w {COM1:x} 1 {self.random.randbytes(count).hex()}")
@@ -388,7 +399,7 @@ class Script:
 
     def type(self):
         """No command of the monitor. One of another letter may be cut in two."""
-        if len(self.monitor.input) > MOST_WAITING:
+        if len(self.monitor.input) > MOST_WAITING or self.monitor.is_closed:
             return
         escaped = (b"\x01\x01", b"\x01y")
         pieces = [self.random.choice(escaped) if self.random.randrange(30) == 0 else bytes([self.random.randrange(2, 256)])
@@ -440,11 +451,14 @@ class Script:
         """At times the line refuses the second of two requests."""
         lines = self.random.choice((("d 1",), ("d 1",), ("d 0",), (RETRY,), (RETRY,), (f"t {PAUSE - 1:x}",), ("t 1",), SECOND_OF_TWO))
         for line in lines:
-            self.add(line)
+            if line[0] != "i" or not self.monitor.is_closed:
+                self.add(line)
 
     def fail(self):
-        """The next write to the terminal fails, or a snapshot."""
-        if self.random.randrange(3) or not self.monitor.is_watched:
+        """The next write to the terminal fails, or a snapshot, or the user types no more."""
+        if not self.random.randrange(8) and not self.monitor.is_closed:
+            self.add("z")
+        elif self.random.randrange(3) or not self.monitor.is_watched:
             self.add(f"e {self.random.choice((*PASSING, LASTING)):x}")
         else:
             self.add(f"f {self.random.randrange(CALLS_OF_A_FILE) + 1}")
@@ -453,8 +467,7 @@ class Script:
         self.add(f"w 64 1 {self.random.choice(('fe', 'fe', 'fe', 'fd'))}")
         if not self.monitor.has_ended and self.random.randrange(2):
             self.add(f"w {COM1 + 1:x} 1 0{self.random.randrange(4)}")
-            self.add("i 7879")
-            self.add(f"r {COM1:x} 1 1")
+            self.poke()
 
     def move(self):
         self.add(f"k {self.random.choice((0, 1, 2, self.random.randrange(-2000, 2000))):x}")
@@ -462,6 +475,11 @@ class Script:
             self.add("g")
             self.add(f"l {BASE:x} 4")
         if self.random.randrange(2):
+            self.poke()
+
+    def poke(self):
+        """Two bytes come, and the guest takes one."""
+        if not self.monitor.is_closed:
             self.add("i 7879")
             self.add(f"r {COM1:x} 1 1")
 
