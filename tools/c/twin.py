@@ -193,8 +193,8 @@ class Monitor:
 
 class Edges(Monitor):
     """The monitor of lines.c whose line has edges: a port alone, whose input is what fits. After each line it prints
-    what went out, with a mark where the monitor was asked for interrupts, whether the guest is interrupted, and how much
-    room there is."""
+    what went out, with a mark where it was asked for interrupts, whether the guest is interrupted, and how much room
+    there is."""
 
     most = 16
     mark = "!"  # what is printed for the requests of a call

@@ -55,20 +55,20 @@ enum { SECOND = 1000000000, MILLISECOND = 1000000 };
 
 /* The script, what is seen, and the ends of what the monitor reads and writes, by their descriptors. */
 static int script, seen, keys, screen, vcpu;
-static off_t shown;     /* how much of the output was */
+static off_t shown;            /* how much of the output was */
 static size_t room = SIZE_MAX; /* for more of it */
-static int64_t down;    /* 0, or one more than the interrupt line still takes */
-static int given;          /* of a guest's state, a bit for each part */
-static int error, failing; /* of the next write, and the call of a snapshot's file that fails */
-static bool is_early;   /* an option of the monitor */
+static int64_t down;           /* 0, or one more than the interrupt line still takes */
+static int given;              /* of a guest's state, a bit for each part */
+static int error, failing;     /* of the next write, and the call of a snapshot's file that fails */
+static bool is_early;          /* an option of the monitor */
 static struct kvm_run *run;
-static struct kvm_irqfd line;
+static struct kvm_irqfd interrupt;
 static uint8_t *memory, *last;
-static uint64_t place;  /* of the guest: one more for each access that is complete */
+static uint64_t place; /* of the guest: one more for each access that is complete */
 static bool is_started, is_access, is_read, is_moving, is_up, is_running, is_restored;
-static volatile unsigned long rests; /* how often the event loop has found nothing to do */
+static volatile unsigned long rests;  /* how often the event loop has found nothing to do */
 static volatile bool may_go, is_held; /* whether it may look, since the guest makes no access; it waits until it may */
-extern pthread_mutex_t lock; /* of the monitor, as is this: */
+extern pthread_mutex_t lock;          /* of the monitor, as is this: */
 extern bool has_ended;
 
 /* Of the host, in nanoseconds, since it started and since 1970. */
@@ -90,22 +90,6 @@ FILE *__real_fopen(const char *path, const char *mode);
 size_t __real_fwrite(const void *bytes, size_t size, size_t count, FILE *file);
 int __real_fclose(FILE *file);
 int __real_rename(const char *from, const char *to);
-int __wrap_open(const char *path, int flags, ...);
-int __wrap_ioctl(int fd, unsigned long request, ...);
-int __wrap_epoll_wait(int epoll, struct epoll_event *events, int most, int timeout);
-int __wrap_clock_gettime(clockid_t clock, struct timespec *time);
-int __wrap_eventfd_write(int fd, eventfd_t value);
-int __wrap_poll(struct pollfd *files, nfds_t count, int timeout);
-int __wrap_pthread_cond_clockwait(pthread_cond_t *it, pthread_mutex_t *lock, clockid_t clock,
-                                  const struct timespec *until);
-ssize_t __wrap_write(int fd, const void *bytes, size_t count);
-ssize_t __wrap_read(int fd, void *bytes, size_t count);
-FILE *__wrap_fopen(const char *path, const char *mode);
-size_t __wrap_fwrite(const void *bytes, size_t size, size_t count, FILE *file);
-int __wrap_fclose(FILE *file);
-int __wrap_rename(const char *from, const char *to);
-int __wrap_timerfd_create(int clock, int flags);
-int __wrap_timerfd_settime(int fd, int flags, const struct itimerspec *new, struct itimerspec *old);
 
 /* Prints bytes. */
 UNSEEN static void show(const char *what, const uint8_t *bytes, size_t count) {
@@ -302,7 +286,7 @@ UNSEEN int __wrap_eventfd_write(int fd, eventfd_t value) {
     bool is_taken = down != 1;
     down -= down > 1;
     dprintf(seen, is_taken ? "interrupt\n" : "interrupt refused\n");
-    if (value != 1 || !(fcntl(fd, F_GETFL) & O_NONBLOCK) || (uint32_t)fd != line.fd || line.gsi != 4)
+    if (value != 1 || !(fcntl(fd, F_GETFL) & O_NONBLOCK) || (uint32_t)fd != interrupt.fd || interrupt.gsi != 4)
         fail("a request that adds other than 1, would wait, or is another line's");
     errno = EAGAIN;
     return is_taken ? 0 : -1;
@@ -419,6 +403,7 @@ UNSEEN static void complete(void) {
     is_access = false;
 }
 
+/* An exit of the vCPU that is no access, or none. */
 UNSEEN static int give_up(uint32_t reason) {
     run->exit_reason = reason;
     run->internal.suberror = 0;
@@ -463,20 +448,35 @@ UNSEEN static int run_guest(void) {
     }
 }
 
-/* Notes what a restored guest is given, and finds its memory. */
-UNSEEN static void set(unsigned long request, const void *argument) {
-    static const unsigned long requests[STATES] = {
-        KVM_SET_MP_STATE, KVM_SET_SREGS, KVM_SET_REGS, KVM_SET_XSAVE, KVM_SET_XCRS, KVM_SET_DEBUGREGS, KVM_SET_LAPIC,
-        KVM_SET_MSRS, KVM_SET_VCPU_EVENTS, KVM_SET_PIT2, KVM_SET_CLOCK, KVM_SET_IRQCHIP};
-    for (int i = 0; i < STATES; i++)
-        given |= (requests[i] == request) << i;
-    if (request == KVM_SET_USER_MEMORY_REGION) {
-        const struct kvm_userspace_memory_region *region = argument;
-        if (region->guest_phys_addr <= CLOCK && region->guest_phys_addr + region->memory_size > CLOCK)
-            fail("memory where the clock is");
-        memory = region->guest_phys_addr ? memory : (uint8_t *)region->userspace_addr;
-        last = (uint8_t *)region->userspace_addr + region->memory_size - 1;
+/* What KVM says of itself and of the machine. Of the guest's state it knows the place, and makes up the rest. */
+UNSEEN static void get(unsigned long request, void *argument) {
+    uint8_t chip = request == KVM_GET_IRQCHIP ? (uint8_t)((struct kvm_irqchip *)argument)->chip_id : 0;
+    if (_IOC_DIR(request) == _IOC_READ || request == KVM_GET_IRQCHIP)
+        memset(argument, 0, _IOC_SIZE(request));
+    if (request == KVM_GET_SUPPORTED_CPUID) {
+        ((struct kvm_cpuid2 *)argument)->nent = 0;
+    } else if (request == KVM_GET_MSR_INDEX_LIST) {
+        ((struct kvm_msr_list *)argument)->nmsrs = 1;
+        ((struct kvm_msr_list *)argument)->indices[0] = 0x10;
+    } else if (request == KVM_GET_REGS) {
+        *(struct kvm_regs *)argument = (struct kvm_regs){.rip = place, .rsp = 1, .rflags = 2};
+    } else if (request == KVM_GET_SREGS) {
+        struct kvm_sregs system = {.cs.selector = 3, .cr0 = 4, .cr2 = 5, .cr3 = 6, .cr4 = 7, .efer = 8};
+        *(struct kvm_sregs *)argument = system;
+    } else if (request == KVM_GET_MP_STATE) {
+        ((struct kvm_mp_state *)argument)->mp_state = KVM_MP_STATE_HALTED;
+    } else if (request == KVM_GET_IRQCHIP) {
+        struct kvm_pic_state state = {.irr = chip + 9, .imr = chip + 16, .isr = chip + 32};
+        ((struct kvm_irqchip *)argument)->chip.pic = state;
     }
+}
+
+UNSEEN static void add_memory(const struct kvm_userspace_memory_region *region) {
+    uint8_t *start = (uint8_t *)region->userspace_addr;
+    if (region->guest_phys_addr <= CLOCK && region->guest_phys_addr + region->memory_size > CLOCK)
+        fail("memory where the clock is");
+    memory = region->guest_phys_addr ? memory : start;
+    last = start + region->memory_size - 1;
 }
 
 UNSEEN static void set_line(const struct kvm_irq_level *line) {
@@ -485,7 +485,24 @@ UNSEEN static void set_line(const struct kvm_irq_level *line) {
     is_up = line->level;
 }
 
-/* KVM. Of the guest's state it knows the place. */
+/* What KVM is told of the machine. */
+UNSEEN static void set(unsigned long request, const void *argument) {
+    static const unsigned long requests[STATES] = {
+        KVM_SET_MP_STATE, KVM_SET_SREGS, KVM_SET_REGS, KVM_SET_XSAVE, KVM_SET_XCRS, KVM_SET_DEBUGREGS, KVM_SET_LAPIC,
+        KVM_SET_MSRS, KVM_SET_VCPU_EVENTS, KVM_SET_PIT2, KVM_SET_CLOCK, KVM_SET_IRQCHIP};
+    for (int i = 0; i < STATES; i++)
+        given |= (requests[i] == request) << i;
+    if (request == KVM_SET_USER_MEMORY_REGION)
+        add_memory(argument);
+    else if (request == KVM_SET_REGS)
+        place = ((const struct kvm_regs *)argument)->rip, is_started = false;
+    else if (request == KVM_IRQFD)
+        interrupt = *(const struct kvm_irqfd *)argument;
+    else if (request == KVM_IRQ_LINE)
+        set_line(argument);
+}
+
+/* KVM. */
 UNSEEN int __wrap_ioctl(int fd, unsigned long request, ...) {
     va_list arguments;
     va_start(arguments, request);
@@ -495,34 +512,17 @@ UNSEEN int __wrap_ioctl(int fd, unsigned long request, ...) {
         return __real_ioctl(fd, request, argument);
     if (is_running && fd == vcpu)
         fail("KVM holds a vCPU that runs");
-    uint32_t chip = request == KVM_GET_IRQCHIP ? ((struct kvm_irqchip *)argument)->chip_id : 0;
-    if (_IOC_DIR(request) == _IOC_READ || request == KVM_GET_IRQCHIP)
-        memset(argument, 0, _IOC_SIZE(request));
+    get(request, argument);
     set(request, argument);
     switch (request) {
     case KVM_CREATE_VM: return make(0);
     case KVM_CREATE_VCPU:
-        fd = make(RUN_SIZE);
-        run = mmap(NULL, RUN_SIZE, PROT_READ | PROT_WRITE, MAP_SHARED, fd, 0);
-        return vcpu = fd;
+        vcpu = make(RUN_SIZE);
+        run = mmap(NULL, RUN_SIZE, PROT_READ | PROT_WRITE, MAP_SHARED, vcpu, 0);
+        return vcpu;
     case KVM_GET_VCPU_MMAP_SIZE: return RUN_SIZE;
-    case KVM_GET_SUPPORTED_CPUID: ((struct kvm_cpuid2 *)argument)->nent = 0; break;
-    case KVM_GET_MSR_INDEX_LIST:
-        ((struct kvm_msr_list *)argument)->nmsrs = 1;
-        ((struct kvm_msr_list *)argument)->indices[0] = 0x10;
-        break;
-    case KVM_GET_MSRS: case KVM_SET_MSRS: return 1;
-    case KVM_IRQFD: line = *(struct kvm_irqfd *)argument; break;
-    case KVM_GET_REGS: *(struct kvm_regs *)argument = (struct kvm_regs){.rip = place, .rsp = 1, .rflags = 2}; break;
-    case KVM_GET_SREGS:
-        *(struct kvm_sregs *)argument = (struct kvm_sregs){.cs.selector = 3, .cr0 = 4, .cr2 = 5, .cr3 = 6, .cr4 = 7, .efer = 8};
-        break;
-    case KVM_GET_MP_STATE: ((struct kvm_mp_state *)argument)->mp_state = KVM_MP_STATE_HALTED; break;
-    case KVM_GET_IRQCHIP:
-        ((struct kvm_irqchip *)argument)->chip.pic = (struct kvm_pic_state){.irr = chip + 9, .imr = chip + 16, .isr = chip + 32};
-        break;
-    case KVM_SET_REGS: place = ((struct kvm_regs *)argument)->rip, is_started = false; break;
-    case KVM_IRQ_LINE: set_line(argument); break;
+    case KVM_GET_MSRS:
+    case KVM_SET_MSRS: return 1;
     case KVM_RUN:
         is_running = true;
         fd = run_guest();

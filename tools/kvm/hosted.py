@@ -1,5 +1,4 @@
-"""A second monitor like that of examples/kvm, and random scripts for both. The host is host.c, which says what the lines
-do.
+"""A second monitor like that of examples/kvm, and random scripts for both, whose lines host.c explains.
 
 It was written from docs/DEVICES.md, docs/MONITOR.md and the duties of docs/THREATS.md.
 """
@@ -38,6 +37,7 @@ REGISTERS = """rip {:016x}  rsp 0000000000000001  rflags 2  cs 3  halted 1
 cr0 4  cr2 5  cr3 6  cr4 7  efer 8
 interrupts from 0: asked 09, masked 10, in service 20
 interrupts from 8: asked 0a, masked 11, in service 21"""
+FAILURES = [f"x {reason:x}" for reason in (0, SHUTDOWN, INTERNAL_ERROR)]
 SIGNALS = signal.SIGHUP, signal.SIGINT, signal.SIGQUIT, signal.SIGTERM
 # The errors of a write after which it is made again, and another.
 PASSING, LASTING = (errno.EINTR, errno.EAGAIN), errno.EPIPE
@@ -331,7 +331,7 @@ class Script:
         while len(self.lines) < length and not self.monitor.has_ended:
             chance.choices(makers, (8, 12, 8, 6, 2, 4, 9))[0]()
         if not self.monitor.has_ended and chance.randrange(2):
-            self.add(chance.choice((*(f"x {it:x}" for it in (0, SHUTDOWN, INTERNAL_ERROR)), f"q {chance.choice(SIGNALS):x}")))
+            self.add(chance.choice((*FAILURES, f"q {chance.choice(SIGNALS):x}")))
 
     def flood(self, number):
         """As much output as the terminal and the queue have no room for, or not quite, and then the end."""
@@ -402,7 +402,7 @@ class Script:
         if len(self.monitor.input) > MOST_WAITING or self.monitor.is_closed:
             return
         escaped = (b"\x01\x01", b"\x01y")
-        pieces = [self.random.choice(escaped) if self.random.randrange(30) == 0 else bytes([self.random.randrange(2, 256)])
+        pieces = [bytes([self.random.randrange(2, 256)]) if self.random.randrange(30) else self.random.choice(escaped)
                   for _ in range(self.random.choice((1, 1, 2, 40, 64, 65, 127, 300)))]
         self.add(f"i {b''.join(pieces).hex()}")
         if self.random.randrange(6) == 0:
@@ -432,7 +432,8 @@ class Script:
         if self.random.randrange(5) > 1:
             return BASE + offset, 4
         away = self.random.choice((0, 0, 0, 0, 0, 0, -0x1000, 0x1000, 1 << 16, 1 << 32))
-        return BASE + away + offset + self.random.choice((0, 0, 1, 2, 3)), self.random.choice((1, 2, 2, 3, 4, 4, 5, 6, 7, 8))
+        count = self.random.choice((1, 2, 2, 3, 4, 4, 5, 6, 7, 8))
+        return BASE + away + offset + self.random.choice((0, 0, 1, 2, 3)), count
 
     def wait(self, is_far=False):
         """The host sleeps, at times up to the alarm, or not quite. That may be far away."""
@@ -449,8 +450,8 @@ class Script:
 
     def refuse(self):
         """At times the line refuses the second of two requests."""
-        lines = self.random.choice((("d 1",), ("d 1",), ("d 0",), (RETRY,), (RETRY,), (f"t {PAUSE - 1:x}",), ("t 1",), SECOND_OF_TWO))
-        for line in lines:
+        singly = ("d 1", "d 1", "d 0", RETRY, RETRY, f"t {PAUSE - 1:x}", "t 1")
+        for line in self.random.choice((*((it,) for it in singly), SECOND_OF_TWO)):
             if line[0] != "i" or not self.monitor.is_closed:
                 self.add(line)
 

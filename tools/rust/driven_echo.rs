@@ -9,9 +9,9 @@ fn refused() -> io::Result<()> {
     if down == 1 { Err(io::ErrorKind::WouldBlock.into()) } else { Ok(()) }
 }
 
-/// Drives the machine from standard input, by the lines w, r, i, d and h of tools/c/tests/demo.c. After each it prints whether
-/// the guest was interrupted, and how much room there is. With an argument an interrupt stays until h, and it prints
-/// whether there is one.
+/// Drives the machine from standard input, by the lines w, r, i, d and h of tools/c/tests/demo.c, of which `d 2` leaves
+/// one more request. After each it prints whether the guest was interrupted, and how much room there is. With an
+/// argument an interrupt stays until h, and it prints whether there is one.
 fn main() -> io::Result<()> {
     let mut machine = Machine::new();
     let mut is_interrupted = false;

@@ -1,7 +1,7 @@
 /*
- * Drives examples/c/lines.c from standard input, in place of its `main`, by the lines w, r, i and h of demo.c. After each it
- * prints whether the guest is interrupted, by edges, or, with an argument, by a level, and how much room there is. What goes
- * out is printed at once, and so is a mark for the interrupts that a call asks for.
+ * Drives examples/c/lines.c from standard input, in place of its `main`, by the lines w, r, i and h of demo.c. After
+ * each it prints whether the guest is interrupted, by edges, or, with an argument, by a level, and how much room there
+ * is. What goes out is printed at once, and so is a mark for the interrupts that a call asks for.
  */
 #define main lines_main
 #include "lines.c"
