@@ -78,7 +78,7 @@ class Monitor:
             self.show(byte)
         return reply, did, did.count("T")
 
-    def refuses(self, _=None):
+    def refuses(self):
         """Whether the interrupt line refuses a request."""
         is_refused, self.down = self.down == 1, self.down - (self.down > 1)
         return is_refused
@@ -241,12 +241,13 @@ class Echo(Edges):
 
     def __init__(self):
         super().__init__()
-        self.port = Port(self.refuses, lambda: "")
+        self.port = Port(lambda number: 0 < self.down <= number, lambda: "")
         self.feeds_early, self.was_interrupted = True, False
 
     def call(self, name, *arguments):
         reply, did, times = super().call(name, *arguments)
         self.was_refused |= "R" in did
+        self.down = self.down and max(1, self.down - times)
         return reply, did, times
 
     def serve(self, word, *numbers):

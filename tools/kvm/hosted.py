@@ -18,6 +18,8 @@ START, IMAGE, FRESH, USED = 0x7C00, 0xF4, 0, 0x5A
 AWAKE, SINCE_START, OF_DAY = 777 * SECOND, 5000 * SECOND, 1700000000 * SECOND + SECOND * 3 // 10
 PAUSE = 5_000_000
 RETRY = f"t {PAUSE:x}"
+# Two bytes come, and the guest takes one.
+POKE = "i 7879", f"r {COM1:x} 1 1"
 # The guest enables both interrupts while a byte is held, and the second of the two requests is refused.
 SECOND_OF_TWO = (f"w {COM1 + 1:x} 1 00", "i 78", "d 2", f"w {COM1 + 1:x} 1 03", RETRY)
 MOST_LINES, MOST_WAITING = 60, 60_000
@@ -318,12 +320,8 @@ class Script:
         self.random = chance
         self.is_early = chance.randrange(6) == 0
         self.monitor, self.lines = Hosted(self.is_early), []
-        if number < 2 * WAYS:
-            (self.flood, self.fill)[number // WAYS](number % WAYS)
-        elif number == 2 * WAYS:
-            self.insist()
-        elif number == 2 * WAYS + 1:
-            self.outlast()
+        if number < 4 * WAYS:
+            (self.flood, self.fill, self.insist, self.outlast)[number // WAYS](number % WAYS)
         for line in (f"w {COM1 + 1:x} 1 0{chance.choice((1, 1, 1, 2, 3))}", f"s {BASE + 0x010:x} 01000000"):
             if chance.randrange(4) and not self.monitor.has_ended:
                 self.add(line)
@@ -342,8 +340,7 @@ class Script:
             self.add(f"w {COM1:x} 1 {self.random.randbytes(count).hex()}")
             left -= count
         for room in ((EVER,), (100, EVER), (0, EVER), (100,))[number]:
-            self.add(f"b {room:x}")
-            self.add(f"w {COM1:x} 1 41")
+            self.add(f"b {room:x}", f"w {COM1:x} 1 41")
         if self.random.randrange(2):
             self.add("i 0178")
 
@@ -351,27 +348,26 @@ class Script:
         """More input than there is room for, or not quite, for a guest that is ready only then."""
         for _ in range((2, QUEUE // PIECE - 1, QUEUE // PIECE, QUEUE // PIECE + 2)[number]):
             self.add(f"i {bytes(self.random.choices(range(2, 256), k=PIECE)).hex()}")
-        self.add(f"i {bytes(self.random.randrange(1, 40)).hex()}")
-        if self.monitor.is_watched:
-            self.add("g")
-        self.add(f"w {COM1 + 1:x} 1 01")
-        for _ in range(2):
-            self.add(f"r {COM1:x} 1 {PIECE:x}")
+        self.add(f"i {bytes(self.random.randrange(1, 40)).hex()}", *["g"] * self.monitor.is_watched,
+                 f"w {COM1 + 1:x} 1 01", *[f"r {COM1:x} 1 {PIECE:x}"] * 2)
 
-    def insist(self):
+    def insist(self, number):
         """Both interrupts are refused, again and again."""
-        for line in ("d 1", f"w {COM1 + 1:x} 1 01", "i 78", f"w {COM1 + 1:x} 1 03", *[RETRY] * REFUSALS, "d 0", RETRY, RETRY):
-            self.add(line)
+        if number == 0:
+            self.add("d 1", f"w {COM1 + 1:x} 1 01", "i 78", f"w {COM1 + 1:x} 1 03", *[RETRY] * REFUSALS, "d 0", RETRY,
+                     RETRY)
 
-    def outlast(self):
-        """More exits than are kept, and the end."""
-        for number in range(KEPT + self.random.randrange(10)):
-            self.add(f"r {COM1 + 1 + number % 7:x} 1 1")
-        self.add(f"x {SHUTDOWN:x}")
+    def outlast(self, number):
+        """About as many exits as are kept, and the end."""
+        if number < 2:
+            self.add(*[f"r {COM1 + 1 + place % 7:x} 1 1" for place in range(KEPT - 1 + 9 * number)], f"x {SHUTDOWN:x}")
 
-    def add(self, line):
-        self.lines.append(line)
-        self.monitor.serve(line)
+    def add(self, *lines):
+        """Adds lines, without what would be typed after the end of input."""
+        for line in lines:
+            if line[0] != "i" or not self.monitor.is_closed:
+                self.lines.append(line)
+                self.monitor.serve(line)
 
     def port(self):
         """A port with a size and a number of items: mostly one byte of the serial port, or else what is beside."""
@@ -399,15 +395,14 @@ class Script:
 
     def type(self):
         """No command of the monitor. One of another letter may be cut in two."""
-        if len(self.monitor.input) > MOST_WAITING or self.monitor.is_closed:
+        if len(self.monitor.input) > MOST_WAITING:
             return
         escaped = (b"\x01\x01", b"\x01y")
         pieces = [bytes([self.random.randrange(2, 256)]) if self.random.randrange(30) else self.random.choice(escaped)
                   for _ in range(self.random.choice((1, 1, 2, 40, 64, 65, 127, 300)))]
         self.add(f"i {b''.join(pieces).hex()}")
         if self.random.randrange(6) == 0:
-            self.add("i 01")
-            self.add(f"i {self.random.choice(('01', '79'))}{pieces[0].hex()}")
+            self.add("i 01", f"i {self.random.choice(('01', '79'))}{pieces[0].hex()}")
 
     def store(self):
         """To a register, with a number near guest time or the host's, or beside one."""
@@ -451,9 +446,7 @@ class Script:
     def refuse(self):
         """At times the line refuses the second of two requests."""
         singly = ("d 1", "d 1", "d 0", RETRY, RETRY, f"t {PAUSE - 1:x}", "t 1")
-        for line in self.random.choice((*((it,) for it in singly), SECOND_OF_TWO)):
-            if line[0] != "i" or not self.monitor.is_closed:
-                self.add(line)
+        self.add(*self.random.choice((*((it,) for it in singly), SECOND_OF_TWO)))
 
     def fail(self):
         """The next write to the terminal fails, or a snapshot, or the user types no more."""
@@ -467,26 +460,18 @@ class Script:
     def reset(self):
         self.add(f"w 64 1 {self.random.choice(('fe', 'fe', 'fe', 'fd'))}")
         if not self.monitor.has_ended and self.random.randrange(2):
-            self.add(f"w {COM1 + 1:x} 1 0{self.random.randrange(4)}")
-            self.poke()
+            self.add(f"w {COM1 + 1:x} 1 0{self.random.randrange(4)}", *POKE)
 
     def move(self):
         self.add(f"k {self.random.choice((0, 1, 2, self.random.randrange(-2000, 2000))):x}")
         if self.random.randrange(2) and self.monitor.is_watched:
-            self.add("g")
-            self.add(f"l {BASE:x} 4")
+            self.add("g", f"l {BASE:x} 4")
         if self.random.randrange(2):
-            self.poke()
-
-    def poke(self):
-        """Two bytes come, and the guest takes one."""
-        if not self.monitor.is_closed:
-            self.add("i 7879")
-            self.add(f"r {COM1:x} 1 1")
+            self.add(*POKE)
 
 
 def random_scripts(count, seed):
-    """The first ones have much output or input, or many refusals."""
+    """The first ones have much output or input, many refusals or many exits."""
     chance = random.Random(seed)
     return [Script(chance, chance.randrange(MOST_LINES), number) for number in range(count)]
 
@@ -500,7 +485,6 @@ def command_of(program, *options):
 def differences_of(program, scripts):
     """The scripts in which a monitor with this host does something else."""
     for script in scripts:
-        command = command_of(program, "-f", "image", "-m", "2", "--reboot", "--exits", "exits",
-                             *["--early-input"] * script.is_early)
-        wanted = script.monitor.printed, script.monitor.status
-        yield from different_scripts(command, [(str(script.lines)[:2000], script.lines, *wanted)])
+        options = "-m", "2", "--reboot", "--exits", "exits", *["--early-input"] * script.is_early
+        case = str(script.lines)[:2000], script.lines, script.monitor.printed, script.monitor.status
+        yield from different_scripts(command_of(program, "-f", "image", *options), [case])
