@@ -46,9 +46,9 @@ def seconds_due(clock, now):
 class Monitor:
     """The devices, what the monitor keeps beside them, and the lines that it has printed."""
 
-    may_refuse = False        # whether a monitor with a port alone takes the line d
-    most = 40                 # how many bytes the guest's handler takes for each look at IIR
-    feeds_after = (IER, MCR)  # the registers whose write may make the guest ready
+    may_refuse = may_look = False  # whether a monitor with a port alone takes the lines d and k
+    most = 40                      # how many bytes the guest's handler takes for each look at IIR
+    feeds_after = (IER, MCR)       # the registers whose write may make the guest ready
 
     def __init__(self):
         # The requests of a call are made by the monitor, after it.
@@ -196,7 +196,7 @@ class Edges(Monitor):
     what went out, with a mark where it was asked for interrupts, whether the guest is interrupted, and how much room
     there is."""
 
-    most = 16
+    most, may_look = 16, True
     mark = "!"  # what is printed for the requests of a call
 
     def __init__(self):
@@ -219,6 +219,10 @@ class Edges(Monitor):
         self.is_interrupted = self.is_interrupted or times > 0
         self.out += self.mark * (times > 0)
 
+    def k(self):
+        self.reply(f"{self.is_interrupted:d}")
+        self.is_interrupted = False
+
     def feed(self):
         reply, _, times = self.call("enqueue", self.input)
         self.input = b""
@@ -237,7 +241,7 @@ class Echo(Edges):
     printed once."""
 
     feeds_after = (MCR,)
-    may_refuse, mark = True, ""
+    may_refuse, may_look, mark = True, False, ""
 
     def __init__(self):
         super().__init__()
@@ -340,8 +344,8 @@ class Script:
         self.add("i", min(self.random.choice((1, 1, 2, 40, 64, 65, 127)), room), byte)
 
     def serve(self):
-        if self.random.randrange(2) and not self.has_port_alone:
-            return self.add("t")
+        if self.random.randrange(2) and (self.monitor.may_look or not self.has_port_alone):
+            return self.add("k" if self.has_port_alone else "t")
         self.add("w", COM1 + 3, 3)  # with DLAB set the handler would not reach the bytes, and not end
         if self.has_port_alone:
             self.add("w", COM1 + 4, 8)  # nor would one that sends its bytes back in loopback
