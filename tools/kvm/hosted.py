@@ -20,6 +20,12 @@ PAUSE = 5_000_000
 RETRY = f"t {PAUSE:x}"
 # Two bytes come, and the guest takes one.
 POKE = "i 7879", f"r {COM1:x} 1 1"
+# A guest sets a divisor whose high byte is 1, which enables nothing; one polls, and is moved; one sleeps up to an alarm
+# that is far away; others do nothing of this.
+DIVISOR = f"w {COM1 + 3:x} 1 83", f"w {COM1 + 1:x} 1 01", *POKE, f"w {COM1 + 3:x} 1 03", f"r {COM1:x} 1 1"
+FAR_ALARM = (f"s {BASE + 0x010:x} 01000000", f"s {BASE + 0x004:x} ffffffff",
+             f"n {(2**32 - 1) * SECOND - OF_DAY - SECOND // 10:x}", f"n {SECOND:x}")
+OPENINGS = (), (), (), DIVISOR, (*POKE, "g", *POKE, f"w {COM1 + 4:x} 1 08"), FAR_ALARM
 # The guest enables both interrupts while a byte is held, and the second of the two requests is refused.
 SECOND_OF_TWO = (f"w {COM1 + 1:x} 1 00", "i 78", "d 2", f"w {COM1 + 1:x} 1 03", RETRY)
 MOST_LINES, MOST_WAITING = 60, 60_000
@@ -322,6 +328,8 @@ class Script:
         self.monitor, self.lines = Hosted(self.is_early), []
         if number < 4 * WAYS:
             (self.flood, self.fill, self.insist, self.outlast)[number // WAYS](number % WAYS)
+        else:
+            self.add(*chance.choice(OPENINGS))
         for line in (f"w {COM1 + 1:x} 1 0{chance.choice((1, 1, 1, 2, 3))}", f"s {BASE + 0x010:x} 01000000"):
             if chance.randrange(4) and not self.monitor.has_ended:
                 self.add(line)
@@ -419,7 +427,7 @@ class Script:
             self.wait(True)
 
     def load(self):
-        offset = self.random.choice((*(register.offset for register in CLOCK.values()), 0xFE0, 0xFFC))
+        offset = self.random.choice((*(register.offset for register in CLOCK.values()), 0xFE0, 0xFFC, 0x1000, -4))
         self.add("l {:x} {:x}".format(*self.beside(offset)))
 
     def beside(self, offset):
