@@ -65,7 +65,7 @@ static struct kvm_run *run;
 static struct kvm_irqfd interrupt;
 static uint8_t *memory, *last;
 static uint64_t place; /* of the guest: one more for each access that is complete */
-static bool is_started, is_access, is_read, is_moving, is_up, is_running, is_restored;
+static bool is_started, is_access, is_read, is_moving, is_up, is_running, is_again;
 static volatile unsigned long rests;  /* how often the event loop has found nothing to do */
 static volatile bool may_go, is_held; /* whether it may look, since the guest makes no access; it waits until it may */
 extern pthread_mutex_t lock;          /* of the monitor, as is this: */
@@ -120,7 +120,7 @@ static void fail(const char *what) {
 __attribute__((constructor)) static void begin(int count, char **words) {
     const char *before = getenv("HOST");
     int both[2];
-    is_restored = before;
+    is_again = before;
     if (before)
         sscanf(before, "%d %d %ld %ld %ld", &script, &seen, &now.awake, &now.since_start, &now.of_day);
     else
@@ -420,9 +420,10 @@ UNSEEN static int run_guest(void) {
         return -1;
     if (!is_started)
         dprintf(seen, "starts %lx %02x %02x%02x\n", place, memory[IMAGE], memory[MARK], *last);
-    if (is_restored && given != (1 << STATES) - 1)
-        fail("a restored guest lacks a part of its state");
-    is_started = true;
+    if (!is_started && is_again && given != (1 << STATES) - 1)
+        fail("a guest that starts again lacks a part of its state");
+    given = 0;
+    is_started = is_again = true;
     memory[MARK] = *last = 0x5A;
     for (;;) {
         do

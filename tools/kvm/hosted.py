@@ -25,6 +25,8 @@ POKE = "i 7879", f"r {COM1:x} 1 1"
 DIVISOR = f"w {COM1 + 3:x} 1 83", f"w {COM1 + 1:x} 1 01", *POKE, f"w {COM1 + 3:x} 1 03", f"r {COM1:x} 1 1"
 FAR_ALARM = (f"s {BASE + 0x010:x} 01000000", f"s {BASE + 0x004:x} ffffffff",
              f"n {(2**32 - 1) * SECOND - OF_DAY - SECOND // 10:x}", f"n {SECOND:x}")
+# A request is refused, and made again.
+MADE_AGAIN = "d 1", f"w {COM1 + 1:x} 1 00", f"w {COM1 + 1:x} 1 02", "d 0", RETRY
 OPENINGS = (), (), (), DIVISOR, (*POKE, "g", *POKE, f"w {COM1 + 4:x} 1 08"), FAR_ALARM
 # The guest enables both interrupts while a byte is held, and the second of the two requests is refused.
 SECOND_OF_TWO = (f"w {COM1 + 1:x} 1 00", "i 78", "d 2", f"w {COM1 + 1:x} 1 03", RETRY)
@@ -380,8 +382,10 @@ class Script:
     def port(self):
         """A port with a size and a number of items: mostly one byte of the serial port, or else what is beside."""
         size, count = self.random.choice((1, 1, 2, 4)), self.random.choice((1, 1, 2, 3))
-        near = [COM1 - 3, COM1 - 1, COM1 + 7, COM1 + 8, 0x5D, 0x5F, 0x61, 0x62, 0x63, 0x65, 0x264, 0xFFFE]
-        return self.random.choice([*near, COM1 + self.random.randrange(8), self.random.randrange(1 << 16)]), size, count
+        own = self.random.choice((0x60, 0x64, COM1 + self.random.randrange(8)))
+        others = [own ^ 1 << self.random.randrange(16)] * 6  # what a decoder that leaves out a bit takes for it
+        near = [COM1 - 3, COM1 - 1, COM1 + 7, COM1 + 8, 0x5D, 0x5F, 0x61, 0x62, 0x63, 0x65, 0xFFFE]
+        return self.random.choice([*near, *others, own, self.random.randrange(1 << 16)]), size, count
 
     def write(self):
         if not self.random.randrange(6):
@@ -406,7 +410,8 @@ class Script:
         if len(self.monitor.input) > MOST_WAITING:
             return
         escaped = (b"\x01\x01", b"\x01y")
-        pieces = [bytes([self.random.randrange(2, 256)]) if self.random.randrange(30) else self.random.choice(escaped)
+        pieces = [bytes([self.random.choice((0, *[self.random.randrange(2, 256)] * 3))])
+                  if self.random.randrange(30) else self.random.choice(escaped)
                   for _ in range(self.random.choice((1, 1, 2, 40, 64, 65, 127, 300)))]
         self.add(f"i {b''.join(pieces).hex()}")
         if self.random.randrange(6) == 0:
@@ -454,7 +459,7 @@ class Script:
     def refuse(self):
         """At times the line refuses the second of two requests."""
         singly = ("d 1", "d 1", "d 0", RETRY, RETRY, f"t {PAUSE - 1:x}", "t 1")
-        self.add(*self.random.choice((*((it,) for it in singly), SECOND_OF_TWO)))
+        self.add(*self.random.choice((*((it,) for it in singly), SECOND_OF_TWO, MADE_AGAIN)))
 
     def fail(self):
         """The next write to the terminal fails, or a snapshot, or the user types no more."""
