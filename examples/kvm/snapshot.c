@@ -133,7 +133,7 @@ void snapshot_keep_start(void) {
 }
 
 void snapshot_start_again(void) {
-    is_saved = false;
+    is_saved = is_broken = false;
     file = fmemopen(start, start_size, "rb");
     must(file ? 0 : -1, "memory");
     pass_kvm();

@@ -35,7 +35,8 @@ CASES = [
     ("bytes are left when the guest reads that nothing is pending", ["w 3f9 1", "i 2 78", "r 3fa", "r 3fa", "r 3fa"],
      ["interrupt", "c4", "interrupt", "c1", "c4"], 0),
     ("loopback, and input that waits for its end",
-     ["e", "w 3fc 10", "w 3f8 41", "r 3f8", "i 3 78", "r 3f8", "w 3fc 0", "r 3f8", "r 3fd"], ["41", "00", "78", "61"], 0),
+     ["e", "w 3fc 10", "w 3f8 41", "r 3f8", "i 3 78", "r 3f8", "w 3fc 0", "r 3f8", "r 3fd"],
+     ["41", "00", "78", "61"], 0),
     ("input that waits until the guest enables RDA without THRE, and not while it tests the port",
      ["i 3 78", "w 3f9 f", "r 3f8", "w 3f9 0", "w 3f9 3", "r 3f8", "r 3fa", "w 3f9 5", "h"],
      ["interrupt", "00", "00", "c2", "interrupt", "received 3"], 0),
@@ -45,8 +46,8 @@ CASES = [
     ("more input than the FIFO holds", ["e", "i 46 78", *["r 3f8"] * 64, "r 3fd", *["r 3f8"] * 6, "r 3fd"],
      ["78"] * 64 + ["61"] + ["78"] * 6 + ["60"], 0),
     ("ports of the devices and beside them",
-     ["r 61", "r 3f7", "r 400", "r 3ff", "w 3ff 5a", "w 400 12", "w 3f7 34", "r 3ff", "w 3fd 0", "r 3fd", "r 60", "r 64",
-      "w 60 fe", "w 62 fe", "w 64 fd", "w 64 fe"],
+     ["r 61", "r 3f7", "r 400", "r 3ff", "w 3ff 5a", "w 400 12", "w 3f7 34", "r 3ff", "w 3fd 0", "r 3fd", "r 60",
+      "r 64", "w 60 fe", "w 62 fe", "w 64 fd", "w 64 fe"],
      ["ff", "ff", "ff", "00", "5a", "60", "00", "00", "reset", CLOCK_IS_OFF], 0),
     ("each command of the controller", [f"w {port} {byte:x}" for port in (60, 64) for byte in range(256)],
      ["reset", CLOCK_IS_OFF], 0),
@@ -159,11 +160,8 @@ def check_driven_demo(tally, machine, folder):
             tally.check(not found, "\n".join(found), len(OTHERS))
     tally.of("wrong demos")
     for number, bug in enumerate(read_bugs(TESTS / "wrong-demos.edits", "monitor.c")):
-        source, wrong = (DEMO / bug.file).read_text(encoding="utf-8"), place / str(number)
-        wrong.mkdir(parents=True)
-        (wrong / bug.file).write_text(source.replace(bug.old, bug.new), encoding="utf-8")
-        stands = source.count(bug.old)
-        command = build(machine, compiler, wrong, program, bug.file)
+        wrong = place / str(number)
+        stands, command = bug.plant(DEMO, wrong), build(machine, compiler, wrong, program, bug.file)
         if tally.check(stands == 1, f"{bug.name}: its text stands {stands} times in {bug.file}", 0) \
                 and tally.run(f"the wrong demo is built: {bug.name}", command, number=0):
             found = any(differences(bug.file, program)) or any(over_others(compiler, wrong / bug.file, wrong))

@@ -13,12 +13,12 @@ from machines import C
 from random_calls import write_calls
 from tally import run
 
-# What the examples beside the monitor print.
-EXAMPLES = {
-    "paste": "1000 bytes in 16 pieces, in order\n",
-    "lines": "edges: 1000 bytes received, and after an unmasking none\n"
-             "level: 1000 bytes received, and after an unmasking an interrupt\n",
-}
+# What the examples beside the monitor print, also over a port that takes few bytes at a time.
+SCANT = [TESTS / "scant.c", "-Wl,--wrap=superio_serial_enqueue"]
+LINES = ("edges: 1000 bytes received, and after an unmasking none\n"
+         "level: 1000 bytes received, and after an unmasking an interrupt\n")
+EXAMPLES = [("paste", [], "1000 bytes in 16 pieces, in order\n"), ("lines", [], LINES),
+            ("paste", SCANT, "1000 bytes in 45 pieces, in order\n"), ("lines", SCANT, LINES)]
 CALLS = 1000000
 SANITIZERS = ["-g", "-O1", "-fsanitize=address,undefined", "-fno-sanitize-recover=all"]
 # A library whose number is another by DIFFERENCE.
@@ -140,8 +140,8 @@ def check_demos(tally, machine, folder):
     by interrupts of both kinds; and whether the demo builds by its Makefile, and prints what it should."""
     for compiler in compilers_of(tally, machine, "the demo"):
         what, place = f"for {machine.target} under {compiler.name}", folder / "demo"
-        for name, printed in EXAMPLES.items():
-            build = machine.program(compiler, [DEMO / f"{name}.c"], folder / name, ["-O1"])
+        for name, port, printed in EXAMPLES:
+            build = machine.program(compiler, [DEMO / f"{name}.c", *port], folder / name, ["-O1"])
             if tally.run(f"{name}.c {what} is built", build):
                 tally.run(f"{name}.c {what}", [*machine.runner, folder / name], printed)
         if tally.has("make", "the demo"):

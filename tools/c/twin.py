@@ -46,15 +46,16 @@ def seconds_due(clock, now):
 class Monitor:
     """The devices, what the monitor keeps beside them, and the lines that it has printed."""
 
-    may_refuse = False        # whether a monitor with a port alone takes the line d
-    most = 40                 # how many bytes the guest's handler takes for each look at IIR
-    feeds_after = (IER, MCR)  # the registers whose write may make the guest ready
+    may_refuse = may_look = False  # whether a monitor with a port alone takes the lines d and k
+    most = 40                      # how many bytes the guest's handler takes for each look at IIR
+    feeds_after = (IER, MCR)       # the registers whose write may make the guest ready
 
     def __init__(self):
         # The requests of a call are made by the monitor, after it.
         self.port, self.clock = Port(lambda _: False, lambda: ""), Clock()
         self.input, self.now, self.printed = b"", 1000, []
-        self.is_down = self.was_refused = self.is_interrupted = self.is_ready = self.feeds_early = False
+        self.down = 0  # or one more than the interrupt line still takes
+        self.was_refused = self.is_interrupted = self.is_ready = self.feeds_early = False
 
     def serve(self, word, *numbers):
         """Carries out a line."""
@@ -77,13 +78,19 @@ class Monitor:
             self.show(byte)
         return reply, did, did.count("T")
 
+    def refuses(self):
+        """Whether the interrupt line refuses a request."""
+        is_refused, self.down = self.down == 1, self.down - (self.down > 1)
+        return is_refused
+
     def ask(self, times):
         """Makes requests up to a refusal, which is remembered."""
         for _ in range(times):
-            self.printed.append("interrupt refused" if self.is_down else "interrupt")
-            if self.is_down:
+            if self.refuses():
+                self.printed.append("interrupt refused")
                 self.was_refused = True
                 return
+            self.printed.append("interrupt")
             self.is_interrupted = True
 
     def feed(self):
@@ -141,8 +148,8 @@ class Monitor:
     def e(self):
         self.feeds_early = True
 
-    def d(self, is_down):
-        self.is_down = is_down != 0
+    def d(self, down):
+        self.down = down
 
     def n(self, now):
         self.now = now
@@ -177,7 +184,7 @@ class Monitor:
         self.received += byte == ord("x")
 
     def g(self):
-        self.is_down = self.was_refused = self.is_interrupted = False
+        self.down = self.was_refused = self.is_interrupted = False
         held, waiting = len(self.port.held()), len(self.input)
         self.printed.append(f"moved a clock, a port of {17 + held} bytes, and {waiting} of input")
         self.ask(self.port.due())
@@ -186,10 +193,10 @@ class Monitor:
 
 class Edges(Monitor):
     """The monitor of lines.c whose line has edges: a port alone, whose input is what fits. After each line it prints
-    what went out, with a mark where the monitor was asked for interrupts, whether the guest is interrupted, and how much
-    room there is."""
+    what went out, with a mark where it was asked for interrupts, whether the guest is interrupted, and how much room
+    there is."""
 
-    most = 16
+    most, may_look = 16, True
     mark = "!"  # what is printed for the requests of a call
 
     def __init__(self):
@@ -212,6 +219,10 @@ class Edges(Monitor):
         self.is_interrupted = self.is_interrupted or times > 0
         self.out += self.mark * (times > 0)
 
+    def k(self):
+        self.reply(f"{self.is_interrupted:d}")
+        self.is_interrupted = False
+
     def feed(self):
         reply, _, times = self.call("enqueue", self.input)
         self.input = b""
@@ -230,16 +241,17 @@ class Echo(Edges):
     printed once."""
 
     feeds_after = (MCR,)
-    may_refuse, mark = True, ""
+    may_refuse, may_look, mark = True, False, ""
 
     def __init__(self):
         super().__init__()
-        self.port = Port(lambda _: self.is_down, lambda: "")
+        self.port = Port(lambda number: 0 < self.down <= number, lambda: "")
         self.feeds_early, self.was_interrupted = True, False
 
     def call(self, name, *arguments):
         reply, did, times = super().call(name, *arguments)
         self.was_refused |= "R" in did
+        self.down = self.down and max(1, self.down - times)
         return reply, did, times
 
     def serve(self, word, *numbers):
@@ -332,8 +344,8 @@ class Script:
         self.add("i", min(self.random.choice((1, 1, 2, 40, 64, 65, 127)), room), byte)
 
     def serve(self):
-        if self.random.randrange(2) and not self.has_port_alone:
-            return self.add("t")
+        if self.random.randrange(2) and (self.monitor.may_look or not self.has_port_alone):
+            return self.add("k" if self.has_port_alone else "t")
         self.add("w", COM1 + 3, 3)  # with DLAB set the handler would not reach the bytes, and not end
         if self.has_port_alone:
             self.add("w", COM1 + 4, 8)  # nor would one that sends its bytes back in loopback
@@ -364,10 +376,15 @@ class Script:
         self.add(*turn)
 
     def refuse(self):
-        """The line takes nothing, or takes requests again. The guest's next looks at IIR ask for one, if bytes wait."""
-        is_down = self.random.randrange(2)
-        self.add("d", is_down)
-        if is_down and self.random.randrange(2):
+        """The line takes nothing, one more request, or all again. The guest's next looks at IIR ask for one, if bytes
+        wait."""
+        down = self.random.randrange(3)
+        if down == 2:
+            self.add("w", COM1 + IER, 0)
+        self.add("d", down)
+        if down == 2:
+            self.add("w", COM1 + IER, 3)
+        if down and self.random.randrange(2):
             self.disturb()
         for _ in range(self.random.randrange(4)):
             self.add("r", COM1 + IIR)

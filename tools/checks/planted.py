@@ -13,6 +13,13 @@ class Bug:
     old: str
     new: str
 
+    def plant(self, sources, folder):
+        """Makes a folder with the wrong file. Returns how often its text stands in the right one."""
+        source = (sources / self.file).read_text(encoding="utf-8")
+        folder.mkdir(parents=True)
+        (folder / self.file).write_text(source.replace(self.old, self.new), encoding="utf-8")
+        return source.count(self.old)
+
 
 def read_bugs(path, file=None):
     """Reads a file of bugs, with an empty line between two. The first line of each says what the bug does, perhaps

@@ -8,15 +8,22 @@
  *   s ADDRESS BYTES      it stores to memory where there is none
  *   l ADDRESS COUNT      it loads from there so many bytes, which are printed
  *   i BYTES              the user types
- *   d DOWN               the interrupt line takes nothing, or takes requests again
- *   n NANOSECONDS        the host sleeps for so long, and only CLOCK_MONOTONIC stands still
- *   t                    CLOCK_MONOTONIC goes on by five milliseconds
- *   k SECONDS            the host's time of day is set back by so much
+ *   z                    the user types no more
+ *   d DOWN               the interrupt line takes one request less than this, and then none; if it is 0, all of them
  *   b ROOM               the terminal takes so many more bytes of output, until the next such line
+ *   e ERROR              the next write to the terminal fails so
+ *   n NANOSECONDS        the host sleeps for so long, and only CLOCK_MONOTONIC stands still
+ *   t NANOSECONDS        CLOCK_MONOTONIC goes on by so much
+ *   k SECONDS            the host's time of day is set back by so much
  *   g                    a snapshot is written, and its monitor takes the place of this one
+ *   f CALL               a snapshot is asked for, and the opening (1) of its file, a write to it (2), its end (3) or
+ *                        its name (4) fails
+ *   x REASON             the vCPU gives up for a reason of KVM's, or, if it is 0, KVM fails
+ *   q SIGNAL             the monitor is to end
  *
  * After each line the event loop comes to rest. A guest at its start shows its place, the first byte of its image, and
- * a byte of its memory that it sets then. It says so if it has to wait, which it does for no time.
+ * two bytes of its memory that it sets then. It says for how long it has to wait, and does so for no time. The first of
+ * two KVM_RUN, waits for events or for room and reads fails, as it may at any time, and has to be made again.
  */
 #include <err.h>
 #include <errno.h>
@@ -24,6 +31,7 @@
 #include <linux/kvm.h>
 #include <poll.h>
 #include <pthread.h>
+#include <signal.h>
 #include <stdarg.h>
 #include <stdbool.h>
 #include <stdint.h>
@@ -39,23 +47,28 @@
 #include <time.h>
 #include <unistd.h>
 
-enum { RUN_SIZE = 8192, DATA = 4096, IMAGE = 0x7C00, MARK = 0x600, TIMERS = 4, PATIENCE = 40000, MOST = 1 << 17 };
+enum { RUN_SIZE = 8192, DATA = 4096, IMAGE = 0x7C00, MARK = 0x600, CLOCK = 0xD0000, MOST = 1 << 17 };
+enum { TIMERS = 4, PATIENCE = 40000, STATES = 12 /* parts of a guest's */ };
 enum { SECOND = 1000000000, MILLISECOND = 1000000 };
 /* What is known of threads is the monitor's lock alone. */
 #define UNSEEN __attribute__((no_sanitize("thread")))
 
 /* The script, what is seen, and the ends of what the monitor reads and writes, by their descriptors. */
-static int script, seen, keys, screen;
-static off_t shown;     /* how much of the output was */
+static int script, seen, keys, screen, vcpu;
+static off_t shown;            /* how much of the output was */
 static size_t room = SIZE_MAX; /* for more of it */
-static bool is_early;   /* an option of the monitor */
+static int64_t down;           /* 0, or one more than the interrupt line still takes */
+static int given;              /* of a guest's state, a bit for each part */
+static int error, failing;     /* of the next write, and the call of a snapshot's file that fails */
+static bool is_early;          /* an option of the monitor */
 static struct kvm_run *run;
-static uint8_t *memory;
-static uint64_t place;  /* of the guest: one more for each access that is complete */
-static bool is_started, is_access, is_read, is_down, is_moving, is_up;
-static volatile unsigned long rests; /* how often the event loop has found nothing to do */
+static struct kvm_irqfd interrupt;
+static uint8_t *memory, *last;
+static uint64_t place; /* of the guest: one more for each access that is complete */
+static bool is_started, is_access, is_read, is_moving, is_up, is_running, is_again;
+static volatile unsigned long rests;  /* how often the event loop has found nothing to do */
 static volatile bool may_go, is_held; /* whether it may look, since the guest makes no access; it waits until it may */
-extern pthread_mutex_t lock; /* of the monitor, as is this: */
+extern pthread_mutex_t lock;          /* of the monitor, as is this: */
 extern bool has_ended;
 
 /* Of the host, in nanoseconds, since it started and since 1970. */
@@ -72,16 +85,11 @@ int __real_open(const char *path, int flags, ...);
 int __real_ioctl(int fd, unsigned long request, ...);
 int __real_epoll_wait(int epoll, struct epoll_event *events, int most, int timeout);
 ssize_t __real_write(int fd, const void *bytes, size_t count);
-int __wrap_open(const char *path, int flags, ...);
-int __wrap_ioctl(int fd, unsigned long request, ...);
-int __wrap_epoll_wait(int epoll, struct epoll_event *events, int most, int timeout);
-int __wrap_clock_gettime(clockid_t clock, struct timespec *time);
-int __wrap_eventfd_write(int fd, eventfd_t value);
-int __wrap_poll(struct pollfd *files, nfds_t count, int timeout);
-int __wrap_pthread_cond_clockwait(pthread_cond_t *it, pthread_mutex_t *lock, clockid_t clock, const struct timespec *until);
-ssize_t __wrap_write(int fd, const void *bytes, size_t count);
-int __wrap_timerfd_create(int clock, int flags);
-int __wrap_timerfd_settime(int fd, int flags, const struct itimerspec *new, struct itimerspec *old);
+ssize_t __real_read(int fd, void *bytes, size_t count);
+FILE *__real_fopen(const char *path, const char *mode);
+size_t __real_fwrite(const void *bytes, size_t size, size_t count, FILE *file);
+int __real_fclose(FILE *file);
+int __real_rename(const char *from, const char *to);
 
 /* Prints bytes. */
 UNSEEN static void show(const char *what, const uint8_t *bytes, size_t count) {
@@ -112,6 +120,7 @@ static void fail(const char *what) {
 __attribute__((constructor)) static void begin(int count, char **words) {
     const char *before = getenv("HOST");
     int both[2];
+    is_again = before;
     if (before)
         sscanf(before, "%d %d %ld %ld %ld", &script, &seen, &now.awake, &now.since_start, &now.of_day);
     else
@@ -120,13 +129,25 @@ __attribute__((constructor)) static void begin(int count, char **words) {
     if (script < 0 || seen < 0 || screen < 0 || pipe2(both, O_CLOEXEC) < 0)
         fail("the host cannot start");
     keys = both[1];
+    unlink("exits");
     dup2(both[0], STDIN_FILENO);
     dup2(screen, STDOUT_FILENO);
     is_early = strcmp(words[count - 1], "--early-input") == 0;
 }
 
+/* What is left to see: of the output, and of the vCPU's last exits. */
 __attribute__((destructor)) static void end(void) {
+    static char text[MOST];
+    FILE *file = __real_fopen("exits", "r");
     show_output();
+    if (file)
+        dprintf(seen, "%.*s", (int)fread(text, 1, sizeof text, file), text);
+}
+
+/* Whether a call is the first of two, and fails, as it may at any time. */
+UNSEEN static bool is_interrupted(unsigned *calls, int other) {
+    errno = *calls & 2 ? other : EINTR;
+    return (*calls)++ % 2 == 0;
 }
 
 /* Each call of a monitor that runs is made with its lock. */
@@ -150,38 +171,75 @@ UNSEEN ssize_t __wrap_write(int fd, const void *bytes, size_t count) {
     if (fd != STDOUT_FILENO)
         return __real_write(fd, bytes, count);
     need_lock();
-    count = count < room ? count : room;
+    count = error ? 0 : count < room ? count : room;
     room -= count;
-    errno = EAGAIN;
+    errno = error ? error : EAGAIN;
+    error = 0;
     return count > 0 ? syscall(SYS_write, fd, bytes, count) : -1;
 }
 
+UNSEEN ssize_t __wrap_read(int fd, void *bytes, size_t count) {
+    static unsigned calls;
+    return is_interrupted(&calls, EAGAIN) ? -1 : __real_read(fd, bytes, count);
+}
+
+/* Whether the calls of a snapshot's file that have this number fail. */
+UNSEEN static bool fails(int number) {
+    errno = failing == number ? ENOSPC : errno;
+    return failing == number;
+}
+
+FILE *__wrap_fopen(const char *path, const char *mode) {
+    return fails(1) ? NULL : __real_fopen(path, mode);
+}
+
+size_t __wrap_fwrite(const void *bytes, size_t size, size_t count, FILE *file) {
+    return fails(2) ? 0 : __real_fwrite(bytes, size, count, file);
+}
+
+int __wrap_fclose(FILE *file) {
+    int result = __real_fclose(file);
+    return fails(3) ? EOF : result;
+}
+
+int __wrap_rename(const char *from, const char *to) {
+    return fails(4) ? -1 : __real_rename(from, to);
+}
+
 int __wrap_poll(struct pollfd *files, nfds_t count, int timeout) {
-    (void)files, (void)timeout;
+    (void)files;
+    if (timeout != SECOND / MILLISECOND)
+        fail("the end waits for another time");
     return count > 0 && room > 0;
+}
+
+UNSEEN static int64_t time_of(clockid_t clock) {
+    return clock == CLOCK_BOOTTIME ? now.since_start : clock == CLOCK_REALTIME ? now.of_day : now.awake;
 }
 
 /* The time is up at once. */
 int __wrap_pthread_cond_clockwait(pthread_cond_t *it, pthread_mutex_t *lock, clockid_t clock,
                                   const struct timespec *until) {
-    (void)it, (void)lock, (void)clock, (void)until;
-    dprintf(seen, "waits\n");
+    static unsigned calls;
+    (void)it, (void)lock;
+    if (is_interrupted(&calls, 0))
+        return 0;
+    dprintf(seen, "waits %ld\n", until->tv_sec * (int64_t)SECOND + until->tv_nsec - time_of(clock));
     return ETIMEDOUT;
 }
 
 /* The event loop. A poll that finds nothing is a rest. */
 UNSEEN int __wrap_epoll_wait(int epoll, struct epoll_event *events, int most, int timeout) {
+    static unsigned calls;
     (void)timeout;
+    if (is_interrupted(&calls, EINTR))
+        return -1;
     for (int count;; usleep(20)) {
         is_held = !may_go && !has_ended;
         if (!is_held && (count = __real_epoll_wait(epoll, events, most, 0)) != 0)
             return count;
         rests += !is_held;
     }
-}
-
-UNSEEN static int64_t time_of(clockid_t clock) {
-    return clock == CLOCK_BOOTTIME ? now.since_start : clock == CLOCK_REALTIME ? now.of_day : now.awake;
 }
 
 UNSEEN int __wrap_clock_gettime(clockid_t clock, struct timespec *time) {
@@ -225,11 +283,13 @@ UNSEEN static bool go_off(void) {
 UNSEEN int __wrap_eventfd_write(int fd, eventfd_t value) {
     need_lock();
     show_output();
-    dprintf(seen, is_down ? "interrupt refused\n" : "interrupt\n");
-    if (value != 1 || !(fcntl(fd, F_GETFL) & O_NONBLOCK))
-        fail("a request that adds other than 1, or would wait");
+    bool is_taken = down != 1;
+    down -= down > 1;
+    dprintf(seen, is_taken ? "interrupt\n" : "interrupt refused\n");
+    if (value != 1 || !(fcntl(fd, F_GETFL) & O_NONBLOCK) || (uint32_t)fd != interrupt.fd || interrupt.gsi != 4)
+        fail("a request that adds other than 1, would wait, or is another line's");
     errno = EAGAIN;
-    return is_down ? -1 : 0;
+    return is_taken ? 0 : -1;
 }
 
 /* Waits until the event loop rests. Returns false if the vCPU is to come back before. */
@@ -252,8 +312,8 @@ UNSEEN static void move(void) {
     snprintf(text, sizeof text, "%d %d %ld %ld %ld", script, seen, now.awake, now.since_start, now.of_day);
     setenv("HOST", text, true);
     show_output();
-    execl("/proc/self/exe", "monitor", "--restore", "snapshot", "-s", "snapshot", is_early ? "--early-input" : NULL,
-          NULL);
+    execl("/proc/self/exe", "monitor", "--restore", "snapshot", "-s", "snapshot", "--exits", "exits", "--reboot",
+          is_early ? "--early-input" : NULL, NULL);
     fail("the snapshot is not started");
 }
 
@@ -300,14 +360,21 @@ UNSEEN static void serve(const char *line) {
     int64_t number = strtoll(line + 1, NULL, 16);
     switch (*line) {
     case 'i': syscall(SYS_write, keys, bytes, bytes_of(line + 1, bytes)); break;
-    case 'd': is_down = number != 0; break;
-    case 'n': now.since_start += number, now.of_day += number; break;
+    case 'z': close(keys); break;
+    case 'q': kill(getpid(), (int)number); break;
+    case 'd': down = number; break;
     case 'b': room = (size_t)number; break;
-    case 't': now.awake += 5 * MILLISECOND; break;
+    case 'e': error = (int)number; break;
+    case 'n': now.since_start += number, now.of_day += number; break;
+    case 't': now.awake += number; break;
     case 'k': now.of_day -= number * SECOND; break;
+    case 'f':
+        unlink("snapshot");
+        /* fall through */
     case 'g':
         syscall(SYS_write, keys, "\1s", 2);
-        is_moving = true;
+        failing = (int)number;
+        is_moving = *line == 'g';
         break;
     default: fail("a word of no form");
     }
@@ -316,7 +383,7 @@ UNSEEN static void serve(const char *line) {
 /* The next line, or none at the end, where the host ends too. What follows is left to another program. */
 UNSEEN static const char *next_line(void) {
     static char line[MOST];
-    ssize_t count = read(script, line, sizeof line - 1);
+    ssize_t count = __real_read(script, line, sizeof line - 1);
     line[count > 0 ? count : 0] = 0;
     char *end = strchr(line, '\n');
     if (!end)
@@ -336,16 +403,28 @@ UNSEEN static void complete(void) {
     is_access = false;
 }
 
+/* An exit of the vCPU that is no access, or none. */
+UNSEEN static int give_up(uint32_t reason) {
+    run->exit_reason = reason;
+    run->internal.suberror = 0;
+    errno = EFAULT;
+    return reason ? 0 : -1;
+}
+
 /* The guest, up to its next access. */
 UNSEEN static int run_guest(void) {
+    static unsigned calls;
     complete();
     errno = EINTR;
-    if (run->immediate_exit)
+    if (run->immediate_exit || is_interrupted(&calls, EAGAIN))
         return -1;
     if (!is_started)
-        dprintf(seen, "starts %lx %02x %02x\n", place, memory[IMAGE], memory[MARK]);
-    is_started = true;
-    memory[MARK] = 0x5A;
+        dprintf(seen, "starts %lx %02x %02x%02x\n", place, memory[IMAGE], memory[MARK], *last);
+    if (!is_started && is_again && given != (1 << STATES) - 1)
+        fail("a guest that starts again lacks a part of its state");
+    given = 0;
+    is_started = is_again = true;
+    memory[MARK] = *last = 0x5A;
     for (;;) {
         do
             if (!await_rest())
@@ -354,15 +433,51 @@ UNSEEN static int run_guest(void) {
         show_output();
         if (is_moving)
             move();
+        if (failing && access("snapshot", F_OK) == 0)
+            fail("a snapshot that could not be written is there");
+        failing = 0;
         const char *line = next_line();
         if (strchr("wrsl", *line)) {
             (strchr("wr", *line) ? access_port : access_memory)(strchr("ws", *line) != NULL, line);
             is_access = true;
             is_read = strchr("rl", *line) != NULL;
             return 0;
+        } else if (*line == 'x') {
+            return give_up((uint32_t)strtoul(line + 1, NULL, 16));
         }
         serve(line);
     }
+}
+
+/* What KVM says of itself and of the machine. Of the guest's state it knows the place, and makes up the rest. */
+UNSEEN static void get(unsigned long request, void *argument) {
+    uint8_t chip = request == KVM_GET_IRQCHIP ? (uint8_t)((struct kvm_irqchip *)argument)->chip_id : 0;
+    if (_IOC_DIR(request) == _IOC_READ || request == KVM_GET_IRQCHIP)
+        memset(argument, 0, _IOC_SIZE(request));
+    if (request == KVM_GET_SUPPORTED_CPUID) {
+        ((struct kvm_cpuid2 *)argument)->nent = 0;
+    } else if (request == KVM_GET_MSR_INDEX_LIST) {
+        ((struct kvm_msr_list *)argument)->nmsrs = 1;
+        ((struct kvm_msr_list *)argument)->indices[0] = 0x10;
+    } else if (request == KVM_GET_REGS) {
+        *(struct kvm_regs *)argument = (struct kvm_regs){.rip = place, .rsp = 1, .rflags = 2};
+    } else if (request == KVM_GET_SREGS) {
+        struct kvm_sregs system = {.cs.selector = 3, .cr0 = 4, .cr2 = 5, .cr3 = 6, .cr4 = 7, .efer = 8};
+        *(struct kvm_sregs *)argument = system;
+    } else if (request == KVM_GET_MP_STATE) {
+        ((struct kvm_mp_state *)argument)->mp_state = KVM_MP_STATE_HALTED;
+    } else if (request == KVM_GET_IRQCHIP) {
+        struct kvm_pic_state state = {.irr = chip + 9, .imr = chip + 16, .isr = chip + 32};
+        ((struct kvm_irqchip *)argument)->chip.pic = state;
+    }
+}
+
+UNSEEN static void add_memory(const struct kvm_userspace_memory_region *region) {
+    uint8_t *start = (uint8_t *)region->userspace_addr;
+    if (region->guest_phys_addr <= CLOCK && region->guest_phys_addr + region->memory_size > CLOCK)
+        fail("memory where the clock is");
+    memory = region->guest_phys_addr ? memory : start;
+    last = start + region->memory_size - 1;
 }
 
 UNSEEN static void set_line(const struct kvm_irq_level *line) {
@@ -371,7 +486,24 @@ UNSEEN static void set_line(const struct kvm_irq_level *line) {
     is_up = line->level;
 }
 
-/* KVM. Of the guest's state it knows the place. */
+/* What KVM is told of the machine. */
+UNSEEN static void set(unsigned long request, const void *argument) {
+    static const unsigned long requests[STATES] = {
+        KVM_SET_MP_STATE, KVM_SET_SREGS, KVM_SET_REGS, KVM_SET_XSAVE, KVM_SET_XCRS, KVM_SET_DEBUGREGS, KVM_SET_LAPIC,
+        KVM_SET_MSRS, KVM_SET_VCPU_EVENTS, KVM_SET_PIT2, KVM_SET_CLOCK, KVM_SET_IRQCHIP};
+    for (int i = 0; i < STATES; i++)
+        given |= (requests[i] == request) << i;
+    if (request == KVM_SET_USER_MEMORY_REGION)
+        add_memory(argument);
+    else if (request == KVM_SET_REGS)
+        place = ((const struct kvm_regs *)argument)->rip, is_started = false;
+    else if (request == KVM_IRQFD)
+        interrupt = *(const struct kvm_irqfd *)argument;
+    else if (request == KVM_IRQ_LINE)
+        set_line(argument);
+}
+
+/* KVM. */
 UNSEEN int __wrap_ioctl(int fd, unsigned long request, ...) {
     va_list arguments;
     va_start(arguments, request);
@@ -379,25 +511,24 @@ UNSEEN int __wrap_ioctl(int fd, unsigned long request, ...) {
     va_end(arguments);
     if (_IOC_TYPE(request) != KVMIO)
         return __real_ioctl(fd, request, argument);
-    if (_IOC_DIR(request) & _IOC_READ && request != KVM_GET_SUPPORTED_CPUID && request != KVM_GET_MSR_INDEX_LIST)
-        memset(argument, 0, _IOC_SIZE(request));
+    if (is_running && fd == vcpu)
+        fail("KVM holds a vCPU that runs");
+    get(request, argument);
+    set(request, argument);
     switch (request) {
     case KVM_CREATE_VM: return make(0);
     case KVM_CREATE_VCPU:
-        fd = make(RUN_SIZE);
-        run = mmap(NULL, RUN_SIZE, PROT_READ | PROT_WRITE, MAP_SHARED, fd, 0);
-        return fd;
+        vcpu = make(RUN_SIZE);
+        run = mmap(NULL, RUN_SIZE, PROT_READ | PROT_WRITE, MAP_SHARED, vcpu, 0);
+        return vcpu;
     case KVM_GET_VCPU_MMAP_SIZE: return RUN_SIZE;
-    case KVM_GET_SUPPORTED_CPUID: ((struct kvm_cpuid2 *)argument)->nent = 0; break;
-    case KVM_GET_MSR_INDEX_LIST: ((struct kvm_msr_list *)argument)->nmsrs = 0; break;
-    case KVM_SET_USER_MEMORY_REGION:
-        if (((struct kvm_userspace_memory_region *)argument)->guest_phys_addr == 0)
-            memory = (uint8_t *)((struct kvm_userspace_memory_region *)argument)->userspace_addr;
-        break;
-    case KVM_GET_REGS: ((struct kvm_regs *)argument)->rip = place; break;
-    case KVM_SET_REGS: place = ((struct kvm_regs *)argument)->rip, is_started = false; break;
-    case KVM_IRQ_LINE: set_line(argument); break;
-    case KVM_RUN: return run_guest();
+    case KVM_GET_MSRS:
+    case KVM_SET_MSRS: return 1;
+    case KVM_RUN:
+        is_running = true;
+        fd = run_guest();
+        is_running = false;
+        return fd;
     }
     return 0;
 }

@@ -1,9 +1,11 @@
-"""A second monitor like that of examples/kvm, and random scripts for both. The host is host.c, which says what the lines
-do.
+"""A second monitor like that of examples/kvm, and random scripts for both, whose lines host.c explains.
 
 It was written from docs/DEVICES.md, docs/MONITOR.md and the duties of docs/THREATS.md.
 """
+import errno
+import os
 import random
+import signal
 
 from oracle import CLOCK, SERIAL, Clock, Port, resets, start_fact
 from twin import COM1, EDGES, IS_MASKED, Monitor, different_scripts, seconds_due
@@ -11,8 +13,23 @@ from twin import COM1, EDGES, IS_MASKED, Monitor, different_scripts, seconds_due
 SECOND, BASE, CTRL_A = 10**9, 0xD0000, 0x01
 # Where the guest starts, and what the memory there and elsewhere has.
 START, IMAGE, FRESH, USED = 0x7C00, 0xF4, 0, 0x5A
-# The host's time since its start and of the day, as host.c has it.
-SINCE_START, OF_DAY = 5000 * SECOND, 1700000000 * SECOND + SECOND * 3 // 10
+# The host's time without sleep, since its start and of the day, as host.c has it, and after which a refused request is
+# made again.
+AWAKE, SINCE_START, OF_DAY = 777 * SECOND, 5000 * SECOND, 1700000000 * SECOND + SECOND * 3 // 10
+PAUSE = 5_000_000
+RETRY = f"t {PAUSE:x}"
+# Two bytes come, and the guest takes one.
+POKE = "i 7879", f"r {COM1:x} 1 1"
+# A guest sets a divisor whose high byte is 1, which enables nothing; one polls, and is moved; one sleeps up to an alarm
+# that is far away; others do nothing of this.
+DIVISOR = f"w {COM1 + 3:x} 1 83", f"w {COM1 + 1:x} 1 01", *POKE, f"w {COM1 + 3:x} 1 03", f"r {COM1:x} 1 1"
+FAR_ALARM = (f"s {BASE + 0x010:x} 01000000", f"s {BASE + 0x004:x} ffffffff",
+             f"n {(2**32 - 1) * SECOND - OF_DAY - SECOND // 10:x}", f"n {SECOND:x}")
+# A request is refused, and made again.
+MADE_AGAIN = "d 1", f"w {COM1 + 1:x} 1 00", f"w {COM1 + 1:x} 1 02", "d 0", RETRY
+OPENINGS = (), (), (), DIVISOR, (*POKE, "g", *POKE, f"w {COM1 + 4:x} 1 08"), FAR_ALARM
+# The guest enables both interrupts while a byte is held, and the second of the two requests is refused.
+SECOND_OF_TWO = (f"w {COM1 + 1:x} 1 00", "i 78", "d 2", f"w {COM1 + 1:x} 1 03", RETRY)
 MOST_LINES, MOST_WAITING = 60, 60_000
 # In how many ways there is too much output, or input, and how often a request is refused.
 WAYS, REFUSALS = 4, 1000
@@ -21,8 +38,19 @@ QUEUE, LEVEL, PIECE = 65536, 65536 - 4096, 4096
 EVER, LONG = 2**63 - 1, 100
 # Up to where moments are tried. In nanoseconds twice as much has more than 63 bits.
 FAR = 2**32 * SECOND
-WRITTEN = b"\r\nmonitor: snapshot: written\r\n"
+SNAPSHOT, CALLS_OF_A_FILE = "\r\nmonitor: snapshot: {}\r\n", 4
 RESET, LEFT = "monitor: the guest reset the machine", "monitor: left by Ctrl-A x"
+# Why KVM gives up, the numbers of accesses among that, and how many exits of the vCPU are kept.
+IO, MEMORY, SHUTDOWN, INTERNAL_ERROR, KEPT = 2, 6, 8, 17, 1000
+SHUT_DOWN, GIVES_UP = "monitor: the guest ended by a triple fault", "monitor: the guest cannot go on"
+REGISTERS = """rip {:016x}  rsp 0000000000000001  rflags 2  cs 3  halted 1
+cr0 4  cr2 5  cr3 6  cr4 7  efer 8
+interrupts from 0: asked 09, masked 10, in service 20
+interrupts from 8: asked 0a, masked 11, in service 21"""
+FAILURES = [f"x {reason:x}" for reason in (0, SHUTDOWN, INTERNAL_ERROR)]
+SIGNALS = signal.SIGHUP, signal.SIGINT, signal.SIGQUIT, signal.SIGTERM
+# The errors of a write after which it is made again, and another.
+PASSING, LASTING = (errno.EINTR, errno.EAGAIN), errno.EPIPE
 
 
 class Hosted(Monitor):
@@ -32,15 +60,17 @@ class Hosted(Monitor):
         super().__init__()
         self.feeds_early, self.out, self.is_up, self.is_after = is_early, b"", 0, False
         self.since_start, self.of_day, self.place = SINCE_START, OF_DAY, START
-        self.ahead, self.goes_off, self.retries = OF_DAY - SINCE_START, None, False
+        self.ahead, self.goes_off, self.awake, self.retry_at = OF_DAY - SINCE_START, None, AWAKE, None
+        self.exits, self.status, self.error = [], 0, 0  # the last is that of the next write
         self.is_restored = self.is_reset = False
         self.has_ended = ""  # or what the monitor says then
+        self.is_closed, self.has_input = False, True  # as the user does, and as the monitor knows it
         self.backlog, self.is_watched = b"", True  # what was typed and not read, and whether it is to be
         self.waits_for_terminal, self.dropped, self.takes, self.is_stalled = b"", 0, EVER, False
         self.start(FRESH)
 
     def start(self, mark):
-        self.printed.append(f"starts {self.place:x} {IMAGE:02x} {mark:02x}")
+        self.printed.append(f"starts {self.place:x} {IMAGE:02x} {mark:02x}{mark:02x}")
 
     @property
     def moment(self):
@@ -63,6 +93,11 @@ class Hosted(Monitor):
         self.flush()
 
     def flush(self):
+        if self.error and self.waits_for_terminal:
+            if self.error not in PASSING:
+                self.dropped, self.waits_for_terminal = self.dropped + len(self.waits_for_terminal), b""
+            self.error = 0
+            return
         taken = self.waits_for_terminal[:self.takes]
         self.out, self.waits_for_terminal = self.out + taken, self.waits_for_terminal[len(taken):]
         self.takes -= len(taken)
@@ -70,31 +105,48 @@ class Hosted(Monitor):
 
     def await_room(self):
         if len(self.waits_for_terminal) >= LEVEL and not self.is_stalled:
-            self.printed.append("waits")
+            self.printed.append(f"waits {SECOND}")
             self.is_stalled = True
 
     def end(self):
         """What the terminal does not take at the end is dropped too."""
-        self.flush()
+        while self.waits_for_terminal and self.takes:
+            self.flush()
         self.dropped += len(self.waits_for_terminal)
         if self.dropped:
             self.printed.append(f"monitor: {self.dropped} bytes of output were dropped")
         self.printed.append(self.has_ended)
         self.show_output()
+        if self.status:
+            self.show_exits()
+
+    def show_exits(self):
+        """The vCPU's last exits, with the microseconds between two, and its registers."""
+        kept = self.exits[-KEPT:]
+        for (before, *_), (moment, reason, access) in zip(kept[:1] + kept, kept):
+            self.printed.append(f"{(moment - before) // 1000:9}  reason {reason}{access}")
+        self.printed.append(REGISTERS.format(self.place))
 
     def feed(self):
         super().feed()
-        self.is_watched |= len(self.input) < QUEUE
+        self.is_watched |= self.has_input and len(self.input) < QUEUE
 
     def read_input(self):
         """The event loop reads what was typed, while there is room for it."""
-        while self.is_watched and self.backlog and not self.has_ended:
+        while self.is_watched and (self.backlog or self.is_closed) and not self.has_ended:
+            self.fail_to_read()
             count = min(PIECE, QUEUE - len(self.input))
             data, self.backlog, self.is_watched = self.backlog[:count], self.backlog[count:], False
+            self.has_input = bool(data)
             self.input += bytes(self.typed(data))
             self.feed()
             if not self.has_ended:
                 self.turn()
+
+    def fail_to_read(self):
+        """The first of two reads fails, so the event loop makes one more turn."""
+        self.feed()
+        self.turn()
 
     def typed(self, data):
         """The bytes for the guest. The others are commands."""
@@ -116,7 +168,8 @@ class Hosted(Monitor):
             self.show_output()
         self.was_refused = False
         super().ask(times)
-        self.retries |= self.was_refused
+        if self.was_refused:
+            self.retry_at = self.awake + PAUSE
 
     def turn(self):
         """The event loop has served an event."""
@@ -143,15 +196,25 @@ class Hosted(Monitor):
             self.access_clock(IS_MASKED)
             self.turn()
             self.read_input()
+        if self.retry_at is not None and self.retry_at <= self.awake:
+            self.printed.append("timer")
+            self.retry_at = None
+            self.ask(self.port.due())
+            self.turn()
         self.end() if self.has_ended else self.show_output()
 
     # The words of host.c.
 
     def serve(self, line):
         word, *numbers = line.split()
-        data = bytes.fromhex(numbers.pop()) if word in "wsi" else None
-        getattr(self, word)(*(int(number, 16) for number in numbers), *([] if data is None else [data]))
-        self.place += word in "wrsl"
+        data = [bytes.fromhex(numbers.pop())] if word in "wsi" else []
+        numbers = [int(number, 16) for number in numbers]
+        read = getattr(self, word)(*numbers, *data)
+        if word in "rl":
+            self.printed.append(read.hex())
+        if word in "wrsl":
+            self.place += 1
+            self.keep(word, *numbers[:2], *data or [read])
         if self.is_reset and self.is_restored:
             self.has_ended = RESET
         elif self.is_reset:
@@ -160,6 +223,12 @@ class Hosted(Monitor):
             self.start(FRESH)
         self.is_reset = False
         self.end() if self.has_ended else self.rest()
+
+    def keep(self, word, address, *size_and_data):
+        """Keeps an exit: its moment and reason, and the first item of the access."""
+        data = size_and_data[-1][:size_and_data[0] if word in "wr" else None]
+        access = f"  {'write' if word in 'ws' else 'read'} {address:x}  {data[::-1].hex()}"
+        self.exits.append((self.awake, IO if word in "wr" else MEMORY, access))
 
     def w(self, port, size, data):
         for place, byte in enumerate(data):
@@ -177,7 +246,7 @@ class Hosted(Monitor):
                 super().w(at, byte)
 
     def r(self, port, size, count):
-        self.printed.append(bytes(self.read((port + place % size) % 2**16) for place in range(size * count)).hex())
+        return bytes(self.read((port + place % size) % 2**16) for place in range(size * count))
 
     def s(self, address, data):
         if 0 <= address - BASE < 0x1000 and len(data) == 4:
@@ -187,19 +256,24 @@ class Hosted(Monitor):
         offset = address - BASE
         within = offset % 4 if count != 4 else 0
         if not 0 <= offset < 0x1000 or within + count > 4:
-            self.printed.append("ff" * count)
-        else:
-            whole = self.access_clock(offset - within).to_bytes(4, "little")
-            self.printed.append(whole[within:within + count].hex())
+            return b"\xFF" * count
+        return self.access_clock(offset - within).to_bytes(4, "little")[within:within + count]
 
     def i(self, data):
         self.backlog += data
 
+    def z(self):
+        self.is_closed = True
+
+    def q(self, number):
+        self.turn()  # since the first read of the signal fails
+        self.has_ended, self.status = f"monitor: {signal.strsignal(number)}", 128 + number
+
     def b(self, room):
         self.takes = room
 
-    def d(self, is_down):
-        self.is_down = is_down != 0
+    def e(self, error):
+        self.error = error
 
     def n(self, nanoseconds):
         self.since_start += nanoseconds
@@ -208,25 +282,37 @@ class Hosted(Monitor):
     def k(self, seconds):
         self.of_day -= seconds * SECOND
 
-    def t(self):
-        if self.retries:
-            self.printed.append("timer")
-            self.retries = False
-            self.ask(self.port.due())
-            self.turn()
+    def t(self, nanoseconds):
+        self.awake += nanoseconds
+
+    def x(self, reason):
+        if reason:
+            self.exits.append((self.awake, reason, ""))
+        if reason not in (0, SHUTDOWN):
+            self.printed.append(f"monitor: KVM gives up, for reason {reason}, error 0")
+        self.has_ended = {0: f"monitor: {os.strerror(errno.EFAULT)}", SHUTDOWN: SHUT_DOWN}.get(reason, GIVES_UP)
+        self.status = 1
+
+    def say_of_snapshot(self, what):
+        self.fail_to_read()
+        self.feed()
+        for byte in SNAPSHOT.format(what).encode():
+            self.show(byte)
+
+    def f(self, _call):
+        self.say_of_snapshot(os.strerror(errno.ENOSPC))
+        self.turn()
 
     def g(self):
         """After the snapshot the monitor makes its turn, of which the next one knows nothing."""
-        self.feed()
-        for byte in WRITTEN:
-            self.show(byte)
+        self.say_of_snapshot("written")
         saved, moment = list(self.port.past), self.moment
         self.turn()
         self.show_output()
         self.port.past, self.is_restored = saved, True
         self.ahead = max(self.of_day, moment * SECOND) - self.since_start
-        self.is_down = self.retries = self.is_stalled = False
-        self.is_up = self.dropped = 0
+        self.is_stalled, self.retry_at, self.exits = False, None, []
+        self.down = self.is_up = self.dropped = self.error = 0
         self.waits_for_terminal, self.takes = b"", EVER
         self.feed()
         self.ask(self.port.due())
@@ -242,28 +328,29 @@ class Script:
         self.random = chance
         self.is_early = chance.randrange(6) == 0
         self.monitor, self.lines = Hosted(self.is_early), []
-        if number < 2 * WAYS:
-            (self.flood, self.fill)[number // WAYS](number % WAYS)
-        elif number == 2 * WAYS:
-            self.insist()
+        if number < 4 * WAYS:
+            (self.flood, self.fill, self.insist, self.outlast)[number // WAYS](number % WAYS)
+        else:
+            self.add(*chance.choice(OPENINGS))
         for line in (f"w {COM1 + 1:x} 1 0{chance.choice((1, 1, 1, 2, 3))}", f"s {BASE + 0x010:x} 01000000"):
             if chance.randrange(4) and not self.monitor.has_ended:
                 self.add(line)
         makers = [self.write, self.read, self.type, self.store, self.load, self.wait, self.host]
         while len(self.lines) < length and not self.monitor.has_ended:
             chance.choices(makers, (8, 12, 8, 6, 2, 4, 9))[0]()
+        if not self.monitor.has_ended and chance.randrange(2):
+            self.add(chance.choice((*FAILURES, f"q {chance.choice(SIGNALS):x}")))
 
     def flood(self, number):
         """As much output as the terminal and the queue have no room for, or not quite, and then the end."""
         self.add(f"b {(0, 1, 5000, 5000)[number]:x}")
-        left = (LEVEL, QUEUE, QUEUE, QUEUE + 5000)[number] + self.random.randrange(-2, 3)
+        left = (LEVEL, QUEUE, QUEUE, QUEUE + 5003)[number] + self.random.randrange(-2, 3)
         while left > 0:
             count = min(left, PIECE - self.random.randrange(2))
             self.add(f"w {COM1:x} 1 {self.random.randbytes(count).hex()}")
             left -= count
         for room in ((EVER,), (100, EVER), (0, EVER), (100,))[number]:
-            self.add(f"b {room:x}")
-            self.add(f"w {COM1:x} 1 41")
+            self.add(f"b {room:x}", f"w {COM1:x} 1 41")
         if self.random.randrange(2):
             self.add("i 0178")
 
@@ -271,27 +358,34 @@ class Script:
         """More input than there is room for, or not quite, for a guest that is ready only then."""
         for _ in range((2, QUEUE // PIECE - 1, QUEUE // PIECE, QUEUE // PIECE + 2)[number]):
             self.add(f"i {bytes(self.random.choices(range(2, 256), k=PIECE)).hex()}")
-        self.add(f"i {bytes(self.random.randrange(1, 40)).hex()}")
-        if self.monitor.is_watched:
-            self.add("g")
-        self.add(f"w {COM1 + 1:x} 1 01")
-        for _ in range(2):
-            self.add(f"r {COM1:x} 1 {PIECE:x}")
+        self.add(f"i {bytes(self.random.randrange(1, 40)).hex()}", *["g"] * self.monitor.is_watched,
+                 f"w {COM1 + 1:x} 1 01", *[f"r {COM1:x} 1 {PIECE:x}"] * 2)
 
-    def insist(self):
+    def insist(self, number):
         """Both interrupts are refused, again and again."""
-        for line in ("d 1", f"w {COM1 + 1:x} 1 01", "i 78", f"w {COM1 + 1:x} 1 03", *["t"] * REFUSALS, "d 0", "t", "t"):
-            self.add(line)
+        if number == 0:
+            self.add("d 1", f"w {COM1 + 1:x} 1 01", "i 78", f"w {COM1 + 1:x} 1 03", *[RETRY] * REFUSALS, "d 0", RETRY,
+                     RETRY)
 
-    def add(self, line):
-        self.lines.append(line)
-        self.monitor.serve(line)
+    def outlast(self, number):
+        """About as many exits as are kept, and the end."""
+        if number < 2:
+            self.add(*[f"r {COM1 + 1 + place % 7:x} 1 1" for place in range(KEPT - 1 + 9 * number)], f"x {SHUTDOWN:x}")
+
+    def add(self, *lines):
+        """Adds lines, without what would be typed after the end of input."""
+        for line in lines:
+            if line[0] != "i" or not self.monitor.is_closed:
+                self.lines.append(line)
+                self.monitor.serve(line)
 
     def port(self):
         """A port with a size and a number of items: mostly one byte of the serial port, or else what is beside."""
         size, count = self.random.choice((1, 1, 2, 4)), self.random.choice((1, 1, 2, 3))
-        near = [COM1 - 3, COM1 - 1, COM1 + 7, COM1 + 8, 0x5D, 0x5F, 0x61, 0x62, 0x63, 0x65, 0x264, 0xFFFE]
-        return self.random.choice([*near, COM1 + self.random.randrange(8), self.random.randrange(1 << 16)]), size, count
+        own = self.random.choice((0x60, 0x64, COM1 + self.random.randrange(8)))
+        others = [own ^ 1 << self.random.randrange(16)] * 6  # what a decoder that leaves out a bit takes for it
+        near = [COM1 - 3, COM1 - 1, COM1 + 7, COM1 + 8, 0x5D, 0x5F, 0x61, 0x62, 0x63, 0x65, 0xFFFE]
+        return self.random.choice([*near, *others, own, self.random.randrange(1 << 16)]), size, count
 
     def write(self):
         if not self.random.randrange(6):
@@ -316,12 +410,12 @@ class Script:
         if len(self.monitor.input) > MOST_WAITING:
             return
         escaped = (b"\x01\x01", b"\x01y")
-        pieces = [self.random.choice(escaped) if self.random.randrange(30) == 0 else bytes([self.random.randrange(2, 256)])
+        pieces = [bytes([self.random.choice((0, *[self.random.randrange(2, 256)] * 3))])
+                  if self.random.randrange(30) else self.random.choice(escaped)
                   for _ in range(self.random.choice((1, 1, 2, 40, 64, 65, 127, 300)))]
         self.add(f"i {b''.join(pieces).hex()}")
         if self.random.randrange(6) == 0:
-            self.add("i 01")
-            self.add(f"i {self.random.choice(('01', '79'))}{pieces[0].hex()}")
+            self.add("i 01", f"i {self.random.choice(('01', '79'))}{pieces[0].hex()}")
 
     def store(self):
         """To a register, with a number near guest time or the host's, or beside one."""
@@ -338,7 +432,7 @@ class Script:
             self.wait(True)
 
     def load(self):
-        offset = self.random.choice((*(register.offset for register in CLOCK.values()), 0xFE0, 0xFFC))
+        offset = self.random.choice((*(register.offset for register in CLOCK.values()), 0xFE0, 0xFFC, 0x1000, -4))
         self.add("l {:x} {:x}".format(*self.beside(offset)))
 
     def beside(self, offset):
@@ -346,7 +440,8 @@ class Script:
         if self.random.randrange(5) > 1:
             return BASE + offset, 4
         away = self.random.choice((0, 0, 0, 0, 0, 0, -0x1000, 0x1000, 1 << 16, 1 << 32))
-        return BASE + away + offset + self.random.choice((0, 0, 1, 2, 3)), self.random.choice((1, 2, 2, 3, 4, 4, 5, 6, 7, 8))
+        count = self.random.choice((1, 2, 2, 3, 4, 4, 5, 6, 7, 8))
+        return BASE + away + offset + self.random.choice((0, 0, 1, 2, 3)), count
 
     def wait(self, is_far=False):
         """The host sleeps, at times up to the alarm, or not quite. That may be far away."""
@@ -359,30 +454,37 @@ class Script:
     def host(self):
         """The line takes nothing, or requests again, or a refused one is made again; the machine is reset, and input
         comes to a guest that may not be ready; or it moves, mostly to a host of another time of day."""
-        self.random.choices((self.refuse, self.reset, self.move), (8, 1, 2))[0]()
+        self.random.choices((self.refuse, self.reset, self.move, self.fail), (8, 1, 2, 2))[0]()
 
     def refuse(self):
-        self.add(self.random.choice(("d 1", "d 1", "d 0", "t", "t")))
+        """At times the line refuses the second of two requests."""
+        singly = ("d 1", "d 1", "d 0", RETRY, RETRY, f"t {PAUSE - 1:x}", "t 1")
+        self.add(*self.random.choice((*((it,) for it in singly), SECOND_OF_TWO, MADE_AGAIN)))
+
+    def fail(self):
+        """The next write to the terminal fails, or a snapshot, or the user types no more."""
+        if not self.random.randrange(8) and not self.monitor.is_closed:
+            self.add("z")
+        elif self.random.randrange(3) or not self.monitor.is_watched:
+            self.add(f"e {self.random.choice((*PASSING, LASTING)):x}")
+        else:
+            self.add(f"f {self.random.randrange(CALLS_OF_A_FILE) + 1}")
 
     def reset(self):
         self.add(f"w 64 1 {self.random.choice(('fe', 'fe', 'fe', 'fd'))}")
         if not self.monitor.has_ended and self.random.randrange(2):
-            self.add(f"w {COM1 + 1:x} 1 0{self.random.randrange(4)}")
-            self.add("i 7879")
-            self.add(f"r {COM1:x} 1 1")
+            self.add(f"w {COM1 + 1:x} 1 0{self.random.randrange(4)}", *POKE)
 
     def move(self):
         self.add(f"k {self.random.choice((0, 1, 2, self.random.randrange(-2000, 2000))):x}")
         if self.random.randrange(2) and self.monitor.is_watched:
-            self.add("g")
-            self.add(f"l {BASE:x} 4")
+            self.add("g", f"l {BASE:x} 4")
         if self.random.randrange(2):
-            self.add("i 7879")
-            self.add(f"r {COM1:x} 1 1")
+            self.add(*POKE)
 
 
 def random_scripts(count, seed):
-    """The first ones have much output or input, or many refusals."""
+    """The first ones have much output or input, many refusals or many exits."""
     chance = random.Random(seed)
     return [Script(chance, chance.randrange(MOST_LINES), number) for number in range(count)]
 
@@ -396,5 +498,6 @@ def command_of(program, *options):
 def differences_of(program, scripts):
     """The scripts in which a monitor with this host does something else."""
     for script in scripts:
-        command = command_of(program, "-f", "image", "-m", "2", "--reboot", *["--early-input"] * script.is_early)
-        yield from different_scripts(command, [(str(script.lines)[:2000], script.lines, script.monitor.printed, 0)])
+        options = "-m", "2", "--reboot", "--exits", "exits", *["--early-input"] * script.is_early
+        case = str(script.lines)[:2000], script.lines, script.monitor.printed, script.monitor.status
+        yield from different_scripts(command_of(program, "-f", "image", *options), [case])

@@ -15,8 +15,8 @@ from twin import run_bounded
 
 ROOT, HERE = Path(__file__).resolve().parents[2], Path(__file__).resolve().parent
 EXAMPLE, LIBRARY = ROOT / "examples" / "kvm", ROOT / "prebuilt" / "x86_64-linux" / "libsuperio_c.a"
-WRAPPED = ["open", "ioctl", "epoll_wait", "clock_gettime", "eventfd_write", "poll", "pthread_cond_clockwait",
-           "timerfd_create", "timerfd_settime", "write"]
+WRAPPED = ["open", "ioctl", "epoll_wait", "clock_gettime", "eventfd_write", "poll", "pthread_cond_clockwait", "read",
+           "timerfd_create", "timerfd_settime", "write", "fopen", "fwrite", "fclose", "rename"]
 # What notices an access beside what it is to, and what an access without the lock. One program cannot have both. Where
 # a port's bytes would be is computed for each exit, and means nothing for some.
 MEMORY, THREADS = ["-fsanitize=address,undefined", "-fno-sanitize=pointer-overflow"], ["-fsanitize=thread"]
@@ -29,8 +29,8 @@ OTHERS = (1, -1, 256)
 HELD, WAITING, MOST_WAITING, BEHIND = (b"held" * 16, b"h", b""), b"wait", 65536, bytes(200_000)
 MOST_OF_PORT = 8 + REGISTERS + FIFO_SIZE
 # The kinds of checks.
-SCRIPTED, CHANGED, OF_OTHERS, WRONG = KINDS = ("scripts of a host", "changed snapshots", "libraries of another interface",
-                                               "wrong monitors over a host")
+SCRIPTED, CHANGED, OF_OTHERS, WRONG = KINDS = (
+    "scripts of a host", "changed snapshots", "libraries of another interface", "wrong monitors over a host")
 REFUSED = re.compile(rb"monitor: [^\n]*\n")
 
 
@@ -118,7 +118,8 @@ class Snapshot:
     def of_bytes(self, chance):
         """Each byte as another, before the port, of the devices, and behind them."""
         for place in (*range(8), *range(self.start, self.clock + CLOCK_SIZE + 8 + len(self.waiting) + 1)):
-            yield place, bytes([self.whole[place] ^ chance.choice((1 << chance.randrange(8), chance.randrange(1, 256)))])
+            changed = chance.choice((1 << chance.randrange(8), chance.randrange(1, 256)))
+            yield place, bytes([self.whole[place] ^ changed])
 
     def of_fields(self):
         """What a load or coherence looks at, with each low number and each bit."""
@@ -194,9 +195,7 @@ def check_without_kvm(tally, folder):
     tally.of(WRONG)
     scripts = random_scripts(SCRIPTS, 0)  # the same each time, so that each wrong one differs or none does
     for number, bug in enumerate(read_bugs(HERE / "wrong-monitors.edits")):
-        wrong, source = Build(right.folder / str(number), bug.file), (EXAMPLE / bug.file).read_text(encoding="utf-8")
-        wrong.folder.mkdir()
-        (wrong.folder / bug.file).write_text(source.replace(bug.old, bug.new), encoding="utf-8")
-        stands = source.count(bug.old)
+        wrong = Build(right.folder / str(number), bug.file)
+        stands = bug.plant(EXAMPLE, wrong.folder)
         tally.check(stands == 1 and any(wrong.differences(scripts, snapshots)),
                     f"the wrong monitor, whose text stands {stands} times, is not noticed: {bug.name}")

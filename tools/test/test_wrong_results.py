@@ -287,19 +287,6 @@ class Runs(FolderTest):
                 tally = tally_of(kvm_check.judge_traces, "it", [self.folder / "trace"], ["sw 01"], "program")
             self.assertEqual((tally.passed, tally.failed), (3 - failed, failed), text)
 
-    def test_a_wrong_monitor_that_is_not_noticed(self):
-        """Or a right one that is, since its time is up."""
-        for noticed, failed in (({"wrong"}, 0), (set(), 1), ({"right", "wrong"}, 1)):
-            def body(monitor):
-                if ("right" if monitor.name == "right" else "wrong") in noticed:
-                    raise kvm_check.Wrong("it")
-            wrong = [(file, old, new, body) for file, old, new, _ in kvm_check.WRONG]
-            place = self.folder / "".join(sorted(noticed))
-            with mock.patch("subprocess.run", return_value=ended(0)), \
-                    mock.patch.multiple(kvm_check, WRONG=wrong, Bench=lambda _, monitor, __: monitor):
-                tally = tally_of(kvm_check.check_wrong, place, Path("right"), place)
-            self.assertEqual((tally.failed, sum(tally.tried.counts.values())), (failed * len(wrong), len(wrong)))
-
     def test_a_monitor_without_kvm(self):
         """It differs in each way, or no wrong one differs in any."""
         wrong = len(list(without_kvm.read_bugs(without_kvm.HERE / "wrong-monitors.edits")))

@@ -25,9 +25,6 @@ static int difference;
 uint32_t __real_superio_abi(void);
 uint32_t __real_superio_serial_load(superio_serial *port, const uint8_t *bytes, size_t count);
 uint32_t __real_superio_rtc_load(superio_rtc *clock, const uint8_t *bytes, size_t count);
-uint32_t __wrap_superio_abi(void);
-uint32_t __wrap_superio_serial_load(superio_serial *port, const uint8_t *bytes, size_t count);
-uint32_t __wrap_superio_rtc_load(superio_rtc *clock, const uint8_t *bytes, size_t count);
 
 uint32_t __wrap_superio_abi(void) {
     return __real_superio_abi() + (uint32_t)difference;

@@ -1,7 +1,8 @@
 /*
- * Drives examples/c/lines.c from standard input, in place of its `main`, by the lines w, r, i and h of demo.c. After each it
- * prints whether the guest is interrupted, by edges, or, with an argument, by a level, and how much room there is. What goes
- * out is printed at once, and so is a mark for the interrupts that a call asks for.
+ * Drives examples/c/lines.c from standard input, in place of its `main`, by the lines w, r, i and h of demo.c, and by k,
+ * at which the controller interrupts a guest that does nothing, if it does. After each it prints whether the guest is
+ * interrupted, by edges, or, with an argument, by a level, and how much room there is. What goes out is printed at once,
+ * and so is a mark for the interrupts that a call asks for.
  */
 #define main lines_main
 #include "lines.c"
@@ -24,6 +25,7 @@ static void serve(char word, unsigned first, unsigned second) {
     switch (word) {
     case 'w': guest_write(offset, (uint8_t)second); break;
     case 'r': printf("%02x\n", guest_read(offset)); break;
+    case 'k': printf("%d\n", is_interrupted()); break;
     case 'i':
         memset(bytes, (int)second, first);
         interrupt(superio_serial_enqueue(&port, bytes, first).interrupts);
