@@ -113,7 +113,8 @@ def run_tests(folder, names):
     result = TextTestRunner(sys.stdout, verbosity=2, resultclass=Asserting).run(tests)
     # A test fails once, whatever part of it does. None is expected to fail, and none ends the run.
     failed = len({test.id().split(" ")[0] for test, _ in [*result.failures, *result.errors]})
-    failed += len(result.unexpectedSuccesses) + len(result.expectedFailures) + (result.shouldStop or not result.testsRun)
+    failed += len(result.unexpectedSuccesses) + len(result.expectedFailures)
+    failed += result.shouldStop or not result.testsRun
     skipped = len(result.skipped)
     tried.add_assertions(result)
     ended = f"{max(0, result.testsRun - failed - skipped)} passed, {failed} failed"
@@ -138,8 +139,8 @@ def shortfalls(floors, tried, skipped):
         return ["the table of floors has no row of this check"]
     found = [f"{kind}: {tried.counts[kind]} tried, of {least} at least" for kind, least in floors.items()
              if kind not in tried.left_out and tried.counts[kind] < least]
-    found += [f"{kind}: the table of floors has no row of it" for kind in {**tried.counts, **dict.fromkeys(tried.left_out)}
-              if kind not in floors]
+    found += [f"{kind}: the table of floors has no row of it"
+              for kind in {**tried.counts, **dict.fromkeys(tried.left_out)} if kind not in floors]
     if tried.left_out and not skipped:
         found.append(f"{', '.join(sorted(tried.left_out))}: not tried, and nothing counts as skipped")
     return found
