@@ -94,6 +94,13 @@ def copied_crate(folder):
     return ["--manifest-path", folder / "crate" / "Cargo.toml"]
 
 
+def lacking_for(project):
+    """What is not here of what builds a project of tools, or `None`."""
+    tools = (tool for tool in ("cargo", "cc") if not shutil.which(tool))  # by cc Cargo links programs
+    is_old = shutil.which("cargo") and is_too_old(project / "Cargo.toml")
+    return next(tools, f"a Cargo that knows the edition of {project.relative_to(ROOT)}" if is_old else None)
+
+
 class Project:
     """A Cargo project of tools, in a copy: its Cargo.lock differs by the crates that there are."""
 
@@ -119,13 +126,6 @@ class Comparison(Project):
     def __init__(self, folder, features="", crates=STAND_INS):
         super().__init__(COMPARISON, folder, crates)
         self.features, self.program = features, folder / "target" / "release" / "compare"
-
-    @staticmethod
-    def lacks():
-        """What is not here of what builds it, or `None`."""
-        tools = (tool for tool in ("cargo", "cc") if not shutil.which(tool))  # by cc Cargo links programs
-        is_old = shutil.which("cargo") and is_too_old(COMPARISON / "Cargo.toml")
-        return next(tools, "a Cargo that knows the edition of tools/compare" if is_old else None)
 
     def build(self, **environment):
         """Returns what Cargo ended with."""
