@@ -4,10 +4,10 @@
     tools/bench/bench.py [--turns N] [--processor P]
 
 Four programs make the same lists of accesses: `original` over bindings/rust and over the Rust crate, and `through_c.c`
-over either behind C functions. In each turn each program makes each list, one after the other, on processor P. An access costs the processor time of a run of many rounds, less
-that of a run without a round, divided by the number of accesses. The least of three runs counts for a turn, and the
-median of the N turns for the table. What the list `nothing` costs is subtracted from the others. The programs must
-print the same sums.
+over either behind C functions. In each turn each program makes each list, one after the other, on processor P. An
+access costs the processor time of a run of many rounds, less that of a run without a round, divided by the number of
+accesses. The least of three runs counts for a turn, and the median of the N turns for the table. What the list
+`nothing` costs is subtracted from the others. The programs must print the same sums.
 
 Prints a table in Markdown, in nanoseconds, and the noise. For one measurement that is the range of the middle half of
 its turns, divided by their median; the noise is the median over all measurements. Exits 1 if a program fails, or if the

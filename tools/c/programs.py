@@ -5,6 +5,7 @@ import re
 import shutil
 from functools import lru_cache
 
+from chance import seed_of
 from libraries import DEMO, ROOT, TESTS
 from cases import every_answer
 from declarations import assertions
@@ -19,7 +20,7 @@ LINES = ("edges: 1000 bytes received, and after an unmasking none\n"
          "level: 1000 bytes received, and after an unmasking an interrupt\n")
 EXAMPLES = [("paste", [], "1000 bytes in 16 pieces, in order\n"), ("lines", [], LINES),
             ("paste", SCANT, "1000 bytes in 45 pieces, in order\n"), ("lines", SCANT, LINES)]
-CALLS = 1000000
+CALLS = 250_000
 SANITIZERS = ["-g", "-O1", "-fsanitize=address,undefined", "-fno-sanitize-recover=all"]
 # A library whose number is another by DIFFERENCE.
 OTHER_ABI = """#include <superio.h>
@@ -79,7 +80,7 @@ def recorded(folder):
 @lru_cache(maxsize=None)
 def drawn(folder):
     """A file of random calls, with a message for each kind of them that is too rare."""
-    return folder / "drawn", write_calls(folder / "drawn", CALLS)
+    return folder / "drawn", write_calls(folder / "drawn", CALLS, seed_of(ROOT))
 
 
 def replay(tally, what, program, machine, calls, count, number=1):
@@ -98,7 +99,7 @@ def check_calls(tally, machine, folder):
 
 
 def check_random_calls(tally, machine, folder):
-    """Counts whether a million random calls do what a search of the past says."""
+    """Counts whether random calls, others with each commit, do what a search of the past says."""
     compiler = next((it for it in machine.compilers if it.language == C and shutil.which(it.name)),
                     machine.compilers[0])
     if machine.can(tally, compiler, "random calls"):

@@ -127,7 +127,7 @@ def some_calls(work):
     return [f"{call} = {reply}\n" for call, reply in rows], kinds
 
 
-def write_calls(path, count, seed=1):
+def write_calls(path, count, seed):
     """Writes so many calls into a file. Returns a message for each kind of call that is too rare."""
     kinds, left = Counter(), count
     with Pool() as pool, open(path, "w", encoding="ascii") as file:

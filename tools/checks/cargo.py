@@ -6,14 +6,20 @@ import shutil
 import subprocess
 from pathlib import Path
 
+from toolchains import is_too_old
+
 ROOT = Path(__file__).resolve().parents[2]
 BINDINGS = ROOT / "bindings" / "rust"
-COMPARISON = ROOT / "tools" / "compare"
+COMPARISON, STATES = ROOT / "tools" / "compare", ROOT / "tools" / "rust" / "states"
 # Where Debian's packages put crates.
 DEBIAN = Path("/usr/share/cargo/registry")
 ORIGINAL = "vm-superio-0.8.2"
 # An optional dependency has to be there, to be left out.
 STAND_INS = {"serde-1.0.0": None, ORIGINAL: None}
+# Most is built once, and nothing is debugged.
+QUICK = {"CARGO_INCREMENTAL": "0", "CARGO_PROFILE_DEV_DEBUG": "0"}
+# Debian's linker takes long to put Rust's library into each test.
+DYNAMIC = dict.fromkeys(("RUSTFLAGS", "RUSTDOCFLAGS"), "-C prefer-dynamic")
 
 
 def original():
@@ -33,11 +39,13 @@ def debian_crates(original=None):
 
 class Cargo:
     """Runs Cargo offline in a folder. Its registry has these crates: by name and version the folder of each, or `None`
-    for one without contents. If they are `None` it is Cargo's own."""
+    for one without contents. If they are `None` it is Cargo's own. It builds into a folder `target` there, or into that
+    of another Cargo."""
 
-    def __init__(self, folder, crates=None, toolchain=None):
+    def __init__(self, folder, crates=None, toolchain=None, target=None):
         self.folder, self.program = folder, toolchain.cargo if toolchain else "cargo"
-        self.environment = {**os.environ, "CARGO_TARGET_DIR": str(folder / "target"), "CARGO_NET_OFFLINE": "true",
+        self.target = target or folder / "target"
+        self.environment = {**os.environ, **QUICK, "CARGO_TARGET_DIR": str(self.target), "CARGO_NET_OFFLINE": "true",
                             **({"RUSTC": toolchain.rustc} if toolchain else {})}
         folder.mkdir(parents=True, exist_ok=True)
         if crates is None:
@@ -84,6 +92,13 @@ def copied_crate(folder):
         (folder / "crate" / name).parent.mkdir(parents=True, exist_ok=True)
         shutil.copyfile(BINDINGS / name, folder / "crate" / name)
     return ["--manifest-path", folder / "crate" / "Cargo.toml"]
+
+
+def lacking_for(project):
+    """What is not here of what builds a project of tools, or `None`."""
+    tools = (tool for tool in ("cargo", "cc") if not shutil.which(tool))  # by cc Cargo links programs
+    is_old = shutil.which("cargo") and is_too_old(project / "Cargo.toml")
+    return next(tools, f"a Cargo that knows the edition of {project.relative_to(ROOT)}" if is_old else None)
 
 
 class Project:

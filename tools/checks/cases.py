@@ -265,8 +265,8 @@ def every_send():
 
 def every_access():
     """Every read and write of the clock by offset, and every write of the controller, whose trigger takes it or not."""
-    for first in range(0, 0x10000, 0x100):
-        offsets = [f"{offset:04x}" for offset in range(first, first + 0x100)]
+    for first in range(0, 0x10000, 0x40):  # the longer a run is, the longer is each search of its past
+        offsets = [f"{offset:04x}" for offset in range(first, first + 0x40)]
         yield ["cl 00000000 0 00000000 00000000 00000000", *(f"cr 3e8 {offset}" for offset in offsets),
                *(f"cw 3e8 {offset} 00000002" for offset in offsets), "cs"]
     for offset in range(256):

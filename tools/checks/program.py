@@ -1,4 +1,4 @@
-"""What the tools share: the built program and its runs, and the built C library."""
+"""What the tools share: the built program and its runs."""
 import os
 import subprocess
 import sys
@@ -11,11 +11,10 @@ from status import Status, progress
 from tried import Tried
 
 CRATES = Path(__file__).resolve().parents[2] / "crates"
-# The programs and the library, each with the crates whose sources it is built of, the lowest last.
+# The programs, each with the crates whose sources it is built of, the lowest last.
 SOURCES = {
     "superio": ["superio", "superio_script", "vm_superio", "superio_core"],
     "superio_harness": ["superio_harness", "superio_script", "vm_superio", "superio_core"],
-    "superio_c": ["superio_c", "superio_core"],
 }
 
 # The arguments of a run without input that ends well.
@@ -84,14 +83,6 @@ def built_program(arguments=(), crate="superio"):
     if not is_current(program, SOURCES[crate]):
         build(*libraries_of(crate), (crate, "run", *IDLE[crate]))
     return program
-
-
-def built_library():
-    """The static library, which `rt` proves and builds if it is missing or out of date."""
-    library = CRATES / "superio_c" / "out" / "libsuperio_c.a"
-    if not is_current(library, SOURCES["superio_c"]):
-        build(*libraries_of("superio_c"), ("superio_c", "check"), ("superio_c", "lib"))
-    return library
 
 
 def run(program, script, *arguments):

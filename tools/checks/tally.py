@@ -1,8 +1,10 @@
 """What a check passed, failed and could not run."""
 import shutil
 import subprocess
+import sys
 
 from tried import Tried
+from usage import takes_no_argument
 
 LIMIT = 300  # seconds, after which a program counts as one that does not end
 
@@ -76,3 +78,14 @@ class Tally:
         """What was tried of each kind, and the sum, as the last lines of each check of the repository."""
         skipped = f", {self.skipped} skipped" if self.skipped else ""
         return "\n".join([*self.tried.lines(), f"{self.passed} passed, {self.failed} failed{skipped}"])
+
+
+def run_check(count, said=None, kind="checks"):
+    """Has a check count into a tally, prints the sum, and ends the tool. One without arguments gives what it says of
+    itself."""
+    if said:
+        takes_no_argument(said)
+    tally = Tally(kind)
+    count(tally)
+    print(tally.summary())
+    sys.exit(1 if tally.failed else 0)

@@ -9,10 +9,11 @@ The second form names a kind of which something cannot run here, which the check
 row for each kind: the check, the number, and the kind.
 """
 import re
+import sys
 from collections import Counter
 from doctest import DocTestCase
 from pathlib import Path
-from unittest import TestSuite, TextTestResult
+from unittest import TextTestResult, TextTestRunner, defaultTestLoader
 
 FLOORS = Path(__file__).resolve().parents[1] / "floors"
 TRIED = re.compile(r"tried: (\d+) (\S.*)")
@@ -50,20 +51,12 @@ class Tried:
                 tried.leave_out(found[1])
         return tried
 
-    @classmethod
-    def of_tests(cls, suite):
-        """The tests of a suite of unittest by their files, before it runs: a suite drops those that it has run."""
-        return cls(Counter(f"tests of {file_of(test)}" for test in tests_of(suite)))
-
-    def leave_out_skipped(self, result, kind="tests"):
-        """Names the files of which a run of unittest skipped a test."""
-        for test, _ in result.skipped:
-            self.leave_out(f"{kind} of {file_of(test)}")
-
     def add_assertions(self, result):
-        """Adds how often the tests of each file compared something, so that a row of a table that goes is noticed."""
+        """Adds how often the tests of each file compared something, so that a test or a row of a table that goes is
+        noticed, and names the files of which a test was skipped."""
         self.counts.update({f"assertions of {file}": number for file, number in result.assertions.items()})
-        self.leave_out_skipped(result, "assertions")
+        for test, _ in result.skipped:
+            self.leave_out(f"assertions of {file_of(test)}")
 
 
 class Asserting(TextTestResult):
@@ -108,14 +101,25 @@ class Asserting(TextTestResult):
             self.addFailure(test, (AssertionError, AssertionError(why), None))
 
 
-def tests_of(suite):
-    """The tests of a suite that has suites in it."""
-    return [test for it in suite for test in (tests_of(it) if isinstance(it, TestSuite) else [it])]
-
-
 def file_of(test):
     # The id of a class that is skipped as a whole is `setUpClass (PATH)`.
     return re.sub(r"^\w+ \(", "", test.id()).partition(".")[0]
+
+
+def run_tests(folder, names):
+    """Runs the tests of a folder, or those that are named, and prints each and the sum. Returns the exit status."""
+    loader, tried = defaultTestLoader, Tried()
+    tests = loader.loadTestsFromNames(names) if names else loader.discover(str(folder))
+    result = TextTestRunner(sys.stdout, verbosity=2, resultclass=Asserting).run(tests)
+    # A test fails once, whatever part of it does. None is expected to fail, and none ends the run.
+    failed = len({test.id().split(" ")[0] for test, _ in [*result.failures, *result.errors]})
+    failed += len(result.unexpectedSuccesses) + len(result.expectedFailures)
+    failed += result.shouldStop or not result.testsRun
+    skipped = len(result.skipped)
+    tried.add_assertions(result)
+    ended = f"{max(0, result.testsRun - failed - skipped)} passed, {failed} failed"
+    print(*tried.lines(), ended + (f", {skipped} skipped" if skipped else ""), sep="\n")
+    return 1 if failed else 0
 
 
 def read_floors(path=FLOORS):
@@ -135,8 +139,8 @@ def shortfalls(floors, tried, skipped):
         return ["the table of floors has no row of this check"]
     found = [f"{kind}: {tried.counts[kind]} tried, of {least} at least" for kind, least in floors.items()
              if kind not in tried.left_out and tried.counts[kind] < least]
-    found += [f"{kind}: the table of floors has no row of it" for kind in {**tried.counts, **dict.fromkeys(tried.left_out)}
-              if kind not in floors]
+    found += [f"{kind}: the table of floors has no row of it"
+              for kind in {**tried.counts, **dict.fromkeys(tried.left_out)} if kind not in floors]
     if tried.left_out and not skipped:
         found.append(f"{', '.join(sorted(tried.left_out))}: not tried, and nothing counts as skipped")
     return found

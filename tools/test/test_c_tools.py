@@ -86,7 +86,7 @@ class Checking(CopyTest):
     def test_a_call_of_each_kind_that_differs_is_found(self):
         """And a kind of which too few are drawn, and a file without calls."""
         calls, kinds = self.folder / "calls", set(random_calls.KINDS)
-        self.assertEqual(random_calls.write_calls(calls, 20000), [])
+        self.assertEqual(random_calls.write_calls(calls, 20000, 1), [])
         rows = calls.read_text(encoding="ascii").splitlines()
         for place, (call, _, reply) in enumerate(row.partition(" = ") for row in rows):
             if (kind := random_calls.kind_of(call, reply)) in kinds:
@@ -100,7 +100,7 @@ class Checking(CopyTest):
             self.assertEqual((status, printed.splitlines()[-1]),
                              (differ > 0 or not same, f"{same} calls did the same, {differ} did not"))
         with mock.patch.object(random_calls, "KINDS", ["sr ..", "sz .."]):
-            self.assertEqual(random_calls.write_calls(calls, 2000), ["only 0 of 2000 calls are 'sz ..'"])
+            self.assertEqual(random_calls.write_calls(calls, 2000, 1), ["only 0 of 2000 calls are 'sz ..'"])
 
     @NEEDS_LIBRARY
     def test_pastes_that_are_stuck_or_too_few(self):

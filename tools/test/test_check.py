@@ -53,7 +53,7 @@ CHECKS = [
 LEAST = [
     ("kvm/check", "PASTED", 100_000), ("kvm/check", "FLOOD", 100_000), ("kvm/check", "KEPT_EXITS", 1000),
     ("kvm/check", "FEWEST_ECHOED", 200), ("checks/first_crate", "PROVED", 3), ("c/programs.py", "SANITIZERS", 4),
-    ("c/programs.py", "CALLS", 1_000_000), ("rust/random_calls", "CALLS", 5_000_000), ("c/demo.py", "OTHERS", 3),
+    ("c/programs.py", "CALLS", 250_000), ("rust/random_calls", "CALLS", 2_000_000), ("c/demo.py", "OTHERS", 3),
     ("kvm/without_kvm.py", "OTHERS", 3), ("kvm/without_kvm.py", "HELD", 3), ("kvm/hosted.py", "WAYS", 4),
     ("kvm/hosted.py", "REFUSALS", 1000), ("kvm/hosted.py", "MOST_LINES", 60), ("c/twin.py", "MOST_LINES", 80),
 ]
@@ -218,19 +218,17 @@ class Counting(unittest.TestCase):
             ended, printed = silently(program.report, iter(results), generated)
             self.assertEqual((ended, printed.splitlines()[-1]), wanted)
 
-    def test_tests_count_by_their_file_even_if_their_class_is_skipped(self):
-        @unittest.skip("it cannot run")
+    def test_a_file_is_left_out_if_a_class_of_it_is_skipped(self):
         class One(unittest.TestCase):
-            setUpClass = mock.Mock(side_effect=unittest.SkipTest("nor can its class"))
+            setUpClass = mock.Mock(side_effect=unittest.SkipTest("it cannot run"))
 
             def test_it(self):
                 pass
 
-        suite = unittest.TestSuite([unittest.defaultTestLoader.loadTestsFromTestCase(One)])
-        found, result = Tried.of_tests(suite), unittest.TestResult()
-        suite.run(result)
-        found.leave_out_skipped(result)
-        self.assertEqual((found.counts, found.left_out), ({f"tests of {__name__}": 1}, {f"tests of {__name__}"}))
+        found, result = Tried(), tried.Asserting(mock.Mock(), False, 0)
+        unittest.defaultTestLoader.loadTestsFromTestCase(One).run(result)
+        found.add_assertions(result)
+        self.assertEqual(found.left_out, {f"assertions of {__name__}"})
 
 
 class StatusLines(unittest.TestCase):

@@ -186,7 +186,7 @@ class Planted(CopyTest):
     def test_facts(self):
         """One that is lost is tried no more."""
         printed = self.judge("tools/checks/facts", FACTS)
-        self.assertIn("tried: 10 offsets of the port in DEVICES.md", printed)
+        self.assertIn("tried: 53 values in DEVICES.md", printed)
 
     def test_differences(self):
         self.judge("tools/checks/differences", NAMES_OF_VM_SUPERIO)

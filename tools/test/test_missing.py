@@ -29,7 +29,7 @@ MISSING = [
     ("checks/excerpts", [], ["README.md", "docs", "examples/c", "bindings/rust/tests"], "No such file or directory",
      (SOME, 1)),
     *((f"checks/{name}", ["/nowhere/at/all"], [], NONE, (0, SOME)) for name in ("scripts", "hostile")),
-    ("checks/calls", ["/nowhere/at/all"], ["tests/calls"], NONE, (SOME, SOME)),
+    ("checks/calls", ["/nowhere/at/all"], ["tests/calls/line.txt"], NONE, (SOME, SOME)),
     ("checks/saved_forms", [CAT, "--random", "0"], ["include"], "returned non-zero exit status 1.", (0, 1)),
 ]
 # The programs that a machine may lack: the kit, compilers and Cargo.
@@ -37,7 +37,7 @@ LACKING = re.compile(r"(.*-)?(rt|cc|c89|c99|tcc|gcc|g\+\+|c\+\+|cpp|clang|clang\
 # The checks that need compilers, each with what it names as missing; the same if Cargo is there, but no compiler that
 # it links by; and if it is too old.
 NO_CC, NO_CARGO, OLD = "cc is not there", "cargo is not there", "a Cargo that knows the edition"
-WITHOUT = {**dict.fromkeys(("rust", "random_calls", "counts"), NO_CARGO), **dict.fromkeys(("c", "calls", "kvm"), NO_CC)}
+WITHOUT = {**dict.fromkeys(("rust", "random_calls", "counts", "calls"), NO_CARGO), **dict.fromkeys(("c", "kvm"), NO_CC)}
 # targets names a package of Debian first, if that is missing.
 WITH_CARGO = {**dict.fromkeys(("c", "rust", "random_calls", "counts", "calls"), NO_CC), "targets": " is not there"}
 WITH_OLD_CARGO = dict.fromkeys(("random_calls", "calls", "counts"), OLD)

@@ -6,6 +6,7 @@ from pathlib import Path
 from unittest import mock
 
 from repository import CopyTest, module_of, program, silently
+from tally import Tally
 
 paste = module_of("checks/paste")
 
@@ -50,7 +51,7 @@ class Pasting(CopyTest):
         """What the blocks of a document pass, fail and skip, and what is printed."""
         self.write("README.md", text)
         with mock.patch.object(paste, "PLAIN_PATH", str(self.root / "bin")):
-            tally = paste.Tally()
+            tally = Tally()
             _, said = silently(paste.paste, self.root, [Path("README.md")], None, tally)
         return (tally.passed, tally.failed, tally.skipped), said
 

@@ -10,7 +10,7 @@ import cargo
 from libraries import host_target
 from planted import Bug, read_bugs
 from repository import FolderTest, ended, module_of, tally_of
-from toolchains import is_too_old
+from toolchains import is_too_old, toolchains
 
 counts, random_calls, targets = map(module_of, ("bench/counts", "rust/random_calls", "rust/targets"))
 SERIAL = "src/serial.rs"
@@ -75,7 +75,7 @@ class Targets(FolderTest):
 
     @unittest.skipUnless(shutil.which("cargo"), "needs cargo")
     def test_each_target_is_built_or_named(self):
-        built = [next(targets.toolchains())] + [None] * (len(targets.BUILT) - 1)
+        built = [next(toolchains())] + [None] * (len(targets.BUILT) - 1)
         ran = mock.Mock(**{"run.return_value": ended(101, "use of undeclared crate `std`")})
         with mock.patch.object(targets, "toolchain_for", side_effect=built), \
                 mock.patch.object(targets, "Cargo", return_value=ran):

@@ -280,7 +280,7 @@ class Interrupted(unittest.TestCase):
         return status
 
     def test_silence(self):
-        lines, rows = b"st\nread LSR\n" * 50_000, b"sr 05  60\n" * 60_000
+        lines, rows = b"st\nread LSR\n" * 8_000, b"sr 05  60\n" * 8_000
         ended = []
         for arguments, script in (([], lines), (["view", "-", "--table"], rows),
                                   (["view", "-", "--svg", "/dev/null"], rows)):

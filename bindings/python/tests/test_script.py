@@ -11,6 +11,7 @@ from pathlib import Path
 
 from support import ROOT, run
 
+from chance import seed_of
 from program import run_all
 from script_tests import scripts_of
 
@@ -20,7 +21,7 @@ from superio.script import FORMS, MAXIMUM, lines_of, text_of
 PROGRAM = Path(os.environ.get("SUPERIO_PROGRAM", ROOT / "crates" / "superio" / "out" / "superio"))
 EXAMPLES = sorted((ROOT / "examples").glob("*.script"))
 SCRIPTS = [test for path in sorted((ROOT / "tests").glob("*.txt")) for test in scripts_of(path)]
-SEED, BROKEN = 35, 10_000
+BROKEN = 2_000
 
 GOOD = [
     (b"sr 05", Command("sr", (5,))),
@@ -124,7 +125,7 @@ class Replies(unittest.TestCase):
 class Program(unittest.TestCase):
     def test_examples_and_broken_scripts(self):
         """The scripts of tests/ have their replies there: tools/checks/scripts and Replies compare both with those."""
-        randomness = random.Random(SEED)
+        randomness = random.Random(seed_of(ROOT))
         whole = [test.script for test in SCRIPTS if 0 < len(test.script) < 3000]
         scripts = [path.read_bytes() for path in EXAMPLES]
         scripts += [broken(randomness.choice(whole), randomness) for _ in range(BROKEN)]

@@ -250,7 +250,8 @@ fn made() -> String {
 fn recorded_files_are_read_and_written_again() {
     assert_eq!(RECORDED.lines().count(), 14);
     for line in RECORDED.lines() {
-        let [device, name, text] = line.splitn(3, ' ').collect::<Vec<_>>()[..] else { panic!("{line}") };
+        let mut words = line.splitn(3, ' ');
+        let (device, name, text) = (words.next().unwrap(), words.next().unwrap(), words.next().unwrap());
         let format = FORMATS.iter().find(|(it, _)| *it == name).unwrap().1;
         let file = format.of_shown(text);
         let again = match device {
