@@ -4,11 +4,10 @@ use Rattle.std.proofs.lemmas.Bool.{false≢true}
 use Rattle.std.specs.Prelude.{map, take, drop, if◌then◌else◌, IsTrue}
 use Rattle.superio_core.specs.declared.trace.Asked.{Asked}
 use Rattle.superio_core.specs.declared.trace.Sent.{Sent}
-use Rattle.superio_core.specs.Serial.Port.State.{State, not_empty}
-use Rattle.superio_core.specs.Serial.Port.Registers.{is_dlab, is_loopback, register_at}
-use Rattle.superio_core.specs.Serial.Port.Operations.{Op, Read, Enqueue, CharacterTimeout, TraceEntry, Trace}
-use Rattle.superio_core.specs.Serial.Port.OpKinds.{OpKind, Other, Arrival, read_kind}
-use Rattle.superio_core.specs.Serial.Step.Transition.{step}
+use Rattle.superio_core.specs.Serial.{State, not_empty}
+use Rattle.superio_core.specs.Serial.RegisterMap.{is_dlab, is_loopback, register_at}
+use Rattle.superio_core.specs.Serial.Operations.{Op, Read, Enqueue, CharacterTimeout, TraceEntry, Trace, OpKind, Other, Arrival, read_kind}
+use Rattle.superio_core.specs.Serial.Step.{step}
 use Rattle.superio_core.specs.Serial.Step.Admissible.{kind_in_state}
 use Rattle.vm_superio.specs.Serial.History.Registers.{kind_at, taken_by, taken_bytes, held_bytes}
 use Rattle.vm_superio.specs.Serial.Laws.Agreement.{state_after}

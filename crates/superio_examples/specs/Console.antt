@@ -4,8 +4,7 @@ use Rattle.std.specs.Bool.{OnTrue, OnFalse}
 use Rattle.circular_buffer.specs.Buffer.{buffer}
 use Rattle.vm_superio.specs.declared.serial.errors.Error.{Error}
 use Rattle.vm_superio.specs.declared.serial.errors.Error.TheVariants.{Trigger}
-use Rattle.superio_core.specs.Serial.Port.Operations.{Event, Write}
-use Rattle.superio_core.specs.Serial.Port.OpKinds.{sent_by}
+use Rattle.superio_core.specs.Serial.Operations.{Event, Write, sent_by}
 use Rattle.superio_core.specs.declared.serial.registers.Condition.{Condition}
 use Rattle.vm_superio.specs.Links.Objects.{Link, TriggerAnswer, RefusesOwnState}
 use Rattle.vm_superio.specs.Links.OutCalls.{OutCall}

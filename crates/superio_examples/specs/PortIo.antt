@@ -2,7 +2,7 @@
 use Rattle.std.specs.Prelude.{◌≡◌, ℕ, ◌+◌, ◌-◌, ◌%◌, Bool, ◌||◌, ◌==◌, List, [], ◌∷◌, Result, Ok}
 use Rattle.std.specs.Result.{result_and}
 use Rattle.std.specs.Bool.{OnTrue, OnFalse}
-use Rattle.superio_core.specs.Serial.Port.Operations.{Event}
+use Rattle.superio_core.specs.Serial.Operations.{Event}
 use Rattle.vm_superio.specs.Links.Objects.{Link, TriggerAnswer}
 use Rattle.vm_superio.specs.Links.OutCalls.{OutCall}
 use Rattle.vm_superio.specs.Serial.Step.PortStep.{IsReadStep}

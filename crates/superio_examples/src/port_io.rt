@@ -2,7 +2,7 @@
 ghost use Rattle.vm_superio.specs.Links.OutCalls.{WriterCalls};
 ghost use Rattle.std.specs.Prelude.{◌≡◌, [], ◌∷◌, length, replicate};
 ghost use Rattle.std.specs.Bool.{OnTrue, OnFalse};
-ghost use Rattle.superio_core.specs.Serial.Port.Coherent.{Coherent};
+ghost use Rattle.superio_core.specs.Serial.Port.{Coherent};
 ghost use Rattle.superio_examples.specs.PortIo.{is_width, ReadsBytes, WritesBytes};
 
 use crate::bus::{Bus, BusError};

@@ -5,7 +5,7 @@ use Rattle.std.specs.Prelude.{◌≢◌, if◌then◌else◌}
 use Rattle.std.specs.Int.{w32, to_le_bytes, from_le_bytes}
 use Rattle.std.proofs.lemmas.Nat.{from_le_bytes-to_le_bytes_4}
 use Rattle.superio_core.specs.declared.rtc_pl031.state.RtcState.{RtcState}
-use Rattle.superio_core.specs.Rtc.Registers.{write, write_of}
+use Rattle.superio_core.specs.Rtc.{write, write_of}
 use Rattle.vm_superio.specs.Links.FoldsEvents.{FoldsEvents}
 use Rattle.vm_superio.specs.Rtc.Events.{invalid_write}
 use Rattle.vm_superio.specs.Rtc.History.{clock_of_history}

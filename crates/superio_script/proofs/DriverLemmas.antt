@@ -6,16 +6,16 @@ use Rattle.std.specs.Int.Bits.{and_mask}
 use Rattle.std.specs.Prelude.{◌↔◌, IsTrue, bit_and, drop, slice_index, if◌then◌else◌, ◌&&◌}
 use Rattle.superio_core.specs.declared.trace.Asked.TheVariants.{Nothing}
 use Rattle.superio_core.specs.Bits.{has_bits, without_bits}
-use Rattle.superio_core.specs.Serial.Port.State.{State, not_empty}
-use Rattle.superio_core.specs.Serial.Port.Coherent.{Coherent}
+use Rattle.superio_core.specs.Serial.{State, not_empty}
+use Rattle.superio_core.specs.Serial.Port.{Coherent}
 use Rattle.superio_core.specs.declared.serial.registers.Register.TheVariants.{RbrThr}
-use Rattle.superio_core.specs.Serial.Port.Registers.{register_at, is_dlab, register_read, identification_of}
-use Rattle.superio_core.specs.Serial.Port.Operations.{Read, Response, ByteRead, Event, buffer_read, in_buffer_empty}
+use Rattle.superio_core.specs.Serial.RegisterMap.{register_at, is_dlab, register_read, identification_of}
+use Rattle.superio_core.specs.Serial.Operations.{Read, Response, ByteRead, Event, buffer_read, in_buffer_empty}
 use Rattle.vm_superio.specs.Links.Objects.{Link, TriggerAnswer}
 use Rattle.vm_superio.specs.Links.OutCalls.{OutCall}
 use Rattle.vm_superio.specs.Serial.Port.Model.{Port}
 use Rattle.vm_superio.specs.Serial.Step.PortStep.{IsReadStep}
-use Rattle.superio_core.specs.Serial.Step.Transition.{rbr_read, read_step, step, read_events}
+use Rattle.superio_core.specs.Serial.Step.{rbr_read, read_step, step, read_events}
 use Rattle.vm_superio.specs.Serial.Laws.Agreement.{CoherenceLaw}
 use Rattle.vm_superio.specs.Serial.Laws.OneCall.{RbrDataReadyLaw}
 use Rattle.superio_script.specs.Driver.{IsReady, ReadsWhileReady, bytes_while_ready, without_bytes, drain_events, TakesAll}

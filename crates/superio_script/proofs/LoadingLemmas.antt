@@ -6,10 +6,9 @@ use Rattle.superio_core.specs.declared.saved.Error.{Error as Fault}
 use Rattle.vm_superio.specs.declared.saved.Error.{Error}
 use Rattle.vm_superio.specs.declared.serial.state.SerialState.{SerialState}
 use Rattle.vm_superio.specs.declared.saved.Error.TheVariants.{Bytes, Memory}
-use Rattle.superio_core.specs.Serial.Port.State.{State}
-use Rattle.superio_core.specs.Saved.Form.{serial_form, clock_form}
-use Rattle.superio_core.specs.Saved.Laws.{IsClock}
-use Rattle.superio_core.proofs.Lemmas.Saved.Forms.{numbers_in-form, serial_form_has_no_fault, clock_form_has_no_fault}
+use Rattle.superio_core.specs.Serial.{State}
+use Rattle.superio_core.specs.Saved.{serial_form, clock_form, IsClock}
+use Rattle.superio_core.proofs.Lemmas.Saved.{numbers_in-form, serial_form_has_no_fault, clock_form_has_no_fault}
 use Rattle.superio_script.specs.Loading.{unless_fault, port_in, loaded_port, clock_in, loaded_clock, PortFormLoads, ClockFormLoads}
 
 -- ---- the laws

@@ -8,9 +8,8 @@ use Rattle.std.specs.List.{list_all}
 use Rattle.superio_core.specs.declared.trace.Sent.{Sent}
 use Rattle.superio_core.specs.declared.trace.Sent.TheVariants as sent
 use Rattle.superio_core.specs.declared.saved.Error.{Error as Fault}
-use Rattle.superio_core.specs.Serial.Port.State.{State, not_empty}
-use Rattle.superio_core.specs.Serial.Port.Operations.{Op, Read, Write, Enqueue, CharacterTimeout, is_sent}
-use Rattle.superio_core.specs.Serial.Port.OpKinds.{OpKind, ThrWrite, sent_by}
+use Rattle.superio_core.specs.Serial.{State, not_empty}
+use Rattle.superio_core.specs.Serial.Operations.{Op, Read, Write, Enqueue, CharacterTimeout, is_sent, OpKind, ThrWrite, sent_by}
 use Rattle.vm_superio.specs.Rtc.Device.{ClockDevice}
 use Rattle.vm_superio.specs.Serial.Port.Model.{Port}
 use Rattle.vm_superio.proofs.Lemmas.Links.Writer.{Appends-nothing, Appends-append}

@@ -11,15 +11,14 @@ use Rattle.superio_core.specs.declared.trace.Asked.{Asked}
 use Rattle.superio_core.specs.declared.trace.Asked.TheVariants.{Nothing, Took, Refused, TookTook, TookRefused}
 use Rattle.superio_core.specs.declared.trace.Sent.{Sent}
 use Rattle.superio_core.specs.declared.trace.Sent.TheVariants as sent
-use Rattle.superio_core.specs.Serial.Port.State.{State, not_empty, fresh_state}
+use Rattle.superio_core.specs.Serial.{State, not_empty, fresh_state}
 use Rattle.superio_core.specs.Bits.{has_bits, only_bits}
-use Rattle.superio_core.specs.Serial.Port.Coherent.{Coherent}
+use Rattle.superio_core.specs.Serial.Port.{Coherent}
 use Rattle.superio_core.specs.declared.serial.registers.Condition.{Condition}
-use Rattle.superio_core.specs.Serial.Port.Registers.{is_dlab, pending_in_order}
-use Rattle.superio_core.specs.Serial.Port.Operations.{Op, Read, Write, Enqueue, CharacterTimeout, TraceEntry, Response, ByteRead, is_sent, is_lost, ends_in_refusal}
-use Rattle.superio_core.specs.Serial.Port.OpKinds.{OpKind, Arrival, Other, sent_by}
+use Rattle.superio_core.specs.Serial.RegisterMap.{is_dlab, pending_in_order}
+use Rattle.superio_core.specs.Serial.Operations.{Op, Read, Write, Enqueue, CharacterTimeout, TraceEntry, Response, ByteRead, is_sent, is_lost, ends_in_refusal, OpKind, Arrival, Other, sent_by}
 use Rattle.superio_core.specs.Serial.Step.Admissible.{answers_all, step_calls, sends_byte, is_admissible}
-use Rattle.superio_core.specs.Serial.Step.Restore.{restore_calls}
+use Rattle.superio_core.specs.Serial.Step.Raising.{restore_calls}
 use Rattle.vm_superio.specs.Serial.Step.Restore.{RefusesRestore}
 use Rattle.vm_superio.specs.Serial.History.Registers.{kind_at, loopback}
 use Rattle.vm_superio.specs.Serial.History.Reads.{none_lost, output}
@@ -28,7 +27,7 @@ use Rattle.vm_superio.specs.Links.Objects.{Link, answers_of, all_ok, StopsAtRefu
 use Rattle.vm_superio.specs.Links.Writer.{PortLinks, port_links, bytes_sent, outcome_of, AreSendings, OutLink}
 use Rattle.vm_superio.specs.Links.OutCalls.{OutCall, Put, Flush, WriterCalls}
 use Rattle.vm_superio.specs.Serial.Port.Model.{Port, failure_response}
-use Rattle.superio_core.specs.Saved.Form.{serial_form}
+use Rattle.superio_core.specs.Saved.{serial_form}
 use Rattle.vm_superio.specs.Serial.Step.PortStep.{IsPortStep}
 use Rattle.vm_superio.specs.declared.serial.errors.Error.{Error}
 use Rattle.vm_superio.specs.declared.serial.errors.Error.TheVariants.{Trigger, IOError, FullFifo, Memory}

@@ -1,9 +1,9 @@
 -- What a contract sees of a board, and of one line on it.
 use Rattle.std.specs.Prelude.{◌≡◌, ℕ, Bool, false, if◌then◌else◌, List, codes, IfSome, IsTrue}
 use Rattle.superio_core.specs.declared.rtc_pl031.state.RtcState.{RtcState}
-use Rattle.superio_core.specs.Serial.Port.State.{State}
+use Rattle.superio_core.specs.Serial.{State}
 use Rattle.vm_superio.specs.Serial.Port.Model.{Port}
-use Rattle.superio_core.specs.Rtc.Registers.{fresh_clock}
+use Rattle.superio_core.specs.Rtc.{fresh_clock}
 use Rattle.vm_superio.specs.Rtc.Device.{ClockDevice}
 use Rattle.superio_script.specs.InterruptLine.{InterruptLine, fresh_interrupt_line}
 use Rattle.superio_script.specs.Counts.{EventCounts, no_counts}

@@ -1,6 +1,6 @@
 -- Counts of the events that devices report.
 use Rattle.std.specs.Prelude.{ℕ}
-use Rattle.superio_core.specs.Serial.Port.Operations.{Event, buffer_read, out_byte, tx_lost_byte, in_buffer_empty}
+use Rattle.superio_core.specs.Serial.Operations.{Event, buffer_read, out_byte, tx_lost_byte, in_buffer_empty}
 use Rattle.vm_superio.specs.Rtc.Events.{RtcEvent, invalid_read, invalid_write}
 use Rattle.superio_script.specs.InterruptLine.{saturating_increment}
 

@@ -2,7 +2,7 @@
 use Rattle.std.specs.Prelude.{ℕ, List, [], ◌∷◌, ◌++◌, if◌then◌else◌, codes}
 use Rattle.std.specs.Int.{w64, to_be_bytes}
 use Rattle.hex.specs.Hex.{encode_lower}
-use Rattle.superio_core.specs.Serial.Port.Operations.{Response, ByteRead, WriteOk, EnqueueOk, TimeoutOk, TriggerRefused, WriterFailed, FifoFull, OutOfMemory, NoResponse}
+use Rattle.superio_core.specs.Serial.Operations.{Response, ByteRead, WriteOk, EnqueueOk, TimeoutOk, TriggerRefused, WriterFailed, FifoFull, OutOfMemory, NoResponse}
 use Rattle.superio_core.specs.I8042.{is_reset_command}
 use Rattle.superio_script.specs.Counts.{EventCounts}
 use Rattle.superio_script.specs.declared.command.ControllerCommand.{ControllerCommand}

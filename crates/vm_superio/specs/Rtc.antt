@@ -3,7 +3,7 @@ pub mod Events
 pub mod Device
 pub mod History
 pub mod Laws
-pub use Rattle.superio_core.specs.Rtc.Registers
+pub use Rattle.superio_core.specs.Rtc
 pub use Rattle.superio_core.specs.Rtc.Step
-pub use Rattle.superio_core.specs.Rtc.Clock
-pub use Rattle.superio_core.specs.Rtc.Alarm
+pub use Rattle.superio_core.specs.Rtc
+pub use Rattle.superio_core.specs.Rtc.Step

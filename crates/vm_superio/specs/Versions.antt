@@ -3,9 +3,8 @@ use Rattle.std.specs.Prelude.{◌≡◌, ◌≢◌, ℕ, List, ◌∷◌, ◌++�
 use Rattle.superio_core.specs.declared.rtc_pl031.state.RtcState.{RtcState}
 use Rattle.superio_core.specs.declared.saved.Error.{Error}
 use Rattle.superio_core.specs.declared.saved.Error.TheVariants.{UnknownVersion}
-use Rattle.superio_core.specs.Saved.Faults.{serial_fault, clock_fault}
-use Rattle.superio_core.specs.Saved.Form.{magic, serial_kind, clock_kind, version, serial_form, clock_form}
-use Rattle.superio_core.specs.Serial.Port.State.{State}
+use Rattle.superio_core.specs.Saved.{serial_fault, clock_fault, magic, serial_kind, clock_kind, version, serial_form, clock_form}
+use Rattle.superio_core.specs.Serial.{State}
 
 -- the version is at place 5 of each form
 abbrev pub SerialVersionLaw : Type 0

@@ -41,7 +41,7 @@ pub fn interrupts()
 {}
 
 /// Every step, even a refused call, keeps a coherent state coherent.
-#[tactic(auto, using(superio_core::proofs::Lemmas::Serial::Laws::Coherence::coherence_law))]
+#[tactic(auto, using(superio_core::proofs::Lemmas::Serial::Coherence::coherence_law))]
 pub fn coherence()
     ensures { CoherenceLaw }
 {}

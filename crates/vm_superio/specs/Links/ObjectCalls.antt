@@ -1,6 +1,6 @@
 -- The calls of all three objects of a port in one list, and what the list shows of each object.
 use Rattle.std.specs.Prelude.{map, List, [], ◌∷◌}
-use Rattle.superio_core.specs.Serial.Port.Operations.{Event}
+use Rattle.superio_core.specs.Serial.Operations.{Event}
 use Rattle.vm_superio.specs.Links.OutCalls.{OutCall}
 use Rattle.vm_superio.specs.Links.Objects.{Link, TriggerAnswer}
 

@@ -2,7 +2,7 @@
 use Rattle.std.specs.Prelude.{ℕ, List, [], ◌∷◌, Ok, Err}
 use Rattle.std.specs.declared.io.Error.{Error}
 use Rattle.superio_core.specs.declared.trace.Sent.{Sent}
-use Rattle.superio_core.specs.Serial.Port.Operations.{Op, Write}
+use Rattle.superio_core.specs.Serial.Operations.{Op, Write}
 use Rattle.vm_superio.specs.Links.OutCalls.{OutCall, Put, Flush}
 
 -- what the output answered for a byte: none was sent; it took the byte and flushed; it failed to take it; or it took it

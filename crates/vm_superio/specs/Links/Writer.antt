@@ -4,7 +4,7 @@ use Rattle.std.specs.List.{list_all}
 use Rattle.std.specs.Io.KnownBytes.{Appends}
 use Rattle.std.specs.declared.io.Error.{Error}
 use Rattle.superio_core.specs.declared.trace.Sent.{Sent}
-use Rattle.superio_core.specs.Serial.Port.Operations.{Op, Write, Event, is_lost}
+use Rattle.superio_core.specs.Serial.Operations.{Op, Write, Event, is_lost}
 use Rattle.vm_superio.specs.Links.OutCalls.{OutCall, Put, Flush, WriterCalls}
 use Rattle.vm_superio.specs.Links.Objects.{Link, TriggerAnswer}
 

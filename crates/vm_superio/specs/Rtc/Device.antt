@@ -2,7 +2,7 @@
 use Rattle.std.specs.Prelude.{if◌then◌else◌, List, [], ◌∷◌}
 use Rattle.superio_core.specs.declared.rtc_pl031.state.RtcState.{RtcState}
 use Rattle.vm_superio.specs.Rtc.Events.{RtcEvent, invalid_read, invalid_write}
-use Rattle.superio_core.specs.Rtc.Registers.{Access, read, write, clock_register_at, is_readable, is_writable}
+use Rattle.superio_core.specs.Rtc.{Access, read, write, clock_register_at, is_readable, is_writable}
 
 -- a clock: its registers, and the events object that it owns
 pub record ClockDevice (EV : Type 0) : Type 0 where

@@ -3,9 +3,8 @@ use Rattle.std.specs.Prelude.{◌≡◌, ℕ, ◌+◌, ◌^◌, ◌<◌, Bool, t
 use Rattle.std.specs.Int.{bit_at, w32, to_le_bytes}
 use Rattle.std.specs.List.{list_any}
 use Rattle.superio_core.specs.declared.rtc_pl031.state.RtcState.{RtcState}
-use Rattle.superio_core.specs.Rtc.Registers.{Access, read, write_of, moment_of, bytes_left}
-use Rattle.superio_core.specs.Rtc.Step.{clock_response, clock_step, state_after_accesses}
-use Rattle.superio_core.specs.Rtc.Alarm.{IsDueIn, IsAlarmDue}
+use Rattle.superio_core.specs.Rtc.{Access, read, write_of, moment_of, bytes_left}
+use Rattle.superio_core.specs.Rtc.Step.{clock_response, clock_step, state_after_accesses, IsDueIn, IsAlarmDue}
 use Rattle.vm_superio.specs.Rtc.History.{counter, clock_of_history, clock_history_response, cleared_by, match_written, raises_alarm, is_alarm_raised}
 
 -- for each history of the state before an access, the access responds as the history says

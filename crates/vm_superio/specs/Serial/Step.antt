@@ -2,9 +2,9 @@
 pub mod PortStep
 pub mod Restore
 pub use Rattle.superio_core.specs.Serial.Step.Raising
-pub use Rattle.superio_core.specs.Serial.Step.Transition
+pub use Rattle.superio_core.specs.Serial.Step
 pub use Rattle.superio_core.specs.Serial.Step.Admissible
-pub use Rattle.superio_core.specs.Serial.Step.Calls
+pub use Rattle.superio_core.specs.Serial.Step.Admissible
 pub mod CallsOf
 pub mod ObjectStep
 pub mod Fate

@@ -2,7 +2,7 @@
 ghost use Rattle.std.specs.Prelude.{◌≡◌, ◌↔◌, List, [], ◌∷◌, ◌++◌};
 ghost use Rattle.vm_superio.specs.Links.OutCalls.{Put, Flush};
 ghost use Rattle.vm_superio.specs.Links.ObjectCalls.{ObjectCall, ToTrigger, ToOut, ToEvents};
-ghost use Rattle.superio_core.specs.Serial.Port.Operations.{buffer_read, out_byte, tx_lost_byte, in_buffer_empty};
+ghost use Rattle.superio_core.specs.Serial.Operations.{buffer_read, out_byte, tx_lost_byte, in_buffer_empty};
 
 use super::events::SerialEvents;
 use super::out::{SerialOut, WriterOut};

@@ -1,8 +1,7 @@
 //! The calls of a serial port with their records: each takes a step of the registers and carries out its effects.
 ghost use Rattle.vm_superio.specs.Links.OutCalls.{WriterCalls};
 ghost use Rattle.std.specs.Prelude.{◌≡◌, if◌then◌else◌, is_some};
-ghost use Rattle.superio_core.specs.Serial.Port.Operations.{Read, Write, Enqueue, CharacterTimeout};
-ghost use Rattle.superio_core.specs.Serial.Port.Operations.{ByteRead, WriteOk, TriggerRefused, WriterFailed};
+ghost use Rattle.superio_core.specs.Serial.Operations.{Read, Write, Enqueue, CharacterTimeout, ByteRead, WriteOk, TriggerRefused, WriterFailed};
 ghost use Rattle.superio_core.specs.declared.trace.Sent.{Sent};
 ghost use Rattle.vm_superio.specs.Links.Writer.{port_links};
 ghost use Rattle.vm_superio.specs.Serial.Port.Model.{write_response, enqueue_response, timeout_response, refusal_in_result, fault_in_result};

@@ -3,8 +3,8 @@ ghost use Rattle.std.specs.Prelude.{◌≡◌, List, [], Result, OnOk, IfOk, IfE
 ghost use Rattle.vm_superio.specs.Links.Objects.{all_ok, StopsAtRefusal};
 ghost use Rattle.vm_superio.specs.Links.ObjectCalls.{raised};
 ghost use Rattle.vm_superio.specs.Serial.Port.SavedState.{state_of};
-ghost use Rattle.superio_core.specs.Serial.Port.State.{state_with};
-ghost use Rattle.superio_core.specs.Serial.Step.Restore.{restore_calls};
+ghost use Rattle.superio_core.specs.Serial.{state_with};
+ghost use Rattle.superio_core.specs.Serial.Step.Raising.{restore_calls};
 ghost use Rattle.vm_superio.specs.Serial.Step.Restore.{RefusesRestore};
 
 use super::errors::Error;

@@ -4,8 +4,8 @@ use Rattle.std.specs.Prelude.{IfErr}
 use Rattle.std.specs.declared.io.Error as io
 use Rattle.vm_superio.specs.declared.serial.errors.Error.{Error}
 use Rattle.vm_superio.specs.declared.serial.errors.Error.TheVariants.{Trigger, IOError, FullFifo, Memory}
-use Rattle.superio_core.specs.Serial.Port.Operations.{Write}
-use Rattle.superio_core.specs.Serial.Step.Transition.{step_events}
+use Rattle.superio_core.specs.Serial.Operations.{Write}
+use Rattle.superio_core.specs.Serial.Step.{step_events}
 use Rattle.vm_superio.specs.Links.Objects.{answers_of}
 use Rattle.vm_superio.specs.Links.OutCalls.{OutCall, Put, Flush}
 use Rattle.vm_superio.specs.Links.Writer.{first_fault, AnsweredFault}

@@ -2,8 +2,8 @@
 use Rattle.std.proofs.Common.{◌≡◌, map, List, [], ◌∷◌, ◌++◌, refl, sym, ap, ◌∙◌, subst, inl, inr}
 use Rattle.std.specs.Prelude.{fold}
 use Rattle.std.proofs.lemmas.List.Sums.{fold-append}
-use Rattle.superio_core.specs.Serial.Port.Operations.{Event, Write}
-use Rattle.superio_core.specs.Serial.Step.Transition.{step_events}
+use Rattle.superio_core.specs.Serial.Operations.{Event, Write}
+use Rattle.superio_core.specs.Serial.Step.{step_events}
 use Rattle.vm_superio.specs.Links.Objects.{TriggerAnswer, answers_of}
 use Rattle.vm_superio.specs.Links.OutCalls.{OutCall, Put, Flush}
 use Rattle.vm_superio.specs.Links.ObjectCalls.{ToTrigger, ToOut, ToEvents}

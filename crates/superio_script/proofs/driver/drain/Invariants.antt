@@ -2,7 +2,7 @@
 use Rattle.vm_superio.specs.Links.OutCalls.{WriterCalls}
 use Rattle.std.proofs.Common.{◌≡◌, ◌≤◌, ◌+◌, ◌++◌, length, false, List, ℕ}
 use Rattle.vm_superio.specs.Serial.Port.Model.{Port}
-use Rattle.superio_core.specs.Serial.Port.Registers.{is_dlab}
+use Rattle.superio_core.specs.Serial.RegisterMap.{is_dlab}
 use Rattle.superio_script.specs.Driver.{ReadsWhileReady}
 use Rattle.superio_script.proofs.DriverLemmas.{reads_left}
 use Rattle.superio_script.proofs.driver.drain.Given as goal

@@ -2,7 +2,7 @@
 use Rattle.std.proofs.Common.{◌≡◌, refl, ap, sym, ◌∙◌, subst}
 use Rattle.vm_superio.specs.declared.serial.errors.Error.TheVariants.{Memory}
 use Rattle.vm_superio.specs.Serial.Port.SavedState.{state_of}
-use Rattle.superio_core.specs.Serial.Step.Restore.{restore_calls}
+use Rattle.superio_core.specs.Serial.Step.Raising.{restore_calls}
 use Rattle.vm_superio.specs.Serial.Step.Restore.{RefusesRestore}
 use Rattle.vm_superio.specs.Serial.Port.Model.{Port}
 use Rattle.vm_superio.specs.Links.Objects.{all_ok}

@@ -6,7 +6,7 @@ use Rattle.std.proofs.lemmas.Bool.{false≢true}
 use Rattle.std.specs.Io.KnownBytes.{Keeps, Appends}
 use Rattle.superio_core.specs.declared.trace.Sent.{Sent}
 use Rattle.superio_core.specs.declared.trace.Sent.TheVariants.{Out, Lost}
-use Rattle.superio_core.specs.Serial.Port.Operations.{is_lost}
+use Rattle.superio_core.specs.Serial.Operations.{is_lost}
 use Rattle.vm_superio.specs.Links.OutCalls.{OutCall, Put, Flush, WriterCalls}
 use Rattle.vm_superio.specs.Links.Writer.{AreSendings, KnownOutputLaw}
 

@@ -4,7 +4,7 @@ use Rattle.std.specs.Prelude.{◌&&◌, ◌||◌, ◌==◌, nat_le, List, refl, 
 use Rattle.std.specs.Option.{option_map_or}
 use Rattle.superio_core.specs.declared.rtc_pl031.state.RtcState.{RtcState}
 use Rattle.superio_core.specs.Bits.{with_bits}
-use Rattle.superio_core.specs.Rtc.Registers.{Access, read, write, moment_of, host_time}
+use Rattle.superio_core.specs.Rtc.{Access, read, write, moment_of, host_time}
 use Rattle.superio_core.specs.Rtc.Step.{is_alarm_reached}
 use Rattle.vm_superio.specs.Rtc.History.{clock_of_history, guest_time_at, match_value, is_armed}
 use Rattle.vm_superio.specs.Rtc.Laws.{RaisesAt, RaisesNothingAt, AlarmDueByHistory}

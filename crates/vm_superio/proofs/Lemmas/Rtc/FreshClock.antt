@@ -1,6 +1,6 @@
 -- A fresh clock is that of no access.
 use Rattle.std.proofs.Common.{◌≡◌, [], refl}
-use Rattle.superio_core.specs.Rtc.Registers.{fresh_clock}
+use Rattle.superio_core.specs.Rtc.{fresh_clock}
 use Rattle.vm_superio.specs.Rtc.History.{clock_of_history}
 use Rattle.superio_core.specs.Bits.{with_bits}
 

@@ -6,7 +6,7 @@ use Rattle.std.proofs.lemmas.Nat.{from_le_bytes-to_le_bytes_4}
 use Rattle.std.proofs.lemmas.Grind.{common_steps}
 use Rattle.std.proofs.lemmas.Int.{ints}
 use Rattle.superio_core.specs.declared.rtc_pl031.state.RtcState.{RtcState}
-use Rattle.superio_core.specs.Rtc.Registers.{host_time, guest_time}
+use Rattle.superio_core.specs.Rtc.{host_time, guest_time}
 use Rattle.superio_core.specs.Rtc.Step.{after_alarm, is_alarm_reached, guest_time_in}
 use Rattle.vm_superio.specs.Rtc.Laws.{SetTimeLaw}
 

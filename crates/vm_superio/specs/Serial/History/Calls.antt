@@ -2,9 +2,8 @@
 use Rattle.std.specs.Prelude.{ℕ, if◌then◌else◌, List, [], ◌∷◌, ◌++◌}
 use Rattle.superio_core.specs.declared.trace.Asked.{Asked}
 use Rattle.superio_core.specs.declared.trace.Sent.{Sent}
-use Rattle.superio_core.specs.Serial.Port.State.{State, not_empty}
-use Rattle.superio_core.specs.Serial.Port.Operations.{Op, TraceEntry, Event, buffer_read, out_byte, tx_lost_byte, in_buffer_empty, Trace}
-use Rattle.superio_core.specs.Serial.Port.OpKinds.{OpKind, RbrRead}
+use Rattle.superio_core.specs.Serial.{State, not_empty}
+use Rattle.superio_core.specs.Serial.Operations.{Op, TraceEntry, Event, buffer_read, out_byte, tx_lost_byte, in_buffer_empty, Trace, OpKind, RbrRead}
 use Rattle.vm_superio.specs.Serial.History.Registers.{kind_at, held_bytes}
 use Rattle.vm_superio.specs.Serial.History.Interrupts.{trigger_calls}
 

@@ -3,10 +3,10 @@ use Rattle.std.specs.Prelude.{◌≡◌, false, ◌∷◌, IsTrue}
 use Rattle.superio_core.specs.declared.trace.Asked.{Asked}
 use Rattle.superio_core.specs.declared.trace.Sent.{Sent}
 use Rattle.superio_core.specs.Bits.{has_bits}
-use Rattle.superio_core.specs.Serial.Port.State.{State, not_empty}
+use Rattle.superio_core.specs.Serial.{State, not_empty}
 use Rattle.superio_core.specs.declared.serial.registers.Condition.TheVariants.{Rda}
-use Rattle.superio_core.specs.Serial.Port.Registers.{ier_bit}
-use Rattle.superio_core.specs.Serial.Port.Operations.{CharacterTimeout, TraceEntry, Trace}
+use Rattle.superio_core.specs.Serial.RegisterMap.{ier_bit}
+use Rattle.superio_core.specs.Serial.Operations.{CharacterTimeout, TraceEntry, Trace}
 use Rattle.vm_superio.specs.Serial.History.Registers.{interrupt_enable, held_bytes}
 use Rattle.vm_superio.specs.Serial.History.Interrupts.{is_pending, is_call_due, is_well_formed, TimeoutsShow}
 

@@ -2,10 +2,10 @@
 use Rattle.std.specs.Prelude.{◌≡◌, ◌↔◌, ◌⊎◌, ℕ, List, [], ◌∷◌, ◌++◌, IsTrue}
 use Rattle.superio_core.specs.declared.trace.Asked.{Asked}
 use Rattle.superio_core.specs.Bits.{has_bits}
-use Rattle.superio_core.specs.Serial.Port.State.{State}
+use Rattle.superio_core.specs.Serial.{State}
 use Rattle.superio_core.specs.declared.serial.registers.Condition.{Condition}
-use Rattle.superio_core.specs.Serial.Port.Registers.{iir_bit}
-use Rattle.superio_core.specs.Serial.Port.Operations.{Op, Restore, TraceEntry, Response, Trace}
+use Rattle.superio_core.specs.Serial.RegisterMap.{iir_bit}
+use Rattle.superio_core.specs.Serial.Operations.{Op, Restore, TraceEntry, Response, Trace}
 use Rattle.vm_superio.specs.Links.Writer.{bytes_sent}
 use Rattle.vm_superio.specs.Serial.History.Registers.{accepted_bytes, taken_bytes, held_bytes}
 use Rattle.vm_superio.specs.Serial.History.Interrupts.{acknowledges, is_raised, is_pending, is_well_formed, NoneAcknowledges, IsWithinBound, WaitingBytesShow}

@@ -2,11 +2,10 @@
 use Rattle.std.specs.Prelude.{◌≡◌, ℕ, zero, suc, ◌≤◌, ◌<◌, List, ◌∷◌, ◌++◌, length, IsTrue}
 use Rattle.superio_core.specs.declared.trace.Asked.{Asked}
 use Rattle.superio_core.specs.Bits.{has_bits}
-use Rattle.superio_core.specs.Serial.Port.State.{State, not_empty}
+use Rattle.superio_core.specs.Serial.{State, not_empty}
 use Rattle.superio_core.specs.declared.serial.registers.Condition.TheVariants.{Rda}
-use Rattle.superio_core.specs.Serial.Port.Registers.{ier_bit}
-use Rattle.superio_core.specs.Serial.Port.Operations.{TraceEntry, Trace}
-use Rattle.superio_core.specs.Serial.Port.OpKinds.{IirRead}
+use Rattle.superio_core.specs.Serial.RegisterMap.{ier_bit}
+use Rattle.superio_core.specs.Serial.Operations.{TraceEntry, Trace, IirRead}
 use Rattle.vm_superio.specs.Serial.History.Registers.{kind_at, interrupt_enable, held_bytes, taken_bytes}
 use Rattle.vm_superio.specs.Serial.History.Interrupts.{is_call_due}
 use Rattle.vm_superio.specs.Serial.Laws.CharacterTimeout.{timeout_entry}

@@ -5,16 +5,14 @@ use Rattle.std.specs.Bool.{IsFalse}
 use Rattle.superio_core.specs.declared.trace.Asked.{Asked}
 use Rattle.superio_core.specs.declared.trace.Sent.{Sent}
 use Rattle.superio_core.specs.Bits.{has_bits, only_bits}
-use Rattle.superio_core.specs.Serial.Port.Bits.{ier_bits}
-use Rattle.superio_core.specs.Serial.Port.State.{State}
+use Rattle.superio_core.specs.Serial.{ier_bits, State}
 use Rattle.superio_core.specs.declared.serial.registers.Condition.{Condition}
 use Rattle.superio_core.specs.declared.serial.registers.Condition.TheVariants.{Rda, Thre}
-use Rattle.superio_core.specs.Serial.Port.Registers.{ier_bit, identification_of}
-use Rattle.superio_core.specs.Serial.Port.Operations.{Op, Trace, answer_count}
-use Rattle.superio_core.specs.Serial.Port.OpKinds.{OpKind, RbrRead, IirRead, IerWrite}
-use Rattle.superio_core.specs.Serial.Step.Transition.{step}
+use Rattle.superio_core.specs.Serial.RegisterMap.{ier_bit, identification_of}
+use Rattle.superio_core.specs.Serial.Operations.{Op, Trace, answer_count, OpKind, RbrRead, IirRead, IerWrite}
+use Rattle.superio_core.specs.Serial.Step.{step}
 use Rattle.superio_core.specs.Serial.Step.Admissible.{kind_in_state, is_admissible}
-use Rattle.superio_core.specs.Serial.Step.Restore.{is_asserted, is_line_up}
+use Rattle.superio_core.specs.Serial.Step.Raising.{is_asserted, is_line_up}
 use Rattle.vm_superio.specs.Serial.History.Registers.{interrupt_enable}
 use Rattle.vm_superio.specs.Serial.History.Interrupts.{is_pending}
 use Rattle.vm_superio.specs.Serial.Laws.Agreement.{state_after}

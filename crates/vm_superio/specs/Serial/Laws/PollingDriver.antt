@@ -1,10 +1,8 @@
 -- A driver that polls: what a guest gets that reads RBR only if LSR has shown data ready.
 use Rattle.std.specs.Prelude.{◌≡◌, ℕ, Bool, true, false, not, ◌==◌, ◌&&◌, ◌||◌, List, [], ◌∷◌, ◌++◌, IsTrue}
 use Rattle.superio_core.specs.Bits.{has_bits}
-use Rattle.superio_core.specs.Serial.Port.Bits.{lsr_dr_bit}
-use Rattle.superio_core.specs.Serial.Port.State.{State}
-use Rattle.superio_core.specs.Serial.Port.Operations.{Op, Read, TraceEntry, Response, ByteRead, Trace}
-use Rattle.superio_core.specs.Serial.Port.OpKinds.{OpKind, RbrRead, is_rbr_read}
+use Rattle.superio_core.specs.Serial.{lsr_dr_bit, State}
+use Rattle.superio_core.specs.Serial.Operations.{Op, Read, TraceEntry, Response, ByteRead, Trace, OpKind, RbrRead, is_rbr_read}
 use Rattle.vm_superio.specs.Serial.History.Registers.{kind_at, held_bytes, accepted_bytes}
 use Rattle.vm_superio.specs.Serial.History.Reads.{ResponsesAre, guest_read}
 use Rattle.vm_superio.specs.Serial.Run.Trace.{trace_after}

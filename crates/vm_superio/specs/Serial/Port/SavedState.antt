@@ -1,6 +1,6 @@
 -- The state of a saved state.
 use Rattle.vm_superio.specs.declared.serial.state.SerialState.{SerialState}
-use Rattle.superio_core.specs.Serial.Port.State.{State}
+use Rattle.superio_core.specs.Serial.{State}
 
 -- the fields of a saved state, with the received bytes as a list
 abbrev pub state_of : (saved : SerialState) → State

@@ -1,6 +1,6 @@
 -- What an error of a saved port prints.
 use Rattle.std.specs.Prelude.{ℕ, List, codes, Option, Some}
-use Rattle.superio_core.specs.Saved.ErrorText as check
+use Rattle.superio_core.specs.Saved as check
 use Rattle.vm_superio.specs.declared.saved.Error.{Error}
 use Rattle.vm_superio.specs.declared.saved.Error.TheVariants.{Bytes, Memory}
 

@@ -1,6 +1,6 @@
 -- The history theorem: what a run from a coherent start shows, by the history alone.
 use Rattle.std.specs.Prelude.{◌≡◌, [], List, ◌++◌, IsTrue}
-use Rattle.superio_core.specs.Serial.Port.Coherent.{Coherent}
+use Rattle.superio_core.specs.Serial.Port.{Coherent}
 use Rattle.vm_superio.specs.Links.Objects.{Link}
 use Rattle.vm_superio.specs.Links.ObjectCalls.{ObjectCall}
 use Rattle.vm_superio.specs.Serial.Port.Model.{OnePort}

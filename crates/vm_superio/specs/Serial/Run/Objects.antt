@@ -2,8 +2,8 @@
 -- answers.
 use Rattle.std.specs.Prelude.{◌≡◌, map, List, [], ◌∷◌, ◌++◌, ⊤, Option}
 use Rattle.vm_superio.specs.declared.run.Call.TheVariants.{Restore}
-use Rattle.superio_core.specs.Serial.Port.State.{State}
-use Rattle.superio_core.specs.Serial.Port.Operations.{Trace, TraceEntry}
+use Rattle.superio_core.specs.Serial.{State}
+use Rattle.superio_core.specs.Serial.Operations.{Trace, TraceEntry}
 use Rattle.vm_superio.specs.Links.Objects.{Link, answers_of, all_ok, RefusesOwnState}
 use Rattle.vm_superio.specs.Links.ObjectCalls.{ObjectCall, ToTrigger, ToOut, ToEvents, raised}
 use Rattle.vm_superio.specs.Links.Writer.{AnsweredFault}

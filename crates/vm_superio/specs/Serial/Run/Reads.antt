@@ -1,8 +1,8 @@
 -- What a guest reads over a run from a coherent start, by the history alone.
 use Rattle.std.specs.Prelude.{◌≡◌, List, [], ◌∷◌, ⊤}
 use Rattle.vm_superio.specs.declared.run.Act.TheVariants.{Read}
-use Rattle.superio_core.specs.Serial.Port.State.{State}
-use Rattle.superio_core.specs.Serial.Port.Operations.{Trace}
+use Rattle.superio_core.specs.Serial.{State}
+use Rattle.superio_core.specs.Serial.Operations.{Trace}
 use Rattle.vm_superio.specs.Serial.History.Reads.{guest_read}
 use Rattle.vm_superio.specs.Serial.Run.Trace.{Act, Reply, Byte, Done, entry_of}
 

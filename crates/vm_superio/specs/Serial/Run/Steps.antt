@@ -6,8 +6,8 @@ use Rattle.vm_superio.specs.declared.run.Call.{Call}
 use Rattle.vm_superio.specs.declared.run.Reply.{Reply}
 use Rattle.vm_superio.specs.declared.run.Reply.TheVariants.{Byte, Wrote, Enqueued, TimedOut, Restored, NotRestored}
 use Rattle.vm_superio.specs.declared.run.Done.{Done}
-use Rattle.superio_core.specs.Serial.Port.Operations.{Read, Write, Enqueue, CharacterTimeout, ByteRead}
-use Rattle.superio_core.specs.Serial.Step.Restore.{restore_calls}
+use Rattle.superio_core.specs.Serial.Operations.{Read, Write, Enqueue, CharacterTimeout, ByteRead}
+use Rattle.superio_core.specs.Serial.Step.Raising.{restore_calls}
 use Rattle.vm_superio.specs.Links.Objects.{Link, all_ok, RefusesOwnState}
 use Rattle.vm_superio.specs.Links.ObjectCalls.{ObjectCall, raised}
 use Rattle.vm_superio.specs.Serial.Port.Model.{write_response, enqueue_response, timeout_response, refusal_in_result, fault_in_result}

@@ -5,9 +5,9 @@ use Rattle.std.specs.Io.KnownBytes.{Appends}
 use Rattle.vm_superio.specs.declared.run.Call.TheVariants.{Restore}
 use Rattle.vm_superio.specs.declared.serial.objects.Three.{Three}
 use Rattle.vm_superio.specs.declared.serial.out.WriterOut.{WriterOut}
-use Rattle.superio_core.specs.Serial.Port.State.{State}
+use Rattle.superio_core.specs.Serial.{State}
 use Rattle.superio_core.specs.declared.trace.Asked.{Asked}
-use Rattle.superio_core.specs.Serial.Port.Operations.{Event, TraceEntry, Trace, is_lost}
+use Rattle.superio_core.specs.Serial.Operations.{Event, TraceEntry, Trace, is_lost}
 use Rattle.vm_superio.specs.Links.Objects.{Link, TriggerAnswer, answers_of, all_ok, RefusesOwnState}
 use Rattle.vm_superio.specs.Links.OutCalls.{OutCall, WriterCalls}
 use Rattle.vm_superio.specs.Links.Three.{ThreeLink}

@@ -6,7 +6,7 @@ pub use Rattle.vm_superio.specs.declared.run.Reply.{Reply}
 pub use Rattle.vm_superio.specs.declared.run.Reply.TheVariants.{Byte, Wrote, Enqueued, TimedOut, Restored, NotRestored}
 pub use Rattle.vm_superio.specs.declared.run.Call.{Call}
 pub use Rattle.vm_superio.specs.declared.run.Done.{Done}
-use Rattle.superio_core.specs.Serial.Port.Operations.{Op, Read, Write, Enqueue, CharacterTimeout, Restore, TraceEntry, Response, ByteRead, NoResponse, Trace}
+use Rattle.superio_core.specs.Serial.Operations.{Op, Read, Write, Enqueue, CharacterTimeout, Restore, TraceEntry, Response, ByteRead, NoResponse, Trace}
 use Rattle.std.specs.declared.io.Error as io
 use Rattle.vm_superio.specs.Serial.Port.Model.{write_response, enqueue_response, timeout_response, refusal_in_result, fault_in_result}
 

@@ -2,9 +2,9 @@
 -- operations and the objects' answers decide every call.
 use Rattle.std.specs.Prelude.{map, List, ◌++◌, Option}
 use Rattle.superio_core.specs.declared.trace.Asked.{Asked}
-use Rattle.superio_core.specs.Serial.Port.State.{State}
-use Rattle.superio_core.specs.Serial.Port.Operations.{Op}
-use Rattle.superio_core.specs.Serial.Step.Transition.{step_events}
+use Rattle.superio_core.specs.Serial.{State}
+use Rattle.superio_core.specs.Serial.Operations.{Op}
+use Rattle.superio_core.specs.Serial.Step.{step_events}
 pub use Rattle.vm_superio.specs.Links.Sending.{Sending, NotSent, Taken, NotPut, NotFlushed, sent_in, byte_calls, out_calls}
 use Rattle.vm_superio.specs.Links.Objects.{answers_of}
 use Rattle.vm_superio.specs.Links.ObjectCalls.{ObjectCall, ToTrigger, ToOut, ToEvents}

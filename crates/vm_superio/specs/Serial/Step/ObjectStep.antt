@@ -6,15 +6,15 @@ use Rattle.superio_core.specs.declared.trace.Sent.{Sent}
 use Rattle.vm_superio.specs.declared.serial.errors.Error.{Error}
 use Rattle.vm_superio.specs.declared.serial.objects.Three.{Three}
 use Rattle.vm_superio.specs.declared.serial.out.WriterOut.{WriterOut}
-use Rattle.superio_core.specs.Serial.Port.State.{state_with}
+use Rattle.superio_core.specs.Serial.{state_with}
 use Rattle.superio_core.specs.declared.serial.registers.Registers.{Registers}
-use Rattle.superio_core.specs.Serial.Port.Operations.{Op, Read, Write, Enqueue, CharacterTimeout, Response, ByteRead, ends_in_refusal}
+use Rattle.superio_core.specs.Serial.Operations.{Op, Read, Write, Enqueue, CharacterTimeout, Response, ByteRead, ends_in_refusal}
 use Rattle.vm_superio.specs.Links.Objects.{Link}
 use Rattle.vm_superio.specs.Links.ObjectCalls.{ObjectCall, ToOut, ToEvents}
 use Rattle.vm_superio.specs.Links.Writer.{AnsweredFault}
 pub use Rattle.vm_superio.specs.Serial.Port.Model.{OnePort, one_port}
 use Rattle.vm_superio.specs.Serial.Port.Model.{Port, write_response, enqueue_response, timeout_response, refusal_in_result, fault_in_result}
-use Rattle.superio_core.specs.Serial.Step.Transition.{step, step_response, sent_events}
+use Rattle.superio_core.specs.Serial.Step.{step, step_response, sent_events}
 use Rattle.superio_core.specs.Serial.Step.Admissible.{is_admissible}
 use Rattle.vm_superio.specs.Serial.Step.CallsOf.{Sending, sent_in, byte_calls, out_calls, calls_of}
 

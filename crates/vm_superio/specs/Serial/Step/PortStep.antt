@@ -4,15 +4,15 @@ use Rattle.superio_core.specs.declared.trace.Asked.{Asked}
 use Rattle.superio_core.specs.declared.trace.Sent.{Sent}
 use Rattle.vm_superio.specs.declared.serial.errors.Error.{Error}
 use Rattle.superio_core.specs.Bits.{has_bits}
-use Rattle.superio_core.specs.Serial.Port.State.{State}
+use Rattle.superio_core.specs.Serial.{State}
 use Rattle.superio_core.specs.declared.serial.registers.Condition.TheVariants.{Rda, Thre}
-use Rattle.superio_core.specs.Serial.Port.Registers.{iir_bit}
-use Rattle.superio_core.specs.Serial.Port.Operations.{Op, Read, Write, Enqueue, CharacterTimeout, Restore, Response, ByteRead, NoResponse, Event, ends_in_refusal, count_if}
+use Rattle.superio_core.specs.Serial.RegisterMap.{iir_bit}
+use Rattle.superio_core.specs.Serial.Operations.{Op, Read, Write, Enqueue, CharacterTimeout, Restore, Response, ByteRead, NoResponse, Event, ends_in_refusal, count_if}
 use Rattle.vm_superio.specs.Links.Objects.{Link, TriggerAnswer, answers_of}
 use Rattle.vm_superio.specs.Links.Writer.{PortLinks, port_links, bytes_sent, outcome_of, OutLink, AnsweredFault}
 use Rattle.vm_superio.specs.Links.OutCalls.{OutCall}
 use Rattle.vm_superio.specs.Serial.Port.Model.{Port, write_response, enqueue_response, timeout_response, refusal_in_result, fault_in_result}
-use Rattle.superio_core.specs.Serial.Step.Transition.{step, step_response, step_events}
+use Rattle.superio_core.specs.Serial.Step.{step, step_response, step_events}
 use Rattle.superio_core.specs.Serial.Step.Admissible.{is_admissible}
 
 -- a call takes a port from `old` to `new` by one step, with these answers of the trigger and this outcome of a byte. A

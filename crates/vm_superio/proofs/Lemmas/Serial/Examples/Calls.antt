@@ -4,12 +4,12 @@ use Rattle.superio_core.specs.declared.trace.Asked.{Asked}
 use Rattle.superio_core.specs.declared.trace.Asked.TheVariants.{Nothing}
 use Rattle.superio_core.specs.declared.trace.Sent.{Sent}
 use Rattle.superio_core.specs.declared.trace.Sent.TheVariants as sent
-use Rattle.superio_core.specs.Serial.Port.State.{State}
+use Rattle.superio_core.specs.Serial.{State}
 use Rattle.superio_core.specs.declared.serial.registers.Condition.{Condition}
-use Rattle.superio_core.specs.Serial.Port.Operations.{Event, Read, Write, Enqueue, CharacterTimeout, Restore, TraceEntry, Response, ByteRead, WriteOk, NoResponse}
+use Rattle.superio_core.specs.Serial.Operations.{Event, Read, Write, Enqueue, CharacterTimeout, Restore, TraceEntry, Response, ByteRead, WriteOk, NoResponse}
 use Rattle.superio_core.specs.Serial.Step.Admissible.{is_admissible}
-use Rattle.superio_core.specs.Serial.Step.Transition.{step_response, step, step_events}
-use Rattle.superio_core.specs.Serial.Step.Restore.{restore_calls}
+use Rattle.superio_core.specs.Serial.Step.{step_response, step, step_events}
+use Rattle.superio_core.specs.Serial.Step.Raising.{restore_calls}
 use Rattle.vm_superio.specs.Serial.History.Interrupts.{is_well_formed_entry, restore_calls_due}
 use Rattle.vm_superio.specs.Serial.Run.Trace.{trace_after}
 use Rattle.vm_superio.specs.Serial.History.Reads.{history_response}

@@ -2,9 +2,9 @@
 use Rattle.std.proofs.Common.{[], ◌∷◌, refl, replicate}
 use Rattle.superio_core.specs.declared.trace.Asked.TheVariants.{Nothing, Took, Refused, TookTook, TookRefused}
 use Rattle.superio_core.specs.declared.trace.Sent.TheVariants as sent
-use Rattle.superio_core.specs.Serial.Port.State.{fresh_state}
+use Rattle.superio_core.specs.Serial.{fresh_state}
 use Rattle.superio_core.specs.Bits.{has_bits, only_bits, with_bits}
-use Rattle.superio_core.specs.Serial.Port.Operations.{EnqueueOk, TriggerRefused, WriterFailed, FifoFull}
+use Rattle.superio_core.specs.Serial.Operations.{EnqueueOk, TriggerRefused, WriterFailed, FifoFull}
 use Rattle.vm_superio.proofs.Lemmas.Serial.Examples.Calls.{read, write, store, write_fails, enqueue, GivenByBoth}
 
 -- each offset of a fresh port

@@ -2,10 +2,10 @@
 use Rattle.std.proofs.Common.{◌≡◌, ℕ, zero, suc, List, [], ◌∷◌, refl}
 use Rattle.superio_core.specs.declared.trace.Asked.TheVariants.{Nothing, Took, Refused, TookTook}
 use Rattle.superio_core.specs.declared.trace.Sent.TheVariants as sent
-use Rattle.superio_core.specs.Serial.Port.State.{fresh_state}
+use Rattle.superio_core.specs.Serial.{fresh_state}
 use Rattle.superio_core.specs.Bits.{has_bits, only_bits, with_bits}
 use Rattle.superio_core.specs.declared.serial.registers.Condition.TheVariants.{Rda, Thre}
-use Rattle.superio_core.specs.Serial.Port.Operations.{buffer_read, TraceEntry, Response, EnqueueOk, TimeoutOk, TriggerRefused, WriterFailed}
+use Rattle.superio_core.specs.Serial.Operations.{buffer_read, TraceEntry, Response, EnqueueOk, TimeoutOk, TriggerRefused, WriterFailed}
 use Rattle.vm_superio.proofs.Lemmas.Serial.Examples.Calls.{read, write, store, write_fails, enqueue, timeout, restore, reported_events, GivenByBoth, RestoresWith}
 
 loopback_receives : GivenByBoth fresh_state (

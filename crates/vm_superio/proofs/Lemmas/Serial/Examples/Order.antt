@@ -6,8 +6,8 @@ use Rattle.superio_core.specs.declared.trace.Asked.TheVariants.{Nothing, Took, R
 use Rattle.superio_core.specs.Bits.{has_bits, only_bits, with_bits}
 use Rattle.superio_core.specs.Serial.Step.Admissible.{is_admissible}
 use Rattle.superio_core.specs.declared.trace.Asked.{Asked}
-use Rattle.superio_core.specs.Serial.Port.State.{State, fresh_state}
-use Rattle.superio_core.specs.Serial.Port.Operations.{Op, ends_in_refusal, Read, Write, Enqueue, out_byte, tx_lost_byte, buffer_read, in_buffer_empty}
+use Rattle.superio_core.specs.Serial.{State, fresh_state}
+use Rattle.superio_core.specs.Serial.Operations.{Op, ends_in_refusal, Read, Write, Enqueue, out_byte, tx_lost_byte, buffer_read, in_buffer_empty}
 use Rattle.vm_superio.specs.Links.OutCalls.{Put, Flush}
 use Rattle.vm_superio.specs.Links.ObjectCalls.{ObjectCall, ToTrigger, ToOut, ToEvents}
 use Rattle.vm_superio.specs.Serial.Step.CallsOf.{Sending, NotSent, Taken, NotPut, NotFlushed, sent_in, calls_of}

@@ -2,13 +2,13 @@
 use Rattle.std.proofs.Common.{◌≡◌, true, false, [], ◌∷◌, refl}
 use Rattle.superio_core.specs.declared.trace.Asked.TheVariants.{Nothing, Took}
 use Rattle.superio_core.specs.declared.trace.Sent.TheVariants as sent
-use Rattle.superio_core.specs.Serial.Port.State.{State, fresh_state}
+use Rattle.superio_core.specs.Serial.{State, fresh_state}
 use Rattle.superio_core.specs.Bits.{has_bits, only_bits, with_bits}
 use Rattle.superio_core.specs.declared.serial.registers.Condition.TheVariants.{Rda, Thre}
-use Rattle.superio_core.specs.Serial.Port.Operations.{Read, Write, buffer_read, in_buffer_empty}
-use Rattle.superio_core.specs.Serial.Step.Transition.{step}
+use Rattle.superio_core.specs.Serial.Operations.{Read, Write, buffer_read, in_buffer_empty}
+use Rattle.superio_core.specs.Serial.Step.{step}
 use Rattle.superio_core.specs.Serial.Step.Admissible.{step_calls}
-use Rattle.superio_core.specs.Serial.Step.Restore.{is_line_up, restore_calls}
+use Rattle.superio_core.specs.Serial.Step.Raising.{is_line_up, restore_calls}
 use Rattle.vm_superio.proofs.Lemmas.Serial.Examples.Calls.{read, write, store, restore, reported_events, GivenByCases, GivenByBoth, RestoresWith}
 
 -- both conditions are pending and enabled, and a byte is held

@@ -2,8 +2,8 @@
 use Rattle.std.proofs.Common.{◌≡◌, [], ◌∷◌, refl, true, false}
 use Rattle.superio_core.specs.Bits.{has_bits, only_bits, with_bits}
 use Rattle.superio_core.specs.declared.trace.Asked.TheVariants.{Nothing}
-use Rattle.superio_core.specs.Serial.Port.State.{fresh_state}
-use Rattle.superio_core.specs.Serial.Port.Operations.{EnqueueOk}
+use Rattle.superio_core.specs.Serial.{fresh_state}
+use Rattle.superio_core.specs.Serial.Operations.{EnqueueOk}
 use Rattle.vm_superio.proofs.Lemmas.Serial.Examples.Calls.{read, store, enqueue}
 use Rattle.vm_superio.specs.Serial.Laws.PollingDriver.{polls, polls_after_data_ready}
 

@@ -2,11 +2,10 @@
 use Rattle.std.proofs.Common.{◌≡◌, ℕ, ◌≤◌, true, false, [], ◌∷◌, List, ◌++◌, length, refl, sym, ap, ◌∙◌, replicate, arith, count_by}
 use Rattle.std.proofs.lemmas.Bool.{false≢true}
 use Rattle.superio_core.specs.Bits.{has_bits}
-use Rattle.superio_core.specs.Serial.Port.Coherent.{Coherent}
-use Rattle.superio_core.specs.Serial.Port.State.{State, fresh_state}
-use Rattle.superio_core.specs.Serial.Port.Operations.{Trace}
-use Rattle.superio_core.specs.Serial.Port.Registers.{is_dlab, is_loopback}
-use Rattle.superio_core.specs.Serial.Port.OpKinds.{IerWrite, ThrWrite, is_iir_read, is_rbr_read}
+use Rattle.superio_core.specs.Serial.Port.{Coherent}
+use Rattle.superio_core.specs.Serial.{State, fresh_state}
+use Rattle.superio_core.specs.Serial.Operations.{Trace, IerWrite, ThrWrite, is_iir_read, is_rbr_read}
+use Rattle.superio_core.specs.Serial.RegisterMap.{is_dlab, is_loopback}
 use Rattle.vm_superio.specs.Claims.{is_fresh, shows_data, is_outside, is_inside, is_masked}
 use Rattle.vm_superio.specs.Links.Objects.{Link, TriggerAnswer}
 use Rattle.vm_superio.specs.declared.serial.errors.Error.TheVariants.{Memory}

@@ -4,9 +4,8 @@ use Rattle.std.proofs.lemmas.Bool.{and_parts, eqb-true}
 use Rattle.std.specs.Cmp.Derive.{both_true}
 use Rattle.std.specs.Prelude.{not, IsTrue}
 use Rattle.superio_core.specs.declared.serial.registers.Condition.TheVariants.{Rda, Thre}
-use Rattle.superio_core.specs.Serial.Port.State.{State}
-use Rattle.superio_core.specs.Serial.Port.Operations.{CharacterTimeout, TraceEntry, Trace, is_refused_at_once, answer_count, count_if}
-use Rattle.superio_core.specs.Serial.Port.OpKinds.{Timeout}
+use Rattle.superio_core.specs.Serial.{State}
+use Rattle.superio_core.specs.Serial.Operations.{CharacterTimeout, TraceEntry, Trace, is_refused_at_once, answer_count, count_if, Timeout}
 use Rattle.vm_superio.specs.Serial.History.Registers.{kind_at, interrupt_enable, held_bytes}
 use Rattle.vm_superio.specs.Serial.History.Interrupts.{acknowledges, raises_rda, raises_thre, rda_raised, rda_pending, is_raised, is_pending, is_call_due, trigger_calls, is_well_formed_entry, is_well_formed, has_waiting_bytes}
 use Rattle.vm_superio.specs.Serial.Laws.CharacterTimeout.{timeout_entry, NoByteWaitsLaw, TimeoutCallsLaw, TimeoutsShowLaw}

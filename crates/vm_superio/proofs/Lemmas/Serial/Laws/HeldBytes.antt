@@ -3,20 +3,19 @@ use Rattle.std.proofs.Common.{◌≡◌, ℕ, Bool, List, [], ◌∷◌, ◌++�
 use Rattle.std.proofs.Math.Seq.{drop-append-add}
 use Rattle.std.specs.Prelude.{if◌then◌else◌}
 use Rattle.superio_core.specs.declared.trace.Asked.{Asked}
-use Rattle.superio_core.specs.Serial.Port.State.{State, not_empty}
+use Rattle.superio_core.specs.Serial.{State, not_empty}
 use Rattle.superio_core.specs.Bits.{has_bits, without_bits}
 use Rattle.vm_superio.specs.Serial.History.Reads.{with_data_ready, line_status}
-use Rattle.superio_core.specs.Serial.Port.Operations.{Op, TraceEntry}
+use Rattle.superio_core.specs.Serial.Operations.{Op, TraceEntry, OpKind, RbrRead, IirRead, Arrival}
 use Rattle.superio_core.specs.Serial.Step.Raising.{receive_bytes, bytes_that_fit}
 use Rattle.superio_core.specs.Serial.Step.Admissible.{kind_in_state}
-use Rattle.superio_core.specs.Serial.Port.OpKinds.{OpKind, RbrRead, IirRead, Arrival}
 use Rattle.vm_superio.specs.Serial.History.Registers.{accepted_by, taken_by, kind_at, remaining_bytes, accepted_bytes, taken_bytes, held_bytes}
-use Rattle.superio_core.specs.Serial.Step.Transition.{step}
+use Rattle.superio_core.specs.Serial.Step.{step}
 use Rattle.vm_superio.specs.Serial.Laws.Agreement.{state_after, HeldBytesLaw, LineStatusLaw}
 use Rattle.vm_superio.specs.Serial.Laws.Consequences.{TakenThenHeldLaw}
 use Rattle.vm_superio.proofs.Lemmas.Serial.Port.Bits.{data_ready_right, data_ready_twice}
-use Rattle.superio_core.proofs.Lemmas.Serial.Laws.Coherence.{not_empty-append}
-use Rattle.superio_core.proofs.Lemmas.Serial.Step.ByKind.{by_kind, next_by_kind}
+use Rattle.superio_core.proofs.Lemmas.Serial.Coherence.{not_empty-append}
+use Rattle.superio_core.proofs.Lemmas.Serial.Step.{by_kind, next_by_kind}
 use Rattle.vm_superio.proofs.Lemmas.Serial.Step.ByKind.{next_at_point}
 use Rattle.vm_superio.proofs.Lemmas.Serial.Laws.OneCall.{taken_first, left_by_kind}
 

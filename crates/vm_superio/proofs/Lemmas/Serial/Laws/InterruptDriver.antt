@@ -3,10 +3,9 @@ use Rattle.std.proofs.Common.{◌≡◌, ℕ, zero, suc, ◌+◌, ◌≤◌, ◌
 use Rattle.std.specs.Prelude.{IsTrue, false, not, ◌&&◌, ◌||◌, take, drop}
 use Rattle.std.proofs.lemmas.List.{take-append-drop, take-append-le}
 use Rattle.std.proofs.Math.Seq.{take-append_seam}
-use Rattle.superio_core.specs.Serial.Port.State.{State, not_empty}
+use Rattle.superio_core.specs.Serial.{State, not_empty}
 use Rattle.superio_core.specs.declared.serial.registers.Condition.TheVariants.{Rda}
-use Rattle.superio_core.specs.Serial.Port.Operations.{TraceEntry, Trace}
-use Rattle.superio_core.specs.Serial.Port.OpKinds.{OpKind, IirRead}
+use Rattle.superio_core.specs.Serial.Operations.{TraceEntry, Trace, OpKind, IirRead}
 use Rattle.vm_superio.specs.Serial.History.Registers.{kind_at, interrupt_enable, held_bytes, accepted_bytes, taken_bytes}
 use Rattle.vm_superio.specs.Serial.History.Interrupts.{is_pending, acknowledges, raises_rda}
 use Rattle.vm_superio.specs.Serial.Laws.CharacterTimeout.{timeout_entry}

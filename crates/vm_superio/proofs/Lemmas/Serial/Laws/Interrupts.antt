@@ -3,22 +3,19 @@ use Rattle.std.proofs.Common.{◌≡◌, ℕ, ◌+◌, zero-add, add-zero, Bool,
 use Rattle.std.specs.Bool.{beq}
 use Rattle.std.proofs.Math.Bool.{and-true}
 use Rattle.superio_core.specs.declared.trace.Asked.{Asked}
-use Rattle.superio_core.specs.Serial.Port.State.{State, not_empty}
+use Rattle.superio_core.specs.Serial.{State, not_empty}
 use Rattle.superio_core.specs.Bits.{has_bits, only_bits}
 use Rattle.superio_core.specs.declared.serial.registers.Condition.TheVariants.{Thre, Rda}
-use Rattle.superio_core.specs.Serial.Port.Registers.{identification_of, pending_in_order}
-use Rattle.superio_core.specs.Serial.Port.Operations.{TraceEntry, is_refused_at_once, is_sent, count_if, answer_count}
-use Rattle.superio_core.specs.Serial.Step.Raising.{raise_rda_while_held, becomes_pending, rda_becomes_pending, bytes_that_fit}
-use Rattle.superio_core.specs.Serial.Port.OpKinds.{OpKind, RbrRead, IirRead, IerWrite, ThrWrite, Arrival, Timeout, Other, sent_by, is_iir_read}
+use Rattle.superio_core.specs.Serial.RegisterMap.{identification_of, pending_in_order}
+use Rattle.superio_core.specs.Serial.Operations.{TraceEntry, is_refused_at_once, is_sent, count_if, answer_count, OpKind, RbrRead, IirRead, IerWrite, ThrWrite, Arrival, Timeout, Other, sent_by, is_iir_read}
+use Rattle.superio_core.specs.Serial.Step.Raising.{raise_rda_while_held, becomes_pending, rda_becomes_pending, bytes_that_fit, restore_calls}
 use Rattle.superio_core.specs.Serial.Step.Admissible.{arrival_calls, kind_calls, answers_all, step_calls, is_admissible}
 use Rattle.vm_superio.specs.Serial.History.Registers.{kind_at, held_bytes}
 use Rattle.vm_superio.specs.Serial.History.Interrupts.{raises_rda, acknowledges, is_pending, raises_thre, is_well_formed_entry, restore_calls_due}
 use Rattle.vm_superio.specs.Serial.History.Reads.{interrupt_identification}
-use Rattle.superio_core.specs.Serial.Step.Restore.{restore_calls}
 use Rattle.vm_superio.specs.Serial.Laws.Agreement.{state_after, InterruptLaw}
-use Rattle.superio_core.proofs.Lemmas.Serial.Step.Raising.{rda_bit, thre_bit, rda_new, thre_new, ier_write_raises_rda, ier_write_raises_thre, timeout_raises_rda, answers_counted}
-use Rattle.superio_core.proofs.Lemmas.Serial.Laws.Coherence.{pending_by_kind as pending_after}
-use Rattle.superio_core.proofs.Lemmas.Serial.Step.ByKind.{by_kind}
+use Rattle.superio_core.proofs.Lemmas.Serial.Step.{rda_bit, thre_bit, rda_new, thre_new, ier_write_raises_rda, ier_write_raises_thre, timeout_raises_rda, answers_counted, by_kind}
+use Rattle.superio_core.proofs.Lemmas.Serial.Coherence.{pending_by_kind as pending_after}
 use Rattle.vm_superio.proofs.Lemmas.Serial.Step.ByKind.{next_at_point, same_kind}
 use Rattle.vm_superio.proofs.Lemmas.Serial.Laws.Registers.{register_law}
 use Rattle.vm_superio.proofs.Lemmas.Serial.Laws.HeldBytes.{held_bytes_law}

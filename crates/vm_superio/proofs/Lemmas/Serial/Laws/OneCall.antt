@@ -2,25 +2,24 @@
 use Rattle.std.proofs.Common.{◌≡◌, ℕ, Bool, true, List, [], ◌∷◌, ◌++◌, length, drop, refl, ap, sym, ◌∙◌, append-nil, ◌<◌, false, subst, arith, IsTrue}
 use Rattle.std.specs.Prelude.{if◌then◌else◌, slice_index, drop, ◌&&◌}
 use Rattle.superio_core.specs.declared.trace.Asked.{Asked}
-use Rattle.superio_core.specs.Serial.Port.State.{State, not_empty}
+use Rattle.superio_core.specs.Serial.{State, not_empty}
 use Rattle.superio_core.specs.Bits.{has_bits, without_bits}
 use Rattle.vm_superio.specs.Serial.History.Reads.{line_status, byte_read}
-use Rattle.superio_core.specs.Serial.Port.Operations.{Op, Read, Write, Enqueue, CharacterTimeout, Restore, Response, ByteRead, WriteOk, WriterFailed, TriggerRefused, is_sent, is_lost, ends_in_refusal}
+use Rattle.superio_core.specs.Serial.Operations.{Op, Read, Write, Enqueue, CharacterTimeout, Restore, Response, ByteRead, WriteOk, WriterFailed, TriggerRefused, is_sent, is_lost, ends_in_refusal, OpKind, RbrRead, IirRead, Arrival, read_kind, write_kind, kind_of, sent_by}
 use Rattle.superio_core.specs.Serial.Step.Raising.{receive_bytes, bytes_that_fit, raise}
 use Rattle.superio_core.specs.Serial.Step.Admissible.{kind_in_state, answers_all, step_calls, sends_byte}
-use Rattle.superio_core.specs.Serial.Port.OpKinds.{OpKind, RbrRead, IirRead, Arrival, read_kind, write_kind, kind_of, sent_by}
 use Rattle.vm_superio.specs.Serial.History.Registers.{accepted_by, taken_by}
-use Rattle.superio_core.specs.Serial.Step.Transition.{step, read_step, step_response, write_step}
+use Rattle.superio_core.specs.Serial.Step.{step, read_step, step_response, write_step}
 use Rattle.vm_superio.specs.Serial.Laws.OneCall.{OneCallLaw, ReceivedLaw, OneReadLaw, RbrReadLaw, RbrDataReadyLaw, ThrWriteLaw}
-use Rattle.superio_core.proofs.Lemmas.Serial.Port.Bits.{data_ready_cleared}
-use Rattle.superio_core.proofs.Lemmas.Serial.Step.ByKind.{by_kind, next_by_kind}
+use Rattle.superio_core.proofs.Lemmas.Serial.{data_ready_cleared}
+use Rattle.superio_core.proofs.Lemmas.Serial.Step.{by_kind, next_by_kind}
 use Rattle.std.proofs.Math.Bool.{and-true, and-false}
 use Rattle.superio_core.specs.declared.trace.Asked.TheVariants.{Nothing}
 use Rattle.superio_core.specs.declared.trace.Sent.{Sent}
 use Rattle.superio_core.specs.declared.trace.Sent.TheVariants as sent
 use Rattle.superio_core.specs.declared.serial.registers.Register.{Register}
 use Rattle.superio_core.specs.declared.serial.registers.Register.TheVariants.{RbrThr, Ier, Iir}
-use Rattle.superio_core.specs.Serial.Port.Registers.{register_at, is_dlab, is_loopback, register_read}
+use Rattle.superio_core.specs.Serial.RegisterMap.{register_at, is_dlab, is_loopback, register_read}
 use Rattle.superio_core.specs.declared.serial.registers.Condition.TheVariants.{Thre}
 use Rattle.std.specs.Bool.{beq}
 use Rattle.superio_core.specs.declared.trace.Sent.TheVariants.{Nothing, Out, Lost}

@@ -5,14 +5,13 @@ use Rattle.std.specs.Prelude.{if◌then◌else◌, IsTrue, count_by}
 use Rattle.std.specs.Bool.{beq}
 use Rattle.superio_core.specs.declared.trace.Sent.{Sent}
 use Rattle.superio_core.specs.declared.trace.Sent.TheVariants as sent
-use Rattle.superio_core.specs.Serial.Port.State.{State, not_empty}
+use Rattle.superio_core.specs.Serial.{State, not_empty}
 use Rattle.superio_core.specs.declared.serial.registers.Register.{Register}
 use Rattle.superio_core.specs.declared.serial.registers.Register.TheVariants.{RbrThr, Iir}
-use Rattle.superio_core.specs.Serial.Port.Registers.{register_at, is_dlab, is_loopback}
-use Rattle.superio_core.specs.Serial.Port.Operations.{buffer_read, in_buffer_empty, Op, Read, Write, Enqueue, CharacterTimeout, Restore, is_sent}
+use Rattle.superio_core.specs.Serial.RegisterMap.{register_at, is_dlab, is_loopback}
+use Rattle.superio_core.specs.Serial.Operations.{buffer_read, in_buffer_empty, Op, Read, Write, Enqueue, CharacterTimeout, Restore, is_sent, OpKind, ThrWrite, read_kind, kind_of, sent_by}
 use Rattle.superio_core.specs.Serial.Step.Admissible.{kind_in_state, answers_all, step_calls, sends_byte}
-use Rattle.superio_core.specs.Serial.Port.OpKinds.{OpKind, ThrWrite, read_kind, kind_of, sent_by}
-use Rattle.superio_core.specs.Serial.Step.Transition.{read_events, sent_events, step_events}
+use Rattle.superio_core.specs.Serial.Step.{read_events, sent_events, step_events}
 use Rattle.vm_superio.specs.Serial.Laws.OneCall.{OutcomeEventsLaw, reports_outcome}
 
 -- an outcome is recorded exactly if a byte is sent

@@ -5,13 +5,12 @@ use Rattle.std.specs.Prelude.{IsTrue, ◌==◌}
 use Rattle.std.specs.Bool.{beq}
 use Rattle.superio_core.specs.declared.trace.Sent.{Sent}
 use Rattle.superio_core.specs.declared.trace.Sent.TheVariants as sent
-use Rattle.superio_core.specs.Serial.Port.State.{not_empty}
+use Rattle.superio_core.specs.Serial.{not_empty}
 use Rattle.superio_core.specs.declared.serial.registers.Register.{Register}
 use Rattle.superio_core.specs.declared.serial.registers.Register.TheVariants.{RbrThr, Ier, Iir}
-use Rattle.superio_core.specs.Serial.Port.Registers.{register_at}
-use Rattle.superio_core.specs.Serial.Port.Operations.{Op, Read, Write, Enqueue, CharacterTimeout, Restore, is_sent, answer_count}
+use Rattle.superio_core.specs.Serial.RegisterMap.{register_at}
+use Rattle.superio_core.specs.Serial.Operations.{Op, Read, Write, Enqueue, CharacterTimeout, Restore, is_sent, answer_count, read_kind, write_kind, kind_of, sent_by}
 use Rattle.vm_superio.specs.Links.Writer.{bytes_sent}
-use Rattle.superio_core.specs.Serial.Port.OpKinds.{read_kind, write_kind, kind_of, sent_by}
 use Rattle.vm_superio.specs.Serial.History.Registers.{dlab, loopback}
 use Rattle.vm_superio.specs.Serial.History.Interrupts.{trigger_calls, is_well_formed_entry, is_well_formed}
 use Rattle.vm_superio.specs.Serial.History.Reads.{output}

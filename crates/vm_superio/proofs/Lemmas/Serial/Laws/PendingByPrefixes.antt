@@ -3,13 +3,12 @@ use Rattle.std.proofs.Common.{◌≡◌, inl, inr, Bool, true, false, not, ◌&&
 use Rattle.std.proofs.lemmas.Bool.{and_parts, false≢true}
 use Rattle.std.specs.Prelude.{IsTrue, ◌⊎◌}
 use Rattle.std.specs.Bool.{IsFalse}
-use Rattle.superio_core.specs.Serial.Port.State.{State}
+use Rattle.superio_core.specs.Serial.{State}
 use Rattle.superio_core.specs.Bits.{has_bits}
-use Rattle.superio_core.specs.Serial.Port.Operations.{TraceEntry}
-use Rattle.superio_core.specs.Serial.Port.OpKinds.{OpKind}
+use Rattle.superio_core.specs.Serial.Operations.{TraceEntry, OpKind}
 use Rattle.vm_superio.specs.Serial.History.Registers.{kind_at}
 use Rattle.superio_core.specs.declared.serial.registers.Condition.{Condition}
-use Rattle.superio_core.specs.Serial.Port.Registers.{iir_bit}
+use Rattle.superio_core.specs.Serial.RegisterMap.{iir_bit}
 use Rattle.vm_superio.specs.Serial.History.Interrupts.{pending_since, is_raised, acknowledges, NoneAcknowledges}
 use Rattle.vm_superio.specs.Serial.Laws.Consequences.{PendingByPrefixesLaw}
 

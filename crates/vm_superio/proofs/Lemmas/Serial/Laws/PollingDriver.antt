@@ -6,14 +6,13 @@ use Rattle.std.specs.Prelude.{IsTrue, not, ◌&&◌, ◌||◌, length, drop}
 use Rattle.superio_core.specs.declared.trace.Asked.{Asked}
 use Rattle.superio_core.specs.declared.trace.Sent.{Sent}
 use Rattle.superio_core.specs.Bits.{has_bits}
-use Rattle.superio_core.specs.Serial.Port.State.{State, not_empty}
-use Rattle.superio_core.specs.Serial.Port.Operations.{Op, Read, Write, Enqueue, CharacterTimeout, Restore, TraceEntry, Response, ByteRead}
-use Rattle.superio_core.specs.Serial.Port.OpKinds.{OpKind, RbrRead, IirRead, is_rbr_read}
+use Rattle.superio_core.specs.Serial.{State, not_empty}
+use Rattle.superio_core.specs.Serial.Operations.{Op, Read, Write, Enqueue, CharacterTimeout, Restore, TraceEntry, Response, ByteRead, OpKind, RbrRead, IirRead, is_rbr_read}
 use Rattle.vm_superio.specs.Serial.History.Registers.{kind_at, accepted_by, taken_by, held_bytes}
 use Rattle.vm_superio.specs.Serial.History.Reads.{with_data_ready, guest_read, history_response, ResponsesAre, byte_read, bytes_read}
 use Rattle.vm_superio.specs.Serial.Run.Trace.{trace_after}
 use Rattle.vm_superio.specs.Serial.Laws.PollingDriver.{driver_byte, driver_bytes, polls, PollingDriverLaw, DriverGetsAllLaw, shows_data_ready, polls_after_data_ready, PollsAfterDataReadyLaw}
-use Rattle.superio_core.proofs.Lemmas.Serial.Port.Bits.{data_ready_set, data_ready_cleared}
+use Rattle.superio_core.proofs.Lemmas.Serial.{data_ready_set, data_ready_cleared}
 use Rattle.vm_superio.proofs.Lemmas.Serial.Laws.ReadsAreTaken.{read_then_held}
 use Rattle.vm_superio.proofs.Lemmas.Serial.Laws.HeldBytes.{held_more, taken_then_held}
 

@@ -2,9 +2,9 @@
 use Rattle.std.proofs.Common.{◌≡◌, List, [], ◌∷◌, ◌++◌, refl, ap, sym, ◌∙◌, append_assoc, append-nil}
 use Rattle.superio_core.specs.declared.trace.Asked.{Asked}
 use Rattle.superio_core.specs.declared.trace.Sent.{Sent}
-use Rattle.superio_core.specs.Serial.Port.State.{State}
-use Rattle.superio_core.specs.Serial.Port.Registers.{register_at}
-use Rattle.superio_core.specs.Serial.Port.Operations.{Op, Read, Write, Enqueue, CharacterTimeout, Restore, TraceEntry, Response}
+use Rattle.superio_core.specs.Serial.{State}
+use Rattle.superio_core.specs.Serial.RegisterMap.{register_at}
+use Rattle.superio_core.specs.Serial.Operations.{Op, Read, Write, Enqueue, CharacterTimeout, Restore, TraceEntry, Response}
 use Rattle.vm_superio.specs.Serial.History.Registers.{kind_at, dlab, loopback, taken_by, taken_bytes, held_bytes}
 use Rattle.vm_superio.specs.Serial.History.Reads.{state_of_history, history_response, byte_read, bytes_read}
 use Rattle.vm_superio.specs.Serial.Run.Trace.{trace_after}

@@ -4,14 +4,14 @@ use Rattle.std.proofs.lemmas.Bool.Decides.{eqb_tells}
 use Rattle.std.specs.Prelude.{if◌then◌else◌, unwrap_or}
 use Rattle.std.specs.Option.{option_or, option_map_or}
 use Rattle.superio_core.specs.declared.trace.Asked.{Asked}
-use Rattle.superio_core.specs.Serial.Port.State.{State}
+use Rattle.superio_core.specs.Serial.{State}
 use Rattle.superio_core.specs.Bits.{only_bits}
 use Rattle.superio_core.specs.declared.serial.registers.Register.{Register}
 use Rattle.superio_core.specs.declared.serial.registers.Register.TheVariants.{RbrThr, Iir, Unassigned}
-use Rattle.superio_core.specs.Serial.Port.Registers.{register_at, is_dlab, is_loopback}
-use Rattle.superio_core.specs.Serial.Port.Operations.{Op, Read, Write, Enqueue, CharacterTimeout, Restore, TraceEntry}
+use Rattle.superio_core.specs.Serial.RegisterMap.{register_at, is_dlab, is_loopback}
+use Rattle.superio_core.specs.Serial.Operations.{Op, Read, Write, Enqueue, CharacterTimeout, Restore, TraceEntry}
 use Rattle.superio_core.specs.Serial.Step.Raising.{receive_bytes, enqueued_bytes, bytes_that_fit}
-use Rattle.superio_core.specs.Serial.Step.Transition.{step, read_step, write_step, thr_write, character_timeout}
+use Rattle.superio_core.specs.Serial.Step.{step, read_step, write_step, thr_write, character_timeout}
 use Rattle.vm_superio.specs.Serial.History.Registers.{value_written_at, last_found, dlab}
 use Rattle.vm_superio.specs.Serial.History.Reads.{state_of_history}
 use Rattle.vm_superio.specs.Serial.Laws.Agreement.{RegisterLaw, state_after}

@@ -3,14 +3,13 @@ use Rattle.std.proofs.Common.{◌≡◌, Bool, List, [], ◌∷◌, ◌++◌, re
 use Rattle.superio_core.specs.declared.trace.Asked.{Asked}
 use Rattle.superio_core.specs.declared.trace.Sent.{Sent}
 use Rattle.superio_core.specs.declared.trace.Sent.TheVariants as sent
-use Rattle.superio_core.specs.Serial.Port.State.{State, not_empty}
+use Rattle.superio_core.specs.Serial.{State, not_empty}
 use Rattle.vm_superio.specs.Serial.History.Reads.{with_data_ready, state_of_history}
-use Rattle.superio_core.specs.Serial.Port.Registers.{register_read, register_at, is_dlab, identification_of}
+use Rattle.superio_core.specs.Serial.RegisterMap.{register_read, register_at, is_dlab, identification_of}
 use Rattle.superio_core.specs.declared.serial.registers.Condition.TheVariants.{Rda, Thre}
-use Rattle.superio_core.specs.Serial.Port.Operations.{Op, Read, Write, Enqueue, CharacterTimeout, Restore, TraceEntry}
-use Rattle.superio_core.specs.Serial.Step.Transition.{step}
+use Rattle.superio_core.specs.Serial.Operations.{Op, Read, Write, Enqueue, CharacterTimeout, Restore, TraceEntry, OpKind}
+use Rattle.superio_core.specs.Serial.Step.{step}
 use Rattle.superio_core.specs.Serial.Step.Admissible.{kind_in_state}
-use Rattle.superio_core.specs.Serial.Port.OpKinds.{OpKind}
 use Rattle.vm_superio.specs.Serial.History.Registers.{held_bytes, interrupt_enable}
 use Rattle.vm_superio.specs.Serial.History.Interrupts.{is_pending}
 use Rattle.vm_superio.specs.Serial.Laws.Agreement.{state_after}

@@ -3,12 +3,11 @@ use Rattle.std.proofs.Common.{sym, ◌≡◌, ℕ, Bool, true, false, ◌==◌, 
 use Rattle.std.specs.Prelude.{if◌then◌else◌, nat_le}
 use Rattle.superio_core.specs.declared.trace.Asked.{Asked}
 use Rattle.superio_core.specs.declared.trace.Sent.{Sent}
-use Rattle.superio_core.specs.Serial.Port.State.{State}
-use Rattle.superio_core.specs.Serial.Port.Operations.{Op, Read, Write, Enqueue, CharacterTimeout, Restore, TraceEntry, EnqueueOk, FifoFull, TriggerRefused, is_refused_at_once}
+use Rattle.superio_core.specs.Serial.{State}
+use Rattle.superio_core.specs.Serial.Operations.{Op, Read, Write, Enqueue, CharacterTimeout, Restore, TraceEntry, EnqueueOk, FifoFull, TriggerRefused, is_refused_at_once, Arrival, Other}
 use Rattle.superio_core.specs.Serial.Step.Raising.{bytes_that_fit}
-use Rattle.superio_core.specs.Serial.Port.OpKinds.{Arrival, Other}
 use Rattle.vm_superio.specs.Serial.History.Registers.{accepted_by, loopback, held_bytes}
-use Rattle.superio_core.specs.Serial.Step.Transition.{step_response}
+use Rattle.superio_core.specs.Serial.Step.{step_response}
 use Rattle.vm_superio.specs.Serial.History.Reads.{history_response, state_of_history}
 use Rattle.vm_superio.specs.Serial.Laws.Agreement.{state_after, StateLaw, ResponseLaw}
 use Rattle.vm_superio.proofs.Lemmas.Serial.Laws.Registers.{state_of_history-by_state}

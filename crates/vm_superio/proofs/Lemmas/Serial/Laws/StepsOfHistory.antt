@@ -7,16 +7,15 @@ use Rattle.std.specs.Bool.{beq}
 use Rattle.superio_core.specs.declared.trace.Asked.{Asked}
 use Rattle.superio_core.specs.declared.trace.Sent.{Sent}
 use Rattle.superio_core.specs.declared.trace.Sent.TheVariants as sent
-use Rattle.superio_core.specs.Serial.Port.State.{State, not_empty}
+use Rattle.superio_core.specs.Serial.{State, not_empty}
 use Rattle.superio_core.specs.declared.serial.registers.Register.{Register}
 use Rattle.superio_core.specs.declared.serial.registers.Register.TheVariants.{RbrThr, Ier, Iir}
-use Rattle.superio_core.specs.Serial.Port.Registers.{register_at}
+use Rattle.superio_core.specs.Serial.RegisterMap.{register_at}
 use Rattle.superio_core.specs.declared.serial.registers.Condition.TheVariants.{Rda, Thre}
-use Rattle.superio_core.specs.Serial.Port.Operations.{Op, Read, Write, Enqueue, CharacterTimeout, Restore, TraceEntry, NoResponse, is_sent, count_if}
+use Rattle.superio_core.specs.Serial.Operations.{Op, Read, Write, Enqueue, CharacterTimeout, Restore, TraceEntry, NoResponse, is_sent, count_if, OpKind, IerWrite, ThrWrite, Arrival, Timeout, Other, read_kind, write_kind, kind_of, sent_by}
 use Rattle.superio_core.specs.Serial.Step.Admissible.{answers_all, step_calls, sends_byte, is_admissible}
-use Rattle.superio_core.specs.Serial.Step.Transition.{step_response, step, read_step, read_events, sent_events, step_events}
-use Rattle.superio_core.specs.Serial.Step.Restore.{restore_calls}
-use Rattle.superio_core.specs.Serial.Port.OpKinds.{OpKind, IerWrite, ThrWrite, Arrival, Timeout, Other, read_kind, write_kind, kind_of, sent_by}
+use Rattle.superio_core.specs.Serial.Step.{step_response, step, read_step, read_events, sent_events, step_events}
+use Rattle.superio_core.specs.Serial.Step.Raising.{restore_calls}
 use Rattle.vm_superio.specs.Serial.History.Registers.{kind_at, dlab, loopback, interrupt_enable, held_bytes}
 use Rattle.vm_superio.specs.Serial.History.Interrupts.{raises_rda, is_pending, raises_thre}
 use Rattle.vm_superio.specs.Serial.History.Calls.{calls_due, kind_events, history_events}

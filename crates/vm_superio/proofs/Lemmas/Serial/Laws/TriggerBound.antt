@@ -3,9 +3,8 @@ use Rattle.std.proofs.Common.{◌≡◌, ℕ, refl, ◌+◌, ◌*◌, ◌≤◌,
 use Rattle.std.proofs.lemmas.Bool.{and_parts, eqb-true}
 use Rattle.std.proofs.lemmas.List.Sums.{sum_by-cons}
 use Rattle.std.specs.Prelude.{if◌then◌else◌, IsTrue, sum_by, count_by}
-use Rattle.superio_core.specs.Serial.Port.State.{State}
-use Rattle.superio_core.specs.Serial.Port.Operations.{TraceEntry, count_if, answer_count}
-use Rattle.superio_core.specs.Serial.Port.OpKinds.{OpKind, RbrRead, IirRead, is_iir_read, is_rbr_read}
+use Rattle.superio_core.specs.Serial.{State}
+use Rattle.superio_core.specs.Serial.Operations.{TraceEntry, count_if, answer_count, OpKind, RbrRead, IirRead, is_iir_read, is_rbr_read}
 use Rattle.vm_superio.specs.Serial.History.Registers.{kind_at}
 use Rattle.superio_core.specs.declared.serial.registers.Condition.TheVariants.{Rda, Thre}
 use Rattle.vm_superio.specs.Serial.History.Interrupts.{trigger_calls, is_raised, acknowledges, is_pending, is_well_formed_entry, is_well_formed, op_kinds}

@@ -5,18 +5,17 @@ use Rattle.std.proofs.lemmas.Bool.{false≢true}
 use Rattle.std.specs.Prelude.{IsTrue}
 use Rattle.std.specs.Bool.{IsFalse}
 use Rattle.superio_core.specs.declared.trace.Asked.{Asked}
-use Rattle.superio_core.specs.Serial.Port.State.{State, not_empty}
+use Rattle.superio_core.specs.Serial.{State, not_empty}
 use Rattle.superio_core.specs.Bits.{has_bits}
-use Rattle.superio_core.specs.Serial.Port.Operations.{TraceEntry}
+use Rattle.superio_core.specs.Serial.Operations.{TraceEntry, OpKind, RbrRead, IirRead, IerWrite, ThrWrite, Arrival, Timeout, Other}
 use Rattle.superio_core.specs.Serial.Step.Raising.{receive_bytes, bytes_that_fit}
-use Rattle.superio_core.specs.Serial.Port.OpKinds.{OpKind, RbrRead, IirRead, IerWrite, ThrWrite, Arrival, Timeout, Other}
 use Rattle.vm_superio.specs.Serial.History.Registers.{kind_at, held_bytes, interrupt_enable}
 use Rattle.superio_core.specs.declared.serial.registers.Condition.TheVariants.{Rda}
 use Rattle.vm_superio.specs.Serial.History.Interrupts.{acknowledges, is_pending, NoneAcknowledges, shows_waiting_bytes}
 use Rattle.vm_superio.specs.Serial.Laws.Consequences.{WaitingBytesLaw}
 use Rattle.vm_superio.specs.Serial.Laws.Agreement.{state_after}
-use Rattle.superio_core.proofs.Lemmas.Serial.Port.Bits.{enables_rda}
-use Rattle.superio_core.proofs.Lemmas.Serial.Step.ByKind.{by_kind}
+use Rattle.superio_core.proofs.Lemmas.Serial.{enables_rda}
+use Rattle.superio_core.proofs.Lemmas.Serial.Step.{by_kind}
 use Rattle.vm_superio.proofs.Lemmas.Serial.Step.ByKind.{next_at_point}
 use Rattle.vm_superio.proofs.Lemmas.Serial.Laws.Registers.{register_law}
 use Rattle.vm_superio.proofs.Lemmas.Serial.Laws.HeldBytes.{held_bytes_law}

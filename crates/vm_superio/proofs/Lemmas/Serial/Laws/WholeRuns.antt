@@ -2,9 +2,9 @@
 use Rattle.std.proofs.Common.{List, [], ◌∷◌, refl, sym, ◌∙◌, subst}
 use Rattle.std.specs.Cmp.Derive.{both_true}
 use Rattle.std.specs.Prelude.{IsTrue}
-use Rattle.superio_core.specs.Serial.Port.State.{State}
-use Rattle.superio_core.specs.Serial.Port.Operations.{TraceEntry, Response}
-use Rattle.superio_core.specs.Serial.Port.Coherent.{Coherent}
+use Rattle.superio_core.specs.Serial.{State}
+use Rattle.superio_core.specs.Serial.Operations.{TraceEntry, Response}
+use Rattle.superio_core.specs.Serial.Port.{Coherent}
 use Rattle.vm_superio.specs.Serial.History.Interrupts.{is_well_formed}
 use Rattle.vm_superio.specs.Serial.Laws.Agreement.{state_after, StepsFollow, RunAgrees, WholeRunLaw}
 use Rattle.vm_superio.proofs.Lemmas.Serial.Laws.Interrupts.{interrupt_law}

@@ -6,7 +6,7 @@ use Rattle.std.specs.Prelude.{bit_and}
 use Rattle.std.specs.Int.Bits.{and_mask, or_add_and}
 use Rattle.superio_core.specs.Bits.{has_bits, with_bits}
 use Rattle.vm_superio.specs.Serial.History.Reads.{with_data_ready}
-use Rattle.superio_core.proofs.Lemmas.Bits.{or-twice, or-without, without-or, without-twice}
+use Rattle.superio_core.proofs.Lemmas.{or-twice, or-without, without-or, without-twice}
 
 -- LSR as it was, if data ready was right
 right_where : (byte : ℕ) (bit : Bool) → (bit_and byte 0x01 == 0x01) ≡ bit → with_data_ready byte bit ≡ byte

@@ -14,15 +14,15 @@ use Rattle.vm_superio.specs.declared.run.Call.TheVariants.{Read, Write, Enqueue,
 use Rattle.vm_superio.specs.declared.run.Reply.{Reply}
 use Rattle.vm_superio.specs.declared.run.Reply.TheVariants.{Byte, Wrote, Enqueued, TimedOut, Restored, NotRestored}
 use Rattle.vm_superio.specs.declared.run.Done.{Done}
-use Rattle.superio_core.specs.Serial.Port.State.{State}
-use Rattle.superio_core.specs.Serial.Port.Operations.{Op, TraceEntry, Response, ByteRead}
-use Rattle.superio_core.specs.Serial.Port.Operations as operation
-use Rattle.superio_core.specs.Serial.Port.Coherent.{Coherent}
+use Rattle.superio_core.specs.Serial.{State}
+use Rattle.superio_core.specs.Serial.Operations.{Op, TraceEntry, Response, ByteRead}
+use Rattle.superio_core.specs.Serial.Operations as operation
+use Rattle.superio_core.specs.Serial.Port.{Coherent}
 use Rattle.vm_superio.specs.Links.Objects.{Link, answers_of, all_ok, RefusesOwnState}
 use Rattle.vm_superio.specs.Links.ObjectCalls.{ObjectCall, ToTrigger, ToOut, ToEvents, raised}
-use Rattle.superio_core.specs.Serial.Step.Transition.{step, step_response, step_events}
+use Rattle.superio_core.specs.Serial.Step.{step, step_response, step_events}
 use Rattle.superio_core.specs.Serial.Step.Admissible.{is_admissible}
-use Rattle.superio_core.specs.Serial.Step.Restore.{restore_calls}
+use Rattle.superio_core.specs.Serial.Step.Raising.{restore_calls}
 use Rattle.vm_superio.specs.Serial.History.Registers.{taken_bytes}
 use Rattle.vm_superio.specs.Serial.History.Interrupts.{restore_calls_due}
 use Rattle.vm_superio.specs.Serial.History.Reads.{ResponsesAre, history_response, bytes_read, state_of_history}

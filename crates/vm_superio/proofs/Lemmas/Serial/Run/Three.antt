@@ -12,9 +12,9 @@ use Rattle.vm_superio.specs.declared.serial.errors.Error.TheVariants as error
 use Rattle.vm_superio.specs.declared.serial.objects.Three.{Three}
 use Rattle.vm_superio.specs.declared.serial.out.WriterOut.{WriterOut}
 use Rattle.superio_core.specs.declared.serial.registers.Condition.{Condition}
-use Rattle.superio_core.specs.Serial.Port.State.{State}
-use Rattle.superio_core.specs.Serial.Port.Operations.{Op, Event, TraceEntry}
-use Rattle.superio_core.specs.Serial.Port.Coherent.{Coherent}
+use Rattle.superio_core.specs.Serial.{State}
+use Rattle.superio_core.specs.Serial.Operations.{Op, Event, TraceEntry}
+use Rattle.superio_core.specs.Serial.Port.{Coherent}
 use Rattle.superio_core.specs.Serial.Step.Admissible.{is_admissible}
 use Rattle.vm_superio.specs.Links.Objects.{Link, TriggerAnswer, answers_of, all_ok, RefusesOwnState}
 use Rattle.vm_superio.specs.Links.ObjectCalls.{ObjectCall, ToTrigger, answers_in, out_calls_in, raised}
@@ -29,8 +29,8 @@ use Rattle.vm_superio.specs.Serial.History.Calls.{history_events}
 use Rattle.vm_superio.specs.Serial.History.Interrupts.{is_well_formed, restore_calls_due}
 use Rattle.vm_superio.specs.Serial.History.Reads.{outcomes}
 use Rattle.vm_superio.specs.Serial.Laws.Consequences.{recorded_output}
-use Rattle.superio_core.specs.Serial.Port.Operations as operation
-use Rattle.superio_core.specs.Serial.Step.Transition.{step}
+use Rattle.superio_core.specs.Serial.Operations as operation
+use Rattle.superio_core.specs.Serial.Step.{step}
 use Rattle.vm_superio.specs.Serial.Laws.Agreement.{state_after, StepsFollow}
 use Rattle.vm_superio.specs.Serial.Run.Steps.{IsRun}
 use Rattle.vm_superio.specs.Serial.Run.Trace.{act_of, op_of, entry_of, entries_of, refusal_in_reply, RecordsOf}

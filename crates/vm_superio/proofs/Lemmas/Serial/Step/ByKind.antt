@@ -1,14 +1,13 @@
 -- A call at a point of a trace, by what its operation is there.
 use Rattle.std.proofs.Common.{◌≡◌, List, ap, subst, ◌∙◌, ◌∷◌}
-use Rattle.superio_core.specs.Serial.Port.State.{State}
-use Rattle.superio_core.specs.Serial.Port.Registers.{is_dlab, is_loopback}
-use Rattle.superio_core.specs.Serial.Port.Operations.{Op, TraceEntry}
+use Rattle.superio_core.specs.Serial.{State}
+use Rattle.superio_core.specs.Serial.RegisterMap.{is_dlab, is_loopback}
+use Rattle.superio_core.specs.Serial.Operations.{Op, TraceEntry, OpKind, kind_of}
 use Rattle.superio_core.specs.Serial.Step.Admissible.{kind_in_state}
-use Rattle.superio_core.specs.Serial.Port.OpKinds.{OpKind, kind_of}
-use Rattle.superio_core.specs.Serial.Step.Transition.{step}
+use Rattle.superio_core.specs.Serial.Step.{step}
 use Rattle.vm_superio.specs.Serial.History.Registers.{kind_at, dlab}
 use Rattle.vm_superio.specs.Serial.Laws.Agreement.{state_after}
-use Rattle.superio_core.proofs.Lemmas.Serial.Step.ByKind.{SameBytes, by_kind, next_by_kind}
+use Rattle.superio_core.proofs.Lemmas.Serial.Step.{SameBytes, by_kind, next_by_kind}
 use Rattle.vm_superio.proofs.Lemmas.Serial.Laws.Registers.{register_law}
 
 -- the state after a trace tells what an operation is at that point

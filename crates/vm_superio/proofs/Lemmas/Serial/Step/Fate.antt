@@ -12,13 +12,12 @@ use Rattle.superio_core.specs.declared.serial.registers.Register.{Register}
 use Rattle.superio_core.specs.declared.serial.registers.Register.TheVariants.{RbrThr, Ier}
 use Rattle.vm_superio.specs.declared.serial.errors.Error.{Error}
 use Rattle.vm_superio.specs.declared.serial.errors.Error.TheVariants.{Trigger, IOError, FullFifo, Memory}
-use Rattle.superio_core.specs.Serial.Port.State.{State, not_empty}
-use Rattle.superio_core.specs.Serial.Port.Registers.{register_at, is_dlab, is_loopback}
-use Rattle.superio_core.specs.Serial.Port.Operations.{Op, Response, Write, Enqueue, CharacterTimeout, WriteOk, EnqueueOk, TimeoutOk, TriggerRefused, WriterFailed, FifoFull, OutOfMemory, is_sent, is_lost, is_refused_at_once, ends_in_refusal}
-use Rattle.superio_core.specs.Serial.Port.OpKinds.{sent_by, write_kind}
+use Rattle.superio_core.specs.Serial.{State, not_empty}
+use Rattle.superio_core.specs.Serial.RegisterMap.{register_at, is_dlab, is_loopback}
+use Rattle.superio_core.specs.Serial.Operations.{Op, Response, Write, Enqueue, CharacterTimeout, WriteOk, EnqueueOk, TimeoutOk, TriggerRefused, WriterFailed, FifoFull, OutOfMemory, is_sent, is_lost, is_refused_at_once, ends_in_refusal, sent_by, write_kind}
 use Rattle.superio_core.specs.Serial.Step.Admissible.{sends_byte}
 use Rattle.superio_core.specs.Serial.Step.Raising.{bytes_that_fit, enqueued_bytes}
-use Rattle.superio_core.specs.Serial.Step.Transition.{write_step}
+use Rattle.superio_core.specs.Serial.Step.{write_step}
 use Rattle.vm_superio.specs.Links.Objects.{answers_of}
 use Rattle.vm_superio.specs.Links.Writer.{PortLinks}
 use Rattle.vm_superio.specs.Serial.Port.Model.{Port, write_response, enqueue_response, timeout_response, failure_response, refusal_in_error, refusal_in_result}

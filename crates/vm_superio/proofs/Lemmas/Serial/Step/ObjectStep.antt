@@ -7,12 +7,11 @@ use Rattle.superio_core.specs.declared.trace.Asked.{Asked}
 use Rattle.superio_core.specs.declared.trace.Sent.{Sent}
 use Rattle.superio_core.specs.declared.serial.registers.Register.{Register}
 use Rattle.superio_core.specs.declared.serial.registers.Register.TheVariants.{RbrThr, Iir}
-use Rattle.superio_core.specs.Serial.Port.State.{State, not_empty}
-use Rattle.superio_core.specs.Serial.Port.Registers.{register_at, is_dlab, is_loopback}
-use Rattle.superio_core.specs.Serial.Port.Operations.{Op, Read, Write, Enqueue, CharacterTimeout, Restore, Response, Event, is_sent}
-use Rattle.superio_core.specs.Serial.Port.OpKinds.{Other, Arrival, sent_by, read_kind}
+use Rattle.superio_core.specs.Serial.{State, not_empty}
+use Rattle.superio_core.specs.Serial.RegisterMap.{register_at, is_dlab, is_loopback}
+use Rattle.superio_core.specs.Serial.Operations.{Op, Read, Write, Enqueue, CharacterTimeout, Restore, Response, Event, is_sent, Other, Arrival, sent_by, read_kind}
 use Rattle.superio_core.specs.Serial.Step.Admissible.{is_admissible, sends_byte}
-use Rattle.superio_core.specs.Serial.Step.Transition.{step_events}
+use Rattle.superio_core.specs.Serial.Step.{step_events}
 use Rattle.vm_superio.specs.declared.serial.errors.Error as failure
 use Rattle.vm_superio.specs.declared.serial.objects.Three.{Three}
 use Rattle.vm_superio.specs.declared.serial.out.WriterOut.{WriterOut}

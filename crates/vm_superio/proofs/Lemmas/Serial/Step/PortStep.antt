@@ -4,7 +4,7 @@ use Rattle.std.specs.Prelude.{is_some}
 use Rattle.superio_core.specs.declared.trace.Asked.{Asked}
 use Rattle.superio_core.specs.declared.trace.Asked.TheVariants.{Nothing, Took, Refused, TookTook, TookRefused}
 use Rattle.superio_core.specs.declared.trace.Sent.{Sent}
-use Rattle.superio_core.specs.Serial.Port.Operations.{Op, Response, ends_in_refusal, answer_count}
+use Rattle.superio_core.specs.Serial.Operations.{Op, Response, ends_in_refusal, answer_count}
 use Rattle.vm_superio.specs.Links.Objects.{answers_of}
 use Rattle.vm_superio.specs.Links.Writer.{PortLinks}
 use Rattle.vm_superio.specs.Serial.Port.Model.{Port}

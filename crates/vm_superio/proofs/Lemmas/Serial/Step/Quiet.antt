@@ -10,17 +10,16 @@ use Rattle.superio_core.specs.declared.trace.Sent.{Sent}
 use Rattle.superio_core.specs.declared.trace.Sent.TheVariants as was
 use Rattle.superio_core.specs.Bits.{has_bits, only_bits}
 use Rattle.vm_superio.specs.Links.Objects.{answers_of}
-use Rattle.superio_core.specs.Serial.Port.State.{State, not_empty, SameSettings}
+use Rattle.superio_core.specs.Serial.{State, not_empty, SameSettings}
 use Rattle.superio_core.specs.declared.serial.registers.Register.{Register}
 use Rattle.superio_core.specs.declared.serial.registers.Register.TheVariants.{RbrThr, Ier, Iir}
 use Rattle.superio_core.specs.declared.serial.registers.Condition.{Condition}
-use Rattle.superio_core.specs.Serial.Port.Registers.{register_at, is_dlab, is_loopback}
+use Rattle.superio_core.specs.Serial.RegisterMap.{register_at, is_dlab, is_loopback}
 use Rattle.superio_core.specs.declared.serial.registers.Condition.TheVariants.{Rda, Thre}
-use Rattle.superio_core.specs.Serial.Port.Operations.{Op, Response, Read, Write, Enqueue, CharacterTimeout, Restore, count_if, is_sent, is_lost, ends_in_refusal, WriteOk, TriggerRefused, WriterFailed}
-use Rattle.superio_core.specs.Serial.Port.OpKinds.{OpKind, Other, Arrival, sent_by, read_kind, write_kind}
+use Rattle.superio_core.specs.Serial.Operations.{Op, Response, Read, Write, Enqueue, CharacterTimeout, Restore, count_if, is_sent, is_lost, ends_in_refusal, WriteOk, TriggerRefused, WriterFailed, OpKind, Other, Arrival, sent_by, read_kind, write_kind}
 use Rattle.superio_core.specs.Serial.Step.Raising.{becomes_pending, rda_becomes_pending, raise_rda_while_held, receive_bytes, bytes_that_fit, enqueued_bytes}
 use Rattle.superio_core.specs.Serial.Step.Admissible.{kind_calls, step_calls, kind_in_state, arrival_calls, answers_all, sends_byte}
-use Rattle.superio_core.specs.Serial.Step.Transition.{step, write_step}
+use Rattle.superio_core.specs.Serial.Step.{step, write_step}
 use Rattle.vm_superio.specs.Serial.Port.Model.{Port, write_response}
 use Rattle.vm_superio.specs.Links.OutCalls.{OutCall, Put, Flush}
 use Rattle.vm_superio.specs.Links.Writer.{PortLinks, bytes_sent, outcome_of, AreSendings, taken_calls}

@@ -1,8 +1,8 @@
 -- A port's own state is refused only for a refusal of the trigger or of memory.
 use Rattle.std.proofs.Common.{◌≤◌, length, arith}
-use Rattle.superio_core.specs.Serial.Port.State.{State}
+use Rattle.superio_core.specs.Serial.{State}
 use Rattle.vm_superio.specs.Links.Objects.{Link, TriggerAnswer, RefusesOwnState}
-use Rattle.superio_core.specs.Serial.Step.Restore.{restore_calls}
+use Rattle.superio_core.specs.Serial.Step.Raising.{restore_calls}
 use Rattle.vm_superio.specs.Serial.Step.Restore.{RefusesRestore}
 use Rattle.vm_superio.specs.declared.serial.errors.Error.{Error}
 use Rattle.vm_superio.specs.declared.serial.errors.Error.TheVariants.{Trigger, IOError, FullFifo, Memory}

@@ -1,8 +1,7 @@
 -- The registers of a 16550: which one an offset reaches, what a read of each shows, and the interrupt conditions.
 use Rattle.std.specs.Prelude.{ℕ, Bool, true, false, ◌==◌, if◌then◌else◌, List, [], ◌∷◌, ◌++◌, slice_index}
 use Rattle.superio_core.specs.Bits.{has_bits, only_bits, with_bits}
-use Rattle.superio_core.specs.Serial.Port.Bits.{lcr_dlab_bit, mcr_dtr_bit, mcr_rts_bit, mcr_out1_bit, mcr_out2_bit, mcr_loop_bit, msr_cts_bit, msr_dsr_bit, msr_ri_bit, msr_dcd_bit, iir_fifo_bits}
-use Rattle.superio_core.specs.Serial.Port.State.{State}
+use Rattle.superio_core.specs.Serial.{lcr_dlab_bit, mcr_dtr_bit, mcr_rts_bit, mcr_out1_bit, mcr_out2_bit, mcr_loop_bit, msr_cts_bit, msr_dsr_bit, msr_ri_bit, msr_dcd_bit, iir_fifo_bits, State}
 pub use Rattle.superio_core.specs.declared.serial.registers.Register.{Register}
 pub use Rattle.superio_core.specs.declared.serial.registers.Register.TheVariants.{Dll, Dlm, RbrThr, Ier, Iir, Lcr, Mcr, Lsr, Msr, Scr, Unassigned}
 pub use Rattle.superio_core.specs.declared.serial.registers.Condition.{Condition}

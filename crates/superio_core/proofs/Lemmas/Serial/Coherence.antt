@@ -4,18 +4,16 @@ use Rattle.std.proofs.lemmas.Bool.{false≢true}
 use Rattle.std.specs.Prelude.{if◌then◌else◌, IsTrue}
 use Rattle.superio_core.specs.declared.trace.Asked.{Asked}
 use Rattle.superio_core.specs.declared.trace.Asked.TheVariants.{Nothing}
-use Rattle.superio_core.specs.Serial.Port.State.{State, not_empty}
-use Rattle.superio_core.specs.Serial.Port.Registers.{Thre, Rda, identification_of, is_loopback}
+use Rattle.superio_core.specs.Serial.{State, not_empty}
+use Rattle.superio_core.specs.Serial.RegisterMap.{Thre, Rda, identification_of, is_loopback}
 use Rattle.superio_core.specs.Bits.{has_bits, only_bits, without_bits}
-use Rattle.superio_core.specs.Serial.Port.Operations.{Op, Enqueue, is_refused_at_once}
+use Rattle.superio_core.specs.Serial.Operations.{Op, Enqueue, is_refused_at_once, OpKind, RbrRead, IirRead, IerWrite, ThrWrite, Arrival, Timeout, Other}
 use Rattle.superio_core.specs.Serial.Step.Raising.{raise, raise_rda_while_held, rda_becomes_pending, receive_bytes, bytes_that_fit}
-use Rattle.superio_core.specs.Serial.Step.Transition.{step}
+use Rattle.superio_core.specs.Serial.Step.{step}
 use Rattle.superio_core.specs.Serial.Step.Admissible.{kind_in_state}
-use Rattle.superio_core.specs.Serial.Port.OpKinds.{OpKind, RbrRead, IirRead, IerWrite, ThrWrite, Arrival, Timeout, Other}
-use Rattle.superio_core.specs.Serial.Port.Coherent.{Coherent}
-use Rattle.superio_core.proofs.Lemmas.Serial.Port.Bits.{data_ready_set, data_ready_cleared}
-use Rattle.superio_core.proofs.Lemmas.Serial.Step.ByKind.{by_kind, next_by_kind}
-use Rattle.superio_core.proofs.Lemmas.Serial.Step.Raising.{read_clears, raise_rda, raise_thre, ier_write_raises_rda, ier_write_leaves, timeout_raises}
+use Rattle.superio_core.specs.Serial.Port.{Coherent}
+use Rattle.superio_core.proofs.Lemmas.Serial.{data_ready_set, data_ready_cleared}
+use Rattle.superio_core.proofs.Lemmas.Serial.Step.{by_kind, next_by_kind, read_clears, raise_rda, raise_thre, ier_write_raises_rda, ier_write_leaves, timeout_raises}
 
 -- ---- the conditions that are pending after an operation
 
