@@ -38,85 +38,34 @@ bit_at-without number cleared k =
 -- to clear some bits and then others is to clear all of them
 pub without-twice : (number first second : ℕ) → without_bits (without_bits number first) second ≡ without_bits number (bit_or second first)
 without-twice number first second =
-    same_from_bits _ _ (λ k.
-    let cleared_first = bit_at-without number first k in
-    let then_second = bit_at-without (without_bits number first) second k in
-    let at_once = bit_at-without number (bit_or second first) k in
-    let either = bit_at_or second first k in
-    let small_first = bit_at-lt first k in
-    let small_second = bit_at-lt second k in
-    grind arith)
+    same_from_bits _ _ (λ k. grind (arith, bit_at-without number first k, bit_at-without (without_bits number first) second k, bit_at-without number (bit_or second first) k, bit_at_or second first k, bit_at-lt first k, bit_at-lt second k))
 
 -- the cleared bits are clear
 pub and-without : (number bits : ℕ) → bit_and (without_bits number bits) bits ≡ 0
 and-without number bits =
-    same_from_bits _ _ (λ k.
-    let both = bit_at_and (without_bits number bits) bits k in
-    let cleared = bit_at-without number bits k in
-    let nothing = bit_at_and 0 0 k in
-    let small_number = bit_at-lt number k in
-    let small = bit_at-lt bits k in
-    grind arith)
+    same_from_bits _ _ (λ k. grind (arith, bit_at_and (without_bits number bits) bits k, bit_at-without number bits k, bit_at_and 0 0 k, bit_at-lt number k, bit_at-lt bits k))
 
 -- and the others are as they were
 pub and-without-apart : (number bits others : ℕ) → bit_and bits others ≡ 0 → bit_and (without_bits number bits) others ≡ bit_and number others
 and-without-apart number bits others apart =
-    same_from_bits _ _ (λ k.
-    let both = bit_at_and (without_bits number bits) others k in
-    let before = bit_at_and number others k in
-    let none = bit_at_and bits others k in
-    let none_there = ap (λ n. bit_at n k) apart in
-    let cleared = bit_at-without number bits k in
-    let small_number = bit_at-lt number k in
-    let small_bits = bit_at-lt bits k in
-    let small = bit_at-lt others k in
-    grind arith)
+    same_from_bits _ _ (λ k. grind (arith, bit_at_and (without_bits number bits) others k, bit_at_and number others k, bit_at_and bits others k, ap (λ n. bit_at n k) apart, bit_at-without number bits k, bit_at-lt number k, bit_at-lt bits k, bit_at-lt others k))
 
 -- to set bits twice is to set them once
 pub or-twice : (number bits : ℕ) → bit_or (bit_or number bits) bits ≡ bit_or number bits
 or-twice number bits =
-    same_from_bits _ _ (λ k.
-    let after = bit_at_or (bit_or number bits) bits k in
-    let at_once = bit_at_or number bits k in
-    let small_number = bit_at-lt number k in
-    let small = bit_at-lt bits k in
-    grind arith)
+    same_from_bits _ _ (λ k. grind (arith, bit_at_or (bit_or number bits) bits k, bit_at_or number bits k, bit_at-lt number k, bit_at-lt bits k))
 
 -- to clear bits and set them again is to set them
 pub or-without : (number bits : ℕ) → bit_or (without_bits number bits) bits ≡ bit_or number bits
 or-without number bits =
-    same_from_bits _ _ (λ k.
-    let after = bit_at_or (without_bits number bits) bits k in
-    let at_once = bit_at_or number bits k in
-    let cleared = bit_at-without number bits k in
-    let small_number = bit_at-lt number k in
-    let small = bit_at-lt bits k in
-    grind arith)
+    same_from_bits _ _ (λ k. grind (arith, bit_at_or (without_bits number bits) bits k, bit_at_or number bits k, bit_at-without number bits k, bit_at-lt number k, bit_at-lt bits k))
 
 -- to set bits and clear them again is to clear them
 pub without-or : (number bits : ℕ) → without_bits (bit_or number bits) bits ≡ without_bits number bits
 without-or number bits =
-    same_from_bits _ _ (λ k.
-    let set = bit_at_or number bits k in
-    let after = bit_at-without (bit_or number bits) bits k in
-    let at_once = bit_at-without number bits k in
-    let small_number = bit_at-lt number k in
-    let small = bit_at-lt bits k in
-    grind arith)
+    same_from_bits _ _ (λ k. grind (arith, bit_at_or number bits k, bit_at-without (bit_or number bits) bits k, bit_at-without number bits k, bit_at-lt number k, bit_at-lt bits k))
 
 -- to clear bits of two numbers is to clear them in each
 pub without-of-or : (number other bits : ℕ) → without_bits (bit_or number other) bits ≡ bit_or (without_bits number bits) (without_bits other bits)
 without-of-or number other bits =
-    same_from_bits _ _ (λ k.
-    let both = bit_at_or number other k in
-    let after = bit_at-without (bit_or number other) bits k in
-    let left = bit_at-without number bits k in
-    let left_other = bit_at-without other bits k in
-    let joined = bit_at_or (without_bits number bits) (without_bits other bits) k in
-    let small_number = bit_at-lt number k in
-    let small_other = bit_at-lt other k in
-    let small = bit_at-lt bits k in
-    grind arith)
-
--- for the goals of a write to the interrupt clear register
-pub ruleset clearing = (and_not_is_without, without-twice)
+    same_from_bits _ _ (λ k. grind (arith, bit_at_or number other k, bit_at-without (bit_or number other) bits k, bit_at-without number bits k, bit_at-without other bits k, bit_at_or (without_bits number bits) (without_bits other bits) k, bit_at-lt number k, bit_at-lt other k, bit_at-lt bits k))

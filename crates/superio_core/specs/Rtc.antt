@@ -1,12 +1,12 @@
--- The clock PL031: its registers, what an access is, which register it reaches and what a read of it shows; and the state
--- of a clock. The step of an access and the history of all accesses both rest on this map.
+-- The clock PL031: its registers, what an access is, which register it reaches and what a read of it shows; and the
+-- state of a clock. The step of an access and the history of all accesses both rest on this map.
 pub mod Step
 use Rattle.std.specs.Prelude.{ℕ, ◌-◌, ◌/◌, ◌%◌, ◌^◌, ℤ, pos, negsuc, Bool, true, false, ◌==◌, ◌&&◌, nat_lt, nat_le, if◌then◌else◌, List, [], ◌∷◌, slice_index, Option, Some, None, bit_and, not}
 use Rattle.std.specs.Int.{w32, to_le_bytes, from_le_bytes}
-use Rattle.superio_core.specs.declared.rtc_pl031.state.RtcState.{RtcState}
+pub use Rattle.superio_core.specs.declared.rtc_pl031.state.RtcState.{RtcState}
 pub use Rattle.superio_core.specs.declared.rtc_pl031.registers.ClockRegister.{ClockRegister}
 pub use Rattle.superio_core.specs.declared.rtc_pl031.registers.ClockRegister.TheVariants.{Dr, Mr, Lr, Cr, Imsc, Ris, Mis, Icr, Id, Reserved}
-use Rattle.superio_core.specs.declared.rtc_pl031.Clock.{Clock}
+pub use Rattle.superio_core.specs.declared.rtc_pl031.Clock.{Clock}
 
 -- the state of a fresh clock
 abbrev pub fresh_clock : RtcState

@@ -5,8 +5,8 @@ use Rattle.std.specs.Option.{option_or}
 use Rattle.std.specs.Str.{bytes_eq}
 use Rattle.superio_core.specs.declared.rtc_pl031.state.RtcState.{RtcState}
 use Rattle.superio_core.specs.Serial.{State, register_bytes, register_count}
-use Rattle.superio_core.specs.declared.saved.Error.{Error}
-use Rattle.superio_core.specs.declared.saved.Error.TheVariants.{TooShort, NotASavedState, OtherDevice, UnknownVersion, WrongLength, TooManyBytes, InvalidArmed}
+pub use Rattle.superio_core.specs.declared.saved.Error.{Error}
+pub use Rattle.superio_core.specs.declared.saved.Error.TheVariants.{TooShort, NotASavedState, OtherDevice, UnknownVersion, WrongLength, TooManyBytes, InvalidArmed}
 
 -- the letters SIOS, with which each saved state begins
 abbrev pub magic : List ℕ

@@ -4,7 +4,7 @@ pub mod Port
 pub mod RegisterMap
 pub mod Step
 use Rattle.std.specs.Prelude.{ℕ, Bool, true, false, List, [], ◌∷◌, drop, slice_index, ◌≡◌}
-use Rattle.superio_core.specs.declared.serial.registers.Registers.{Registers}
+pub use Rattle.superio_core.specs.declared.serial.registers.Registers.{Registers}
 
 -- LCR: the divisor latch is at offsets 0 and 1
 abbrev pub lcr_dlab_bit : ℕ

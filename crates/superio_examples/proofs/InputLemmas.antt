@@ -8,7 +8,7 @@ use Rattle.vm_superio.specs.declared.serial.errors.Error.TheVariants.{Trigger, I
 use Rattle.superio_core.specs.Serial.{State}
 use Rattle.superio_core.specs.Serial.RegisterMap.{is_loopback}
 use Rattle.superio_core.specs.Serial.Step.Raising.{enqueued_bytes, receive_bytes}
-use Rattle.vm_superio.specs.Serial.Port.Model.{refusal_in_error}
+use Rattle.vm_superio.specs.Serial.{refusal_in_error}
 use Rattle.vm_superio.specs.Serial.Laws.OneCall.{ReceivedLaw}
 use Rattle.superio_examples.specs.Input.{room_in}
 

@@ -11,7 +11,7 @@ use Rattle.superio_core.specs.Serial.Operations.{Op, Read, Write, Enqueue, Chara
 use Rattle.superio_core.specs.Serial.Step.Raising.{enqueued_bytes}
 use Rattle.superio_core.specs.Serial.Step.{step, step_response}
 use Rattle.superio_core.specs.Serial.Step.Admissible.{kind_in_state}
-use Rattle.vm_superio.specs.Serial.History.Reads.{byte_read}
+use Rattle.vm_superio.specs.Serial.History.{byte_read}
 use Rattle.vm_superio.specs.Serial.History.Registers.{accepted_by}
 use Rattle.vm_superio.proofs.Lemmas.Serial.Laws.OneCall.{one_read}
 use Rattle.superio_examples.specs.Interrupts.{answers_none}

@@ -10,11 +10,9 @@ use Rattle.superio_core.specs.Serial.Operations.{Op, Read, Enqueue, CharacterTim
 use Rattle.superio_core.specs.Serial.Step.{step}
 use Rattle.superio_core.specs.Serial.Step.Admissible.{kind_in_state}
 use Rattle.vm_superio.specs.Serial.History.Registers.{kind_at, taken_by, taken_bytes, held_bytes}
-use Rattle.vm_superio.specs.Serial.Laws.Agreement.{state_after}
-use Rattle.vm_superio.specs.Serial.Laws.CharacterTimeout.{timeout_entry}
-use Rattle.vm_superio.specs.Serial.Laws.InterruptDriver.{IsRunAtInterrupt, RunsAtInterrupts, TakenAfterRunsLaw}
-use Rattle.vm_superio.proofs.Lemmas.Serial.Laws.HeldBytes.{held_bytes_law}
-use Rattle.vm_superio.proofs.Lemmas.Serial.Step.ByKind.{same_kind}
+use Rattle.vm_superio.specs.Serial.Laws.{state_after}
+use Rattle.vm_superio.specs.Serial.Laws.Line.{timeout_entry, IsRunAtInterrupt, RunsAtInterrupts, TakenAfterRunsLaw}
+use Rattle.vm_superio.proofs.Lemmas.Serial.Laws.{held_bytes_law, same_kind}
 use Rattle.superio_examples.specs.Interrupts.{op_of, Leads, IsPartOfRun, EndsRun, RunsAtEnd, IsRunOfDriver, GotFirst}
 
 -- ---- a trace in two parts

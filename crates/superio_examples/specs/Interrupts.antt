@@ -11,9 +11,8 @@ use Rattle.superio_core.specs.Serial.Step.{step}
 use Rattle.superio_core.specs.Serial.Step.Admissible.{timeout_calls, step_calls}
 use Rattle.superio_core.specs.Serial.Port.{ShowsHeldBytes}
 use Rattle.vm_superio.specs.Serial.History.Registers.{taken_bytes}
-use Rattle.vm_superio.specs.Serial.Laws.Agreement.{state_after}
-use Rattle.vm_superio.specs.Serial.Laws.CharacterTimeout.{timeout_entry}
-use Rattle.vm_superio.specs.Serial.Laws.InterruptDriver.{IsRunAtInterrupt}
+use Rattle.vm_superio.specs.Serial.Laws.{state_after}
+use Rattle.vm_superio.specs.Serial.Laws.Line.{timeout_entry, IsRunAtInterrupt}
 
 -- ---- edges
 

@@ -14,7 +14,7 @@ use Rattle.superio_core.specs.Serial.Step.Admissible.{kind_in_state, step_calls}
 use Rattle.superio_core.specs.Serial.Step.Raising.{restore_calls}
 use Rattle.superio_core.specs.Rtc.Step.{is_line_up, clock_step, clock_response}
 use Rattle.superio_core.specs.Rtc.{Access, read, write, fresh_clock}
-use Rattle.vm_superio.specs.Serial.History.Reads.{byte_read}
+use Rattle.vm_superio.specs.Serial.History.{byte_read}
 use Rattle.vm_superio.specs.Serial.History.Registers.{accepted_by}
 use Rattle.superio_examples.specs.Bus.{is_serial}
 use Rattle.superio_examples.specs.Input.{room_in, shows_ready}

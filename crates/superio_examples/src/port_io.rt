@@ -1,5 +1,5 @@
 //! Serves a guest's port accesses of any width byte by byte, as the bus of a PC does for 8-bit devices.
-ghost use Rattle.vm_superio.specs.Links.OutCalls.{WriterCalls};
+ghost use Rattle.vm_superio.specs.Links.{WriterCalls};
 ghost use Rattle.std.specs.Prelude.{◌≡◌, [], ◌∷◌, length, replicate};
 ghost use Rattle.std.specs.Bool.{OnTrue, OnFalse};
 ghost use Rattle.superio_core.specs.Serial.Port.{Coherent};

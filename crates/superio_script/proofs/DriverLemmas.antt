@@ -11,12 +11,11 @@ use Rattle.superio_core.specs.Serial.Port.{Coherent}
 use Rattle.superio_core.specs.declared.serial.registers.Register.TheVariants.{RbrThr}
 use Rattle.superio_core.specs.Serial.RegisterMap.{register_at, is_dlab, register_read, identification_of}
 use Rattle.superio_core.specs.Serial.Operations.{Read, Response, ByteRead, Event, buffer_read, in_buffer_empty}
-use Rattle.vm_superio.specs.Links.Objects.{Link, TriggerAnswer}
-use Rattle.vm_superio.specs.Links.OutCalls.{OutCall}
-use Rattle.vm_superio.specs.Serial.Port.Model.{Port}
-use Rattle.vm_superio.specs.Serial.Step.PortStep.{IsReadStep}
+use Rattle.vm_superio.specs.Links.{Link, TriggerAnswer, OutCall}
+use Rattle.vm_superio.specs.Serial.{Port}
+use Rattle.vm_superio.specs.Serial.Step.{IsReadStep}
 use Rattle.superio_core.specs.Serial.Step.{rbr_read, read_step, step, read_events}
-use Rattle.vm_superio.specs.Serial.Laws.Agreement.{CoherenceLaw}
+use Rattle.vm_superio.specs.Serial.Laws.{CoherenceLaw}
 use Rattle.vm_superio.specs.Serial.Laws.OneCall.{RbrDataReadyLaw}
 use Rattle.superio_script.specs.Driver.{IsReady, ReadsWhileReady, bytes_while_ready, without_bytes, drain_events, TakesAll}
 

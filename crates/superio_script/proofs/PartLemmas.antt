@@ -3,7 +3,7 @@ use Rattle.std.proofs.Common.{◌≡◌, ℕ, ◌+◌, List, [], ◌∷◌, ◌+
 use Rattle.std.proofs.lemmas.List.{append_cancel_left}
 use Rattle.std.specs.Io.KnownBytes.{Keeps, Appends, append_known}
 use Rattle.std.specs.Prelude.{IfSome, IsSomeAnd}
-use Rattle.vm_superio.proofs.Lemmas.Links.Writer.{Appends-nothing}
+use Rattle.vm_superio.proofs.Lemmas.{Appends-nothing}
 use Rattle.superio_script.specs.Board.{Devices, IsLineStep}
 use Rattle.superio_script.specs.Command.{command_of}
 use Rattle.superio_script.specs.Script.{PrintsLines, StopsWithoutMemory, WritesFirst, WritesPart, text_of_lines, good_commands}

@@ -8,6 +8,7 @@ use Rattle.std.proofs.lemmas.Bool.{and_parts, false≢true, eqb-true}
 use Rattle.std.proofs.lemmas.Bool.Decides.{nat_tests}
 use Rattle.superio_core.specs.declared.trace.Asked.{Asked}
 use Rattle.superio_core.specs.declared.trace.Sent.{Sent}
+use Rattle.superio_core.specs.Serial.Operations.{Op, Read, Write, Enqueue, CharacterTimeout, Restore, TraceEntry, Trace, is_sent, is_lost, read_kind, write_kind, kind_of, sent_by}
 use Rattle.superio_core.specs.declared.trace.Sent.TheVariants as sent
 use Rattle.superio_core.specs.Bits.{has_bits}
 use Rattle.superio_core.specs.Serial.Port.{Coherent}
@@ -15,13 +16,12 @@ use Rattle.superio_core.specs.declared.serial.registers.Register.{Register}
 use Rattle.superio_core.specs.declared.serial.registers.Register.TheVariants.{RbrThr, Ier, Iir}
 use Rattle.superio_core.specs.Serial.RegisterMap.{register_at, is_dlab, is_loopback, identification_of}
 use Rattle.superio_core.specs.Serial.{State, not_empty}
-use Rattle.superio_core.specs.Serial.Operations.{Op, Read, Write, Enqueue, CharacterTimeout, Restore, TraceEntry, Trace, is_sent, is_lost, read_kind, write_kind, kind_of, sent_by}
 use Rattle.vm_superio.specs.Links.Writer.{bytes_sent}
 use Rattle.superio_core.specs.Serial.Step.Admissible.{step_calls, kind_in_state, is_admissible}
 use Rattle.superio_core.specs.Serial.Step.Raising.{restore_calls}
 use Rattle.superio_core.specs.Serial.Step.{step_response, step_events}
 use Rattle.vm_superio.specs.Serial.History.Registers.{modem_control}
-use Rattle.vm_superio.specs.Serial.Laws.Agreement.{state_after, RegisterLaw, HeldBytesLaw, StateLaw, ResponseLaw, StepLaw, CoherenceLaw}
+use Rattle.vm_superio.specs.Serial.Laws.{state_after, RegisterLaw, HeldBytesLaw, StateLaw, ResponseLaw, StepLaw, CoherenceLaw}
 use Rattle.superio_script.specs.PortSession.{Session, shows_conditions, is_coherent, CoherenceIsDecided, output_since, known_output, session_from, session_dlab, session_kind, session_held_bytes, session_state, stepped_state, session_calls_due, session_response, session_events, session_restore_calls}
 
 -- ---- a coherent state

@@ -6,17 +6,15 @@ use Rattle.std.specs.Io.KnownBytes.{Appends}
 use Rattle.std.specs.Prelude.{IsTrue, IsSomeAnd, IfSome, is_some, if◌then◌else◌}
 use Rattle.std.specs.List.{list_all}
 use Rattle.superio_core.specs.declared.trace.Sent.{Sent}
+use Rattle.superio_core.specs.Serial.Operations.{Op, Read, Write, Enqueue, CharacterTimeout, is_sent, OpKind, ThrWrite, sent_by}
 use Rattle.superio_core.specs.declared.trace.Sent.TheVariants as sent
 use Rattle.superio_core.specs.declared.saved.Error.{Error as Fault}
 use Rattle.superio_core.specs.Serial.{State, not_empty}
-use Rattle.superio_core.specs.Serial.Operations.{Op, Read, Write, Enqueue, CharacterTimeout, is_sent, OpKind, ThrWrite, sent_by}
-use Rattle.vm_superio.specs.Rtc.Device.{ClockDevice}
-use Rattle.vm_superio.specs.Serial.Port.Model.{Port}
-use Rattle.vm_superio.proofs.Lemmas.Links.Writer.{Appends-nothing, Appends-append}
-use Rattle.vm_superio.proofs.Lemmas.Rtc.FreshClock.{fresh_clock-history}
-use Rattle.superio_script.specs.InterruptLine.{InterruptLine}
-use Rattle.superio_script.specs.Counts.{EventCounts}
-use Rattle.superio_script.specs.Output.{written_bytes}
+use Rattle.vm_superio.specs.Rtc.{ClockDevice}
+use Rattle.vm_superio.specs.Serial.{Port}
+use Rattle.vm_superio.proofs.Lemmas.{Appends-nothing, Appends-append}
+use Rattle.vm_superio.proofs.Lemmas.Rtc.{fresh_clock-history}
+use Rattle.superio_script.specs.Objects.{InterruptLine, EventCounts, written_bytes}
 use Rattle.superio_script.specs.Command.{command_of, TakesMemory}
 use Rattle.superio_script.specs.Reply.{digits_reply}
 use Rattle.superio_script.specs.Loading.{loaded_port}

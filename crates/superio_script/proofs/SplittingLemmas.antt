@@ -4,7 +4,7 @@ use Rattle.std.specs.Prelude.{not, if◌then◌else◌, Some, None, nat_lt}
 use Rattle.std.specs.List.{position, position_or_len}
 use Rattle.std.proofs.lemmas.Bool.Decides.{nat_tests}
 use Rattle.std.proofs.lemmas.List.{take_rest}
-use Rattle.superio_script.specs.Splitting.{prepend_to_first, pieces_of, lines_of}
+use Rattle.superio_script.specs.Fields.{prepend_to_first, pieces_of, lines_of}
 
 module _ (separator : ℕ) (end : List (List ℕ)) where
   -- the first separator of a list, or its length

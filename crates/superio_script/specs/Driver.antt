@@ -4,13 +4,12 @@ use Rattle.std.specs.List.{repeat}
 use Rattle.superio_core.specs.Bits.{has_bits, without_bits}
 use Rattle.superio_core.specs.Serial.{lsr_dr_bit, State}
 use Rattle.superio_core.specs.declared.serial.registers.Register.TheVariants.{RbrThr}
-use Rattle.superio_core.specs.Serial.RegisterMap.{register_read, iir_bit, identification_of}
 use Rattle.superio_core.specs.declared.serial.registers.Condition.TheVariants.{Thre}
+use Rattle.superio_core.specs.Serial.RegisterMap.{register_read, iir_bit, identification_of}
 use Rattle.superio_core.specs.Serial.Operations.{Event, buffer_read, in_buffer_empty}
-use Rattle.vm_superio.specs.Links.Objects.{Link, TriggerAnswer}
-use Rattle.vm_superio.specs.Links.OutCalls.{OutCall}
-use Rattle.vm_superio.specs.Serial.Port.Model.{Port}
-use Rattle.vm_superio.specs.Serial.Step.PortStep.{IsReadStep}
+use Rattle.vm_superio.specs.Links.{Link, TriggerAnswer, OutCall}
+use Rattle.vm_superio.specs.Serial.{Port}
+use Rattle.vm_superio.specs.Serial.Step.{IsReadStep}
 use Rattle.superio_core.specs.Serial.Step.{rbr_read}
 
 -- LSR shows data ready

@@ -1,5 +1,5 @@
 //! A driver on the guest's side of a serial port.
-ghost use Rattle.vm_superio.specs.Links.OutCalls.{WriterCalls};
+ghost use Rattle.vm_superio.specs.Links.{WriterCalls};
 ghost use Rattle.std.specs.Prelude.{◌≡◌, ◌≤◌, [], ◌++◌, length, false, IsTrue};
 ghost use Rattle.superio_core.specs.Bits.{has_bits};
 ghost use Rattle.superio_core.specs.Serial.{lcr_dlab_bit, lsr_dr_bit};

@@ -8,8 +8,8 @@ pub use Rattle.superio_core.specs.Rtc.{fresh_clock, read, write}
 pub use Rattle.superio_core.specs.Rtc.Step.{clock_step}
 pub use Rattle.superio_core.specs.Serial.Port.{Coherent}
 pub use Rattle.superio_core.specs.Serial.{State, fresh_state, not_empty, SameSettings}
-pub use Rattle.vm_superio.specs.Serial.Port.Model.{Port}
-pub use Rattle.vm_superio.specs.Serial.Port.SavedState.{state_of}
+pub use Rattle.vm_superio.specs.Serial.{Port}
+pub use Rattle.vm_superio.specs.Saved.{state_of}
 use Rattle.superio_core.specs.declared.serial.registers.Condition.TheVariants.{Rda}
 use Rattle.superio_core.specs.Serial.RegisterMap.{is_dlab, is_loopback, ier_bit, iir_bit}
 

@@ -1,12 +1,11 @@
 //! A serial port with the registers of a 16550.
-ghost use Rattle.vm_superio.specs.Links.OutCalls.{WriterCalls};
+ghost use Rattle.vm_superio.specs.Links.{WriterCalls, all_ok, RefusesOwnState};
 ghost use Rattle.std.specs.Prelude.{◌≡◌, ◌<◌, ◌≤◌, ◌+◌, ◌-◌, ◌==◌, not, ℕ, [], ◌∷◌, ◌++◌, if◌then◌else◌, false, length, vec_len, IsErr, IfOk, OnOk, OnErr, IfErr};
 ghost use Rattle.superio_core.specs.Serial.Port.{Coherent};
-ghost use Rattle.vm_superio.specs.Links.Objects.{all_ok, RefusesOwnState};
 ghost use Rattle.superio_core.specs.Serial.{fresh_state};
-ghost use Rattle.vm_superio.specs.Serial.Port.SavedState.{state_of};
+ghost use Rattle.vm_superio.specs.Saved.{state_of};
 ghost use Rattle.superio_core.specs.Serial.Step.Raising.{is_line_up, restore_calls};
-ghost use Rattle.vm_superio.specs.Serial.Step.Restore.{RefusesRestore};
+ghost use Rattle.vm_superio.specs.Serial.Step.{RefusesRestore};
 
 mod errors;
 mod events;
@@ -50,7 +49,7 @@ pub struct Serial<T: Trigger, EV: SerialEvents, W: Write> {
 }
 
 impl<T: Trigger, EV: SerialEvents, W: Write> Model for Serial<T, EV, W> {
-    ghost use Rattle.vm_superio.specs.Serial.Port.Model.{Port};
+    ghost use Rattle.vm_superio.specs.Serial.{Port};
     ghost use Rattle.superio_core.specs.Serial.{state_with};
 
     ghost Value = { Port T EV W };
@@ -95,13 +94,13 @@ impl<T: Trigger, EV: SerialEvents, W: Write> Serial<T, EV, W> {
     ghost use Rattle.std.specs.Borrow.{Lends, sem};
     ghost use Rattle.vm_superio.specs.Links.Writer.{taken_calls};
     ghost use Rattle.vm_superio.specs.contracts.serial.Serial.{the_row};
-    ghost use Rattle.vm_superio.specs.Serial.Step.PortStep.{with_trigger, with_events, with_writer};
-    ghost use Rattle.vm_superio.specs.Serial.Step.PortStep.{IsReadStep, IsWriteStep, IsEnqueueStep, IsTimeoutStep, IsRetryStep};
-    ghost use Rattle.vm_superio.specs.Serial.Step.Fate.{WriteFate, EnqueueFate, TimeoutFate};
+    ghost use Rattle.vm_superio.specs.Serial.Step.{with_trigger, with_events, with_writer};
+    ghost use Rattle.vm_superio.specs.Serial.Step.{IsReadStep, IsWriteStep, IsEnqueueStep, IsTimeoutStep, IsRetryStep};
+    ghost use Rattle.vm_superio.specs.Serial.Step.{WriteFate, EnqueueFate, TimeoutFate};
     ghost use Rattle.vm_superio.specs.Links.Three.{ThreeLink};
-    ghost use Rattle.vm_superio.specs.Links.WriterOut.{WriterLink};
+    ghost use Rattle.vm_superio.specs.Links.Writer.{WriterLink};
     ghost use Rattle.vm_superio.specs.Serial.Step.ObjectStep.{one_port};
-    ghost use Rattle.vm_superio.specs.Serial.Run.Steps.{IsRun};
+    ghost use Rattle.vm_superio.specs.Serial.Step.ObjectStep.{IsRun};
     ghost use Rattle.vm_superio.specs.Serial.Run.Three.{ThreeHistory};
     ghost use Rattle.superio_core.specs.Serial.Port.{ShowsHeldBytes};
     ghost use Rattle.superio_core.specs.Serial.Step.Admissible.{kind_in_state, sends_byte};

@@ -1,8 +1,8 @@
--- The step of one access to the clock, in any state: its response and the state that it leaves. And when the alarm is due.
+-- The step of one access to the clock, in any state: its response and the state that it leaves. And when the alarm is
+-- due.
 use Rattle.std.specs.Prelude.{ℕ, ◌%◌, pos, ◌+ℤ◌, ◌-ℤ◌, ◌==◌, ◌&&◌, Bool, nat_lt, nat_le, false, if◌then◌else◌, List, [], ◌∷◌, Option, None, ◌≡◌, ◌+◌, ◌^◌, ◌<◌, ◌≤◌, ℤ, true, Some, bit_and}
-use Rattle.superio_core.specs.declared.rtc_pl031.state.RtcState.{RtcState}
+use Rattle.superio_core.specs.Rtc.{RtcState, Access, read, write, ClockRegister, Mr, Lr, Cr, Imsc, Icr, clock_register_at, host_time, guest_time, clock_register_read}
 use Rattle.superio_core.specs.Bits.{with_bits, without_bits}
-use Rattle.superio_core.specs.Rtc.{Access, read, write, ClockRegister, Mr, Lr, Cr, Imsc, Icr, clock_register_at, host_time, guest_time, clock_register_read}
 
 -- guest time at a host's time
 abbrev pub guest_time_in : (state : RtcState) (time : ℕ) → ℕ

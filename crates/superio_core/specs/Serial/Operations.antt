@@ -1,5 +1,5 @@
--- The operations on a serial port, their responses, the events that the port reports, the entries of a trace, and what an
--- operation means for bytes and interrupts.
+-- The operations on a serial port, their responses, the events that the port reports, the entries of a trace, and what
+-- an operation means for bytes and interrupts.
 use Rattle.std.specs.Prelude.{ℕ, Bool, true, false, ◌==◌, ◌&&◌, if◌then◌else◌, List, [], ◌∷◌, ◌++◌}
 pub use Rattle.superio_core.specs.declared.trace.Asked.{Asked}
 pub use Rattle.superio_core.specs.declared.trace.Sent.{Sent}

@@ -4,8 +4,8 @@ use Rattle.std.specs.Prelude.{◌≡◌, ◌≤◌, Bool, length, IsTrue, ℕ, �
 use Rattle.superio_core.specs.Bits.{has_bits}
 use Rattle.superio_core.specs.Serial.{lsr_dr_bit, State, not_empty, state_with}
 use Rattle.superio_core.specs.Serial.RegisterMap.{Rda, ier_bit, iir_bit, identification_of}
-use Rattle.superio_core.specs.declared.serial.rx_ring.RxRing.{RxRing}
-use Rattle.superio_core.specs.declared.serial.SerialPort.{SerialPort}
+pub use Rattle.superio_core.specs.declared.serial.rx_ring.RxRing.{RxRing}
+pub use Rattle.superio_core.specs.declared.serial.SerialPort.{SerialPort}
 
 -- IIR shows which of THRE and RDA are pending; RDA is pending only while a received byte is held; data ready is set
 -- exactly while one is; at most 64 are. The other fields are free

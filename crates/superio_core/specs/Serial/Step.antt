@@ -3,12 +3,10 @@
 pub mod Admissible
 pub mod Raising
 use Rattle.std.specs.Prelude.{ℕ, ◌==◌, ◌&&◌, ◌||◌, nat_le, if◌then◌else◌, List, [], ◌∷◌, ◌++◌, length, drop}
-use Rattle.superio_core.specs.declared.trace.Asked.{Asked}
-use Rattle.superio_core.specs.declared.trace.Sent.{Sent}
+use Rattle.superio_core.specs.Serial.Operations.{Asked, Sent, Op, Read, Write, Enqueue, CharacterTimeout, Restore, Response, ByteRead, EnqueueOk, TimeoutOk, TriggerRefused, FifoFull, NoResponse, Event, buffer_read, out_byte, tx_lost_byte, in_buffer_empty, is_refused_at_once, recorded_write_response}
 use Rattle.superio_core.specs.Bits.{only_bits, without_bits}
 use Rattle.superio_core.specs.Serial.{lsr_dr_bit, ier_bits, State, not_empty}
 use Rattle.superio_core.specs.Serial.RegisterMap.{Register, Dll, Dlm, RbrThr, Ier, Iir, Lcr, Mcr, Scr, register_at, is_dlab, is_loopback, Rda, Thre, register_read}
-use Rattle.superio_core.specs.Serial.Operations.{Op, Read, Write, Enqueue, CharacterTimeout, Restore, Response, ByteRead, EnqueueOk, TimeoutOk, TriggerRefused, FifoFull, NoResponse, Event, buffer_read, out_byte, tx_lost_byte, in_buffer_empty, is_refused_at_once, recorded_write_response}
 use Rattle.superio_core.specs.Serial.Step.Raising.{iir_none_bit, raise, lower, rda_becomes_pending, raise_rda_while_held, bytes_that_fit, enqueued_bytes, receive_bytes}
 
 -- ---- the response

@@ -1,9 +1,8 @@
 //! The laws of saved states. The round trips are calls whose contracts are the laws.
 ghost use Rattle.std.specs.Prelude.{◌≡◌, ◌≤◌, length, IfOk, MatchResult};
-ghost use Rattle.vm_superio.specs.Serial.Port.SavedState.{state_of};
+ghost use Rattle.vm_superio.specs.Saved.{state_of, SerialVersionLaw, ClockVersionLaw, OtherSerialVersionLaw, OtherClockVersionLaw};
 ghost use Rattle.superio_core.specs.Serial.Port.{state_of_port};
 ghost use Rattle.superio_core.specs.Saved.{SerialFormLaw, OneSerialStateLaw, ClockFormLaw, OneClockStateLaw};
-ghost use Rattle.vm_superio.specs.Versions.{SerialVersionLaw, ClockVersionLaw, OtherSerialVersionLaw, OtherClockVersionLaw};
 
 use crate::saved::{Error, Fault};
 use crate::serial::saved_form::SerialForm;

@@ -1,7 +1,6 @@
 //! The objects of a serial port as one: its trigger, its output and its events object.
 ghost use Rattle.std.specs.Prelude.{◌≡◌, ◌↔◌, List, [], ◌∷◌, ◌++◌};
-ghost use Rattle.vm_superio.specs.Links.OutCalls.{Put, Flush};
-ghost use Rattle.vm_superio.specs.Links.ObjectCalls.{ObjectCall, ToTrigger, ToOut, ToEvents};
+ghost use Rattle.vm_superio.specs.Links.{Put, Flush, ObjectCall, ToTrigger, ToOut, ToEvents};
 ghost use Rattle.superio_core.specs.Serial.Operations.{buffer_read, out_byte, tx_lost_byte, in_buffer_empty};
 
 use super::events::SerialEvents;

@@ -1,6 +1,6 @@
 //! The byte form of a serial port's saved state.
 ghost use Rattle.std.specs.Prelude.{◌≡◌, ◌↔◌, ◌≤◌, ℕ, List, length, take, IfOk, IfErr, IsOk, IfSome, MatchResult};
-ghost use Rattle.vm_superio.specs.Serial.Port.SavedState.{state_of};
+ghost use Rattle.vm_superio.specs.Saved.{state_of};
 ghost use Rattle.superio_core.specs.Serial.{State};
 ghost use Rattle.superio_core.specs.Saved.{serial_form, serial_fault};
 

@@ -37,7 +37,7 @@ pub struct SerialState {
 }
 
 impl SerialState {
-    ghost use Rattle.vm_superio.specs.Serial.Port.SavedState.{state_of};
+    ghost use Rattle.vm_superio.specs.Saved.{state_of};
     ghost use Rattle.superio_core.specs.Serial.{state_with};
     ghost use Rattle.superio_core.specs.Serial.Port.{state_of_port};
 

@@ -2,12 +2,11 @@
 use Rattle.std.proofs.Common.{◌≡◌, ℕ, ◌+◌, ◌≤◌, Bool, true, false, not, ◌==◌, ◌&&◌, ◌||◌, List, [], ◌∷◌, ◌++◌, length, drop, refl, ap, sym, ◌∙◌, subst, length-append, length-take, length-drop, arith}
 use Rattle.std.proofs.lemmas.Bool.{false≢true}
 use Rattle.std.specs.Prelude.{if◌then◌else◌, IsTrue}
-use Rattle.superio_core.specs.declared.trace.Asked.{Asked}
+use Rattle.superio_core.specs.Serial.Operations.{Asked, Op, Enqueue, is_refused_at_once, OpKind, RbrRead, IirRead, IerWrite, ThrWrite, Arrival, Timeout, Other}
 use Rattle.superio_core.specs.declared.trace.Asked.TheVariants.{Nothing}
 use Rattle.superio_core.specs.Serial.{State, not_empty}
 use Rattle.superio_core.specs.Serial.RegisterMap.{Thre, Rda, identification_of, is_loopback}
 use Rattle.superio_core.specs.Bits.{has_bits, only_bits, without_bits}
-use Rattle.superio_core.specs.Serial.Operations.{Op, Enqueue, is_refused_at_once, OpKind, RbrRead, IirRead, IerWrite, ThrWrite, Arrival, Timeout, Other}
 use Rattle.superio_core.specs.Serial.Step.Raising.{raise, raise_rda_while_held, rda_becomes_pending, receive_bytes, bytes_that_fit}
 use Rattle.superio_core.specs.Serial.Step.{step}
 use Rattle.superio_core.specs.Serial.Step.Admissible.{kind_in_state}
@@ -93,23 +92,12 @@ received_kept [] s bit before kept now = kept now
 received_kept (byte ∷ bytes) s bit before kept now = not_empty-append s.in_buffer byte bytes
 
 enabled_held : (bit held_bytes before : Bool) → (IsTrue before → IsTrue held_bytes) → IsTrue ((bit && held_bytes) || before) → IsTrue held_bytes
-enabled_held bit true before kept now = refl
-enabled_held true false before kept now = kept now
-enabled_held false false before kept now = kept now
+enabled_held bit held_bytes before kept now = grind arith
 
 received_by_kind : (k : OpKind) (asked : Asked) (s : State) (before : Bool)
     → (IsTrue before → IsTrue (not_empty s.in_buffer))
     → IsTrue (rda_next k s.in_buffer s.interrupt_enable before) → IsTrue (not_empty (by_kind k asked s).in_buffer)
-received_by_kind RbrRead asked s before kept now = absurd (false≢true now)
-received_by_kind IirRead asked s before kept now = absurd (false≢true now)
-received_by_kind (IerWrite value) asked s before kept now =
-    enabled_held (has_bits value 0x01) (not_empty s.in_buffer) before kept now
-received_by_kind (ThrWrite value) asked s before kept now = kept now
-received_by_kind (Arrival bytes) asked s before kept now =
-    received_kept (bytes_that_fit s.in_buffer bytes) s (has_bits s.interrupt_enable 0x01) before kept now
-received_by_kind Timeout asked s before kept now =
-    enabled_held (has_bits s.interrupt_enable 0x01) (not_empty s.in_buffer) before kept now
-received_by_kind Other asked s before kept now = kept now
+received_by_kind k asked s before kept now = grind arith
 
 -- data ready is set exactly while a byte is held
 read_shows : (bytes : List ℕ) (line_status : ℕ) → has_bits line_status 0x01 ≡ not_empty bytes

@@ -1,13 +1,12 @@
 -- Lemmas on the step of a call.
-use Rattle.std.proofs.Common.{◌≡◌, ℕ, Bool, true, false, List, refl, ◌+◌, not, ◌==◌, ◌&&◌, ◌||◌, ap, ◌∙◌, length}
+use Rattle.std.proofs.Common.{arith, ◌≡◌, ℕ, Bool, true, false, List, refl, ◌+◌, not, ◌==◌, ◌&&◌, ◌||◌, ap, ◌∙◌, length}
 use Rattle.std.specs.Prelude.{if◌then◌else◌, IsTrue}
 use Rattle.std.proofs.lemmas.Bool.{false≢true}
 use Rattle.std.proofs.lemmas.Nat.{and_or_self}
-use Rattle.superio_core.specs.declared.trace.Asked.{Asked}
+use Rattle.superio_core.specs.Serial.Operations.{Asked, Op, Read, Write, Enqueue, CharacterTimeout, Restore, OpKind, RbrRead, IirRead, IerWrite, ThrWrite, Arrival, Timeout, Other, read_kind, write_kind, kind_of, is_refused_at_once, count_if, answer_count}
 use Rattle.superio_core.specs.Serial.{State, not_empty}
 use Rattle.superio_core.specs.Bits.{only_bits, has_bits, with_bits, without_bits}
 use Rattle.superio_core.specs.Serial.RegisterMap.{Register, RbrThr, Ier, Iir, register_at, is_dlab, is_loopback, Thre, Rda, identification_of, pending_in_order}
-use Rattle.superio_core.specs.Serial.Operations.{Op, Read, Write, Enqueue, CharacterTimeout, Restore, OpKind, RbrRead, IirRead, IerWrite, ThrWrite, Arrival, Timeout, Other, read_kind, write_kind, kind_of, is_refused_at_once, count_if, answer_count}
 use Rattle.superio_core.specs.Serial.Step.Raising.{raise, enqueued_bytes, receive_bytes, bytes_that_fit, becomes_pending, rda_becomes_pending, raise_rda_while_held, is_asserted, is_line_up, restore_calls}
 use Rattle.superio_core.specs.Serial.Step.Admissible.{kind_in_state, answers_all}
 use Rattle.superio_core.specs.Serial.Step.{step, rbr_read, ier_write, read_step, write_step, character_timeout}
@@ -38,9 +37,7 @@ same_bytes : (s : State) → SameBytes s s
 same_bytes s = record { interrupt_enable = refl; interrupt_identification = refl; line_status = refl; in_buffer = refl }
 
 read_by_kind : (r : Register) (asked : Asked) (s : State) → SameBytes (read_step r s) (by_kind (read_kind r) asked s)
-read_by_kind RbrThr asked s = same_bytes _
-read_by_kind Iir asked s = same_bytes _
-read_by_kind _ asked s = same_bytes _
+read_by_kind r asked s = grind arith
 
 write_by_kind : (r : Register) (loopback : Bool) (value : ℕ) (asked : Asked) (s : State)
     → is_loopback s.modem_control ≡ loopback
@@ -73,17 +70,11 @@ next_by_kind s Restore asked = same_bytes _
 
 pub rda_bit : (thre rda : Bool) → has_bits (identification_of thre rda) 0x04 ≡ rda
 unfolding has_bits
-rda_bit true true = refl
-rda_bit true false = refl
-rda_bit false true = refl
-rda_bit false false = refl
+rda_bit thre rda = grind arith
 
 pub thre_bit : (thre rda : Bool) → has_bits (identification_of thre rda) 0x02 ≡ thre
 unfolding has_bits
-thre_bit true true = refl
-thre_bit true false = refl
-thre_bit false true = refl
-thre_bit false false = refl
+thre_bit thre rda = grind arith
 
 -- an RBR read clears RDA
 pub read_clears : (thre rda : Bool)
@@ -91,10 +82,7 @@ pub read_clears : (thre rda : Bool)
     without_bits (identification_of thre rda) 0x04 in if identification == 0 then 1 else identification)
     ≡ identification_of thre false
 unfolding only_bits
-read_clears true true = refl
-read_clears true false = refl
-read_clears false true = refl
-read_clears false false = refl
+read_clears thre rda = grind arith
 
 -- ---- raising
 
@@ -103,22 +91,14 @@ raised_rda : (enabled thre rda : Bool) → let identification = identification_o
     && not (has_bits identification 0x04) then with_bits (without_bits identification 0x01) 0x04 else identification)
     ≡ identification_of thre (enabled || rda)
 unfolding has_bits only_bits with_bits
-raised_rda true true true = refl
-raised_rda true true false = refl
-raised_rda true false true = refl
-raised_rda true false false = refl
-raised_rda false _ _ = refl
+raised_rda enabled thre rda = grind arith
 
 raised_thre : (enabled thre rda : Bool) → let identification = identification_of thre rda in
     (if enabled
     && not (has_bits identification 0x02) then with_bits (without_bits identification 0x01) 0x02 else identification)
     ≡ identification_of (enabled || thre) rda
 unfolding has_bits only_bits with_bits
-raised_thre true true true = refl
-raised_thre true true false = refl
-raised_thre true false true = refl
-raised_thre true false false = refl
-raised_thre false _ _ = refl
+raised_thre enabled thre rda = grind arith
 
 pub raise_rda : (enable : ℕ) (thre rda : Bool)
     → raise Rda enable (identification_of thre rda)
@@ -141,10 +121,7 @@ thre_new enable thre rda = ap (λ bit. has_bits enable 0x02 && not bit) (thre_bi
 -- ---- an IER write of a value, or a character timeout, while bytes are held or not
 
 held_first : (held enabled rda : Bool) → (held && (enabled && not rda)) ≡ ((enabled && held) && not rda)
-held_first true true rda = refl
-held_first true false rda = refl
-held_first false true rda = refl
-held_first false false rda = refl
+held_first held enabled rda = grind arith
 
 pub ier_write_raises_rda : (held : List ℕ) (value : ℕ) (thre rda : Bool)
     → rda_becomes_pending held (only_bits value 0x0F) (identification_of thre rda)
@@ -157,10 +134,7 @@ ier_write_raises_rda held value thre rda =
 held_asked : (held enabled thre rda : Bool)
     → (if held then identification_of thre (enabled || rda) else identification_of thre rda)
     ≡ identification_of thre ((enabled && held) || rda)
-held_asked true true thre rda = refl
-held_asked true false thre rda = refl
-held_asked false true thre rda = refl
-held_asked false false thre rda = refl
+held_asked held enabled thre rda = grind arith
 
 pub ier_write_raises : (held : List ℕ) (value : ℕ) (thre rda : Bool)
     → raise_rda_while_held held (only_bits value 0x0F) (identification_of thre rda)
@@ -188,10 +162,7 @@ timeout_raises held enable thre rda =
 refused_or_asked : (refused enabled thre rda : Bool)
     → (if refused then identification_of thre rda else identification_of (enabled || thre) rda)
     ≡ identification_of ((enabled && not refused) || thre) rda
-refused_or_asked true true thre rda = refl
-refused_or_asked true false thre rda = refl
-refused_or_asked false true thre rda = refl
-refused_or_asked false false thre rda = refl
+refused_or_asked refused enabled thre rda = grind arith
 
 -- IIR afterwards, whether or not the trigger refused for RDA
 pub ier_write_leaves : (refused : Bool) (held : List ℕ) (value : ℕ) (thre rda : Bool)
@@ -223,19 +194,12 @@ ier_write_raises_thre held value thre rda =
 pub answers_counted : (first second : Bool) (asked : Asked)
     → answers_all (count_if first + count_if second) asked
     ≡ (answer_count asked == count_if first + count_if (second && not (first && is_refused_at_once asked)))
-answers_counted true true Nothing = refl
-answers_counted true false Nothing = refl
-answers_counted false true Nothing = refl
-answers_counted false false Nothing = refl
-answers_counted _ _ _ = refl
+answers_counted first second asked = grind arith
 
 -- ---- the line is up exactly while a restore has a trigger call to make
 
 pub one_or_both : (thre rda : Bool) → (thre || rda) ≡ not (length (pending_in_order thre rda) == 0)
-one_or_both true true = refl
-one_or_both true false = refl
-one_or_both false true = refl
-one_or_both false false = refl
+one_or_both thre rda = grind arith
 
 pub up_while_due : (s : State) → is_line_up s ≡ not (length (restore_calls s) == 0)
 up_while_due s = one_or_both (is_asserted Thre s) (is_asserted Rda s)

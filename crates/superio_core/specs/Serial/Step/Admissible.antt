@@ -1,13 +1,11 @@
--- Which answers of the trigger and which outcome of a byte are admissible for a call in a state, and what a call of a port
--- makes of them.
+-- Which answers of the trigger and which outcome of a byte are admissible for a call in a state, and what a call of a
+-- port makes of them.
 use Rattle.std.specs.Prelude.{ℕ, ◌+◌, Bool, ◌==◌, ◌&&◌, nat_le, List, [], ◌∷◌, ◌≡◌, not, ◌||◌, length}
 use Rattle.std.specs.Bool.{beq}
-use Rattle.superio_core.specs.declared.trace.Asked.{Asked}
-use Rattle.superio_core.specs.declared.trace.Sent.{Sent}
+use Rattle.superio_core.specs.Serial.Operations.{Asked, Sent, Op, is_sent, count_if, OpKind, IerWrite, ThrWrite, Arrival, Timeout, kind_of, sent_by, Read, Write, Enqueue, CharacterTimeout, ByteRead, events_of_read}
 use Rattle.superio_core.specs.Bits.{only_bits}
 use Rattle.superio_core.specs.Serial.{ier_bits, State, not_empty}
 use Rattle.superio_core.specs.Serial.RegisterMap.{Rda, Thre, is_dlab, is_loopback}
-use Rattle.superio_core.specs.Serial.Operations.{Op, is_sent, count_if, OpKind, IerWrite, ThrWrite, Arrival, Timeout, kind_of, sent_by, Read, Write, Enqueue, CharacterTimeout, ByteRead, events_of_read}
 use Rattle.superio_core.specs.Serial.Step.Raising.{becomes_pending, rda_becomes_pending, raise_rda_while_held, bytes_that_fit, enqueued_bytes}
 use Rattle.superio_core.specs.declared.serial.effects.ReadEffects.{ReadEffects}
 use Rattle.superio_core.specs.declared.serial.effects.WriteEffects.{WriteEffects}

@@ -1,5 +1,5 @@
--- The interrupt conditions: raising and lowering one, receiving bytes, the interrupt line, and the calls of a restore. These
--- are the small parts of a step. A step may raise a condition that IER does not enable, which does nothing.
+-- The interrupt conditions: raising and lowering one, receiving bytes, the interrupt line, and the calls of a restore.
+-- These are the small parts of a step. A step may raise a condition that IER does not enable, which does nothing.
 use Rattle.std.specs.Prelude.{ℕ, ◌-◌, Bool, not, ◌==◌, ◌&&◌, if◌then◌else◌, List, [], ◌∷◌, ◌++◌, length, take, ◌||◌}
 use Rattle.superio_core.specs.Bits.{has_bits, with_bits, without_bits}
 use Rattle.superio_core.specs.Serial.{lsr_dr_bit, State, not_empty}

@@ -4,17 +4,17 @@ use Rattle.std.proofs.lemmas.Bool.{and_parts, false≢true, eqb-true}
 use Rattle.std.specs.Prelude.{◌⊎◌, if◌then◌else◌, IsTrue}
 use Rattle.std.specs.Bool.{IsFalse}
 use Rattle.superio_core.specs.declared.trace.Asked.{Asked}
+use Rattle.superio_core.specs.Serial.Operations.{is_refused_at_once, count_if, answer_count, OpKind, RbrRead, IirRead, IerWrite, ThrWrite, Arrival, Timeout, Other}
 use Rattle.superio_core.specs.Serial.{State, not_empty}
 use Rattle.superio_core.specs.Bits.{has_bits, only_bits, without_bits}
 use Rattle.superio_core.specs.declared.serial.registers.Condition.TheVariants.{Rda, Thre}
-use Rattle.superio_core.specs.Serial.Operations.{is_refused_at_once, count_if, answer_count, OpKind, RbrRead, IirRead, IerWrite, ThrWrite, Arrival, Timeout, Other}
 use Rattle.superio_core.specs.Serial.Step.Raising.{becomes_pending, raise, bytes_that_fit, receive_bytes, is_asserted, is_line_up}
 use Rattle.superio_core.specs.Serial.Step.Admissible.{kind_in_state, kind_calls, step_calls, answers_all}
 use Rattle.superio_core.specs.Serial.Step.{step}
 use Rattle.superio_core.proofs.Lemmas.{and-without, and-without-apart}
 use Rattle.superio_core.proofs.Lemmas.Serial.Step.{by_kind, next_by_kind, rda_asked, one_or_both, up_while_due}
-use Rattle.vm_superio.specs.Serial.Laws.Agreement.{state_after}
-use Rattle.vm_superio.specs.Serial.Laws.InterruptLine.{is_called, is_line_up_under, line_after, EnablesPending, may_lower_line, is_asserted_at, LineAfterLaw, UpAfterCallLaw, GoesUpLaw, StaysUpLaw, LineOfHistoryLaw}
+use Rattle.vm_superio.specs.Serial.Laws.{state_after}
+use Rattle.vm_superio.specs.Serial.Laws.Line.{is_called, is_line_up_under, line_after, EnablesPending, may_lower_line, is_asserted_at, LineAfterLaw, UpAfterCallLaw, GoesUpLaw, StaysUpLaw, LineOfHistoryLaw}
 use Rattle.vm_superio.proofs.Lemmas.Serial.Laws.Interrupts.{interrupt_law}
 use Rattle.vm_superio.proofs.Lemmas.Serial.Laws.TurnedBits.{first, first_leaves, turned_by_kind, rda_other, thre_asked, thre_other}
 

@@ -3,22 +3,21 @@ use Rattle.std.proofs.Common.{◌≡◌, ℕ, ◌+◌, zero-add, add-zero, Bool,
 use Rattle.std.specs.Bool.{beq}
 use Rattle.std.proofs.Math.Bool.{and-true}
 use Rattle.superio_core.specs.declared.trace.Asked.{Asked}
+use Rattle.superio_core.specs.Serial.Operations.{TraceEntry, is_refused_at_once, is_sent, count_if, answer_count, OpKind, RbrRead, IirRead, IerWrite, ThrWrite, Arrival, Timeout, Other, sent_by, is_iir_read}
 use Rattle.superio_core.specs.Serial.{State, not_empty}
 use Rattle.superio_core.specs.Bits.{has_bits, only_bits}
 use Rattle.superio_core.specs.declared.serial.registers.Condition.TheVariants.{Thre, Rda}
 use Rattle.superio_core.specs.Serial.RegisterMap.{identification_of, pending_in_order}
-use Rattle.superio_core.specs.Serial.Operations.{TraceEntry, is_refused_at_once, is_sent, count_if, answer_count, OpKind, RbrRead, IirRead, IerWrite, ThrWrite, Arrival, Timeout, Other, sent_by, is_iir_read}
 use Rattle.superio_core.specs.Serial.Step.Raising.{raise_rda_while_held, becomes_pending, rda_becomes_pending, bytes_that_fit, restore_calls}
 use Rattle.superio_core.specs.Serial.Step.Admissible.{arrival_calls, kind_calls, answers_all, step_calls, is_admissible}
 use Rattle.vm_superio.specs.Serial.History.Registers.{kind_at, held_bytes}
 use Rattle.vm_superio.specs.Serial.History.Interrupts.{raises_rda, acknowledges, is_pending, raises_thre, is_well_formed_entry, restore_calls_due}
-use Rattle.vm_superio.specs.Serial.History.Reads.{interrupt_identification}
-use Rattle.vm_superio.specs.Serial.Laws.Agreement.{state_after, InterruptLaw}
+use Rattle.vm_superio.specs.Serial.History.{interrupt_identification}
+use Rattle.vm_superio.specs.Serial.Laws.{state_after, InterruptLaw}
 use Rattle.superio_core.proofs.Lemmas.Serial.Step.{rda_bit, thre_bit, rda_new, thre_new, ier_write_raises_rda, ier_write_raises_thre, timeout_raises_rda, answers_counted, by_kind}
-use Rattle.superio_core.proofs.Lemmas.Serial.Coherence.{pending_by_kind as pending_after}
-use Rattle.vm_superio.proofs.Lemmas.Serial.Step.ByKind.{next_at_point, same_kind}
-use Rattle.vm_superio.proofs.Lemmas.Serial.Laws.Registers.{register_law}
-use Rattle.vm_superio.proofs.Lemmas.Serial.Laws.HeldBytes.{held_bytes_law}
+use Rattle.superio_core.proofs.Lemmas.Serial.Coherence.{pending_by_kind as pending_after, coherence_law}
+use Rattle.vm_superio.proofs.Lemmas.Serial.Laws.{next_at_point, same_kind, register_law, held_bytes_law}
+use Rattle.superio_core.specs.Serial.Port.{Coherent}
 
 -- ---- one operation
 
@@ -187,3 +186,10 @@ interrupt_law start trace thre rda e = record {
   calls = λ entry. well_formed_law start trace thre rda entry e;
   restoring = restoring_law start trace thre rda e;
 }
+
+-- ---- a run keeps a coherent state coherent
+
+pub coherent_after : (start : State) (trace : List TraceEntry) → Coherent start → Coherent (state_after start trace)
+coherent_after start [] coherent = coherent
+coherent_after start (entry ∷ trace) coherent =
+    coherence_law (state_after start trace) entry.op entry.asked (coherent_after start trace coherent)

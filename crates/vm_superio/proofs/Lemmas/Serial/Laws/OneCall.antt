@@ -1,28 +1,29 @@
 -- One call: the bytes that it takes, accepts and gives, and the byte that a THR write sends.
 use Rattle.std.proofs.Common.{◌≡◌, ℕ, Bool, true, List, [], ◌∷◌, ◌++◌, length, drop, refl, ap, sym, ◌∙◌, append-nil, ◌<◌, false, subst, arith, IsTrue}
-use Rattle.std.specs.Prelude.{if◌then◌else◌, slice_index, drop, ◌&&◌}
+use Rattle.std.specs.Prelude.{if◌then◌else◌, slice_index, ◌&&◌, count_by}
+use Rattle.std.proofs.Math.Bool.{and-true, and-false}
+use Rattle.std.specs.Bool.{beq}
+use Rattle.std.proofs.lemmas.Bool.{and_parts, false≢true}
 use Rattle.superio_core.specs.declared.trace.Asked.{Asked}
+use Rattle.superio_core.specs.declared.trace.Sent.{Sent}
+use Rattle.superio_core.specs.Serial.Operations.{Op, Read, Write, Enqueue, CharacterTimeout, Restore, Response, ByteRead, WriteOk, WriterFailed, TriggerRefused, is_sent, is_lost, ends_in_refusal, OpKind, RbrRead, IirRead, Arrival, read_kind, write_kind, kind_of, sent_by, buffer_read, in_buffer_empty, ThrWrite}
 use Rattle.superio_core.specs.Serial.{State, not_empty}
 use Rattle.superio_core.specs.Bits.{has_bits, without_bits}
-use Rattle.vm_superio.specs.Serial.History.Reads.{line_status, byte_read}
-use Rattle.superio_core.specs.Serial.Operations.{Op, Read, Write, Enqueue, CharacterTimeout, Restore, Response, ByteRead, WriteOk, WriterFailed, TriggerRefused, is_sent, is_lost, ends_in_refusal, OpKind, RbrRead, IirRead, Arrival, read_kind, write_kind, kind_of, sent_by}
+use Rattle.vm_superio.specs.Serial.History.{line_status, byte_read}
 use Rattle.superio_core.specs.Serial.Step.Raising.{receive_bytes, bytes_that_fit, raise}
 use Rattle.superio_core.specs.Serial.Step.Admissible.{kind_in_state, answers_all, step_calls, sends_byte}
 use Rattle.vm_superio.specs.Serial.History.Registers.{accepted_by, taken_by}
-use Rattle.superio_core.specs.Serial.Step.{step, read_step, step_response, write_step}
-use Rattle.vm_superio.specs.Serial.Laws.OneCall.{OneCallLaw, ReceivedLaw, OneReadLaw, RbrReadLaw, RbrDataReadyLaw, ThrWriteLaw}
+use Rattle.superio_core.specs.Serial.Step.{step, read_step, step_response, write_step, read_events, sent_events, step_events}
+use Rattle.vm_superio.specs.Serial.Laws.OneCall.{OneCallLaw, ReceivedLaw, OneReadLaw, RbrReadLaw, RbrDataReadyLaw, ThrWriteLaw, OutcomeEventsLaw, reports_outcome}
 use Rattle.superio_core.proofs.Lemmas.Serial.{data_ready_cleared}
 use Rattle.superio_core.proofs.Lemmas.Serial.Step.{by_kind, next_by_kind}
-use Rattle.std.proofs.Math.Bool.{and-true, and-false}
 use Rattle.superio_core.specs.declared.trace.Asked.TheVariants.{Nothing}
-use Rattle.superio_core.specs.declared.trace.Sent.{Sent}
-use Rattle.superio_core.specs.declared.trace.Sent.TheVariants as sent
 use Rattle.superio_core.specs.declared.serial.registers.Register.{Register}
 use Rattle.superio_core.specs.declared.serial.registers.Register.TheVariants.{RbrThr, Ier, Iir}
-use Rattle.superio_core.specs.Serial.RegisterMap.{register_at, is_dlab, is_loopback, register_read}
 use Rattle.superio_core.specs.declared.serial.registers.Condition.TheVariants.{Thre}
-use Rattle.std.specs.Bool.{beq}
+use Rattle.superio_core.specs.Serial.RegisterMap.{register_at, is_dlab, is_loopback, register_read}
 use Rattle.superio_core.specs.declared.trace.Sent.TheVariants.{Nothing, Out, Lost}
+use Rattle.superio_core.specs.declared.trace.Sent.TheVariants as sent
 
 -- ---- bytes taken and accepted
 
@@ -179,3 +180,52 @@ thr_write s value asked sent hidden outside admissible =
 -- ---- what the law rests on
 
 pub ruleset one_call_laws = (one_call, received, one_read, rbr_read, rbr_data_ready, thr_write)
+
+-- ---- one call, in any state: the events that it reports
+
+-- an outcome is recorded exactly if a byte is sent
+abbrev sent_fits : Bool → Sent → Bool
+sent_fits sends_byte outcome = beq (is_sent outcome) sends_byte
+
+-- ---- events
+
+read_tells : (last : Bool) → count_by reports_outcome ((if last then [] else in_buffer_empty ∷ []) ++ buffer_read ∷ []) ≡ 0
+read_tells true = refl
+read_tells false = refl
+
+read_reported : (r : Register) (held : List ℕ) → count_by reports_outcome (read_events r held) ≡ length (sent_by (read_kind r))
+read_reported RbrThr held = read_tells _
+read_reported Iir held = refl
+read_reported _ held = refl
+
+sent_once : (outcome : Sent) → IsTrue (sent_fits true outcome) → count_by reports_outcome (sent_events outcome) ≡ 1
+sent_once sent.Nothing fit = absurd (false≢true fit)
+sent_once sent.Out fit = refl
+sent_once sent.Lost fit = refl
+
+not_sent : (outcome : Sent) → IsTrue (sent_fits false outcome) → count_by reports_outcome (sent_events outcome) ≡ 0
+not_sent sent.Nothing fit = refl
+not_sent sent.Out fit = absurd (false≢true fit)
+not_sent sent.Lost fit = absurd (false≢true fit)
+
+sent_reported : (k : OpKind) (outcome : Sent) → IsTrue (sent_fits (not_empty (sent_by k)) outcome)
+    → count_by reports_outcome (sent_events outcome) ≡ length (sent_by k)
+sent_reported (ThrWrite value) outcome fit = sent_once outcome fit
+sent_reported _ outcome fit = not_sent outcome fit
+
+enqueue_reported : (loopback dlab : Bool) (bytes : List ℕ) → 0 ≡ length (sent_by (kind_of dlab loopback (Enqueue bytes)))
+enqueue_reported true dlab bytes = refl
+enqueue_reported false dlab bytes = refl
+
+reported : (s : State) (op : Op) (outcome : Sent) → IsTrue (sent_fits (sends_byte s op) outcome)
+    → count_by reports_outcome (step_events s op outcome) ≡ length (sent_by (kind_in_state s op))
+reported s (Read offset) outcome fit = read_reported (register_at (is_dlab s.line_control) offset) s.in_buffer
+reported s (Write offset value) outcome fit =
+    sent_reported (kind_in_state s (Write offset value)) outcome fit
+reported s (Enqueue bytes) outcome fit = enqueue_reported (is_loopback s.modem_control) (is_dlab s.line_control) bytes
+reported s CharacterTimeout outcome fit = refl
+reported s Restore outcome fit = refl
+
+pub events_law : OutcomeEventsLaw
+events_law s op asked outcome fit =
+    reported s op outcome (and_parts (answers_all (step_calls s op) asked) (sent_fits (sends_byte s op) outcome) fit).1

@@ -5,7 +5,7 @@ use Rattle.std.specs.declared.io.Error.{Error}
 use Rattle.superio_core.specs.Serial.{state_with}
 use Rattle.superio_core.specs.Serial.Step.{write_step}
 use Rattle.superio_core.proofs.Lemmas.Serial.FirstRefused.{write_step-settled}
-use Rattle.vm_superio.specs.Links.OutCalls.{OutCall}
+use Rattle.vm_superio.specs.Links.{OutCall}
 use Rattle.vm_superio.specs.Links.Writer.{AnsweredFault}
 use Rattle.vm_superio.proofs.serial.port.write_with.Goals as goal
 

@@ -2,8 +2,7 @@
 use Rattle.std.proofs.Common.{◌≤◌, ◌+◌, List, ◌++◌, vec_len}
 use Rattle.std.specs.Prelude.{vec_capacity}
 use Rattle.std.specs.VecDeque.{deque_len}
-use Rattle.vm_superio.specs.Serial.Step.ObjectStep.{OnePort, port_with}
-use Rattle.vm_superio.specs.Serial.Run.Steps.{IsRun}
+use Rattle.vm_superio.specs.Serial.Step.ObjectStep.{OnePort, port_with, IsRun}
 use Rattle.vm_superio.specs.declared.run.Done.{Done}
 use Rattle.vm_superio.proofs.serial.running.run_with.Given as goal
 
