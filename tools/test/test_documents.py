@@ -44,8 +44,7 @@ NAMES = [
      f"{CALLING}: vm_superio::serial::Serial::read has no clause date"),
     (PROOFS, "`Port::write: step` (`answered`)", "`Port::write: step` (`fault`)",
      f"{PROOFS}: no clause there has a part fault"),
-    (PROOFS, "- `State`: `State`, `not_empty`", "- `State`: `State`, `count_if`",
-     f"{PROOFS}: State does not define count_if"),
+    (PROOFS, "`State`, `not_empty`\n", "`State`, `count_if`\n", f"{PROOFS}: Serial does not define count_if"),
     (BODIES, "- `writer`, `interrupt_evt`, `events`", "- `writer`, `interrupt_enable`, `events`",
      f"{BODIES}: interrupt_enable has an edit"),
     ("tests/forms.txt", None, None, *(f"{document}: tests/forms.txt is nowhere in the sources"

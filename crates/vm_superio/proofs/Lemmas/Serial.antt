@@ -29,13 +29,7 @@ use Rattle.vm_superio.specs.declared.serial.errors.Error as failure
 
 -- a record stands for as many answers as it counts, if it has the refusal that it ends in
 length-answers_of : {E : Type 0} (asked : Asked) (refusal : Option E) → is_some refusal ≡ ends_in_refusal asked → length (answers_of asked refusal) ≡ answer_count asked
-length-answers_of Nothing refusal h = refl
-length-answers_of Took refusal h = refl
-length-answers_of Refused (Some e) h = refl
-length-answers_of Refused None h = absurd cc
-length-answers_of TookTook refusal h = refl
-length-answers_of TookRefused (Some e) h = refl
-length-answers_of TookRefused None h = absurd cc
+length-answers_of asked refusal h = grind arith
 
 -- a step calls the trigger once for each pending bit that it turns on
 pub length-answers_of-step :
@@ -52,10 +46,7 @@ length-answers_of-step links op asked sent answered refusal old new h =
 pub RefusesOwnState-few :
     {T E : Type 0} (link : Link T (TriggerAnswer E)) (s : State) (error : Error E) (old new : T) →
     length s.in_buffer ≤ 64 → RefusesRestore link s error old new → RefusesOwnState link (restore_calls s) error old new
-RefusesOwnState-few link s FullFifo old new few refused = absurd (omega (arith, few, refused.0))
-RefusesOwnState-few link s (Trigger refusal) old new few refused = refused.1
-RefusesOwnState-few link s (IOError fault) old new few refused = refused.1
-RefusesOwnState-few link s Memory old new few refused = refused.1
+RefusesOwnState-few link s error old new few refused = grind arith
 
 -- ---- a step of a port with one object is, for three objects, a step of the port with each of them
 
@@ -83,9 +74,7 @@ module _ {E : Type 0} where
 
 -- only a write sends a byte
 no_read_sends : (register : Register) → not_empty (sent_by (read_kind register)) ≡ false
-no_read_sends RbrThr = refl
-no_read_sends Iir = refl
-no_read_sends _ = refl
+no_read_sends register = grind arith
 
 no_enqueue_sends : (inside : Bool) (bytes : List ℕ) → not_empty (sent_by (if inside then Other else Arrival bytes)) ≡ false
 no_enqueue_sends true bytes = refl
@@ -93,20 +82,12 @@ no_enqueue_sends false bytes = refl
 
 unsent : (answered sends : Bool) (sending : Sending) → sends ≡ false → IsTrue (answered && beq (is_sent (sent_in sending)) sends)
     → sending ≡ NotSent
-unsent answered true sending none made = cc
-unsent true false NotSent none made = refl
-unsent true false Taken none made = cc
-unsent true false (NotPut fault) none made = cc
-unsent true false (NotFlushed fault) none made = cc
-unsent false false sending none made = cc
+unsent answered sends sending none made = grind arith
 
 -- a byte and its outcome are what the output's calls show
 byte_sendings : (offset value : ℕ) (sending : Sending)
     → AreSendings (outcome_of (sent_in sending)) (bytes_sent (Write offset value) (sent_in sending)) (byte_calls value sending)
-byte_sendings offset value NotSent = tt
-byte_sendings offset value Taken = (refl, tt)
-byte_sendings offset value (NotPut fault) = (refl, tt)
-byte_sendings offset value (NotFlushed fault) = (refl, tt)
+byte_sendings offset value sending = grind arith
 
 nothing_sent : (op : Op) (sending : Sending) → bytes_sent op Sent.Nothing ≡ [] → sending ≡ NotSent
     → AreSendings (outcome_of (sent_in sending)) (bytes_sent op (sent_in sending)) []

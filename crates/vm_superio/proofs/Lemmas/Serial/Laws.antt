@@ -82,9 +82,7 @@ received (byte ∷ bytes) s = refl
 
 read_done : (r : Register) (s : State) → SameRegisters s (read_step r s)
 unfolding SameRegisters
-read_done RbrThr s = refl
-read_done Iir s = refl
-read_done _ s = refl
+read_done r s = grind arith
 
 data_written : (value : ℕ) (loopback : Bool) (s : State) → is_loopback s.modem_control ≡ loopback
     → SameRegisters s (thr_write value s)
@@ -343,16 +341,11 @@ received_ready (byte ∷ bytes) s ready = rw (not_empty-append s.in_buffer byte 
 read_ready : (bytes : List ℕ) (line_status : ℕ) → line_status ≡ with_data_ready line_status (not_empty bytes)
     → (if not_empty (drop 1 bytes) then line_status else without_bits line_status 0x01)
     ≡ with_data_ready line_status (not_empty (drop 1 bytes))
-read_ready [] line_status ready = refl
-read_ready (byte ∷ []) line_status ready = refl
-read_ready (byte ∷ other ∷ bytes) line_status ready = ready
+read_ready bytes line_status ready = grind arith
 
 ready_by_kind : (k : OpKind) (asked : Asked) (s : State) → IsReady s
     → (by_kind k asked s).line_status ≡ with_data_ready s.line_status (not_empty (by_kind k asked s).in_buffer)
-ready_by_kind RbrRead asked s ready = read_ready s.in_buffer s.line_status ready
-ready_by_kind (Arrival bytes) asked s ready = received_ready (bytes_that_fit s.in_buffer bytes) s ready
-ready_by_kind IirRead asked s ready = ready
-ready_by_kind _ asked s ready = ready
+ready_by_kind k asked s ready = grind arith
 
 -- LSR that a call leaves, from one that shows whether bytes are held
 ready_more : (s : State) (op : Op) (asked : Asked) → IsReady s

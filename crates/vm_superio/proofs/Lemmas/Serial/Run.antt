@@ -1,6 +1,6 @@
 -- One call of a run.
 pub mod Three
-use Rattle.std.proofs.Common.{◌≡◌, List, ◌∷◌, sym, subst, Ok, Err, ℕ, map, false, not, [], ◌++◌, refl, ap, ◌∙◌, Option}
+use Rattle.std.proofs.Common.{arith, ◌≡◌, List, ◌∷◌, sym, subst, Ok, Err, ℕ, map, false, not, [], ◌++◌, refl, ap, ◌∙◌, Option}
 use Rattle.std.specs.Prelude.{Result, IfOk, ◌↔◌, IsTrue}
 use Rattle.std.proofs.lemmas.Bool.{cond_both, false≢true}
 use Rattle.std.specs.declared.io.Error as io
@@ -58,11 +58,7 @@ restore_admissible s asked sent no_call no_byte =
 
 -- only a restore counts as one
 op_of-restore : (call : Act) → not (is_restore call) ≡ false → op_of call ≡ operation.Restore
-op_of-restore act.Restore is = refl
-op_of-restore (act.Read offset) is = absurd (false≢true (sym is))
-op_of-restore (act.Write offset value) is = absurd (false≢true (sym is))
-op_of-restore (act.Enqueue bytes) is = absurd (false≢true (sym is))
-op_of-restore act.CharacterTimeout is = absurd (false≢true (sym is))
+op_of-restore call is = grind arith
 
 -- the byte of a read's response
 abbrev byte_in : Response → ℕ
@@ -126,9 +122,7 @@ module _ {O E : Type 0} (link : Link O (ObjectCall E)) where
   ReadIs-reply :
       (start : State) (trace : List TraceEntry) (made : Act) (asked : Asked) (sent : Sent) (reply : Reply O E) →
       IsReplyTo made reply → response_of reply ≡ history_response start trace (op_of made) asked sent → ReadIs start trace made reply
-  ReadIs-reply start trace (act.Read offset) asked sent (Byte byte) of is = ap (λ response. Byte (byte_in response)) is
-  ReadIs-reply start trace (act.Read offset) asked sent _ of is = absurd of
-  ReadIs-reply start trace _ asked sent reply of is = tt
+  ReadIs-reply start trace made asked sent reply of is = grind arith
 
   ReadsAre-run :
       (start : State) (trace : List TraceEntry) (calls : List (Call O)) (records : List (Done O E)) →

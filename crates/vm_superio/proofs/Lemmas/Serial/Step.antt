@@ -56,9 +56,7 @@ settings_kept [] s = refl
 settings_kept (byte ∷ bytes) s = refl
 
 of_read : (register : Register) (s : State) → kind_calls (read_kind register) s ≡ 0
-of_read RbrThr s = refl
-of_read Iir s = refl
-of_read _ s = refl
+of_read register s = grind arith
 
 -- so does a THR write
 thr_kept : (inside : Bool) (bytes : List ℕ) (raised : ℕ) (s : State)
@@ -105,11 +103,7 @@ no_calls s Restore asked off = refl
 -- and has no answers
 unanswered : {E : Type 0} (asked : Asked) (had_outcome : Bool) (refusal : Option E)
     → IsTrue (answers_all 0 asked && had_outcome) → answers_of asked refusal ≡ []
-unanswered Nothing had refusal answered = refl
-unanswered Took had refusal answered = cc
-unanswered Refused had refusal answered = cc
-unanswered TookTook had refusal answered = cc
-unanswered TookRefused had refusal answered = cc
+unanswered asked had refusal answered = grind arith
 
 no_answers : {E : Type 0} (calls : ℕ) (asked : Asked) (had_outcome : Bool) (refusal : Option E) → calls ≡ 0
     → IsTrue (answers_all calls asked && had_outcome) → answers_of asked refusal ≡ []
@@ -129,17 +123,10 @@ quiet links op asked sent reply refusal old new no_call made off =
 -- a call that sends no byte leaves the writer
 unsent : (answered sends : Bool) (sent : Sent) → sends ≡ false → IsTrue (answered && beq (is_sent sent) sends)
     → sent ≡ was.Nothing
-unsent true false was.Nothing none made = refl
-unsent true false was.Out none made = cc
-unsent true false was.Lost none made = cc
-unsent false false sent none made = cc
-unsent answered true sent none made = cc
+unsent answered sends sent none made = grind arith
 
 no_outcome : (bytes : List ℕ) (calls : List OutCall) → AreSendings [] bytes calls → calls ≡ []
-no_outcome [] [] sends = refl
-no_outcome [] (call ∷ calls) sends = absurd sends
-no_outcome (byte ∷ bytes) [] sends = absurd sends
-no_outcome (byte ∷ bytes) (call ∷ calls) sends = absurd sends
+no_outcome bytes calls sends = grind arith
 
 pub silent : {T E EV W : Type 0} (links : PortLinks T E EV W) (op : Op) (asked : Asked) (sent : Sent) (reply : Response)
     (refusal : Option E) (old new : Port T EV W)
@@ -154,28 +141,14 @@ silent links op asked sent reply refusal old new no_call made none =
 
 -- a byte that is out was put and flushed
 out_calls : (value : ℕ) (calls : List OutCall) → AreSendings (was.Out ∷ []) (value ∷ []) calls → calls ≡ taken_calls (value ∷ [])
-out_calls value [] made = absurd made
-out_calls value (Flush answer ∷ calls) made = absurd made
-out_calls value (Put put (Err fault) ∷ calls) made = absurd made
-out_calls value (Put put (Ok done) ∷ []) made = absurd made
-out_calls value (Put put (Ok done) ∷ Put next answer ∷ calls) made = absurd made
-out_calls value (Put put (Ok done) ∷ Flush (Err fault) ∷ calls) made = absurd made
-out_calls value (Put put (Ok done) ∷ Flush (Ok flushed) ∷ []) (same, rest) =
-    ap (λ byte. Put byte (Ok tt) ∷ Flush (Ok tt) ∷ []) same
-out_calls value (Put put (Ok done) ∷ Flush (Ok flushed) ∷ call ∷ calls) (same, rest) = absurd rest
+out_calls value calls made = grind arith
 
 taken_if : (sends : Bool) (offset value : ℕ) (sent : Sent) (answered : Bool) (calls : List OutCall)
     → IsTrue (answered && beq (is_sent sent) sends)
     → IsTrue (list_all (λ outcome. not (is_lost outcome)) (sent ∷ []))
     → AreSendings (outcome_of sent) (bytes_sent (Write offset value) sent) calls
     → calls ≡ taken_calls (if sends then value ∷ [] else [])
-taken_if true offset value was.Out answered calls made kept sendings = out_calls value calls sendings
-taken_if true offset value was.Nothing true calls made kept sendings = cc
-taken_if true offset value was.Nothing false calls made kept sendings = cc
-taken_if _ offset value was.Lost answered calls made kept sendings = cc
-taken_if false offset value was.Nothing answered calls made kept sendings = no_outcome [] calls sendings
-taken_if false offset value was.Out true calls made kept sendings = cc
-taken_if false offset value was.Out false calls made kept sendings = cc
+taken_if sends offset value sent answered calls made kept sendings = grind arith
 
 -- the writer was called for what the call sends, if nothing was lost
 taken_by_kind : (kind : OpKind) (offset value : ℕ) (sent : Sent) (answered : Bool) (calls : List OutCall)
@@ -191,19 +164,13 @@ taken_by_kind kind offset value sent answered calls is made kept sendings =
 byte_of : (register : Register) (inside : Bool) (value : ℕ)
     → sent_by (write_kind register inside value)
     ≡ (if not_empty (sent_by (write_kind register inside value)) then value ∷ [] else [])
-byte_of RbrThr true value = refl
-byte_of RbrThr false value = refl
-byte_of Ier inside value = refl
-byte_of _ inside value = refl
+byte_of register inside value = grind arith
 
 -- `Ok` says that nothing was lost
 kept_by_ok : (is_refused : Bool) (sent : Sent)
     → WriteOk ≡ (if is_refused then TriggerRefused else (if is_lost sent then WriterFailed else WriteOk))
     → IsTrue (list_all (λ outcome. not (is_lost outcome)) (sent ∷ []))
-kept_by_ok true sent ok = cc
-kept_by_ok false was.Nothing ok = refl
-kept_by_ok false was.Out ok = refl
-kept_by_ok false was.Lost ok = cc
+kept_by_ok is_refused sent ok = grind arith
 
 on_ok : {E : Type 0} (result : Result (Unit {0}) (Error E)) (reply : Response) (P : Type 0) → write_response result ≡ reply
     → (WriteOk ≡ reply → P) → OnOk result P
@@ -229,11 +196,7 @@ sends links offset value asked sent result refusal old new made =
 
 -- a refusal answers a call
 answers-some : {E : Type 0} (asked : Asked) (refusal : E) → true ≡ ends_in_refusal asked → 0 < length (answers_of asked (Some refusal))
-answers-some Refused refusal ends = omega arith
-answers-some TookRefused refusal ends = omega arith
-answers-some Nothing refusal ends = cc
-answers-some Took refusal ends = cc
-answers-some TookTook refusal ends = cc
+answers-some asked refusal ends = grind arith
 
 -- there is a call for each bit that turns on
 shows_more : {T E EV W : Type 0} (links : PortLinks T E EV W) (op : Op) (asked : Asked) (sent : Sent) (reply : Response)
@@ -248,34 +211,21 @@ shows_more links op asked sent reply refusal old new made =
 -- a write fails with the output only if the output failed
 lost-by : (refused : Bool) (sent : Sent)
     → WriterFailed ≡ (if refused then TriggerRefused else (if is_lost sent then WriterFailed else WriteOk)) → sent ≡ was.Lost
-lost-by true sent failed = cc
-lost-by false was.Lost failed = refl
-lost-by false was.Nothing failed = cc
-lost-by false was.Out failed = cc
+lost-by refused sent failed = grind arith
 
 sends-lost : (answered sends : Bool) (sent : Sent) → sent ≡ was.Lost → IsTrue (answered && beq (is_sent sent) sends) → IsTrue sends
-sends-lost true true sent lost made = refl
-sends-lost true false was.Lost lost made = cc
-sends-lost true false was.Nothing lost made = cc
-sends-lost true false was.Out lost made = cc
-sends-lost false sends sent lost made = cc
+sends-lost answered sends sent lost made = grind arith
 
 -- a write that sends a byte changes the registers alike whatever the trigger answers
 sends-alike : (register : Register) (inside : Bool) (value : ℕ) (asked : Asked) (s : State)
     → IsTrue (not_empty (sent_by (write_kind register inside value))) → write_step register value asked s ≡ write_step register value Nothing s
-sends-alike RbrThr inside value asked s sends = refl
-sends-alike Ier inside value asked s sends = cc
-sends-alike _ inside value asked s sends = refl
+sends-alike register inside value asked s sends = grind arith
 
 never-full : (refused lost : Bool) → FifoFull ≡ (if refused then TriggerRefused else (if lost then WriterFailed else WriteOk)) → ⊥
-never-full true lost is = cc
-never-full false true is = cc
-never-full false false is = cc
+never-full refused lost is = grind arith
 
 never-memory : (refused lost : Bool) → OutOfMemory ≡ (if refused then TriggerRefused else (if lost then WriterFailed else WriteOk)) → ⊥
-never-memory true lost is = cc
-never-memory false true is = cc
-never-memory false false is = cc
+never-memory refused lost is = grind arith
 
 module _ {T E EV W : Type 0} (links : PortLinks T E EV W) where
   failed_write : (offset value : ℕ) (asked : Asked) (sent : Sent) (error : Error E) (old new : Port T EV W)
@@ -328,22 +278,13 @@ replied none full refused count =
     if none then EnqueueOk 0 else (if full then FifoFull else (if refused then TriggerRefused else EnqueueOk count))
 
 full-held : (none full refused : Bool) (count : ℕ) → FifoFull ≡ replied none full refused count → IsTrue full
-full-held true full refused count is = cc
-full-held false true refused count is = refl
-full-held false false true count is = cc
-full-held false false false count is = cc
+full-held none full refused count is = grind arith
 
 never-output : (none full refused : Bool) (count : ℕ) → WriterFailed ≡ replied none full refused count → ⊥
-never-output true full refused count is = cc
-never-output false true refused count is = cc
-never-output false false true count is = cc
-never-output false false false count is = cc
+never-output none full refused count is = grind arith
 
 never-allocates : (none full refused : Bool) (count : ℕ) → OutOfMemory ≡ replied none full refused count → ⊥
-never-allocates true full refused count is = cc
-never-allocates false true refused count is = cc
-never-allocates false false true count is = cc
-never-allocates false false false count is = cc
+never-allocates none full refused count is = grind arith
 
 module _ {T E EV W : Type 0} (links : PortLinks T E EV W) where
   failed_enqueue : (input : List ℕ) (asked : Asked) (sent : Sent) (error : Error E) (old new : Port T EV W)
@@ -375,11 +316,7 @@ module _ {T E EV W : Type 0} (links : PortLinks T E EV W) where
 
 only-refused : {E : Type 0} (refused : Bool) (error : Error E)
     → failure_response error ≡ (if refused then TriggerRefused else TimeoutOk) → failure_response error ≡ TriggerRefused
-only-refused true error is = is
-only-refused false (Trigger refusal) is = refl
-only-refused false (IOError fault) is = cc
-only-refused false FullFifo is = cc
-only-refused false Memory is = cc
+only-refused refused error is = grind arith
 
 module _ {T E EV W : Type 0} (links : PortLinks T E EV W) where
   failed_timeout : (asked : Asked) (sent : Sent) (error : Error E) (old new : Port T EV W)

@@ -145,22 +145,13 @@ pending_by_prefixes_law condition start trace =
 one_condition : (raised acknowledged before : Bool)
     → count_if (raised && not before) + count_if before
     ≤ count_if (raised || (not acknowledged && before)) + count_if acknowledged
-one_condition true true true = omega arith
-one_condition true true false = omega arith
-one_condition true false true = omega arith
-one_condition true false false = omega arith
-one_condition false true true = omega arith
-one_condition false true false = omega arith
-one_condition false false true = omega arith
-one_condition false false false = omega arith
+one_condition raised acknowledged before = grind arith
 
 -- an IIR read acknowledges two conditions, an RBR read one
 acknowledged_by : (k : OpKind)
     → count_if (acknowledges Rda k) + count_if (is_iir_read k)
     ≤ 2 * count_if (is_iir_read k) + count_if (is_rbr_read k)
-acknowledged_by RbrRead = omega arith
-acknowledged_by IirRead = omega arith
-acknowledged_by _ = omega arith
+acknowledged_by k = grind arith
 
 pub one_at_most : (b : Bool) → count_if b ≤ 1
 one_at_most true = omega arith
@@ -320,28 +311,19 @@ abbrev IsOutcome : List ℕ → Sent → Type 0
 IsOutcome bytes outcome = IsTrue (beq (is_sent outcome) (not_empty bytes))
 
 written_none : (offset value : ℕ) (outcome : Sent) → IsOutcome [] outcome → bytes_sent (Write offset value) outcome ≡ []
-written_none offset value sent.Nothing outcome_fits = refl
-written_none offset value sent.Out outcome_fits = absurd (false≢true outcome_fits)
-written_none offset value sent.Lost outcome_fits = absurd (false≢true outcome_fits)
+written_none offset value outcome outcome_fits = grind arith
 
 written_one : (offset value : ℕ) (outcome : Sent) → IsOutcome (value ∷ []) outcome
     → bytes_sent (Write offset value) outcome ≡ value ∷ []
-written_one offset value sent.Nothing outcome_fits = absurd (false≢true outcome_fits)
-written_one offset value sent.Out outcome_fits = refl
-written_one offset value sent.Lost outcome_fits = refl
+written_one offset value outcome outcome_fits = grind arith
 
 write_written : (r : Register) (loopback : Bool) (offset value : ℕ) (outcome : Sent)
     → IsOutcome (sent_by (write_kind r loopback value)) outcome
     → bytes_sent (Write offset value) outcome ≡ sent_by (write_kind r loopback value)
-write_written RbrThr true offset value outcome outcome_fits = written_none offset value outcome outcome_fits
-write_written RbrThr false offset value outcome outcome_fits = written_one offset value outcome outcome_fits
-write_written Ier loopback offset value outcome outcome_fits = written_none offset value outcome outcome_fits
-write_written _ loopback offset value outcome outcome_fits = written_none offset value outcome outcome_fits
+write_written r loopback offset value outcome outcome_fits = grind arith
 
 read_sends : (r : Register) → [] ≡ sent_by (read_kind r)
-read_sends RbrThr = refl
-read_sends Iir = refl
-read_sends _ = refl
+read_sends r = grind arith
 
 enqueue_sends : (dlab loopback : Bool) (bytes : List ℕ) → [] ≡ sent_by (kind_of dlab loopback (Enqueue bytes))
 enqueue_sends dlab true bytes = refl
@@ -350,12 +332,7 @@ enqueue_sends dlab false bytes = refl
 -- what is recorded as sent is what the operation sends
 pub call_written : (dlab loopback : Bool) (op : Op) (outcome : Sent)
     → IsOutcome (sent_by (kind_of dlab loopback op)) outcome → bytes_sent op outcome ≡ sent_by (kind_of dlab loopback op)
-call_written dlab loopback (Read offset) outcome outcome_fits = read_sends (register_at dlab offset)
-call_written dlab loopback (Write offset value) outcome outcome_fits =
-    write_written (register_at dlab offset) loopback offset value outcome outcome_fits
-call_written dlab loopback (Enqueue bytes) outcome outcome_fits = enqueue_sends dlab loopback bytes
-call_written dlab loopback CharacterTimeout outcome outcome_fits = refl
-call_written dlab loopback Restore outcome outcome_fits = refl
+call_written dlab loopback op outcome outcome_fits = grind arith
 
 -- ---- the newest entries
 

@@ -1,5 +1,5 @@
 -- The line after a call, by the bits of IIR that the call turns.
-use Rattle.std.proofs.Common.{◌≡◌, ℕ, ◌+◌, Bool, true, false, not, ◌==◌, ◌&&◌, ◌||◌, List, [], ◌∷◌, length, inl, inr, refl, ap, sym, ◌∙◌, subst}
+use Rattle.std.proofs.Common.{arith, ◌≡◌, ℕ, ◌+◌, Bool, true, false, not, ◌==◌, ◌&&◌, ◌||◌, List, [], ◌∷◌, length, inl, inr, refl, ap, sym, ◌∙◌, subst}
 use Rattle.std.proofs.lemmas.Bool.{and_parts, false≢true, eqb-true}
 use Rattle.std.specs.Prelude.{◌⊎◌, if◌then◌else◌, IsTrue}
 use Rattle.std.specs.Bool.{IsFalse}
@@ -25,40 +25,21 @@ abbrev IsOnlyRaised : (enabled old new : Bool) → Type 0
 IsOnlyRaised enabled old new = new ≡ (old || (enabled && new))
 
 stays : (enabled old new : Bool) → new ≡ old → IsOnlyRaised enabled old new
-stays true true new e = e
-stays true false true e = refl
-stays true false false e = refl
-stays false true new e = e
-stays false false new e = e
+stays enabled old new e = grind arith
 
 is_raised : (enabled old new : Bool) → new ≡ (enabled || old) → IsOnlyRaised enabled old new
-is_raised true true new e = e
-is_raised true false true e = refl
-is_raised true false false e = absurd (false≢true e)
-is_raised false true new e = e
-is_raised false false new e = e
+is_raised enabled old new e = grind arith
 
 -- after it the bit is set and enabled if it was turned, or set and enabled before
 asserted : (enabled old new : Bool) → IsOnlyRaised enabled old new
     → (new && enabled) ≡ ((not old && new) || (old && enabled))
-asserted true true true e = refl
-asserted true true false e = absurd (false≢true e)
-asserted false true true e = refl
-asserted false true false e = refl
-asserted true false true e = refl
-asserted true false false e = refl
-asserted false false true e = absurd (false≢true (sym e))
-asserted false false false e = refl
+asserted enabled old new e = grind arith
 
 -- ---- both bits
 
 shuffled : (thre rda had_thre had_rda : Bool)
     → ((thre || had_thre) || (rda || had_rda)) ≡ (not (count_if rda + count_if thre == 0) || (had_thre || had_rda))
-shuffled true true had_thre had_rda = refl
-shuffled true false had_thre had_rda = refl
-shuffled false true true had_rda = refl
-shuffled false true false had_rda = refl
-shuffled false false had_thre had_rda = refl
+shuffled thre rda had_thre had_rda = grind arith
 
 line_after_turns : (thre_enabled rda_enabled old_thre old_rda new_thre new_rda : Bool)
     → IsOnlyRaised thre_enabled old_thre new_thre → IsOnlyRaised rda_enabled old_rda new_rda
@@ -141,9 +122,7 @@ unfolding has_bits
 down enable = refl
 
 left_alone : (thre rda enabled : Bool) → rda ≡ false → (thre || (rda && enabled)) ≡ thre
-left_alone true rda enabled e = refl
-left_alone false true enabled e = absurd (false≢true (sym e))
-left_alone false false enabled e = refl
+left_alone thre rda enabled e = grind arith
 
 -- an RBR read leaves THRE as it was: if no bit is left, it was clear
 thre_left : (old : ℕ) (empty : Bool) → (without_bits old 0x04 == 0) ≡ empty
@@ -215,16 +194,11 @@ line_after_law s op asked sent fit =
 -- ---- what follows
 
 no_calls : (asked : Asked) → IsTrue (answers_all 0 asked) → IsTrue (is_called asked) → ⊥
-no_calls Asked.Nothing fit called = false≢true called
-no_calls Asked.Took fit called = false≢true fit
-no_calls _ fit called = false≢true fit
+no_calls asked fit called = grind arith
 
 up_by_kind : (k : OpKind) (asked : Asked) (s : State) → IsTrue (answers_all (kind_calls k s) asked)
     → IsTrue (is_called asked) → IsTrue (line_after k (is_called asked) s)
-up_by_kind IirRead asked s fit called = absurd (no_calls asked fit called)
-up_by_kind RbrRead asked s fit called = absurd (no_calls asked fit called)
-up_by_kind (IerWrite value) asked s fit called = ap (λ bit. bit || is_line_up_under value s) called
-up_by_kind _ asked s fit called = ap (λ bit. bit || is_line_up s) called
+up_by_kind k asked s fit called = grind arith
 
 pub up_after_call : UpAfterCallLaw
 up_after_call s op asked sent fit called =
@@ -250,12 +224,7 @@ enables value s asked (inr up) = inr (value, refl, up)
 
 goes_up_by_kind : (k : OpKind) (asked : Asked) (s : State) → IsFalse (is_line_up s)
     → IsTrue (line_after k (is_called asked) s) → IsTrue (is_called asked) ⊎ EnablesPending k s
-goes_up_by_kind IirRead asked s was_down up = absurd (false≢true up)
-goes_up_by_kind RbrRead asked s was_down up =
-    absurd (thre_was_up (is_asserted Thre s) (is_asserted Rda s) was_down up)
-goes_up_by_kind (IerWrite value) asked s was_down up =
-    enables value s asked (one_of (is_called asked) (is_line_up_under value s) up)
-goes_up_by_kind _ asked s was_down up = inl (called_or_up (is_called asked) (is_line_up s) was_down up)
+goes_up_by_kind k asked s was_down up = grind arith
 
 pub goes_up : GoesUpLaw
 goes_up s op asked sent fit was_down up =
@@ -267,10 +236,7 @@ or_true false = refl
 
 stays_up_by_kind : (k : OpKind) (called : Bool) (s : State) → IsFalse (may_lower_line k) → IsTrue (is_line_up s)
     → IsTrue (line_after k called s)
-stays_up_by_kind IirRead called s not_here up = absurd (false≢true (sym not_here))
-stays_up_by_kind RbrRead called s not_here up = absurd (false≢true (sym not_here))
-stays_up_by_kind (IerWrite value) called s not_here up = absurd (false≢true (sym not_here))
-stays_up_by_kind _ called s not_here up = ap (λ bit. called || bit) up ∙ or_true called
+stays_up_by_kind k called s not_here up = grind arith
 
 pub stays_up : StaysUpLaw
 stays_up s op asked sent fit not_here up =

@@ -1,5 +1,5 @@
 -- The interrupt law: IIR shows the pending conditions, and an entry is admissible exactly if it is well-formed.
-use Rattle.std.proofs.Common.{◌≡◌, ℕ, ◌+◌, zero-add, add-zero, Bool, true, false, not, ◌==◌, ◌&&◌, ◌||◌, List, [], ◌∷◌, refl, ap, sym, ◌∙◌}
+use Rattle.std.proofs.Common.{arith, ◌≡◌, ℕ, ◌+◌, zero-add, add-zero, Bool, true, false, not, ◌==◌, ◌&&◌, ◌||◌, List, [], ◌∷◌, refl, ap, sym, ◌∙◌}
 use Rattle.std.specs.Bool.{beq}
 use Rattle.std.proofs.Math.Bool.{and-true}
 use Rattle.superio_core.specs.declared.trace.Asked.{Asked}
@@ -87,18 +87,10 @@ due_is _ s thre rda e = refl
 ends_early : (k : OpKind) (held_bytes : List ℕ) (enable : ℕ) (rda refused : Bool)
     → (raises_thre k enable false && not (rda_called k held_bytes enable rda && refused))
     ≡ raises_thre k enable (rda_called k held_bytes enable rda && refused)
-ends_early (IerWrite value) held_bytes enable rda refused =
-    ap (λ raised. raised && not (rda_called (IerWrite value) held_bytes enable rda && refused))
-    (and-true (has_bits value 0x02))
-ends_early (ThrWrite value) held_bytes enable rda refused = and-true (has_bits enable 0x02)
-ends_early _ held_bytes enable rda refused = refl
+ends_early k held_bytes enable rda refused = grind arith
 
 and_swap : (a b c : Bool) → ((a && b) && c) ≡ ((a && c) && b)
-and_swap true true true = refl
-and_swap true true false = refl
-and_swap true false true = refl
-and_swap true false false = refl
-and_swap false _ _ = refl
+and_swap a b c = grind arith
 
 -- as many answers as the conditions that become pending
 test_by_kind : (k : OpKind) (asked : Asked) (s : State) (thre rda : Bool)

@@ -30,10 +30,7 @@ use Rattle.superio_core.specs.declared.trace.Sent.TheVariants as sent
 -- what is taken is the front of what is there
 pub taken_first : (k : OpKind) (bytes new : List ℕ)
     → taken_by k bytes ++ drop (length (taken_by k bytes)) (bytes ++ new) ≡ bytes ++ new
-taken_first RbrRead [] new = refl
-taken_first RbrRead (byte ∷ bytes) new = refl
-taken_first IirRead bytes new = refl
-taken_first _ bytes new = refl
+taken_first k bytes new = grind arith
 
 pub received : ReceivedLaw
 received s [] = ap (λ bytes. record s { in_buffer = bytes }) (sym (append-nil s.in_buffer))
@@ -71,18 +68,13 @@ first_byte (byte ∷ held) = refl
 pub of_read : (register : Register) (s : State)
     → byte_read (read_kind register) s.in_buffer (ByteRead (register_read register s))
     ≡ taken_by (read_kind register) s.in_buffer
-of_read RbrThr s = first_byte s.in_buffer
-of_read Iir s = refl
-of_read _ s = refl
+of_read register s = grind arith
 
 -- a write takes no byte, and gives none
 pub of_write : (register : Register) (in_loopback : Bool) (value : ℕ) (held : List ℕ) (reply : Response)
     → byte_read (write_kind register in_loopback value) held reply
     ≡ taken_by (write_kind register in_loopback value) held
-of_write RbrThr false value held reply = refl
-of_write RbrThr true value held reply = refl
-of_write Ier in_loopback value held reply = refl
-of_write _ in_loopback value held reply = refl
+of_write register in_loopback value held reply = grind arith
 
 pub of_enqueue : (latch in_loopback : Bool) (bytes held : List ℕ) (reply : Response)
     → byte_read (kind_of latch in_loopback (Enqueue bytes)) held reply
@@ -93,13 +85,7 @@ of_enqueue latch false bytes held reply = refl
 of_step : (s : State) (op : Op) (asked : Asked) (sent : Sent)
     → byte_read (kind_in_state s op) s.in_buffer (step_response s op asked sent)
     ≡ taken_by (kind_in_state s op) s.in_buffer
-of_step s (Read offset) asked sent = of_read (register_at (is_dlab s.line_control) offset) s
-of_step s (Write offset value) asked sent =
-    of_write (register_at (is_dlab s.line_control) offset) (is_loopback s.modem_control) value s.in_buffer _
-of_step s (Enqueue bytes) asked sent =
-    of_enqueue (is_dlab s.line_control) (is_loopback s.modem_control) bytes s.in_buffer _
-of_step s CharacterTimeout asked sent = refl
-of_step s Restore asked sent = refl
+of_step s op asked sent = grind arith
 
 pub one_read : OneReadLaw
 one_read s op asked sent =
@@ -117,9 +103,7 @@ pub kept : (register : Register) (s : State) → read_step register s ≡ record
   line_status = (read_step register s).line_status;
   interrupt_identification = (read_step register s).interrupt_identification;
 }
-kept RbrThr s = refl
-kept Iir s = refl
-kept _ s = refl
+kept register s = grind arith
 
 pub rbr_read : RbrReadLaw
 rbr_read s byte hidden some response = record {
@@ -149,19 +133,12 @@ rbr_data_ready s hidden = subst
 taken : (is_refused : Bool) (sent : Sent) → IsTrue (is_sent sent)
     → WriteOk ≡ (if is_refused then TriggerRefused else (if is_lost sent then WriterFailed else WriteOk))
     → sent ≡ Out
-taken true sent outcome ok = cc
-taken false Nothing outcome ok = cc
-taken false Out outcome ok = refl
-taken false Lost outcome ok = cc
+taken is_refused sent outcome ok = grind arith
 
 -- if a byte is sent, an admissible call has an outcome of it
 outcome : (is_answered sends : Bool) (sent : Sent) → sends ≡ true → IsTrue (is_answered && beq (is_sent sent) sends)
     → IsTrue (is_sent sent)
-outcome true true Nothing is admissible = cc
-outcome true true Out is admissible = refl
-outcome true true Lost is admissible = refl
-outcome true false sent is admissible = cc
-outcome false sends sent is admissible = cc
+outcome is_answered sends sent is admissible = grind arith
 
 pub thr_write : ThrWriteLaw
 thr_write s value asked sent hidden outside admissible =
@@ -194,19 +171,13 @@ read_tells true = refl
 read_tells false = refl
 
 read_reported : (r : Register) (held : List ℕ) → count_by reports_outcome (read_events r held) ≡ length (sent_by (read_kind r))
-read_reported RbrThr held = read_tells _
-read_reported Iir held = refl
-read_reported _ held = refl
+read_reported r held = grind arith
 
 sent_once : (outcome : Sent) → IsTrue (sent_fits true outcome) → count_by reports_outcome (sent_events outcome) ≡ 1
-sent_once sent.Nothing fit = absurd (false≢true fit)
-sent_once sent.Out fit = refl
-sent_once sent.Lost fit = refl
+sent_once outcome fit = grind arith
 
 not_sent : (outcome : Sent) → IsTrue (sent_fits false outcome) → count_by reports_outcome (sent_events outcome) ≡ 0
-not_sent sent.Nothing fit = refl
-not_sent sent.Out fit = absurd (false≢true fit)
-not_sent sent.Lost fit = absurd (false≢true fit)
+not_sent outcome fit = grind arith
 
 sent_reported : (k : OpKind) (outcome : Sent) → IsTrue (sent_fits (not_empty (sent_by k)) outcome)
     → count_by reports_outcome (sent_events outcome) ≡ length (sent_by k)
@@ -219,12 +190,7 @@ enqueue_reported false dlab bytes = refl
 
 reported : (s : State) (op : Op) (outcome : Sent) → IsTrue (sent_fits (sends_byte s op) outcome)
     → count_by reports_outcome (step_events s op outcome) ≡ length (sent_by (kind_in_state s op))
-reported s (Read offset) outcome fit = read_reported (register_at (is_dlab s.line_control) offset) s.in_buffer
-reported s (Write offset value) outcome fit =
-    sent_reported (kind_in_state s (Write offset value)) outcome fit
-reported s (Enqueue bytes) outcome fit = enqueue_reported (is_loopback s.modem_control) (is_dlab s.line_control) bytes
-reported s CharacterTimeout outcome fit = refl
-reported s Restore outcome fit = refl
+reported s op outcome fit = grind arith
 
 pub events_law : OutcomeEventsLaw
 events_law s op asked outcome fit =

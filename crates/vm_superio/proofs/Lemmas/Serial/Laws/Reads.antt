@@ -1,5 +1,5 @@
 -- Neither the writer nor a restore changes a read: each trace is read as one of operations with the trigger's answers.
-use Rattle.std.proofs.Common.{◌≡◌, Bool, List, [], ◌∷◌, ◌++◌, refl, ap, sym, ◌∙◌, append_assoc, append-nil, ℕ, true, false, ◌==◌, subst}
+use Rattle.std.proofs.Common.{arith, ◌≡◌, Bool, List, [], ◌∷◌, ◌++◌, refl, ap, sym, ◌∙◌, append_assoc, append-nil, ℕ, true, false, ◌==◌, subst}
 use Rattle.std.proofs.lemmas.Bool.{and_parts, false≢true, eqb-true}
 use Rattle.std.specs.Cmp.Derive.{both_true}
 use Rattle.std.specs.Prelude.{IsTrue, not, ◌&&◌, ◌||◌, length, drop}
@@ -159,15 +159,7 @@ of_call : (start : State) (trace : List TraceEntry) (op : Op) (asked : Asked) (s
     → reply ≡ history_response start trace op asked sent
     → byte_read (kind_at start trace op) (held_bytes start trace) reply
     ≡ taken_by (kind_at start trace op) (held_bytes start trace)
-of_call start trace (Read offset) asked sent reply is =
-    ap (byte_read (kind_at start trace (Read offset)) (held_bytes start trace)) is
-    ∙ of_read (register_at (dlab start trace) offset) (state_of_history start trace)
-of_call start trace (Write offset value) asked sent reply is =
-    of_write (register_at (dlab start trace) offset) (loopback start trace) value (held_bytes start trace) reply
-of_call start trace (Enqueue bytes) asked sent reply is =
-    of_enqueue (dlab start trace) (loopback start trace) bytes (held_bytes start trace) reply
-of_call start trace CharacterTimeout asked sent reply is = refl
-of_call start trace Restore asked sent reply is = refl
+of_call start trace op asked sent reply is = grind arith
 
 pub reads_are_taken : ReadsAreTakenLaw
 reads_are_taken start trace [] are = append-nil (taken_bytes start trace)
@@ -203,11 +195,7 @@ read_of_lsr start trace = data_ready start.line_status (not_empty (held_bytes st
 
 gets_byte : (kind : OpKind) (held : List ℕ) (reply : Response) → IsTrue (not (is_rbr_read kind) || not_empty held)
     → driver_byte kind reply ≡ byte_read kind held reply
-gets_byte RbrRead [] reply polled = absurd (false≢true polled)
-gets_byte RbrRead (oldest ∷ held) (ByteRead byte) polled = refl
-gets_byte RbrRead (oldest ∷ held) _ polled = refl
-gets_byte IirRead held reply polled = refl
-gets_byte _ held reply polled = refl
+gets_byte kind held reply polled = grind arith
 
 gets_bytes : (start : State) (trace : List TraceEntry) (calls : List (TraceEntry × Response))
     → IsTrue (polls start trace calls) → driver_bytes start trace calls ≡ bytes_read start trace calls
@@ -265,9 +253,7 @@ shown start trace Restore asked sent reply is shows = absurd (false≢true shows
 
 -- no other operation takes a byte
 none_taken : (kind : OpKind) (held : List ℕ) → IsTrue (not (is_rbr_read kind)) → taken_by kind held ≡ []
-none_taken RbrRead held other = absurd (false≢true other)
-none_taken IirRead held other = refl
-none_taken _ held other = refl
+none_taken kind held other = grind arith
 
 still_held : (held accepted : List ℕ) → IsTrue (not_empty held) → IsTrue (not_empty (held ++ accepted))
 still_held [] accepted some = absurd (false≢true some)

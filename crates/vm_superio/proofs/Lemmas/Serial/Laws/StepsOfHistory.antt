@@ -1,5 +1,5 @@
 -- The state after a trace is that of the history, and a call responds as the history says.
-use Rattle.std.proofs.Common.{sym, ◌≡◌, ℕ, Bool, true, false, ◌==◌, ◌||◌, List, [], length, refl, ap, ◌∙◌, ◌+◌, not, ◌&&◌, ◌∷◌, subst}
+use Rattle.std.proofs.Common.{arith, sym, ◌≡◌, ℕ, Bool, true, false, ◌==◌, ◌||◌, List, [], length, refl, ap, ◌∙◌, ◌+◌, not, ◌&&◌, ◌∷◌, subst}
 use Rattle.std.specs.Prelude.{if◌then◌else◌, nat_le, IsTrue}
 use Rattle.std.proofs.Math.Bool.{and-false}
 use Rattle.std.proofs.lemmas.Bool.{and_parts, false≢true}
@@ -50,11 +50,7 @@ enqueue_answered false bytes held_bytes asked = refl
 
 answer_reported : (start : State) (trace : List TraceEntry) (op : Op) (asked : Asked) (outcome : Sent)
     → step_response (state_of_history start trace) op asked outcome ≡ history_response start trace op asked outcome
-answer_reported start trace (Read offset) asked outcome = refl
-answer_reported start trace (Write offset value) asked outcome = refl
-answer_reported start trace (Enqueue bytes) asked outcome = enqueue_answered (loopback start trace) bytes (held_bytes start trace) asked
-answer_reported start trace CharacterTimeout asked outcome = refl
-answer_reported start trace Restore asked outcome = refl
+answer_reported start trace op asked outcome = grind arith
 
 pub response_law : ResponseLaw
 response_law start trace entry coherent =
@@ -71,29 +67,21 @@ pub ruleset states_of_history_laws = (state_law, response_law)
 
 -- if nothing is sent, no outcome is reported
 not_sent : (outcome : Sent) → IsTrue (beq (is_sent outcome) false) → outcome ≡ sent.Nothing
-not_sent sent.Nothing outcome_fits = refl
-not_sent sent.Out outcome_fits = absurd (false≢true outcome_fits)
-not_sent sent.Lost outcome_fits = absurd (false≢true outcome_fits)
+not_sent outcome outcome_fits = grind arith
 
 read_reported : (r : Register) (s : State) (after : List ℕ) → (read_step r s).in_buffer ≡ after
     → read_events r s.in_buffer ≡ kind_events (read_kind r) after sent.Nothing
-read_reported RbrThr s after same = ap (λ bytes. kind_events (read_kind RbrThr) bytes sent.Nothing) same
-read_reported Iir s after same = refl
-read_reported _ s after same = refl
+read_reported r s after same = grind arith
 
 -- no write is an RBR read
 abbrev TellsFate : OpKind → Type 0
 TellsFate k = (after : List ℕ) (outcome : Sent) → sent_events outcome ≡ kind_events k after outcome
 
 other_reported : TellsFate Other
-other_reported after sent.Nothing = refl
-other_reported after sent.Out = refl
-other_reported after sent.Lost = refl
+other_reported after h1 = grind arith
 
 arrival_reported : (bytes : List ℕ) → TellsFate (Arrival bytes)
-arrival_reported bytes after sent.Nothing = refl
-arrival_reported bytes after sent.Out = refl
-arrival_reported bytes after sent.Lost = refl
+arrival_reported bytes after h2 = grind arith
 
 data_reported : (value : ℕ) → TellsFate (ThrWrite value)
 data_reported value after sent.Nothing = refl
@@ -101,15 +89,10 @@ data_reported value after sent.Out = refl
 data_reported value after sent.Lost = refl
 
 ier_write_reported : (value : ℕ) → TellsFate (IerWrite value)
-ier_write_reported value after sent.Nothing = refl
-ier_write_reported value after sent.Out = refl
-ier_write_reported value after sent.Lost = refl
+ier_write_reported value after h2 = grind arith
 
 write_reported : (r : Register) (loopback : Bool) (value : ℕ) → TellsFate (write_kind r loopback value)
-write_reported RbrThr true value = arrival_reported (value ∷ [])
-write_reported RbrThr false value = data_reported value
-write_reported Ier loopback value = ier_write_reported value
-write_reported _ loopback value = other_reported
+write_reported r loopback value = grind arith
 
 enqueue_reported : (loopback dlab : Bool) (bytes after : List ℕ) (outcome : Sent)
     → IsTrue (beq (is_sent outcome) (not_empty (sent_by (kind_of dlab loopback (Enqueue bytes)))))
@@ -120,9 +103,7 @@ enqueue_reported false dlab bytes after outcome outcome_fits =
     ap (λ (outcome : Sent). kind_events (Arrival bytes) after outcome) (sym (not_sent outcome outcome_fits))
 
 read_sends : (r : Register) → not_empty (sent_by (read_kind r)) ≡ false
-read_sends RbrThr = refl
-read_sends Iir = refl
-read_sends _ = refl
+read_sends r = grind arith
 
 -- the events of a call are those of its point
 reported_at_point : (start : State) (trace : List TraceEntry) (op : Op) (asked : Asked) (outcome : Sent)

@@ -1,5 +1,5 @@
 -- The trigger is called once for each pending bit that a call turns from clear to set, in any state.
-use Rattle.std.proofs.Common.{add-zero, zero-add, ◌≡◌, ℕ, ◌+◌, Bool, true, false, not, ◌==◌, ◌&&◌, ◌||◌, List, [], ◌∷◌, refl, ap, sym, ◌∙◌}
+use Rattle.std.proofs.Common.{arith, add-zero, zero-add, ◌≡◌, ℕ, ◌+◌, Bool, true, false, not, ◌==◌, ◌&&◌, ◌||◌, List, [], ◌∷◌, refl, ap, sym, ◌∙◌}
 use Rattle.std.proofs.lemmas.Bool.{and_parts, false≢true, eqb-true}
 use Rattle.std.proofs.Math.Bool.{and-true, and-false}
 use Rattle.std.specs.Prelude.{if◌then◌else◌, IsTrue}
@@ -95,22 +95,13 @@ module _ (old : ℕ) where
 
 -- a bit that is raised is turned if it was clear
 set_once : (enabled bit : Bool) → (not bit && (enabled || bit)) ≡ (enabled && not bit)
-set_once true true = refl
-set_once true false = refl
-set_once false true = refl
-set_once false false = refl
+set_once enabled bit = grind arith
 
 no_answers : (asked : Asked) → IsTrue (answers_all 0 asked) → answer_count asked ≡ 0
-no_answers Nothing fit = refl
-no_answers Took fit = absurd (false≢true fit)
-no_answers _ fit = absurd (false≢true fit)
+no_answers asked fit = grind arith
 
 one_answer : (call : Bool) (asked : Asked) → IsTrue (answers_all (count_if call) asked) → answer_count asked ≡ count_if call
-one_answer false asked fit = no_answers asked fit
-one_answer true Nothing fit = absurd (false≢true fit)
-one_answer true Took fit = refl
-one_answer true Refused fit = refl
-one_answer true _ fit = absurd (false≢true fit)
+one_answer call asked fit = grind arith
 
 none_turned : (old : ℕ) → 0 ≡ count old old
 none_turned old =

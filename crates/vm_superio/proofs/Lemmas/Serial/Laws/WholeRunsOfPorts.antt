@@ -24,19 +24,13 @@ use Rattle.vm_superio.proofs.Lemmas.Serial.Laws.Consequences.{due_so_far, due-wi
 
 -- it is a step without a refusal
 step-of-call : (call : PortCall) (old new : State) → IsPortCall call old new → new ≡ step old (op_of_call call) Nothing
-step-of-call (PortRead offset effects) old new is = is.state
-step-of-call (PortWrite offset value effects) old new is = is.state
-step-of-call (PortEnqueue bytes effects) old new is = is.state
-step-of-call (PortTimeout interrupts) old new is = is.state
-step-of-call (PortRestore interrupts) old new is = is.1
+step-of-call call old new is = grind arith
 
 read-possible :
     (register : Register) (s : State)
     → IsTrue (answers_all (kind_calls (read_kind register) s) Nothing
     && beq (is_sent Sent.Nothing) (not_empty (sent_by (read_kind register))))
-read-possible RbrThr s = refl
-read-possible Iir s = refl
-read-possible _ s = refl
+read-possible register s = grind arith
 
 -- the byte of a read's response
 abbrev byte_in : Response → ℕ
@@ -133,15 +127,10 @@ told-by-register :
     (register : Register) (in_loopback : Bool) (value : ℕ)
     → (if not_empty (sent_by (write_kind register in_loopback value)) then value ∷ [] else [])
     ≡ sent_by (write_kind register in_loopback value)
-told-by-register RbrThr true value = refl
-told-by-register RbrThr false value = refl
-told-by-register Ier in_loopback value = refl
-told-by-register _ in_loopback value = refl
+told-by-register register in_loopback value = grind arith
 
 read-sends-none : (register : Register) → [] ≡ sent_by (read_kind register)
-read-sends-none RbrThr = refl
-read-sends-none Iir = refl
-read-sends-none _ = refl
+read-sends-none register = grind arith
 
 enqueue-sends-none : (latch in_loopback : Bool) (bytes : List ℕ) → [] ≡ sent_by (kind_of latch in_loopback (Enqueue bytes))
 enqueue-sends-none latch true bytes = refl
@@ -150,14 +139,7 @@ enqueue-sends-none latch false bytes = refl
 told-at-point :
     (start : State) (trace : Trace) (call : PortCall) → EffectsAre start trace call
     → told_by call ≡ sent_by (kind_at start trace (op_of_call call))
-told-at-point start trace (PortRead offset effects) are = read-sends-none (register_at (dlab start trace) offset)
-told-at-point start trace (PortWrite offset value effects) are =
-    ap (λ told. if told then value ∷ [] else []) are.0
-    ∙ told-by-register (register_at (dlab start trace) offset) (loopback start trace) value
-told-at-point start trace (PortEnqueue bytes effects) are =
-    enqueue-sends-none (dlab start trace) (loopback start trace) bytes
-told-at-point start trace (PortTimeout interrupts) are = refl
-told-at-point start trace (PortRestore interrupts) are = refl
+told-at-point start trace call are = grind arith
 
 told-is-output :
     (start : State) (trace : Trace) (calls : List PortCall) → AllEffectsAre start trace calls
@@ -178,21 +160,13 @@ port_output_law start end calls before follow =
 -- ---- interrupts
 
 read-asks-none : (register : Register) (s : State) → kind_calls (read_kind register) s ≡ 0
-read-asks-none RbrThr s = refl
-read-asks-none Iir s = refl
-read-asks-none _ s = refl
+read-asks-none register s = grind arith
 
 module _ (start : State) (coherent : Coherent start) where
   told-due :
       (trace : Trace) (call : PortCall) → EffectsAre start trace call
       → interrupts_of call ≡ calls_due start trace (op_of_call call)
-  told-due trace (PortRead offset effects) are =
-      sym (read-asks-none (register_at (dlab start trace) offset) (state_of_history start trace))
-      ∙ (step_law start trace coherent).calls (Read offset)
-  told-due trace (PortWrite offset value effects) are = are.1
-  told-due trace (PortEnqueue bytes effects) are = are.2
-  told-due trace (PortTimeout interrupts) are = are
-  told-due trace (PortRestore interrupts) are = (step_law start trace coherent).calls Restore
+  told-due trace call are = grind arith
 
   told-so-far :
       (trace : Trace) (calls : List PortCall) → AllEffectsAre start trace calls

@@ -1,5 +1,5 @@
 -- What the calls of three objects in one list show of each of them.
-use Rattle.std.proofs.Common.{◌≡◌, ℕ, map, List, [], ◌∷◌, ◌++◌, Option, refl, sym, ap, ◌∙◌, subst, append-nil}
+use Rattle.std.proofs.Common.{arith, ◌≡◌, ℕ, map, List, [], ◌∷◌, ◌++◌, Option, refl, sym, ap, ◌∙◌, subst, append-nil}
 use Rattle.std.specs.Prelude.{◌↔◌, IsTrue}
 use Rattle.std.specs.Cmp.Derive.{both_true}
 use Rattle.vm_superio.specs.Serial.Run.{Call, Reply, Restored, NotRestored, Done, act_of, op_of, entry_of, entries_of, refusal_in_reply, RecordsOf}
@@ -43,9 +43,7 @@ RefusesOwnState-three :
     {T E EV W : Type 0} (link : Link (Three T EV W) (ObjectCall E)) (trigger : Link T (TriggerAnswer E)) (due : List Condition) (error : Error E) (old new : Three T EV W) →
     ((answers : List (TriggerAnswer E)) → raised link old answers new → trigger old.trigger answers new.trigger) →
     RefusesOwnState (raised link) due error old new → RefusesOwnState trigger due error old.trigger new.trigger
-RefusesOwnState-three link trigger due (error.Trigger refusal) old new shows refused = (refused.0, refused.1, shows refused.0 refused.2)
-RefusesOwnState-three link trigger due error.Memory old new shows refused = ap (λ three. three.trigger) refused
-RefusesOwnState-three link trigger due _ old new shows refused = absurd refused
+RefusesOwnState-three link trigger due error old new shows refused = grind arith
 
 module _
     {T E EV W : Type 0} (trigger : Link T (TriggerAnswer E)) (events : Link EV Event) (contents : W → Option (List ℕ))
