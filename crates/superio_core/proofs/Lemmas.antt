@@ -1,8 +1,7 @@
 -- Lemmas on numbers as sets of bits.
 pub mod Saved
 pub mod Serial
-use Rattle.std.proofs.Common.{◌≡◌, ℕ, ◌-◌, ◌^◌, ◌<◌, bit_and, ap, sym, ◌∙◌, arith}
-use Rattle.std.specs.Prelude.{bit_or, bit_xor}
+use Rattle.std.proofs.Common.{◌≡◌, ℕ, ◌-◌, ◌^◌, ◌<◌, bit_and, ap, sym, ◌∙◌, arith, bit_or, bit_xor}
 use Rattle.std.specs.Int.{bit_at}
 use Rattle.std.specs.Int.Bits.{xor_add_and, and_self}
 use Rattle.std.proofs.lemmas.Nat.{and-not, and_comm, and_assoc}

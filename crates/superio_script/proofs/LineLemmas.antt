@@ -1,6 +1,5 @@
 -- Lemmas on the lines that load a saved state, on those of the clock, and on reads.
-use Rattle.std.proofs.Common.{◌≡◌, ℕ, List, length, ◌≤◌, Option, Some, None, Result, Ok, Err, refl, ap, sym, ◌∙◌, ◌<◌, ◌^◌, Bool, true, false, [], ◌∷◌, arith, ◌+◌, ◌++◌, take, subst, append_assoc, length-append}
-use Rattle.std.specs.Prelude.{IfErr, IfSome, ◌≢◌, if◌then◌else◌}
+use Rattle.std.proofs.Common.{◌≡◌, ℕ, List, length, ◌≤◌, Option, Some, None, Result, Ok, Err, refl, ap, sym, ◌∙◌, ◌<◌, ◌^◌, Bool, true, false, [], ◌∷◌, arith, ◌+◌, ◌++◌, take, subst, append_assoc, length-append, IfErr, IfSome, ◌≢◌, if◌then◌else◌}
 use Rattle.std.specs.Int.{w32, to_le_bytes, from_le_bytes}
 use Rattle.std.proofs.lemmas.Nat.{from_le_bytes-to_le_bytes_4}
 use Rattle.std.specs.Io.KnownBytes.{Consumes}
@@ -47,9 +46,6 @@ pub port-refused : (fault : Option Fault) (state : State) (result : Result Seria
 port-refused None state (Ok read) error is found memory = absurd cc
 port-refused None state (Err error') error is found memory = let same : error' ≡ Bytes error = cc in let other = memory refl in absurd cc
 port-refused (Some fault) state result error is found memory = let same = sym is ∙ found in cc
-
-pub clock-refused : (fault : Option Fault) (state : RtcState) (error : Fault) → Some error ≡ fault → unless_fault fault state ≡ Err error
-clock-refused fault state error found = ap (λ (fault : Option Fault). unless_fault fault state) (sym found)
 
 -- ---- what a write of the clock does: the count of invalid writes shows whether the register takes it, and the
 -- bytes are the value

@@ -1,8 +1,7 @@
 -- What was written is a first part of the text, whatever ended the run.
-use Rattle.std.proofs.Common.{◌≡◌, ℕ, ◌+◌, List, [], ◌∷◌, ◌++◌, Option, None, Some, refl, ap, sym, ◌∙◌, append_assoc, append-nil, take, drop, take-append-drop}
+use Rattle.std.proofs.Common.{◌≡◌, ℕ, ◌+◌, List, [], ◌∷◌, ◌++◌, Option, None, Some, refl, ap, sym, ◌∙◌, append_assoc, append-nil, take, drop, take-append-drop, IfSome, IsSomeAnd}
 use Rattle.std.proofs.lemmas.List.{append_cancel_left}
 use Rattle.std.specs.Io.KnownBytes.{Keeps, Appends, append_known}
-use Rattle.std.specs.Prelude.{IfSome, IsSomeAnd}
 use Rattle.vm_superio.proofs.Lemmas.{Appends-nothing}
 use Rattle.superio_script.specs.Board.{Devices, IsLineStep}
 use Rattle.superio_script.specs.Command.{command_of}

@@ -1,9 +1,8 @@
 -- A session is where the steps of its calls lead: from a coherent start by the laws of the history, from any other by
 -- definition.
-use Rattle.std.proofs.Common.{◌≡◌, ℕ, Bool, true, false, not, ◌&&◌, List, [], ◌∷◌, length, ◌≤◌, Option, Some, None, refl, ap, sym, ◌∙◌, subst, append-nil, arith}
+use Rattle.std.proofs.Common.{◌≡◌, ℕ, Bool, true, false, not, ◌&&◌, List, [], ◌∷◌, length, ◌≤◌, Option, Some, None, refl, ap, sym, ◌∙◌, subst, append-nil, arith, IsTrue, ◌==◌, ◌||◌, nat_le, if◌then◌else◌}
 use Rattle.std.specs.Bool.{beq}
 use Rattle.std.specs.Cmp.Derive.{both_true}
-use Rattle.std.specs.Prelude.{IsTrue, ◌==◌, ◌||◌, nat_le, if◌then◌else◌}
 use Rattle.std.proofs.lemmas.Bool.{and_parts, false≢true, eqb-true}
 use Rattle.std.proofs.lemmas.Bool.Decides.{nat_tests}
 use Rattle.superio_core.specs.declared.trace.Asked.{Asked}

@@ -1,9 +1,8 @@
 -- What one good line adds to what was written, whatever is still to come.
-use Rattle.std.proofs.Common.{◌≡◌, ℕ, zero, suc, ◌+◌, ◌≤◌, Bool, true, false, List, [], ◌∷◌, ◌++◌, length, Option, Some, None, Result, Ok, Err, refl, ap, sym, ◌∙◌, subst, arith, append_assoc, append-nil, length-append}
+use Rattle.std.proofs.Common.{◌≡◌, ℕ, zero, suc, ◌+◌, ◌≤◌, Bool, true, false, List, [], ◌∷◌, ◌++◌, length, Option, Some, None, Result, Ok, Err, refl, ap, sym, ◌∙◌, subst, arith, append_assoc, append-nil, length-append, IsTrue, IsSomeAnd, IfSome, is_some, if◌then◌else◌}
 use Rattle.std.specs.Cmp.Derive.{both_true}
 use Rattle.std.proofs.lemmas.Bool.{and_parts, false≢true}
 use Rattle.std.specs.Io.KnownBytes.{Appends}
-use Rattle.std.specs.Prelude.{IsTrue, IsSomeAnd, IfSome, is_some, if◌then◌else◌}
 use Rattle.std.specs.List.{list_all}
 use Rattle.superio_core.specs.declared.trace.Sent.{Sent}
 use Rattle.superio_core.specs.Serial.Operations.{Op, Read, Write, Enqueue, CharacterTimeout, is_sent, OpKind, ThrWrite, sent_by}

@@ -1,6 +1,5 @@
 -- The first piece ends at the first separator. If there is none, it is all of the bytes.
-use Rattle.std.proofs.Common.{◌≡◌, ◌≢◌, ℕ, ◌+◌, ◌<◌, ◌≤◌, ◌==◌, Bool, true, false, cond, ◌-◌, subst, List, [], ◌∷◌, length, take, drop, refl, arith, add-one, one-add}
-use Rattle.std.specs.Prelude.{not, if◌then◌else◌, Some, None, nat_lt}
+use Rattle.std.proofs.Common.{◌≡◌, ◌≢◌, ℕ, ◌+◌, ◌<◌, ◌≤◌, ◌==◌, Bool, true, false, cond, ◌-◌, subst, List, [], ◌∷◌, length, take, drop, refl, arith, add-one, one-add, not, if◌then◌else◌, Some, None, nat_lt}
 use Rattle.std.specs.List.{position, position_or_len}
 use Rattle.std.proofs.lemmas.Bool.Decides.{nat_tests}
 use Rattle.std.proofs.lemmas.List.{take_rest}

@@ -2,10 +2,9 @@
 pub mod Coherence
 pub mod FirstRefused
 pub mod Step
-use Rattle.std.proofs.Common.{◌≡◌, ◌%◌, lit<, ℕ, zero, suc, ◌<◌, true, false, ◌==◌, refl, ap, ◌∙◌, arith, ◌+◌, ◌-◌, ◌≤◌, List, [], ◌∷◌, ◌++◌, length, take, drop, set, get_or, sym, inl, inr, length-append, length-take, length-drop, append-nil, slice_get, Some}
+use Rattle.std.proofs.Common.{◌≡◌, ◌%◌, lit<, ℕ, zero, suc, ◌<◌, true, false, ◌==◌, refl, ap, ◌∙◌, arith, ◌+◌, ◌-◌, ◌≤◌, List, [], ◌∷◌, ◌++◌, length, take, drop, set, get_or, sym, inl, inr, length-append, length-take, length-drop, append-nil, slice_get, Some, bit_or}
 use Rattle.std.proofs.Math.Nat.{mod-lt, mod-mod}
 use Rattle.std.proofs.lemmas.Nat.{and_assoc, mod_below}
-use Rattle.std.specs.Prelude.{bit_or}
 use Rattle.std.specs.Int.Bits.{and_mask, or_mod}
 use Rattle.std.proofs.lemmas.List.{drop-set-lt, drop-set-add, take-set-le, set-append_left, set-append_right, take-append-le, take_more_set, drop_all, append_assoc, take-take}
 use Rattle.std.proofs.lemmas.Bool.{cases_lt}

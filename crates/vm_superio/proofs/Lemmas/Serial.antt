@@ -3,8 +3,7 @@ pub mod Examples
 pub mod Laws
 pub mod Run
 pub mod Step
-use Rattle.std.proofs.Common.{◌≡◌, length, Option, Some, None, refl, ap, sym, ◌∙◌, ◌≤◌, arith, ℕ, map, List, [], ◌∷◌, ◌++◌, Bool, true, false, ◌&&◌, IsTrue, Result, subst}
-use Rattle.std.specs.Prelude.{is_some, if◌then◌else◌}
+use Rattle.std.proofs.Common.{◌≡◌, length, Option, Some, None, refl, ap, sym, ◌∙◌, ◌≤◌, arith, ℕ, map, List, [], ◌∷◌, ◌++◌, Bool, true, false, ◌&&◌, IsTrue, Result, subst, is_some, if◌then◌else◌}
 use Rattle.std.specs.Bool.{beq}
 use Rattle.std.specs.declared.io.Error.{Error as Fault}
 use Rattle.superio_core.specs.declared.trace.Asked.{Asked}
@@ -41,12 +40,6 @@ length-answers_of-step links op asked sent answered refusal old new h =
     ∙ ap (turned_on_count old.state) (sym h.state)
 
 -- ---- a port's own state is refused only for a refusal of the trigger or of memory
-
--- a state of at most 64 bytes is refused as a port's own is
-pub RefusesOwnState-few :
-    {T E : Type 0} (link : Link T (TriggerAnswer E)) (s : State) (error : Error E) (old new : T) →
-    length s.in_buffer ≤ 64 → RefusesRestore link s error old new → RefusesOwnState link (restore_calls s) error old new
-RefusesOwnState-few link s error old new few refused = grind arith
 
 -- ---- a step of a port with one object is, for three objects, a step of the port with each of them
 

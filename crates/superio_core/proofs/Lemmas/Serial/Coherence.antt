@@ -1,7 +1,5 @@
 -- A step keeps a coherent state coherent.
-use Rattle.std.proofs.Common.{◌≡◌, ℕ, ◌+◌, ◌≤◌, Bool, true, false, not, ◌==◌, ◌&&◌, ◌||◌, List, [], ◌∷◌, ◌++◌, length, drop, refl, ap, sym, ◌∙◌, subst, length-append, length-take, length-drop, arith}
-use Rattle.std.proofs.lemmas.Bool.{false≢true}
-use Rattle.std.specs.Prelude.{if◌then◌else◌, IsTrue}
+use Rattle.std.proofs.Common.{◌≡◌, ℕ, ◌+◌, ◌≤◌, Bool, true, false, not, ◌==◌, ◌&&◌, ◌||◌, List, [], ◌∷◌, ◌++◌, length, drop, refl, ap, sym, ◌∙◌, subst, length-append, length-take, length-drop, arith, if◌then◌else◌, IsTrue}
 use Rattle.superio_core.specs.Serial.Operations.{Asked, Op, Enqueue, is_refused_at_once, OpKind, RbrRead, IirRead, IerWrite, ThrWrite, Arrival, Timeout, Other}
 use Rattle.superio_core.specs.declared.trace.Asked.TheVariants.{Nothing}
 use Rattle.superio_core.specs.Serial.{State, not_empty}
@@ -84,15 +82,6 @@ pending_by_kind Other asked s thre rda e = e
 pub not_empty-append : (old : List ℕ) (byte : ℕ) (bytes : List ℕ) → not_empty (old ++ byte ∷ bytes) ≡ true
 not_empty-append [] byte bytes = refl
 not_empty-append (first ∷ old) byte bytes = refl
-
--- RDA is pending only while a byte is held
-received_kept : (new : List ℕ) (s : State) (bit before : Bool) → (IsTrue before → IsTrue (not_empty s.in_buffer))
-    → IsTrue ((not_empty new && bit) || before) → IsTrue (not_empty (receive_bytes new s).in_buffer)
-received_kept [] s bit before kept now = kept now
-received_kept (byte ∷ bytes) s bit before kept now = not_empty-append s.in_buffer byte bytes
-
-enabled_held : (bit held_bytes before : Bool) → (IsTrue before → IsTrue held_bytes) → IsTrue ((bit && held_bytes) || before) → IsTrue held_bytes
-enabled_held bit held_bytes before kept now = grind arith
 
 received_by_kind : (k : OpKind) (asked : Asked) (s : State) (before : Bool)
     → (IsTrue before → IsTrue (not_empty s.in_buffer))

@@ -1,16 +1,14 @@
 -- Lemmas on the step of a call.
-use Rattle.std.proofs.Common.{arith, ◌≡◌, ℕ, Bool, true, false, List, refl, ◌+◌, not, ◌==◌, ◌&&◌, ◌||◌, ap, ◌∙◌, length}
-use Rattle.std.specs.Prelude.{if◌then◌else◌, IsTrue}
+use Rattle.std.proofs.Common.{arith, ◌≡◌, ℕ, Bool, true, false, List, refl, ◌+◌, not, ◌==◌, ◌&&◌, ◌||◌, ap, ◌∙◌, length, if◌then◌else◌, IsTrue}
 use Rattle.std.proofs.lemmas.Bool.{false≢true}
 use Rattle.std.proofs.lemmas.Nat.{and_or_self}
 use Rattle.superio_core.specs.Serial.Operations.{Asked, Op, Read, Write, Enqueue, CharacterTimeout, Restore, OpKind, RbrRead, IirRead, IerWrite, ThrWrite, Arrival, Timeout, Other, read_kind, write_kind, kind_of, is_refused_at_once, count_if, answer_count}
 use Rattle.superio_core.specs.Serial.{State, not_empty}
 use Rattle.superio_core.specs.Bits.{only_bits, has_bits, with_bits, without_bits}
-use Rattle.superio_core.specs.Serial.RegisterMap.{Register, RbrThr, Ier, Iir, register_at, is_dlab, is_loopback, Thre, Rda, identification_of, pending_in_order}
+use Rattle.superio_core.specs.Serial.RegisterMap.{Register, RbrThr, Ier, register_at, is_dlab, is_loopback, Thre, Rda, identification_of, pending_in_order}
 use Rattle.superio_core.specs.Serial.Step.Raising.{raise, enqueued_bytes, receive_bytes, bytes_that_fit, becomes_pending, rda_becomes_pending, raise_rda_while_held, is_asserted, is_line_up, restore_calls}
 use Rattle.superio_core.specs.Serial.Step.Admissible.{kind_in_state, answers_all}
 use Rattle.superio_core.specs.Serial.Step.{step, rbr_read, ier_write, read_step, write_step, character_timeout}
-use Rattle.superio_core.specs.declared.trace.Asked.TheVariants.{Nothing}
 use Rattle.superio_core.proofs.Lemmas.Serial.{enables_rda, enables_thre}
 use Rattle.superio_core.specs.Serial.Port.{ShowsHeldBytes}
 

@@ -8,9 +8,8 @@ pub mod Reads
 pub mod StepsOfHistory
 pub mod TurnedBits
 pub mod WholeRunsOfPorts
-use Rattle.std.proofs.Common.{rules, ◌≡◌, ℕ, zero, suc, Bool, true, false, eqb, List, [], ◌∷◌, Option, Some, None, refl, ap, sym, ◌∙◌, ⊎_elim, ◌<◌, lit<, arith, subst, ◌++◌, length, drop, append_assoc, append-nil, length-append}
+use Rattle.std.proofs.Common.{rules, ◌≡◌, ℕ, zero, suc, Bool, true, false, eqb, List, [], ◌∷◌, Option, Some, None, refl, ap, sym, ◌∙◌, ⊎_elim, ◌<◌, lit<, arith, subst, ◌++◌, length, drop, append_assoc, append-nil, length-append, if◌then◌else◌, unwrap_or}
 use Rattle.std.proofs.lemmas.Bool.Decides.{eqb_tells}
-use Rattle.std.specs.Prelude.{if◌then◌else◌, unwrap_or}
 use Rattle.std.specs.Option.{option_or, option_map_or}
 use Rattle.std.proofs.Math.Seq.{drop-append-add}
 use Rattle.superio_core.specs.declared.trace.Asked.{Asked}
@@ -333,27 +332,10 @@ held_bytes_law start (entry ∷ trace) =
 abbrev IsReady : State → Type 0
 IsReady s = s.line_status ≡ with_data_ready s.line_status (not_empty s.in_buffer)
 
-received_ready : (new : List ℕ) (s : State) → IsReady s
-    → (receive_bytes new s).line_status ≡ with_data_ready s.line_status (not_empty (receive_bytes new s).in_buffer)
-received_ready [] s ready = ready
-received_ready (byte ∷ bytes) s ready = rw (not_empty-append s.in_buffer byte bytes) refl
-
-read_ready : (bytes : List ℕ) (line_status : ℕ) → line_status ≡ with_data_ready line_status (not_empty bytes)
-    → (if not_empty (drop 1 bytes) then line_status else without_bits line_status 0x01)
-    ≡ with_data_ready line_status (not_empty (drop 1 bytes))
-read_ready bytes line_status ready = grind arith
-
-ready_by_kind : (k : OpKind) (asked : Asked) (s : State) → IsReady s
-    → (by_kind k asked s).line_status ≡ with_data_ready s.line_status (not_empty (by_kind k asked s).in_buffer)
-ready_by_kind k asked s ready = grind arith
-
 -- LSR that a call leaves, from one that shows whether bytes are held
 ready_more : (s : State) (op : Op) (asked : Asked) → IsReady s
     → (step s op asked).line_status ≡ with_data_ready s.line_status (not_empty (step s op asked).in_buffer)
-ready_more s op asked ready =
-    let same = next_by_kind s op asked in
-    same.line_status ∙ ready_by_kind (kind_in_state s op) asked s ready
-    ∙ ap (λ bytes. with_data_ready s.line_status (not_empty bytes)) (sym same.in_buffer)
+ready_more s op asked ready = grind arith
 
 -- the start's LSR, with data ready as bytes are held now
 ready_after : (start : State) (trace : List TraceEntry)

@@ -1,6 +1,5 @@
 -- After a line of the serial port or of the clock, its session goes on.
-use Rattle.std.proofs.Common.{◌≡◌, ℕ, List, Result, Ok, Err, sym, subst}
-use Rattle.std.specs.Prelude.{IfOk, OnErr}
+use Rattle.std.proofs.Common.{◌≡◌, ℕ, List, Result, Ok, Err, sym, subst, IfOk, OnErr}
 use Rattle.vm_superio.specs.Rtc.{ClockDevice}
 use Rattle.vm_superio.specs.Serial.{Port}
 use Rattle.superio_script.specs.Board.{IsBetweenLines, IsSerialLineStep}

@@ -1,6 +1,5 @@
 -- Worked examples from other states.
-use Rattle.std.proofs.Common.{◌≡◌, true, false, [], ◌∷◌, refl, List, Option, Some, None, Ok, Err, IsTrue, ℕ, zero, suc}
-use Rattle.std.specs.Prelude.{is_some}
+use Rattle.std.proofs.Common.{◌≡◌, true, false, [], ◌∷◌, refl, List, Option, Some, None, Ok, Err, IsTrue, ℕ, zero, suc, is_some}
 use Rattle.std.specs.declared.io.Error.{Error}
 use Rattle.superio_core.specs.declared.trace.Asked.TheVariants.{Nothing, Took, Refused, TookTook, TookRefused}
 use Rattle.superio_core.specs.Serial.{State, fresh_state}

@@ -1,7 +1,6 @@
 -- A condition is pending by the entries that raised and acknowledged it.
-use Rattle.std.proofs.Common.{◌≡◌, inl, inr, Bool, true, false, not, ◌&&◌, ◌||◌, List, [], ◌∷◌, ◌++◌, refl, ap, sym, subst, append-nil, ℕ, ◌+◌, ◌*◌, ◌≤◌, ◌==◌, arith, ◌∙◌}
+use Rattle.std.proofs.Common.{◌≡◌, inl, inr, Bool, true, false, not, ◌&&◌, ◌||◌, List, [], ◌∷◌, ◌++◌, refl, ap, sym, subst, append-nil, ℕ, ◌+◌, ◌*◌, ◌≤◌, ◌==◌, arith, ◌∙◌, IsTrue, ◌⊎◌, if◌then◌else◌, sum_by, count_by}
 use Rattle.std.proofs.lemmas.Bool.{and_parts, false≢true, eqb-true}
-use Rattle.std.specs.Prelude.{IsTrue, ◌⊎◌, if◌then◌else◌, sum_by, count_by}
 use Rattle.std.specs.Bool.{IsFalse, beq}
 use Rattle.std.proofs.lemmas.List.Sums.{sum_by-cons}
 use Rattle.std.specs.Cmp.Derive.{both_true}
@@ -310,24 +309,8 @@ waiting_bytes_law start trace after before entry same tells none =
 abbrev IsOutcome : List ℕ → Sent → Type 0
 IsOutcome bytes outcome = IsTrue (beq (is_sent outcome) (not_empty bytes))
 
-written_none : (offset value : ℕ) (outcome : Sent) → IsOutcome [] outcome → bytes_sent (Write offset value) outcome ≡ []
-written_none offset value outcome outcome_fits = grind arith
-
-written_one : (offset value : ℕ) (outcome : Sent) → IsOutcome (value ∷ []) outcome
-    → bytes_sent (Write offset value) outcome ≡ value ∷ []
-written_one offset value outcome outcome_fits = grind arith
-
-write_written : (r : Register) (loopback : Bool) (offset value : ℕ) (outcome : Sent)
-    → IsOutcome (sent_by (write_kind r loopback value)) outcome
-    → bytes_sent (Write offset value) outcome ≡ sent_by (write_kind r loopback value)
-write_written r loopback offset value outcome outcome_fits = grind arith
-
 read_sends : (r : Register) → [] ≡ sent_by (read_kind r)
 read_sends r = grind arith
-
-enqueue_sends : (dlab loopback : Bool) (bytes : List ℕ) → [] ≡ sent_by (kind_of dlab loopback (Enqueue bytes))
-enqueue_sends dlab true bytes = refl
-enqueue_sends dlab false bytes = refl
 
 -- what is recorded as sent is what the operation sends
 pub call_written : (dlab loopback : Bool) (op : Op) (outcome : Sent)

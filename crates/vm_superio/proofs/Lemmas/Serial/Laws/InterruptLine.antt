@@ -1,7 +1,6 @@
 -- The line after a call, by the bits of IIR that the call turns.
-use Rattle.std.proofs.Common.{arith, ◌≡◌, ℕ, ◌+◌, Bool, true, false, not, ◌==◌, ◌&&◌, ◌||◌, List, [], ◌∷◌, length, inl, inr, refl, ap, sym, ◌∙◌, subst}
+use Rattle.std.proofs.Common.{arith, ◌≡◌, ℕ, ◌+◌, Bool, true, false, not, ◌==◌, ◌&&◌, ◌||◌, List, [], ◌∷◌, length, inl, inr, refl, ap, sym, ◌∙◌, subst, ◌⊎◌, if◌then◌else◌, IsTrue}
 use Rattle.std.proofs.lemmas.Bool.{and_parts, false≢true, eqb-true}
-use Rattle.std.specs.Prelude.{◌⊎◌, if◌then◌else◌, IsTrue}
 use Rattle.std.specs.Bool.{IsFalse}
 use Rattle.superio_core.specs.declared.trace.Asked.{Asked}
 use Rattle.superio_core.specs.Serial.Operations.{is_refused_at_once, count_if, answer_count, OpKind, RbrRead, IirRead, IerWrite, ThrWrite, Arrival, Timeout, Other}
@@ -36,21 +35,6 @@ asserted : (enabled old new : Bool) → IsOnlyRaised enabled old new
 asserted enabled old new e = grind arith
 
 -- ---- both bits
-
-shuffled : (thre rda had_thre had_rda : Bool)
-    → ((thre || had_thre) || (rda || had_rda)) ≡ (not (count_if rda + count_if thre == 0) || (had_thre || had_rda))
-shuffled thre rda had_thre had_rda = grind arith
-
-line_after_turns : (thre_enabled rda_enabled old_thre old_rda new_thre new_rda : Bool)
-    → IsOnlyRaised thre_enabled old_thre new_thre → IsOnlyRaised rda_enabled old_rda new_rda
-    → ((new_thre && thre_enabled) || (new_rda && rda_enabled))
-    ≡ (not (count_if (not old_rda && new_rda) + count_if (not old_thre && new_thre) == 0)
-    || ((old_thre && thre_enabled) || (old_rda && rda_enabled)))
-line_after_turns thre_enabled rda_enabled old_thre old_rda new_thre new_rda thre rda =
-    ap (λ bit. bit || (new_rda && rda_enabled)) (asserted thre_enabled old_thre new_thre thre)
-    ∙ ap (λ bit. ((not old_thre && new_thre) || (old_thre && thre_enabled)) || bit)
-    (asserted rda_enabled old_rda new_rda rda)
-    ∙ shuffled (not old_thre && new_thre) (not old_rda && new_rda) (old_thre && thre_enabled) (old_rda && rda_enabled)
 
 -- ---- the calls that lower nothing
 
@@ -154,10 +138,7 @@ from_bits : (enable old new : ℕ) (asked : Asked) → OnlyRaised enable old new
     → answer_count asked ≡ count_if (not (has_bits old 0x04) && has_bits new 0x04)
     + count_if (not (has_bits old 0x02) && has_bits new 0x02)
     → line enable new ≡ (is_called asked || line enable old)
-from_bits enable old new asked bits counted =
-    line_after_turns (has_bits enable 0x02) (has_bits enable 0x01) (has_bits old 0x02) (has_bits old 0x04)
-    (has_bits new 0x02) (has_bits new 0x04) bits.thre bits.rda
-    ∙ ap (λ calls. not (calls == 0) || line enable old) (sym counted)
+from_bits enable old new asked bits counted = grind arith
 
 line_by_kind : (k : OpKind) (asked : Asked) (s : State) → IsTrue (answers_all (kind_calls k s) asked)
     → is_line_up (by_kind k asked s) ≡ line_after k (is_called asked) s
@@ -204,18 +185,6 @@ pub up_after_call : UpAfterCallLaw
 up_after_call s op asked sent fit called =
     line_after_law s op asked sent fit
     ∙ up_by_kind (kind_in_state s op) asked s (and_parts (answers_all (step_calls s op) asked) _ fit).0 called
-
-one_of : (one other : Bool) → IsTrue (one || other) → IsTrue one ⊎ IsTrue other
-one_of true other is = inl refl
-one_of false other is = inr is
-
-thre_was_up : (thre rda : Bool) → IsFalse (thre || rda) → IsTrue thre → ⊥
-thre_was_up true rda was_down up = false≢true (sym was_down)
-thre_was_up false rda was_down up = false≢true up
-
-called_or_up : (called up : Bool) → IsFalse up → IsTrue (called || up) → IsTrue called
-called_or_up true up was_down is = refl
-called_or_up false up was_down is = absurd (false≢true (sym was_down ∙ is))
 
 enables : (value : ℕ) (s : State) (asked : Asked) → IsTrue (is_called asked) ⊎ IsTrue (is_line_up_under value s)
     → IsTrue (is_called asked) ⊎ EnablesPending (IerWrite value) s

@@ -1,6 +1,5 @@
 -- One call: the bytes that it takes, accepts and gives, and the byte that a THR write sends.
-use Rattle.std.proofs.Common.{◌≡◌, ℕ, Bool, true, List, [], ◌∷◌, ◌++◌, length, drop, refl, ap, sym, ◌∙◌, append-nil, ◌<◌, false, subst, arith, IsTrue}
-use Rattle.std.specs.Prelude.{if◌then◌else◌, slice_index, ◌&&◌, count_by}
+use Rattle.std.proofs.Common.{◌≡◌, ℕ, Bool, true, List, [], ◌∷◌, ◌++◌, length, drop, refl, ap, sym, ◌∙◌, append-nil, ◌<◌, false, subst, arith, IsTrue, if◌then◌else◌, slice_index, ◌&&◌, count_by}
 use Rattle.std.proofs.Math.Bool.{and-true, and-false}
 use Rattle.std.specs.Bool.{beq}
 use Rattle.std.proofs.lemmas.Bool.{and_parts, false≢true}
@@ -58,11 +57,6 @@ one_call s op asked =
     ∙ taken_first (kind_in_state s op) s.in_buffer (accepted_by (kind_in_state s op) s.in_buffer)
 
 -- ---- bytes read
-
--- an RBR read replies with the byte that it takes
-first_byte : (held : List ℕ) → byte_read RbrRead held (ByteRead (slice_index held 0)) ≡ taken_by RbrRead held
-first_byte [] = refl
-first_byte (byte ∷ held) = refl
 
 -- of a read of any register
 pub of_read : (register : Register) (s : State)
@@ -166,23 +160,11 @@ sent_fits sends_byte outcome = beq (is_sent outcome) sends_byte
 
 -- ---- events
 
-read_tells : (last : Bool) → count_by reports_outcome ((if last then [] else in_buffer_empty ∷ []) ++ buffer_read ∷ []) ≡ 0
-read_tells true = refl
-read_tells false = refl
-
 read_reported : (r : Register) (held : List ℕ) → count_by reports_outcome (read_events r held) ≡ length (sent_by (read_kind r))
 read_reported r held = grind arith
 
-sent_once : (outcome : Sent) → IsTrue (sent_fits true outcome) → count_by reports_outcome (sent_events outcome) ≡ 1
-sent_once outcome fit = grind arith
-
 not_sent : (outcome : Sent) → IsTrue (sent_fits false outcome) → count_by reports_outcome (sent_events outcome) ≡ 0
 not_sent outcome fit = grind arith
-
-sent_reported : (k : OpKind) (outcome : Sent) → IsTrue (sent_fits (not_empty (sent_by k)) outcome)
-    → count_by reports_outcome (sent_events outcome) ≡ length (sent_by k)
-sent_reported (ThrWrite value) outcome fit = sent_once outcome fit
-sent_reported _ outcome fit = not_sent outcome fit
 
 enqueue_reported : (loopback dlab : Bool) (bytes : List ℕ) → 0 ≡ length (sent_by (kind_of dlab loopback (Enqueue bytes)))
 enqueue_reported true dlab bytes = refl

@@ -1,6 +1,5 @@
 -- The state after a trace is that of the history, and a call responds as the history says.
-use Rattle.std.proofs.Common.{arith, sym, ◌≡◌, ℕ, Bool, true, false, ◌==◌, ◌||◌, List, [], length, refl, ap, ◌∙◌, ◌+◌, not, ◌&&◌, ◌∷◌, subst}
-use Rattle.std.specs.Prelude.{if◌then◌else◌, nat_le, IsTrue}
+use Rattle.std.proofs.Common.{arith, sym, ◌≡◌, ℕ, Bool, true, false, ◌==◌, ◌||◌, List, [], length, refl, ap, ◌∙◌, ◌+◌, not, ◌&&◌, ◌∷◌, subst, if◌then◌else◌, nat_le, IsTrue}
 use Rattle.std.proofs.Math.Bool.{and-false}
 use Rattle.std.proofs.lemmas.Bool.{and_parts, false≢true}
 use Rattle.std.specs.Bool.{beq}
@@ -36,18 +35,6 @@ state_law start trace coherent =
     })
     ∙ sym (state_of_history-by_state start trace _ _ _)
 
-enqueue_answered : (loopback : Bool) (bytes held_bytes : List ℕ) (asked : Asked)
-    → (if loopback || (length bytes == 0) then EnqueueOk 0
-    else (if nat_le 64 (length held_bytes) then FifoFull
-    else (if is_refused_at_once asked then TriggerRefused
-    else EnqueueOk (length (if loopback then [] else bytes_that_fit held_bytes bytes)))))
-    ≡ (if loopback || (length bytes == 0) then EnqueueOk 0
-    else (if nat_le 64 (length held_bytes) then FifoFull
-    else (if is_refused_at_once asked then TriggerRefused
-    else EnqueueOk (length (accepted_by (if loopback then Other else Arrival bytes) held_bytes)))))
-enqueue_answered true bytes held_bytes asked = refl
-enqueue_answered false bytes held_bytes asked = refl
-
 answer_reported : (start : State) (trace : List TraceEntry) (op : Op) (asked : Asked) (outcome : Sent)
     → step_response (state_of_history start trace) op asked outcome ≡ history_response start trace op asked outcome
 answer_reported start trace op asked outcome = grind arith
@@ -76,20 +63,6 @@ read_reported r s after same = grind arith
 -- no write is an RBR read
 abbrev TellsFate : OpKind → Type 0
 TellsFate k = (after : List ℕ) (outcome : Sent) → sent_events outcome ≡ kind_events k after outcome
-
-other_reported : TellsFate Other
-other_reported after h1 = grind arith
-
-arrival_reported : (bytes : List ℕ) → TellsFate (Arrival bytes)
-arrival_reported bytes after h2 = grind arith
-
-data_reported : (value : ℕ) → TellsFate (ThrWrite value)
-data_reported value after sent.Nothing = refl
-data_reported value after sent.Out = refl
-data_reported value after sent.Lost = refl
-
-ier_write_reported : (value : ℕ) → TellsFate (IerWrite value)
-ier_write_reported value after h2 = grind arith
 
 write_reported : (r : Register) (loopback : Bool) (value : ℕ) → TellsFate (write_kind r loopback value)
 write_reported r loopback value = grind arith

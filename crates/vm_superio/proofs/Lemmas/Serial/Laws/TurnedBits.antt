@@ -1,8 +1,7 @@
 -- The trigger is called once for each pending bit that a call turns from clear to set, in any state.
-use Rattle.std.proofs.Common.{arith, add-zero, zero-add, ◌≡◌, ℕ, ◌+◌, Bool, true, false, not, ◌==◌, ◌&&◌, ◌||◌, List, [], ◌∷◌, refl, ap, sym, ◌∙◌}
+use Rattle.std.proofs.Common.{arith, add-zero, zero-add, ◌≡◌, ℕ, ◌+◌, Bool, true, false, not, ◌==◌, ◌&&◌, ◌||◌, List, [], ◌∷◌, refl, ap, sym, ◌∙◌, if◌then◌else◌, IsTrue}
 use Rattle.std.proofs.lemmas.Bool.{and_parts, false≢true, eqb-true}
 use Rattle.std.proofs.Math.Bool.{and-true, and-false}
-use Rattle.std.specs.Prelude.{if◌then◌else◌, IsTrue}
 use Rattle.superio_core.specs.declared.trace.Asked.{Asked}
 use Rattle.superio_core.specs.Serial.Operations.{is_refused_at_once, count_if, answer_count, OpKind, RbrRead, IirRead, IerWrite, ThrWrite, Arrival, Timeout, Other}
 use Rattle.superio_core.specs.declared.trace.Asked.TheVariants.{Nothing, Took, Refused}
@@ -30,11 +29,7 @@ kept false = refl
 
 no_turn : (old_rda old_thre new_rda new_thre : Bool) → new_rda ≡ false → new_thre ≡ old_thre
     → count_if (not old_rda && new_rda) + count_if (not old_thre && new_thre) ≡ 0
-no_turn old_rda old_thre new_rda new_thre rda thre =
-    ap (λ bit. count_if (not old_rda && bit) + count_if (not old_thre && new_thre)) rda
-    ∙ ap (λ bit. count_if (not old_rda && false) + count_if (not old_thre && bit)) thre
-    ∙ ap (λ bit. count_if bit + count_if (not old_thre && old_thre)) (and-false (not old_rda))
-    ∙ ap (λ bit. 0 + count_if bit) (kept old_thre)
+no_turn old_rda old_thre new_rda new_thre rda thre = grind arith
 
 module _ (old : ℕ) where
   without_thre : has_bits (without_bits old 0x01) 0x02 ≡ has_bits old 0x02
@@ -104,9 +99,7 @@ one_answer : (call : Bool) (asked : Asked) → IsTrue (answers_all (count_if cal
 one_answer call asked fit = grind arith
 
 none_turned : (old : ℕ) → 0 ≡ count old old
-none_turned old =
-    sym (ap (λ turned. count_if turned + count_if (turns_on 0x02 old old)) (kept (has_bits old 0x04))
-    ∙ ap (λ turned. 0 + count_if turned) (kept (has_bits old 0x02)))
+none_turned old = grind arith
 
 rda_turned : (enable old : ℕ)
     → count_if (becomes_pending Rda enable old) ≡ count old (raise Rda enable old)

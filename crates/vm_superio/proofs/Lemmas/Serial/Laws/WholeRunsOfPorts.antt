@@ -1,6 +1,5 @@
 -- The calls of a port without objects, by the history.
-use Rattle.std.proofs.Common.{◌≡◌, ℕ, ◌&&◌, Bool, true, false, List, [], ◌∷◌, ◌++◌, length, refl, sym, ap, ◌∙◌, subst, append_assoc, append-nil, arith, ◌+◌}
-use Rattle.std.specs.Prelude.{if◌then◌else◌, not, ◌==◌, ◌||◌, nat_le, IsTrue}
+use Rattle.std.proofs.Common.{◌≡◌, ℕ, ◌&&◌, Bool, true, false, List, [], ◌∷◌, ◌++◌, length, refl, sym, ap, ◌∙◌, subst, append_assoc, append-nil, arith, ◌+◌, if◌then◌else◌, not, ◌==◌, ◌||◌, nat_le, IsTrue}
 use Rattle.std.specs.Bool.{beq}
 use Rattle.superio_core.specs.declared.trace.Asked.TheVariants.{Nothing}
 use Rattle.superio_core.specs.declared.trace.Sent.{Sent}
@@ -123,19 +122,6 @@ port_run_law start end calls before follow =
 
 -- ---- the output
 
-told-by-register :
-    (register : Register) (in_loopback : Bool) (value : ℕ)
-    → (if not_empty (sent_by (write_kind register in_loopback value)) then value ∷ [] else [])
-    ≡ sent_by (write_kind register in_loopback value)
-told-by-register register in_loopback value = grind arith
-
-read-sends-none : (register : Register) → [] ≡ sent_by (read_kind register)
-read-sends-none register = grind arith
-
-enqueue-sends-none : (latch in_loopback : Bool) (bytes : List ℕ) → [] ≡ sent_by (kind_of latch in_loopback (Enqueue bytes))
-enqueue-sends-none latch true bytes = refl
-enqueue-sends-none latch false bytes = refl
-
 told-at-point :
     (start : State) (trace : Trace) (call : PortCall) → EffectsAre start trace call
     → told_by call ≡ sent_by (kind_at start trace (op_of_call call))
@@ -158,9 +144,6 @@ port_output_law start end calls before follow =
     told-is-output start [] calls (port_run_law start end calls before follow).effects
 
 -- ---- interrupts
-
-read-asks-none : (register : Register) (s : State) → kind_calls (read_kind register) s ≡ 0
-read-asks-none register s = grind arith
 
 module _ (start : State) (coherent : Coherent start) where
   told-due :

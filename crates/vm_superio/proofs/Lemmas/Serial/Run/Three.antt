@@ -1,6 +1,5 @@
 -- What the calls of three objects in one list show of each of them.
-use Rattle.std.proofs.Common.{arith, ◌≡◌, ℕ, map, List, [], ◌∷◌, ◌++◌, Option, refl, sym, ap, ◌∙◌, subst, append-nil}
-use Rattle.std.specs.Prelude.{◌↔◌, IsTrue}
+use Rattle.std.proofs.Common.{arith, ◌≡◌, ℕ, map, List, [], ◌∷◌, ◌++◌, Option, refl, sym, ap, ◌∙◌, subst, append-nil, ◌↔◌, IsTrue}
 use Rattle.std.specs.Cmp.Derive.{both_true}
 use Rattle.vm_superio.specs.Serial.Run.{Call, Reply, Restored, NotRestored, Done, act_of, op_of, entry_of, entries_of, refusal_in_reply, RecordsOf}
 use Rattle.vm_superio.specs.declared.run.Call.TheVariants.{Read, Write, Enqueue, CharacterTimeout, Restore}

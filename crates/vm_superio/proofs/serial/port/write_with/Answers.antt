@@ -1,6 +1,5 @@
 -- The step of the registers, with THRE taken back if the first of two calls was refused; and the calls in order.
-use Rattle.std.proofs.Common.{◌≡◌, Bool, true, false, Option, None, List, rules, refl, ap, ◌∙◌, subst, sym}
-use Rattle.std.specs.Prelude.{if◌then◌else◌}
+use Rattle.std.proofs.Common.{◌≡◌, Bool, true, false, Option, None, List, rules, refl, ap, ◌∙◌, subst, sym, if◌then◌else◌}
 use Rattle.std.specs.declared.io.Error.{Error}
 use Rattle.superio_core.specs.Serial.{state_with}
 use Rattle.superio_core.specs.Serial.Step.{write_step}
