@@ -7,12 +7,12 @@ use Rattle.vm_superio.specs.Serial.{Error, Port, write_response, enqueue_respons
 use Rattle.superio_core.specs.declared.trace.Asked.{Asked}
 use Rattle.superio_core.specs.declared.trace.Sent.{Sent}
 use Rattle.superio_core.specs.Serial.Operations.{Op, Response, Read, Write, Enqueue, CharacterTimeout, Restore, count_if, is_sent, is_lost, ends_in_refusal, WriteOk, TriggerRefused, WriterFailed, OpKind, Other, Arrival, sent_by, read_kind, write_kind, EnqueueOk, TimeoutOk, FifoFull, OutOfMemory, is_refused_at_once}
-use Rattle.superio_core.specs.declared.trace.Asked.TheVariants.{Nothing, Took, Refused, TookTook, TookRefused}
+use Rattle.superio_core.specs.declared.trace.Asked.TheVariants.{Nothing}
 use Rattle.superio_core.specs.Bits.{has_bits, only_bits}
-use Rattle.vm_superio.specs.Links.{answers_of, OutCall, Put, Flush}
+use Rattle.vm_superio.specs.Links.{answers_of, OutCall}
 use Rattle.superio_core.specs.Serial.{State, not_empty, SameSettings}
 use Rattle.superio_core.specs.declared.serial.registers.Register.{Register}
-use Rattle.superio_core.specs.declared.serial.registers.Register.TheVariants.{RbrThr, Ier, Iir}
+use Rattle.superio_core.specs.declared.serial.registers.Register.TheVariants.{RbrThr, Ier}
 use Rattle.superio_core.specs.declared.serial.registers.Condition.{Condition}
 use Rattle.superio_core.specs.declared.serial.registers.Condition.TheVariants.{Rda, Thre}
 use Rattle.superio_core.specs.Serial.RegisterMap.{register_at, is_dlab, is_loopback}

@@ -8,13 +8,12 @@ use Rattle.superio_core.specs.Serial.{State, not_empty}
 use Rattle.superio_core.specs.Bits.{has_bits}
 use Rattle.superio_core.specs.declared.trace.Asked.{Asked}
 use Rattle.superio_core.specs.declared.trace.Sent.{Sent}
-use Rattle.superio_core.specs.Serial.Operations.{TraceEntry, OpKind, count_if, answer_count, RbrRead, IirRead, is_iir_read, is_rbr_read, IerWrite, ThrWrite, Arrival, Timeout, Other, Op, Read, Write, Enqueue, CharacterTimeout, Restore, is_sent, read_kind, write_kind, kind_of, sent_by}
+use Rattle.superio_core.specs.Serial.Operations.{TraceEntry, OpKind, count_if, answer_count, RbrRead, IirRead, is_iir_read, is_rbr_read, IerWrite, ThrWrite, Arrival, Timeout, Other, Op, is_sent, read_kind, kind_of, sent_by}
 use Rattle.vm_superio.specs.Serial.History.Registers.{kind_at, held_bytes, interrupt_enable, dlab, loopback}
 use Rattle.superio_core.specs.declared.serial.registers.Condition.{Condition}
 use Rattle.superio_core.specs.declared.serial.registers.Condition.TheVariants.{Rda, Thre}
 use Rattle.superio_core.specs.declared.serial.registers.Register.{Register}
-use Rattle.superio_core.specs.declared.serial.registers.Register.TheVariants.{RbrThr, Ier, Iir}
-use Rattle.superio_core.specs.Serial.RegisterMap.{iir_bit, register_at}
+use Rattle.superio_core.specs.Serial.RegisterMap.{iir_bit}
 use Rattle.vm_superio.specs.Serial.History.Interrupts.{pending_since, is_raised, acknowledges, NoneAcknowledges, trigger_calls, is_pending, is_well_formed_entry, is_well_formed, op_kinds, shows_waiting_bytes}
 use Rattle.vm_superio.specs.Serial.Laws.Consequences.{PendingByPrefixesLaw, TriggerBoundLaw, WaitingBytesLaw, OutputLaw}
 use Rattle.superio_core.specs.Serial.Step.Raising.{receive_bytes, bytes_that_fit}
@@ -25,7 +24,6 @@ use Rattle.vm_superio.proofs.Lemmas.Serial.Laws.{next_at_point, register_law, he
 use Rattle.vm_superio.proofs.Lemmas.Serial.Laws.Interrupts.{rda_next}
 use Rattle.vm_superio.specs.Links.Writer.{bytes_sent}
 use Rattle.vm_superio.specs.Serial.History.{output}
-use Rattle.superio_core.specs.declared.trace.Sent.TheVariants as sent
 
 -- ---- the newest entry, and the others
 

@@ -1,13 +1,13 @@
 -- The line after a call, by the bits of IIR that the call turns.
 use Rattle.std.proofs.Common.{arith, ◌≡◌, ℕ, ◌+◌, Bool, true, false, not, ◌==◌, ◌&&◌, ◌||◌, List, [], ◌∷◌, length, inl, inr, refl, ap, sym, ◌∙◌, subst, ◌⊎◌, if◌then◌else◌, IsTrue}
-use Rattle.std.proofs.lemmas.Bool.{and_parts, false≢true, eqb-true}
+use Rattle.std.proofs.lemmas.Bool.{and_parts, eqb-true}
 use Rattle.std.specs.Bool.{IsFalse}
 use Rattle.superio_core.specs.declared.trace.Asked.{Asked}
 use Rattle.superio_core.specs.Serial.Operations.{is_refused_at_once, count_if, answer_count, OpKind, RbrRead, IirRead, IerWrite, ThrWrite, Arrival, Timeout, Other}
 use Rattle.superio_core.specs.Serial.{State, not_empty}
 use Rattle.superio_core.specs.Bits.{has_bits, only_bits, without_bits}
 use Rattle.superio_core.specs.declared.serial.registers.Condition.TheVariants.{Rda, Thre}
-use Rattle.superio_core.specs.Serial.Step.Raising.{becomes_pending, raise, bytes_that_fit, receive_bytes, is_asserted, is_line_up}
+use Rattle.superio_core.specs.Serial.Step.Raising.{becomes_pending, raise, bytes_that_fit, receive_bytes, is_line_up}
 use Rattle.superio_core.specs.Serial.Step.Admissible.{kind_in_state, kind_calls, step_calls, answers_all}
 use Rattle.superio_core.specs.Serial.Step.{step}
 use Rattle.superio_core.proofs.Lemmas.{and-without, and-without-apart}

@@ -1,5 +1,5 @@
 -- The interrupt law: IIR shows the pending conditions, and an entry is admissible exactly if it is well-formed.
-use Rattle.std.proofs.Common.{arith, ◌≡◌, ℕ, ◌+◌, zero-add, add-zero, Bool, true, false, not, ◌==◌, ◌&&◌, ◌||◌, List, [], ◌∷◌, refl, ap, sym, ◌∙◌}
+use Rattle.std.proofs.Common.{arith, ◌≡◌, ℕ, ◌+◌, zero-add, add-zero, Bool, false, not, ◌==◌, ◌&&◌, ◌||◌, List, [], ◌∷◌, refl, ap, sym, ◌∙◌}
 use Rattle.std.specs.Bool.{beq}
 use Rattle.std.proofs.Math.Bool.{and-true}
 use Rattle.superio_core.specs.declared.trace.Asked.{Asked}

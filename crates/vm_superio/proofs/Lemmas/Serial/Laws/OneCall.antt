@@ -1,11 +1,11 @@
 -- One call: the bytes that it takes, accepts and gives, and the byte that a THR write sends.
-use Rattle.std.proofs.Common.{◌≡◌, ℕ, Bool, true, List, [], ◌∷◌, ◌++◌, length, drop, refl, ap, sym, ◌∙◌, append-nil, ◌<◌, false, subst, arith, IsTrue, if◌then◌else◌, slice_index, ◌&&◌, count_by}
+use Rattle.std.proofs.Common.{◌≡◌, ℕ, Bool, true, List, [], ◌∷◌, ◌++◌, length, drop, refl, ap, sym, ◌∙◌, append-nil, ◌<◌, false, subst, arith, IsTrue, if◌then◌else◌, ◌&&◌, count_by}
 use Rattle.std.proofs.Math.Bool.{and-true, and-false}
 use Rattle.std.specs.Bool.{beq}
-use Rattle.std.proofs.lemmas.Bool.{and_parts, false≢true}
+use Rattle.std.proofs.lemmas.Bool.{and_parts}
 use Rattle.superio_core.specs.declared.trace.Asked.{Asked}
 use Rattle.superio_core.specs.declared.trace.Sent.{Sent}
-use Rattle.superio_core.specs.Serial.Operations.{Op, Read, Write, Enqueue, CharacterTimeout, Restore, Response, ByteRead, WriteOk, WriterFailed, TriggerRefused, is_sent, is_lost, ends_in_refusal, OpKind, RbrRead, IirRead, Arrival, read_kind, write_kind, kind_of, sent_by, buffer_read, in_buffer_empty, ThrWrite}
+use Rattle.superio_core.specs.Serial.Operations.{Op, Read, Write, Enqueue, Response, ByteRead, WriteOk, WriterFailed, TriggerRefused, is_sent, is_lost, ends_in_refusal, OpKind, RbrRead, IirRead, Arrival, read_kind, write_kind, kind_of, sent_by}
 use Rattle.superio_core.specs.Serial.{State, not_empty}
 use Rattle.superio_core.specs.Bits.{has_bits, without_bits}
 use Rattle.vm_superio.specs.Serial.History.{line_status, byte_read}
@@ -18,7 +18,7 @@ use Rattle.superio_core.proofs.Lemmas.Serial.{data_ready_cleared}
 use Rattle.superio_core.proofs.Lemmas.Serial.Step.{by_kind, next_by_kind}
 use Rattle.superio_core.specs.declared.trace.Asked.TheVariants.{Nothing}
 use Rattle.superio_core.specs.declared.serial.registers.Register.{Register}
-use Rattle.superio_core.specs.declared.serial.registers.Register.TheVariants.{RbrThr, Ier, Iir}
+use Rattle.superio_core.specs.declared.serial.registers.Register.TheVariants.{RbrThr}
 use Rattle.superio_core.specs.declared.serial.registers.Condition.TheVariants.{Thre}
 use Rattle.superio_core.specs.Serial.RegisterMap.{register_at, is_dlab, is_loopback, register_read}
 use Rattle.superio_core.specs.declared.trace.Sent.TheVariants.{Nothing, Out, Lost}

@@ -4,7 +4,6 @@ use Rattle.std.specs.Cmp.Derive.{both_true}
 use Rattle.vm_superio.specs.Serial.Run.{Call, Reply, Restored, NotRestored, Done, act_of, op_of, entry_of, entries_of, refusal_in_reply, RecordsOf}
 use Rattle.vm_superio.specs.declared.run.Call.TheVariants.{Read, Write, Enqueue, CharacterTimeout, Restore}
 use Rattle.vm_superio.specs.Serial.{Error, Three, WriterOut, Port}
-use Rattle.vm_superio.specs.declared.serial.errors.Error.TheVariants as error
 use Rattle.superio_core.specs.declared.serial.registers.Condition.{Condition}
 use Rattle.superio_core.specs.Serial.{State}
 use Rattle.superio_core.specs.Serial.Operations.{Op, Event, TraceEntry}
