@@ -33,9 +33,7 @@ reads_left-few s few = left-few (has_bits s.line_status 0x01) s.in_buffer few
 
 one-less : (held : List ℕ) (ready : Bool) → ready ≡ not_empty (drop 1 held)
     → (if ready then 1 + (length (drop 1 held) - 1) else 0) + 1 ≡ 1 + (length held - 1)
-one-less [] ready is = rw is refl
-one-less (byte ∷ []) ready is = rw is refl
-one-less (byte ∷ next ∷ held) ready is = rw is (omega arith)
+one-less held ready is = grind arith
 
 -- ---- one read
 
@@ -132,17 +130,12 @@ thre-kept : (thre rda : Bool)
     has_bits (if identification == 0 then 0x01 else identification) 0x02)
     ≡ has_bits (identification_of thre rda) 0x02
 unfolding has_bits
-thre-kept false false = refl
-thre-kept false true = refl
-thre-kept true false = refl
-thre-kept true true = refl
+thre-kept thre rda = grind arith
 
 none-pending : (thre rda : Bool) → rda ≡ false
     → identification_of (has_bits (identification_of thre rda) 0x02) false ≡ identification_of thre rda
 unfolding has_bits
-none-pending thre true none = absurd (false≢true (sym none))
-none-pending false false none = refl
-none-pending true false none = refl
+none-pending thre rda none = grind arith
 
 -- LSR after a read that leaves these bytes
 ready-cleared : (left : List ℕ) (line_status : ℕ)

@@ -43,9 +43,7 @@ clock-loaded bytes state numbers is = ap loaded_clock is ∙ clock_form-loads st
 -- if a check failed, the load has its error
 pub port-refused : (fault : Option Fault) (state : State) (result : Result SerialState Error) (error : Fault) → result ≡ Err (Bytes error) →
     IfSome fault (λ fault. result ≡ Err (Bytes fault)) → (fault ≡ None → IfErr result (λ error. error ≡ Memory)) → unless_fault fault state ≡ Err error
-port-refused None state (Ok read) error is found memory = absurd cc
-port-refused None state (Err error') error is found memory = let same : error' ≡ Bytes error = cc in let other = memory refl in absurd cc
-port-refused (Some fault) state result error is found memory = let same = sym is ∙ found in cc
+port-refused fault state result error is found memory = grind arith
 
 -- ---- what a write of the clock does: the count of invalid writes shows whether the register takes it, and the
 -- bytes are the value

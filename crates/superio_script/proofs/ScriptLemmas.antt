@@ -48,10 +48,7 @@ IsPossibleFrom-no_environment None few = record { sent = refl; room = tt; short 
 IsPossibleFrom-no_environment (Some all) few = record { sent = refl; room = omega arith; short = refl }
 
 first-sent : (outcomes : List Sent) → IsTrue (list_all is_sent outcomes) → IsTrue (is_sent (first_outcome outcomes))
-first-sent [] all = refl
-first-sent (sent.Nothing ∷ outcomes) all = absurd (false≢true all)
-first-sent (sent.Out ∷ outcomes) all = refl
-first-sent (sent.Lost ∷ outcomes) all = refl
+first-sent outcomes all = grind arith
 
 first-short : (outputs : List (List ℕ)) → IsTrue (list_all is_short outputs) → IsTrue (is_short (first_output outputs))
 first-short [] all = refl

@@ -1,5 +1,5 @@
 -- A write takes a first part of the rest, and none of it at a fault.
-use Rattle.std.proofs.Common.{◌≡◌, Bor, ℕ, List, ap, sym, ◌∙◌, ◌++◌, [], refl, subst, append-nil, arith, length, take, drop, rules}
+use Rattle.std.proofs.Common.{◌≡◌, Bor, ℕ, List, ap, sym, ◌∙◌, ◌++◌, [], subst, append-nil, length, take, drop, rules}
 use Rattle.std.proofs.lemmas.List.{nil_from_length}
 use Rattle.std.specs.Io.KnownBytes.{Appends, WriteAppends}
 use Rattle.vm_superio.proofs.Lemmas.{Appends-nothing, Appends-append}
