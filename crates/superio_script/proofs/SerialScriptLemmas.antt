@@ -1,5 +1,5 @@
 -- A line of the serial port is a step of its session.
-use Rattle.std.proofs.Common.{◌≡◌, ℕ, ◌-◌, ◌≤◌, Bool, true, false, List, [], ◌∷◌, ◌++◌, length, Option, Some, None, Result, Ok, Err, refl, ap, sym, ◌∙◌, subst, arith, append_assoc, append-nil, ◌≢◌, IsTrue, IsSome, IfSome, IfOk, if◌then◌else◌, nat_le, not, codes, fold, ◌&&◌}
+use Rattle.std.proofs.Common.{◌≡◌, ℕ, zero, suc, ◌-◌, ◌≤◌, Bool, true, false, List, [], ◌∷◌, ◌++◌, length, Option, Some, None, Result, Ok, Err, refl, ap, sym, ◌∙◌, subst, arith, append_assoc, append-nil, inl, inr, ◌⊎◌, ◌≢◌, IsTrue, IsSome, IfSome, IfOk, if◌then◌else◌, nat_le, not, codes, fold, ◌&&◌}
 use Rattle.std.specs.Cmp.Derive.{both_true}
 use Rattle.std.specs.Option.{option_map}
 use Rattle.std.specs.Bool.{beq}
@@ -10,7 +10,7 @@ use Rattle.superio_core.specs.Saved.{serial_form}
 use Rattle.superio_core.specs.declared.trace.Asked.{Asked}
 use Rattle.superio_core.specs.declared.trace.Sent.{Sent}
 use Rattle.superio_core.specs.Serial.Operations.{Op, Read, Write, Enqueue, CharacterTimeout, TraceEntry, Response, ByteRead, is_sent, is_lost, ends_in_refusal, OpKind, Arrival, Other, sent_by}
-use Rattle.superio_core.specs.declared.trace.Asked.TheVariants.{Nothing}
+use Rattle.superio_core.specs.declared.trace.Asked.TheVariants.{Nothing, Took, Refused, TookTook, TookRefused}
 use Rattle.superio_core.specs.declared.trace.Sent.TheVariants as sent
 use Rattle.superio_core.specs.Serial.{State, not_empty, fresh_state}
 use Rattle.superio_core.specs.Bits.{has_bits, only_bits}
@@ -29,7 +29,7 @@ use Rattle.vm_superio.specs.declared.serial.errors.Error.{Error}
 use Rattle.vm_superio.specs.declared.serial.errors.Error.TheVariants.{Trigger, IOError, FullFifo, Memory}
 use Rattle.vm_superio.specs.Serial.{Port, failure_response}
 use Rattle.vm_superio.specs.Links.FoldsEvents.{FoldsEvents}
-use Rattle.superio_script.specs.Objects.{InterruptLine, fresh_interrupt_line, InterruptLineLink, EventCounts, no_counts, counts_after_event, written_bytes}
+use Rattle.superio_script.specs.Objects.{InterruptLine, fresh_interrupt_line, InterruptLineLink, is_call_refused, interrupt_line_after_call, EventCounts, no_counts, counts_after_event, written_bytes}
 use Rattle.superio_script.specs.Reply.{with_lf, response_reply, digits_reply, count_digits, counts_reply}
 use Rattle.superio_script.specs.Loading.{loaded_port, fault_words}
 use Rattle.superio_script.specs.PortSession.{Session, fresh_session, output_since, known_output, is_coherent, session_from, session_dlab, session_kind, session_held_bytes, stepped_state, session_response, session_events, drained_bytes}
@@ -48,16 +48,57 @@ use Rattle.superio_script.proofs.PortSessionLemmas.{PortLaws, state-is_stepped, 
 abbrev one_response : (refused : Bool) → Result (Unit {0}) LineRefused
 one_response refused = if refused then Err (record {}) else Ok tt
 
+was_accepted : (refused : Bool) → Ok tt ≡ one_response refused → refused ≡ false
+was_accepted true e = absurd cc
+was_accepted false e = refl
+
 was_refused : (refused : Bool) (refusal : LineRefused) → Err refusal ≡ one_response refused → refused ≡ true
 was_refused true refusal e = refl
 was_refused false refusal e = absurd cc
+
+-- the responses to two calls, given whether each is refused
+abbrev two_responses : (first second : Bool) → Asked
+two_responses first second = if first then Refused else (if second then TookRefused else TookTook)
 
 -- the responses that link an interrupt line are those that its mask gives
 pub trigger_answers-from_link :
     (line new : InterruptLine) (calls : ℕ) (asked : Asked) (refusal : Option LineRefused) →
     IsTrue (answers_all calls asked) → (IsTrue (ends_in_refusal asked) → IsSome refusal) → InterruptLineLink line (answers_of asked refusal) new →
     (asked ≡ trigger_answers line calls) × (new ≡ interrupt_line_after_answers line asked)
-trigger_answers-from_link line new calls asked refusal fits some link = grind arith
+trigger_answers-from_link line new calls Nothing refusal fits some link =
+    let none : calls ≡ 0 = grind (arith, nat_tests) in
+    (ap (trigger_answers line) (sym none), sym link)
+trigger_answers-from_link line new calls Took refusal fits some link =
+    let one : calls ≡ 1 = grind (arith, nat_tests) in
+    let accepted = was_accepted (is_call_refused line.mask line.calls) link.0 in
+    (ap (λ (b : Bool). if b then Refused else Took) (sym accepted) ∙ ap (trigger_answers line) (sym one), sym link.1)
+trigger_answers-from_link line new calls TookTook refusal fits some link =
+    let two : calls ≡ 2 = grind (arith, nat_tests) in
+    let first = was_accepted (is_call_refused line.mask line.calls) link.0 in
+    let second = was_accepted (is_call_refused line.mask (interrupt_line_after_call line).calls) link.1.0 in (
+      ap (λ (b : Bool). if b then TookRefused else TookTook) (sym second)
+          ∙ ap (λ (b : Bool). two_responses b (is_call_refused line.mask (interrupt_line_after_call line).calls)) (sym first)
+          ∙ ap (trigger_answers line) (sym two),
+      sym link.1.1,
+    )
+trigger_answers-from_link line new calls Refused None fits some link = absurd (false≢true (some refl))
+trigger_answers-from_link line new zero Refused (Some refusal) fits some link = absurd (false≢true fits)
+trigger_answers-from_link line new (suc zero) Refused (Some refusal) fits some link =
+    let refused = was_refused (is_call_refused line.mask line.calls) refusal link.0 in
+    (ap (λ (b : Bool). if b then Refused else Took) (sym refused), sym link.1)
+trigger_answers-from_link line new (suc (suc more)) Refused (Some refusal) fits some link =
+    let refused = was_refused (is_call_refused line.mask line.calls) refusal link.0 in
+    (ap (λ (b : Bool). two_responses b (is_call_refused line.mask (interrupt_line_after_call line).calls)) (sym refused), sym link.1)
+trigger_answers-from_link line new calls TookRefused None fits some link = absurd (false≢true (some refl))
+trigger_answers-from_link line new calls TookRefused (Some refusal) fits some link =
+    let two : calls ≡ 2 = grind (arith, nat_tests) in
+    let first = was_accepted (is_call_refused line.mask line.calls) link.0 in
+    let second = was_refused (is_call_refused line.mask (interrupt_line_after_call line).calls) refusal link.1.0 in (
+      ap (λ (b : Bool). if b then TookRefused else TookTook) (sym second)
+          ∙ ap (λ (b : Bool). two_responses b (is_call_refused line.mask (interrupt_line_after_call line).calls)) (sym first)
+          ∙ ap (trigger_answers line) (sym two),
+      sym link.1.1,
+    )
 
 -- ---- the byte that was sent
 
@@ -80,7 +121,12 @@ IsPossible-environment_of sent.Out = record { sent = refl; room = omega arith; s
 IsPossible-environment_of sent.Lost = record { sent = refl; room = omega arith; short = refl }
 
 outcome_if_sent-environment_of : (sends : Bool) (outcome : Sent) → IsTrue (beq (is_sent outcome) sends) → outcome ≡ outcome_if_sent sends (environment_of outcome)
-outcome_if_sent-environment_of sends outcome fits = grind arith
+outcome_if_sent-environment_of true sent.Nothing fits = absurd (false≢true fits)
+outcome_if_sent-environment_of true sent.Out fits = refl
+outcome_if_sent-environment_of true sent.Lost fits = refl
+outcome_if_sent-environment_of false sent.Nothing fits = refl
+outcome_if_sent-environment_of false sent.Out fits = absurd (false≢true fits)
+outcome_if_sent-environment_of false sent.Lost fits = absurd (false≢true fits)
 
 -- an enqueue sends no byte
 enqueue-sends_nothing : (loopback : Bool) (bytes : List ℕ) → not_empty (sent_by (if loopback then Other else Arrival bytes)) ≡ false
@@ -88,7 +134,11 @@ enqueue-sends_nothing true bytes = refl
 enqueue-sends_nothing false bytes = refl
 
 nothing-sent : (outcome : Sent) (sends : Bool) → sends ≡ false → IsTrue (beq (is_sent outcome) sends) → outcome ≡ sent.Nothing
-nothing-sent outcome sends none fits = grind arith
+nothing-sent sent.Nothing sends none fits = refl
+nothing-sent sent.Out false none fits = absurd (false≢true fits)
+nothing-sent sent.Out true none fits = absurd (false≢true (sym none))
+nothing-sent sent.Lost false none fits = absurd (false≢true fits)
+nothing-sent sent.Lost true none fits = absurd (false≢true (sym none))
 
 -- the known output after a call with this outcome that sent these bytes
 abbrev pub output_after : (known : Option (List ℕ)) (outcome : Sent) (bytes : List ℕ) → Option (List ℕ)
@@ -282,7 +332,9 @@ module _ (laws : PortLaws) where
 drained : (latch coherent : Bool) (bytes held stepped : List ℕ) → (latch ≡ true → bytes ≡ [])
     → (latch ≡ false → coherent ≡ true → bytes ≡ held) → (latch ≡ false → bytes ≡ stepped)
     → bytes ≡ (if latch then [] else (if coherent then held else stepped))
-drained latch coherent bytes held stepped set history steps = grind arith
+drained true coherent bytes held stepped set history steps = set refl
+drained false true bytes held stepped set history steps = history refl refl
+drained false false bytes held stepped set history steps = steps refl
 
 module _ (laws : PortLaws) where
   reads-step : (bytes : List ℕ) (old new : Port InterruptLine EventCounts Output) (before : Session) → IsAt before old
@@ -360,6 +412,26 @@ module _ (port : Port InterruptLine EventCounts Output) where
 
 -- ---- a restore
 
+one-accepted : (line new : InterruptLine) → (Ok tt ≡ one_response (is_call_refused line.mask line.calls)) × (interrupt_line_after_call line ≡ new) →
+    (ends_in_refusal (trigger_answers line 1) ≡ false) × (new ≡ interrupt_line_after_answers line (trigger_answers line 1))
+one-accepted line new link =
+    let accepted = was_accepted (is_call_refused line.mask line.calls) link.0 in (
+      ap (λ (a : Bool). ends_in_refusal (if a then Refused else Took)) accepted,
+      sym link.1 ∙ ap (λ (a : Bool). interrupt_line_after_answers line (if a then Refused else Took)) (sym accepted),
+    )
+
+one-refused : (line : InterruptLine) (refusal : LineRefused) (response : Result (Unit {0}) LineRefused) {A B : Type 0} →
+    ((response ≡ Err refusal) × A) ⊎ (B × ⊥) → response ≡ one_response (is_call_refused line.mask line.calls) →
+    ends_in_refusal (trigger_answers line 1) ≡ true
+one-refused line refusal response (inl h) link =
+    ap (λ (a : Bool). ends_in_refusal (if a then Refused else Took)) (was_refused (is_call_refused line.mask line.calls) refusal (sym h.0 ∙ link))
+one-refused line refusal response (inr h) link = absurd h.1
+
+second-refused : (refusal : LineRefused) (response : Result (Unit {0}) LineRefused) (responses : List (Result (Unit {0}) LineRefused)) {A B : Type 0} →
+    ((response ≡ Err refusal) × A) ⊎ (B × ⊥) → response ≡ Err refusal
+second-refused refusal response responses (inl h) = h.0
+second-refused refusal response responses (inr h) = absurd h.1
+
 -- so many calls are accepted, and lead to this interrupt line
 abbrev AreAccepted : (line new : InterruptLine) (calls : ℕ) → Type 0
 AreAccepted line new calls =
@@ -369,14 +441,37 @@ AreAccepted line new calls =
 restore-accepted :
     (line new : InterruptLine) (thre rda : Bool) → InterruptLineLink line (all_ok (pending_in_order thre rda)) new →
     AreAccepted line new (length (pending_in_order thre rda))
-restore-accepted line new thre rda link = grind arith
+restore-accepted line new false false link = (refl, sym link)
+restore-accepted line new true false link = one-accepted line new link
+restore-accepted line new false true link = one-accepted line new link
+restore-accepted line new true true link =
+    let first = was_accepted (is_call_refused line.mask line.calls) link.0 in
+    let second = was_accepted (is_call_refused line.mask (interrupt_line_after_call line).calls) link.1.0 in
+    let same : two_responses (is_call_refused line.mask line.calls) (is_call_refused line.mask (interrupt_line_after_call line).calls) ≡ TookTook =
+    ap (λ (a : Bool). two_responses a (is_call_refused line.mask (interrupt_line_after_call line).calls)) first ∙ ap (λ (b : Bool). two_responses false b) second in
+    (ap ends_in_refusal same, sym link.1.1 ∙ ap (interrupt_line_after_answers line) (sym same))
 
 -- if one was refused, the last response is a refusal
 restore-refused :
     (line new : InterruptLine) (thre rda : Bool) (refusal : LineRefused) (responses : List (Result (Unit {0}) LineRefused)) →
     StopsAtRefusal (pending_in_order thre rda) refusal responses → InterruptLineLink line responses new →
     ends_in_refusal (trigger_answers line (length (pending_in_order thre rda))) ≡ true
-restore-refused line new thre rda refusal responses ends link = grind arith
+restore-refused line new false false refusal responses ends link = absurd ends
+restore-refused line new true false refusal [] ends link = absurd ends
+restore-refused line new true false refusal (response ∷ responses) ends link = one-refused line refusal response ends link.0
+restore-refused line new false true refusal [] ends link = absurd ends
+restore-refused line new false true refusal (response ∷ responses) ends link = one-refused line refusal response ends link.0
+restore-refused line new true true refusal [] ends link = absurd ends
+restore-refused line new true true refusal (response ∷ responses) (inl h) link =
+    ap (λ (a : Bool). ends_in_refusal (two_responses a (is_call_refused line.mask (interrupt_line_after_call line).calls)))
+    (was_refused (is_call_refused line.mask line.calls) refusal (sym h.0 ∙ link.0))
+restore-refused line new true true refusal (response ∷ []) (inr h) link = absurd h.1
+restore-refused line new true true refusal (response ∷ next ∷ responses) (inr h) link =
+    let first = was_accepted (is_call_refused line.mask line.calls) (sym h.0 ∙ link.0) in
+    let refused = second-refused refusal next responses h.1 in
+    let second = was_refused (is_call_refused line.mask (interrupt_line_after_call line).calls) refusal (sym refused ∙ link.1.0) in
+    ap (λ (a : Bool). ends_in_refusal (two_responses a (is_call_refused line.mask (interrupt_line_after_call line).calls))) first
+    ∙ ap (λ (b : Bool). ends_in_refusal (if b then TookRefused else TookTook)) second
 
 module _ (states : StateLaw) (steps : StepLaw) (old new : Port InterruptLine EventCounts Output) (state : State) where
   -- a restore whose calls were accepted
