@@ -75,11 +75,20 @@ def read_edits(crate):
     return edits
 
 
+def home_of(crate, function):
+    """The file of a function's module, by its path."""
+    modules = function.split("::")[1:]
+    names = ("src/" + "/".join(modules[:end]) + ".rt" for end in range(len(modules), 0, -1))
+    return next((name for name in names if (crate / name).is_file()), "src/lib.rt")
+
+
 def read_edit(crate, entry):
-    """Reads an entry. Each `old:` text must occur once in its file in the repository."""
+    """Reads an entry. Each `old:` text must occur once in its file in the repository, that of the function if none is
+    named."""
     labels, sentences, functions, clauses = (
         re.findall(rf"^{key} *(\S.*?) *$", entry, re.M) for key in ("edit:", "#", "function:", "clause:"))
-    edit, file, old = Edit(crate, "".join(labels[:1]), "".join(functions[:1]), clauses), "", None
+    edit, old = Edit(crate, "".join(labels[:1]), "".join(functions[:1]), clauses), None
+    file = home_of(crate, edit.function)
     problems = ["no empty line parts it from the next"] * (len(labels) > 1)
     for key, value in re.findall(r"^(file|old|new):(?: (.*))?$", entry, re.M):
         if key == "file":

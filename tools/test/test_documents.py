@@ -44,8 +44,7 @@ NAMES = [
      f"{CALLING}: vm_superio::serial::Serial::read has no clause date"),
     (PROOFS, "`Port::write: step` (`answered`)", "`Port::write: step` (`fault`)",
      f"{PROOFS}: no clause there has a part fault"),
-    (PROOFS, "- `State`: `State`, `not_empty`", "- `State`: `State`, `count_if`",
-     f"{PROOFS}: State does not define count_if"),
+    (PROOFS, "`State`, `not_empty`\n", "`State`, `count_if`\n", f"{PROOFS}: Serial does not define count_if"),
     (BODIES, "- `writer`, `interrupt_evt`, `events`", "- `writer`, `interrupt_enable`, `events`",
      f"{BODIES}: interrupt_enable has an edit"),
     ("tests/forms.txt", None, None, *(f"{document}: tests/forms.txt is nowhere in the sources"
@@ -96,10 +95,10 @@ NAMES += [(document, "", code, f"{document}: {says}") for document, code, says i
     ("CONTRIBUTING.md", "`tools/checks/names --all`", "tools/checks/names has no --all"),
     (USING, "\n\n```text\nedit: reset_at_any_offset\nold: a\nnew: b\n```", "no crate has this edit"))]
 FACTS = [
-    (f"{SPECS}/Serial/Port/Bits.antt", "mcr_loop_bit = 0x10", "mcr_loop_bit = 0x20", "MCR LOOP is 16, and 32"),
-    (f"{SPECS}/Serial/Port/Registers.antt", "iir_bit Rda = 0x04", "iir_bit Rda = 0x08", "IIR RDA is 4, and 8"),
-    (f"{SPECS}/Serial/Port/State.antt", "modem_status = 0xB0;", "modem_status = 0xA0;", "MSR is 176, and 160"),
-    (f"{SPECS}/Rtc/Registers.antt", "is_readable Icr = false\n", "", "ICR is (28, 'w'), and (28, 'rw')"),
+    (f"{SPECS}/Serial.antt", "mcr_loop_bit = 0x10", "mcr_loop_bit = 0x20", "MCR LOOP is 16, and 32"),
+    (f"{SPECS}/Serial/RegisterMap.antt", "iir_bit Rda = 0x04", "iir_bit Rda = 0x08", "IIR RDA is 4, and 8"),
+    (f"{SPECS}/Serial.antt", "modem_status = 0xB0;", "modem_status = 0xA0;", "MSR is 176, and 160"),
+    (f"{SPECS}/Rtc.antt", "is_readable Icr = false\n", "", "ICR is (28, 'w'), and (28, 'rw')"),
     (f"{PYTHON}/registers.py", '"SCR", 7', '"SCR", 8', "SCR is (8, None), and (7, None)"),
     (f"{PYTHON}/registers.py", '"raw interrupt status", _ALARM, None, "r"', '"raw interrupt status", _ALARM',
      "RIS is (20, 'rw'), and (20, 'r')"),

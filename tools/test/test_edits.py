@@ -64,6 +64,9 @@ class Edits(FolderTest):
         crate, [edit] = self.read(NOTHING)
         self.assertEqual((edit.problem, edit.is_outside, len(edit.places)), ("", False, 1))
         self.assertIn("if first < second { 0 } else", texts_of(crate, [edit])["src/lib.rt"])
+        path = crate / "wrong-bodies" / "lib.edits"
+        path.write_text(path.read_text(encoding="utf-8").replace("file: src/lib.rt\n", ""), encoding="utf-8")
+        self.assertEqual(read_edits(crate)[0].replacements, edit.replacements)
 
     def test_an_edit_that_cannot_be_tried_says_why(self):
         for edit, says in ((("same", "ensures", "numbers", "0"), "0 times"),

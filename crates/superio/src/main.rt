@@ -5,7 +5,7 @@ ghost use Rattle.std.specs.Prelude.{◌≡◌, ◌⊎◌, ◌<◌, ℕ, length, 
 ghost use Rattle.std.specs.Io.KnownBytes.{Keeps};
 ghost use Rattle.std.specs.Io.Buffered.{writer_inner, writer_contents};
 ghost use Rattle.superio_script.specs.Script.{RunsUpTo, EndsWithoutMemory, WritesPartOf, ReadsBytes};
-ghost use Rattle.superio_script.specs.ScriptFault.{status_of};
+ghost use Rattle.superio_script.specs.Reply.{status_of};
 
 use std::alloc::Global;
 use std::io;

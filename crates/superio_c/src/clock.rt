@@ -1,10 +1,8 @@
 //! The clock. Its struct is `superio_rtc` in the header.
 ghost use Rattle.std.specs.Prelude.{◌≡◌, ◌≢◌, ◌<◌, ◌^◌, ◌-◌, not};
 ghost use Rattle.superio_c.specs.Clock.{effects_of_response, due_of};
-ghost use Rattle.superio_core.specs.Rtc.Alarm.{is_line_up, IsAlarmDue};
-ghost use Rattle.superio_core.specs.Rtc.Clock.{state_of_clock};
-ghost use Rattle.superio_core.specs.Rtc.Registers.{fresh_clock, read, write, clock_register_at, is_writable};
-ghost use Rattle.superio_core.specs.Rtc.Step.{clock_response, clock_step};
+ghost use Rattle.superio_core.specs.Rtc.Step.{is_line_up, IsAlarmDue, clock_response, clock_step};
+ghost use Rattle.superio_core.specs.Rtc.{state_of_clock, fresh_clock, read, write, clock_register_at, is_writable};
 
 use superio_core::rtc_pl031::Clock;
 

@@ -1,11 +1,10 @@
 //! Saved states as bytes.
 ghost use Rattle.std.specs.Prelude.{◌≡◌, ◌≢◌, ◌≤◌, ◌++◌, length, take, drop, Some};
 ghost use Rattle.superio_c.specs.Saved.{load_status};
-ghost use Rattle.superio_core.specs.Rtc.Clock.{state_of_clock};
-ghost use Rattle.superio_core.specs.Serial.Port.SerialPort.{state_of_port};
-ghost use Rattle.superio_core.specs.Saved.Faults.{serial_fault, clock_fault};
-ghost use Rattle.superio_core.specs.Saved.Form.{serial_form, clock_form};
-ghost use Rattle.superio_core.specs.Serial.Port.State.{State};
+ghost use Rattle.superio_core.specs.Rtc.{state_of_clock};
+ghost use Rattle.superio_core.specs.Serial.Port.{state_of_port};
+ghost use Rattle.superio_core.specs.Saved.{serial_fault, clock_fault, serial_form, clock_form};
+ghost use Rattle.superio_core.specs.Serial.{State};
 
 use superio_core::rtc_pl031::saved_form::SAVED_SIZE;
 use superio_core::rtc_pl031::{Clock, RtcState};

@@ -1,5 +1,5 @@
-pub mod Serial
-pub mod Rtc
-pub mod I8042
-pub mod Saved
 pub mod Bits
+pub mod I8042
+pub mod Rtc
+pub mod Saved
+pub mod Serial

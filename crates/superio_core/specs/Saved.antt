@@ -1,5 +1,122 @@
 -- A saved state as bytes: its form, the checks that other bytes fail, and the laws that join the two.
-pub mod Form
-pub mod Faults
-pub mod ErrorText
-pub mod Laws
+use Rattle.std.specs.Prelude.{ℕ, Bool, if◌then◌else◌, List, [], ◌∷◌, ◌++◌, length, ◌==◌, not, ◌+◌, nat_le, nat_lt, drop, slice_index, Option, Some, None, codes, ◌≡◌, ◌<◌, ◌≤◌, ◌^◌, FitsSigned}
+use Rattle.std.specs.Int.{w16, w32, w64, to_le_bytes, cast_unsigned, from_le_bytes}
+use Rattle.std.specs.Option.{option_or}
+use Rattle.std.specs.Str.{bytes_eq}
+use Rattle.superio_core.specs.declared.rtc_pl031.state.RtcState.{RtcState}
+use Rattle.superio_core.specs.Serial.{State, register_bytes, register_count}
+pub use Rattle.superio_core.specs.declared.saved.Error.{Error}
+pub use Rattle.superio_core.specs.declared.saved.Error.TheVariants.{TooShort, NotASavedState, OtherDevice, UnknownVersion, WrongLength, TooManyBytes, InvalidArmed}
+
+-- the letters SIOS, with which each saved state begins
+abbrev pub magic : List ℕ
+magic = 0x53 ∷ 0x49 ∷ 0x4F ∷ 0x53 ∷ []
+
+-- the device's kind. The i8042 controller has no state
+abbrev pub serial_kind : ℕ
+serial_kind = 1
+
+abbrev pub clock_kind : ℕ
+clock_kind = 2
+
+-- the version of this form
+abbrev pub version : ℕ
+version = 1
+
+-- the magic, the kind, the version, and in two bytes the length of what follows
+abbrev pub header : (kind length : ℕ) → List ℕ
+header kind length = magic ++ kind ∷ version ∷ to_le_bytes w16 length
+
+-- the header, and then what the device keeps
+abbrev pub form : (kind : ℕ) (contents : List ℕ) → List ℕ
+form kind contents = header kind (length contents) ++ contents
+
+-- ---- the serial port
+
+-- the registers, and the received bytes that no guest has read, oldest first
+abbrev pub serial_contents : (state : State) → List ℕ
+serial_contents state = register_bytes state ++ state.in_buffer
+
+abbrev pub serial_form : (state : State) → List ℕ
+serial_form state = form serial_kind (serial_contents state)
+
+-- ---- the clock
+
+-- 1 if an alarm is set, otherwise 0
+abbrev pub flag : (set : Bool) → ℕ
+flag set = if set then 1 else 0
+
+-- four registers of four bytes, the offset of eight bytes in two's complement, and the alarm
+abbrev pub clock_contents : (state : RtcState) → List ℕ
+clock_contents state =
+    to_le_bytes w32 state.lr ++ to_le_bytes w32 state.mr ++ to_le_bytes w32 state.imsc ++ to_le_bytes w32 state.ris
+    ++ to_le_bytes w64 (cast_unsigned w64 state.offset) ++ flag state.armed ∷ []
+
+abbrev pub clock_form : (state : RtcState) → List ℕ
+clock_form state = form clock_kind (clock_contents state)
+
+-- ---- the checks of bytes that are read as a saved state, in order: the first that fails is the error
+
+-- there is a header; it has the magic, the kind of this device and the version of this form; and its length
+-- is that of what follows
+abbrev pub header_fault : (kind : ℕ) (bytes : List ℕ) → Option Error
+header_fault kind (m0 ∷ m1 ∷ m2 ∷ m3 ∷ its_kind ∷ its_version ∷ low ∷ high ∷ contents) =
+    if not (bytes_eq (m0 ∷ m1 ∷ m2 ∷ m3 ∷ []) magic) then Some NotASavedState
+    else (if not (its_kind == kind) then Some OtherDevice
+    else (if not (its_version == version) then Some (UnknownVersion its_version)
+    else (if not (from_le_bytes w16 (low ∷ high ∷ []) == length contents) then Some WrongLength
+    else None)))
+header_fault kind _ = Some TooShort
+
+-- what follows the header of a port: the registers, and at most 64 received bytes
+abbrev pub serial_contents_fault : (contents : List ℕ) → Option Error
+serial_contents_fault contents =
+    if nat_lt (length contents) register_count then Some WrongLength
+    else (if nat_lt (register_count + 64) (length contents) then Some TooManyBytes else None)
+
+abbrev pub serial_fault : (bytes : List ℕ) → Option Error
+serial_fault bytes = option_or (header_fault serial_kind bytes) (serial_contents_fault (drop 8 bytes))
+
+-- what follows the header of a clock: 25 bytes, the last of them 0 or 1
+abbrev pub clock_contents_fault : (contents : List ℕ) → Option Error
+clock_contents_fault contents =
+    if not (length contents == 25) then Some WrongLength
+    else (if nat_le (slice_index contents 24) 1 then None else Some InvalidArmed)
+
+abbrev pub clock_fault : (bytes : List ℕ) → Option Error
+clock_fault bytes = option_or (header_fault clock_kind bytes) (clock_contents_fault (drop 8 bytes))
+
+-- ---- what an error of a saved state prints
+
+abbrev pub text_of : (error : Error) → Option (List ℕ)
+text_of TooShort = Some (codes "Too short for a saved state")
+text_of NotASavedState = Some (codes "Not a saved state")
+text_of OtherDevice = Some (codes "The saved state of another device")
+text_of (UnknownVersion _) = Some (codes "A saved state of an unknown version")
+text_of WrongLength = Some (codes "A saved state of the wrong length")
+text_of TooManyBytes = Some (codes "More than 64 received bytes")
+text_of InvalidArmed = Some (codes "An alarm that is neither set nor clear")
+
+-- ---- the laws of the byte form: a form passes each check, and no two states share one
+
+-- the numbers that the fields of a clock can have
+pub record IsClock (state : RtcState) : Type 0 where
+  pub lr : state.lr < 2 ^ 32
+  pub mr : state.mr < 2 ^ 32
+  pub imsc : state.imsc < 2 ^ 32
+  pub ris : state.ris < 2 ^ 32
+  pub offset : FitsSigned w64 state.offset
+
+-- the form of a port that holds at most 64 bytes passes each check, whatever its registers hold. So does a clock's form
+abbrev pub SerialFormLaw : Type 0
+SerialFormLaw = (state : State) → length state.in_buffer ≤ 64 → serial_fault (serial_form state) ≡ None
+
+abbrev pub ClockFormLaw : Type 0
+ClockFormLaw = (state : RtcState) → clock_fault (clock_form state) ≡ None
+
+-- states that have the same form are one state
+abbrev pub OneSerialStateLaw : Type 0
+OneSerialStateLaw = (a b : State) → serial_form a ≡ serial_form b → a ≡ b
+
+abbrev pub OneClockStateLaw : Type 0
+OneClockStateLaw = (a b : RtcState) → IsClock a → IsClock b → clock_form a ≡ clock_form b → a ≡ b

@@ -1,6 +1,6 @@
 //! What a port needs of its receive FIFO.
 ghost use Rattle.std.specs.Prelude.{◌≡◌, ◌-◌, ◌≤◌, ℕ, List, [], ◌∷◌, ◌++◌, length, take, drop, slice_get, not};
-ghost use Rattle.superio_core.specs.Serial.Port.State.{not_empty};
+ghost use Rattle.superio_core.specs.Serial.{not_empty};
 
 /// The capacity of the FIFO, as in a 16750.
 pub const FIFO_SIZE: usize = 64;

@@ -4,11 +4,8 @@
 //! clock of the host: each access gets its moment, in seconds since 1970.
 ghost use Rattle.std.specs.Prelude.{◌≡◌, ◌<◌, ◌^◌, IfSome};
 ghost use Rattle.superio_core.specs.Bits.{with_bits};
-ghost use Rattle.superio_core.specs.Rtc.Alarm.{is_line_up, IsAlarmDue};
-ghost use Rattle.superio_core.specs.Rtc.Clock.{state_of_clock};
-ghost use Rattle.superio_core.specs.Rtc.Registers.{read, write, fresh_clock, clock_register_at, is_writable};
-ghost use Rattle.superio_core.specs.Rtc.Registers.{host_time, clock_register_read};
-ghost use Rattle.superio_core.specs.Rtc.Step.{guest_time_in, after_alarm, match_write, clock_response, after_write, clock_step};
+ghost use Rattle.superio_core.specs.Rtc.Step.{is_line_up, IsAlarmDue, guest_time_in, after_alarm, match_write, clock_response, after_write, clock_step};
+ghost use Rattle.superio_core.specs.Rtc.{state_of_clock, read, write, fresh_clock, clock_register_at, is_writable, host_time, clock_register_read};
 
 mod alarm;
 mod registers;
@@ -132,7 +129,7 @@ impl Clock {
 
     /// Writes `value` to `register` at the host's time `time`, and returns whether the register takes a write. If not,
     /// nothing changes.
-    #[tactic(auto, using(crate::proofs::Lemmas::Bits::and_not_is_without))]
+    #[tactic(auto, using(crate::proofs::Lemmas::and_not_is_without))]
     #[inline(always)]
     fn store(&mut self, register: ClockRegister, value: u32, time: u32) -> bool
         ensures state { state_of_clock self.new

@@ -3,8 +3,7 @@
 //! The form is the same on every machine. A state has at most one form, and no two states share one.
 ghost use Rattle.std.specs.Prelude.{◌≡◌, IfOk};
 ghost use Rattle.std.specs.Result.{result_err};
-ghost use Rattle.superio_core.specs.Saved.Form.{form, header};
-ghost use Rattle.superio_core.specs.Saved.Faults.{header_fault};
+ghost use Rattle.superio_core.specs.Saved.{form, header, header_fault};
 
 mod error_text;
 

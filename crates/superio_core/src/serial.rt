@@ -3,12 +3,11 @@
 //! A call changes the port and returns what is left to do: a byte to send, interrupts to raise, or events to report. The
 //! port owns no objects and allocates no memory, so a monitor keeps it where it likes, in any language.
 ghost use Rattle.std.specs.Prelude.{◌≡◌, ◌↔◌, ◌≤◌, ◌-◌, ◌==◌, Bool, not, length, IsTrue};
-ghost use Rattle.superio_core.specs.Serial.Port.State.{fresh_state};
-ghost use Rattle.superio_core.specs.Serial.Port.Registers.{identification_of};
-ghost use Rattle.superio_core.specs.Serial.Port.SerialPort.{state_of_port, CoherentPort};
-ghost use Rattle.superio_core.specs.Serial.Step.Restore.{is_line_up, restore_calls};
-ghost use Rattle.superio_core.specs.Serial.Port.Coherent.{ShowsHeldBytes};
-ghost use Rattle.superio_core.specs.Serial.Step.Calls.{IsPortRead, IsPortWrite, IsPortEnqueue, IsPortTimeout};
+ghost use Rattle.superio_core.specs.Serial.{fresh_state};
+ghost use Rattle.superio_core.specs.Serial.RegisterMap.{identification_of};
+ghost use Rattle.superio_core.specs.Serial.Port.{state_of_port, CoherentPort, ShowsHeldBytes};
+ghost use Rattle.superio_core.specs.Serial.Step.Raising.{is_line_up, restore_calls};
+ghost use Rattle.superio_core.specs.Serial.Step.Admissible.{IsPortRead, IsPortWrite, IsPortEnqueue, IsPortTimeout};
 
 mod bits;
 pub mod effects;

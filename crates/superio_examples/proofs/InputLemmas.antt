@@ -5,10 +5,10 @@ use Rattle.std.proofs.lemmas.List.{take-append-drop, length-take, drop_min}
 use Rattle.circular_buffer.specs.Buffer.{keep_last}
 use Rattle.vm_superio.specs.declared.serial.errors.Error.{Error}
 use Rattle.vm_superio.specs.declared.serial.errors.Error.TheVariants.{Trigger, IOError, FullFifo, Memory}
-use Rattle.superio_core.specs.Serial.Port.State.{State}
-use Rattle.superio_core.specs.Serial.Port.Registers.{is_loopback}
+use Rattle.superio_core.specs.Serial.{State}
+use Rattle.superio_core.specs.Serial.RegisterMap.{is_loopback}
 use Rattle.superio_core.specs.Serial.Step.Raising.{enqueued_bytes, receive_bytes}
-use Rattle.vm_superio.specs.Serial.Port.Model.{refusal_in_error}
+use Rattle.vm_superio.specs.Serial.{refusal_in_error}
 use Rattle.vm_superio.specs.Serial.Laws.OneCall.{ReceivedLaw}
 use Rattle.superio_examples.specs.Input.{room_in}
 

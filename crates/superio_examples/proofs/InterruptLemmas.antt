@@ -6,16 +6,13 @@ use Rattle.superio_core.specs.declared.trace.Asked.{Asked}
 use Rattle.superio_core.specs.declared.trace.Sent.{Sent}
 use Rattle.superio_core.specs.declared.serial.registers.Condition.TheVariants.{Rda}
 use Rattle.superio_core.specs.Bits.{has_bits, only_bits, with_bits, without_bits}
-use Rattle.superio_core.specs.Serial.Port.State.{State, SameSettings, fresh_state, not_empty}
-use Rattle.superio_core.specs.Serial.Port.Coherent.{Coherent}
-use Rattle.superio_core.specs.Serial.Port.Registers.{identification_of, pending_in_order, is_dlab, is_loopback, register_at}
-use Rattle.superio_core.specs.Serial.Port.Operations.{Op, Read, Write, Enqueue, CharacterTimeout, Response, ByteRead, count_if}
-use Rattle.superio_core.specs.Serial.Step.Raising.{iir_none_bit, lower, enqueued_bytes, receive_bytes}
-use Rattle.superio_core.specs.Serial.Step.Transition.{step, step_response, read_step}
-use Rattle.superio_core.specs.Serial.Step.Restore.{restore_calls}
+use Rattle.superio_core.specs.Serial.{State, SameSettings, fresh_state, not_empty}
+use Rattle.superio_core.specs.Serial.Port.{Coherent, ShowsHeldBytes}
+use Rattle.superio_core.specs.Serial.RegisterMap.{identification_of, pending_in_order, is_dlab, is_loopback, register_at}
+use Rattle.superio_core.specs.Serial.Operations.{Op, Read, Write, Enqueue, CharacterTimeout, Response, ByteRead, count_if, Other, Arrival}
+use Rattle.superio_core.specs.Serial.Step.Raising.{iir_none_bit, lower, enqueued_bytes, receive_bytes, restore_calls}
+use Rattle.superio_core.specs.Serial.Step.{step, step_response, read_step}
 use Rattle.superio_core.specs.Serial.Step.Admissible.{timeout_calls, arrival_calls, kind_calls, step_calls}
-use Rattle.superio_core.specs.Serial.Port.OpKinds.{Other, Arrival}
-use Rattle.superio_core.specs.Serial.Port.Coherent.{ShowsHeldBytes}
 use Rattle.vm_superio.specs.Serial.Laws.OneCall.{RbrReadLaw}
 use Rattle.superio_examples.specs.Interrupts.{state_after_read, edges_after_read, more_edges, IsAttentive, IsArrival, Leads, IsPartOfRun, EndsRun}
 use Rattle.superio_examples.proofs.RunLemmas.{leads-then, leads-none, leads-enqueue, leads-look, leads-byte, leads-iir, leads-timeout}

@@ -6,12 +6,12 @@ use Rattle.std.proofs.lemmas.Bool.{false≢true, eqb-true}
 use Rattle.circular_buffer.specs.Buffer.{Buffer}
 use Rattle.superio_core.specs.declared.trace.Asked.{Asked}
 use Rattle.superio_core.specs.declared.trace.Sent.{Sent}
-use Rattle.superio_core.specs.Serial.Port.State.{State, fresh_state}
-use Rattle.superio_core.specs.Serial.Port.Operations.{Op, Read, Write, Enqueue, CharacterTimeout, Restore}
+use Rattle.superio_core.specs.Serial.{State, fresh_state}
+use Rattle.superio_core.specs.Serial.Operations.{Op, Read, Write, Enqueue, CharacterTimeout, Restore}
 use Rattle.superio_core.specs.Serial.Step.Raising.{enqueued_bytes}
-use Rattle.superio_core.specs.Serial.Step.Transition.{step, step_response}
+use Rattle.superio_core.specs.Serial.Step.{step, step_response}
 use Rattle.superio_core.specs.Serial.Step.Admissible.{kind_in_state}
-use Rattle.vm_superio.specs.Serial.History.Reads.{byte_read}
+use Rattle.vm_superio.specs.Serial.History.{byte_read}
 use Rattle.vm_superio.specs.Serial.History.Registers.{accepted_by}
 use Rattle.vm_superio.proofs.Lemmas.Serial.Laws.OneCall.{one_read}
 use Rattle.superio_examples.specs.Interrupts.{answers_none}

@@ -4,18 +4,15 @@ use Rattle.std.proofs.lemmas.Bool.{false≢true}
 use Rattle.std.specs.Prelude.{map, take, drop, if◌then◌else◌, IsTrue}
 use Rattle.superio_core.specs.declared.trace.Asked.{Asked}
 use Rattle.superio_core.specs.declared.trace.Sent.{Sent}
-use Rattle.superio_core.specs.Serial.Port.State.{State, not_empty}
-use Rattle.superio_core.specs.Serial.Port.Registers.{is_dlab, is_loopback, register_at}
-use Rattle.superio_core.specs.Serial.Port.Operations.{Op, Read, Enqueue, CharacterTimeout, TraceEntry, Trace}
-use Rattle.superio_core.specs.Serial.Port.OpKinds.{OpKind, Other, Arrival, read_kind}
-use Rattle.superio_core.specs.Serial.Step.Transition.{step}
+use Rattle.superio_core.specs.Serial.{State, not_empty}
+use Rattle.superio_core.specs.Serial.RegisterMap.{is_dlab, is_loopback, register_at}
+use Rattle.superio_core.specs.Serial.Operations.{Op, Read, Enqueue, CharacterTimeout, TraceEntry, Trace, OpKind, Other, Arrival, read_kind}
+use Rattle.superio_core.specs.Serial.Step.{step}
 use Rattle.superio_core.specs.Serial.Step.Admissible.{kind_in_state}
 use Rattle.vm_superio.specs.Serial.History.Registers.{kind_at, taken_by, taken_bytes, held_bytes}
-use Rattle.vm_superio.specs.Serial.Laws.Agreement.{state_after}
-use Rattle.vm_superio.specs.Serial.Laws.CharacterTimeout.{timeout_entry}
-use Rattle.vm_superio.specs.Serial.Laws.InterruptDriver.{IsRunAtInterrupt, RunsAtInterrupts, TakenAfterRunsLaw}
-use Rattle.vm_superio.proofs.Lemmas.Serial.Laws.HeldBytes.{held_bytes_law}
-use Rattle.vm_superio.proofs.Lemmas.Serial.Step.ByKind.{same_kind}
+use Rattle.vm_superio.specs.Serial.Laws.{state_after}
+use Rattle.vm_superio.specs.Serial.Laws.Line.{timeout_entry, IsRunAtInterrupt, RunsAtInterrupts, TakenAfterRunsLaw}
+use Rattle.vm_superio.proofs.Lemmas.Serial.Laws.{held_bytes_law, same_kind}
 use Rattle.superio_examples.specs.Interrupts.{op_of, Leads, IsPartOfRun, EndsRun, RunsAtEnd, IsRunOfDriver, GotFirst}
 
 -- ---- a trace in two parts

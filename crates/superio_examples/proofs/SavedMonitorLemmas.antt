@@ -2,9 +2,9 @@
 use Rattle.std.proofs.Common.{◌≡◌, ℕ, Bool, sym, ◌∙◌}
 use Rattle.circular_buffer.specs.Buffer.{Buffer}
 use Rattle.superio_core.specs.declared.rtc_pl031.state.RtcState.{RtcState}
-use Rattle.superio_core.specs.Serial.Port.State.{State}
-use Rattle.superio_core.specs.Saved.Laws.{IsClock}
-use Rattle.superio_core.proofs.Lemmas.Saved.Forms.{one_serial_state, one_clock_state}
+use Rattle.superio_core.specs.Serial.{State}
+use Rattle.superio_core.specs.Saved.{IsClock}
+use Rattle.superio_core.proofs.Lemmas.Saved.{one_serial_state, one_clock_state}
 use Rattle.superio_examples.specs.Monitor.{Machine}
 use Rattle.superio_examples.specs.Output.{Waiting}
 use Rattle.superio_examples.specs.SavedMonitor.{IsSavedAs}

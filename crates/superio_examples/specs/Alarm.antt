@@ -2,7 +2,7 @@
 use Rattle.std.specs.Prelude.{◌≡◌, ℕ, ◌+◌, ◌-◌, ◌^◌, min, Option}
 use Rattle.std.specs.Option.{option_map}
 use Rattle.superio_core.specs.declared.rtc_pl031.state.RtcState.{RtcState}
-use Rattle.superio_core.specs.Rtc.Alarm.{is_line_up, IsAlarmDue}
+use Rattle.superio_core.specs.Rtc.Step.{is_line_up, IsAlarmDue}
 use Rattle.superio_examples.specs.declared.alarm.Alarm.{Alarm}
 
 -- the moment so many seconds after another. Moments end at the largest of 64 bits

@@ -1,10 +1,9 @@
 -- The ports of a PC's bus: which device each belongs to, and what an access does there.
 use Rattle.std.specs.Prelude.{ℕ, ◌+◌, Bool, ◌&&◌, ◌||◌, ◌==◌, not, nat_le, nat_lt, [], ◌∷◌, Result, Ok, Err}
-use Rattle.superio_core.specs.Serial.Port.Operations.{Event}
-use Rattle.vm_superio.specs.Links.Objects.{Link, TriggerAnswer}
-use Rattle.vm_superio.specs.Links.OutCalls.{OutCall}
-use Rattle.vm_superio.specs.Serial.Port.Model.{Port}
-use Rattle.vm_superio.specs.Serial.Step.PortStep.{IsWriteStep}
+use Rattle.superio_core.specs.Serial.Operations.{Event}
+use Rattle.vm_superio.specs.Links.{Link, TriggerAnswer, OutCall}
+use Rattle.vm_superio.specs.Serial.{Port}
+use Rattle.vm_superio.specs.Serial.Step.{IsWriteStep}
 use Rattle.superio_examples.specs.declared.bus.Keyboard.{Keyboard}
 use Rattle.superio_examples.specs.declared.bus.BusError.{BusError}
 use Rattle.superio_examples.specs.declared.bus.BusError.TheVariants.{Serial, Reset}

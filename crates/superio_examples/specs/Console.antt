@@ -4,14 +4,12 @@ use Rattle.std.specs.Bool.{OnTrue, OnFalse}
 use Rattle.circular_buffer.specs.Buffer.{buffer}
 use Rattle.vm_superio.specs.declared.serial.errors.Error.{Error}
 use Rattle.vm_superio.specs.declared.serial.errors.Error.TheVariants.{Trigger}
-use Rattle.superio_core.specs.Serial.Port.Operations.{Event, Write}
-use Rattle.superio_core.specs.Serial.Port.OpKinds.{sent_by}
+use Rattle.superio_core.specs.Serial.Operations.{Event, Write, sent_by}
 use Rattle.superio_core.specs.declared.serial.registers.Condition.{Condition}
-use Rattle.vm_superio.specs.Links.Objects.{Link, TriggerAnswer, RefusesOwnState}
-use Rattle.vm_superio.specs.Links.OutCalls.{OutCall}
-use Rattle.vm_superio.specs.Serial.Port.Model.{refusal_in_result}
+use Rattle.vm_superio.specs.Links.{Link, TriggerAnswer, RefusesOwnState, OutCall}
+use Rattle.vm_superio.specs.Serial.{refusal_in_result}
 use Rattle.superio_core.specs.Serial.Step.Admissible.{kind_in_state}
-use Rattle.vm_superio.specs.Serial.Step.PortStep.{IsReadStep, IsWriteStep, IsTimeoutStep}
+use Rattle.vm_superio.specs.Serial.Step.{IsReadStep, IsWriteStep, IsTimeoutStep}
 use Rattle.superio_examples.specs.declared.console.Console.{Console}
 use Rattle.superio_examples.specs.Interrupts.{answers_none}
 use Rattle.superio_examples.specs.Input.{room_in, shows_ready, ForwardsEnqueue}

@@ -1,14 +1,13 @@
 -- Input that waits for room in a serial port.
 use Rattle.std.specs.Prelude.{◌≡◌, ℕ, ◌-◌, ◌==◌, bit_and, Bool, if◌then◌else◌, List, length, Result}
 use Rattle.std.specs.Result.{result_err}
-use Rattle.superio_core.specs.Serial.Port.State.{State}
-use Rattle.superio_core.specs.Serial.Port.Registers.{is_loopback}
+use Rattle.superio_core.specs.Serial.{State}
+use Rattle.superio_core.specs.Serial.RegisterMap.{is_loopback}
 use Rattle.vm_superio.specs.declared.serial.errors.Error.{Error}
-use Rattle.superio_core.specs.Serial.Port.Operations.{Event}
-use Rattle.vm_superio.specs.Links.Objects.{Link, TriggerAnswer}
-use Rattle.vm_superio.specs.Links.OutCalls.{OutCall}
-use Rattle.vm_superio.specs.Serial.Port.Model.{Port, refusal_in_result}
-use Rattle.vm_superio.specs.Serial.Step.PortStep.{IsEnqueueStep}
+use Rattle.superio_core.specs.Serial.Operations.{Event}
+use Rattle.vm_superio.specs.Links.{Link, TriggerAnswer, OutCall}
+use Rattle.vm_superio.specs.Serial.{Port, refusal_in_result}
+use Rattle.vm_superio.specs.Serial.Step.{IsEnqueueStep}
 
 -- how many bytes a serial port has room for: what is left of its 64, and none in loopback
 abbrev pub room_in : (s : State) → ℕ

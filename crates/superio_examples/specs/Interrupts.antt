@@ -2,18 +2,17 @@
 use Rattle.std.specs.Prelude.{◌≡◌, ℕ, zero, suc, ◌+◌, ◌-◌, ◌^◌, ◌<◌, ◌≤◌, min, Bool, List, [], ◌∷◌, ◌++◌, length, map, ◌==◌, ◌&&◌, if◌then◌else◌, IsTrue}
 use Rattle.superio_core.specs.declared.trace.Asked.{Asked}
 use Rattle.superio_core.specs.Bits.{has_bits}
-use Rattle.superio_core.specs.Serial.Port.State.{State, SameSettings, not_empty}
+use Rattle.superio_core.specs.Serial.{State, SameSettings, not_empty}
 use Rattle.superio_core.specs.declared.serial.registers.Condition.TheVariants.{Rda}
-use Rattle.superio_core.specs.Serial.Port.Registers.{ier_bit, iir_bit}
-use Rattle.superio_core.specs.Serial.Port.Operations.{Op, Read, Enqueue, CharacterTimeout, TraceEntry, Trace}
+use Rattle.superio_core.specs.Serial.RegisterMap.{ier_bit, iir_bit}
+use Rattle.superio_core.specs.Serial.Operations.{Op, Read, Enqueue, CharacterTimeout, TraceEntry, Trace}
 use Rattle.superio_core.specs.Serial.Step.Raising.{iir_none_bit, enqueued_bytes}
-use Rattle.superio_core.specs.Serial.Step.Transition.{step}
+use Rattle.superio_core.specs.Serial.Step.{step}
 use Rattle.superio_core.specs.Serial.Step.Admissible.{timeout_calls, step_calls}
-use Rattle.superio_core.specs.Serial.Port.Coherent.{ShowsHeldBytes}
+use Rattle.superio_core.specs.Serial.Port.{ShowsHeldBytes}
 use Rattle.vm_superio.specs.Serial.History.Registers.{taken_bytes}
-use Rattle.vm_superio.specs.Serial.Laws.Agreement.{state_after}
-use Rattle.vm_superio.specs.Serial.Laws.CharacterTimeout.{timeout_entry}
-use Rattle.vm_superio.specs.Serial.Laws.InterruptDriver.{IsRunAtInterrupt}
+use Rattle.vm_superio.specs.Serial.Laws.{state_after}
+use Rattle.vm_superio.specs.Serial.Laws.Line.{timeout_entry, IsRunAtInterrupt}
 
 -- ---- edges
 

@@ -3,7 +3,7 @@ use Rattle.std.specs.Prelude.{◌≡◌, ◌↔◌, List, [], ◌∷◌, ◌++�
 use Rattle.std.proofs.Common.{sym, subst}
 use Rattle.vm_superio.specs.declared.serial.errors.Error.{Error}
 use Rattle.vm_superio.specs.declared.serial.errors.Error.TheVariants.{IOError}
-use Rattle.vm_superio.specs.Links.OutCalls.{OutCall, Put, Flush}
+use Rattle.vm_superio.specs.Links.{OutCall, Put, Flush}
 use Rattle.superio_examples.specs.declared.last_byte.LastByte.{LastByte}
 
 -- each byte that was put is the last one from then on, and no call failed

@@ -1,12 +1,11 @@
 -- What a restore of saved devices makes, and what it returns if it is refused.
 use Rattle.std.specs.Prelude.{◌≡◌, List, Option, Some, None, Result}
 use Rattle.std.specs.Option.{option_or}
-use Rattle.superio_core.specs.Serial.Step.Restore.{restore_calls}
-use Rattle.vm_superio.specs.Serial.Step.Restore.{RefusesRestore}
-use Rattle.vm_superio.specs.Links.Objects.{all_ok}
-use Rattle.superio_core.specs.Serial.Port.State.{State}
-use Rattle.superio_core.specs.Saved.Form.{serial_form, clock_form}
-use Rattle.superio_core.specs.Saved.Faults.{serial_fault, clock_fault}
+use Rattle.superio_core.specs.Serial.Step.Raising.{restore_calls}
+use Rattle.vm_superio.specs.Serial.Step.{RefusesRestore}
+use Rattle.vm_superio.specs.Links.{all_ok}
+use Rattle.superio_core.specs.Serial.{State}
+use Rattle.superio_core.specs.Saved.{serial_form, clock_form, serial_fault, clock_fault}
 use Rattle.superio_core.specs.declared.saved.Error.{Error as Fault}
 use Rattle.vm_superio.specs.declared.saved.Error.{Error}
 use Rattle.vm_superio.specs.declared.saved.Error.TheVariants as read

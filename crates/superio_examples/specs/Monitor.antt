@@ -5,18 +5,16 @@ use Rattle.circular_buffer.specs.Buffer.{Buffer, buffer}
 use Rattle.superio_core.specs.declared.trace.Asked.{Asked}
 use Rattle.superio_core.specs.declared.trace.Sent.{Sent}
 use Rattle.superio_core.specs.declared.rtc_pl031.state.RtcState.{RtcState}
-use Rattle.superio_core.specs.Serial.Port.State.{State, fresh_state, not_empty}
-use Rattle.superio_core.specs.Serial.Port.Registers.{register_at, register_read, is_dlab}
-use Rattle.superio_core.specs.Serial.Port.Operations.{Op, Read, Write, Enqueue, CharacterTimeout}
-use Rattle.superio_core.specs.Serial.Port.OpKinds.{sent_by}
-use Rattle.superio_core.specs.Serial.Port.SerialPort.{state_of_port}
-use Rattle.superio_core.specs.Serial.Step.Transition.{step, step_response}
+use Rattle.superio_core.specs.Serial.{State, fresh_state, not_empty}
+use Rattle.superio_core.specs.Serial.RegisterMap.{register_at, register_read, is_dlab}
+use Rattle.superio_core.specs.Serial.Operations.{Op, Read, Write, Enqueue, CharacterTimeout, sent_by}
+use Rattle.superio_core.specs.Serial.Port.{state_of_port}
+use Rattle.superio_core.specs.Serial.Step.{step, step_response}
 use Rattle.superio_core.specs.Serial.Step.Admissible.{kind_in_state, step_calls}
-use Rattle.superio_core.specs.Serial.Step.Restore.{restore_calls}
-use Rattle.superio_core.specs.Rtc.Alarm.{is_line_up}
-use Rattle.superio_core.specs.Rtc.Registers.{Access, read, write, fresh_clock}
-use Rattle.superio_core.specs.Rtc.Step.{clock_step, clock_response}
-use Rattle.vm_superio.specs.Serial.History.Reads.{byte_read}
+use Rattle.superio_core.specs.Serial.Step.Raising.{restore_calls}
+use Rattle.superio_core.specs.Rtc.Step.{is_line_up, clock_step, clock_response}
+use Rattle.superio_core.specs.Rtc.{Access, read, write, fresh_clock}
+use Rattle.vm_superio.specs.Serial.History.{byte_read}
 use Rattle.vm_superio.specs.Serial.History.Registers.{accepted_by}
 use Rattle.superio_examples.specs.Bus.{is_serial}
 use Rattle.superio_examples.specs.Input.{room_in, shows_ready}

@@ -1,7 +1,6 @@
 -- One object that is a port's trigger, output and events object.
 use Rattle.std.specs.Prelude.{◌≡◌, ◌⊎◌, Some}
-use Rattle.vm_superio.specs.Links.OutCalls.{Put, Flush}
-use Rattle.vm_superio.specs.Links.ObjectCalls.{ObjectCall, ToTrigger, ToOut, ToEvents}
+use Rattle.vm_superio.specs.Links.{Put, Flush, ObjectCall, ToTrigger, ToOut, ToEvents}
 use Rattle.superio_examples.specs.declared.monitor_object.MonitorObject.{MonitorObject}
 
 -- the object after one more call, whatever it answered

@@ -2,10 +2,9 @@
 use Rattle.std.specs.Prelude.{◌≡◌, ℕ, ◌+◌, ◌-◌, ◌%◌, Bool, ◌||◌, ◌==◌, List, [], ◌∷◌, Result, Ok}
 use Rattle.std.specs.Result.{result_and}
 use Rattle.std.specs.Bool.{OnTrue, OnFalse}
-use Rattle.superio_core.specs.Serial.Port.Operations.{Event}
-use Rattle.vm_superio.specs.Links.Objects.{Link, TriggerAnswer}
-use Rattle.vm_superio.specs.Links.OutCalls.{OutCall}
-use Rattle.vm_superio.specs.Serial.Step.PortStep.{IsReadStep}
+use Rattle.superio_core.specs.Serial.Operations.{Event}
+use Rattle.vm_superio.specs.Links.{Link, TriggerAnswer, OutCall}
+use Rattle.vm_superio.specs.Serial.Step.{IsReadStep}
 use Rattle.superio_examples.specs.declared.bus.Bus.{Bus}
 use Rattle.superio_examples.specs.declared.bus.BusError.{BusError}
 use Rattle.superio_examples.specs.Bus.{is_serial, is_i8042, is_vacant, is_reset, controller_byte, ForwardsWrite, ForwardsReset}

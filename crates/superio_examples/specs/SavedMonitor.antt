@@ -1,7 +1,7 @@
 -- A monitor as plain data.
 use Rattle.std.specs.Prelude.{◌≡◌, ℕ, max, length}
 use Rattle.circular_buffer.specs.Buffer.{Buffer, buffer}
-use Rattle.superio_core.specs.Saved.Form.{serial_form, clock_form}
+use Rattle.superio_core.specs.Saved.{serial_form, clock_form}
 use Rattle.superio_examples.specs.Monitor.{Machine}
 use Rattle.superio_examples.specs.Output.{Waiting}
 use Rattle.superio_examples.specs.declared.saved_monitor.SavedMonitor.{SavedMonitor}

@@ -1,6 +1,6 @@
 //! A clock's interrupt line, and the moment at which a monitor's timer finds its alarm.
 ghost use Rattle.std.specs.Prelude.{◌≡◌};
-ghost use Rattle.superio_core.specs.Rtc.Registers.{host_time};
+ghost use Rattle.superio_core.specs.Rtc.{host_time};
 ghost use Rattle.superio_core.specs.Rtc.Step.{after_alarm};
 ghost use Rattle.superio_examples.specs.Alarm.{ShowsAlarm};
 

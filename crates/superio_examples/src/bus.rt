@@ -1,11 +1,10 @@
 //! A bus that forwards a guest's port I/O to a serial port and a reset controller, by port number.
-ghost use Rattle.vm_superio.specs.Links.OutCalls.{WriterCalls};
+ghost use Rattle.vm_superio.specs.Links.{WriterCalls};
 ghost use Rattle.std.specs.Prelude.{◌≡◌, ◌-◌, ◌||◌, if◌then◌else◌, Some, None};
 ghost use Rattle.std.specs.Bool.{OnTrue, OnFalse};
-ghost use Rattle.superio_core.specs.Serial.Port.Coherent.{Coherent};
-ghost use Rattle.vm_superio.specs.Serial.Step.PortStep.{IsReadStep};
-ghost use Rattle.superio_examples.specs.Bus.{is_serial, is_i8042, is_vacant, is_reset, controller_byte};
-ghost use Rattle.superio_examples.specs.Bus.{ForwardsWrite, ForwardsReset};
+ghost use Rattle.superio_core.specs.Serial.Port.{Coherent};
+ghost use Rattle.vm_superio.specs.Serial.Step.{IsReadStep};
+ghost use Rattle.superio_examples.specs.Bus.{is_serial, is_i8042, is_vacant, is_reset, controller_byte, ForwardsWrite, ForwardsReset};
 
 use std::io::Write;
 use vm_superio::serial::{Error, SerialEvents};

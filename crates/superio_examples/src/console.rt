@@ -1,13 +1,12 @@
 //! A serial port in a monitor's event loop. The loop stops reading its source while the input is full, retries a
 //! refused interrupt, and lets no received byte wait without one. Input waits until the guest has tested its port.
-ghost use Rattle.vm_superio.specs.Links.OutCalls.{WriterCalls};
+ghost use Rattle.vm_superio.specs.Links.{WriterCalls, all_ok};
 ghost use Rattle.std.specs.Prelude.{◌≡◌, ◌-◌, ◌==◌, ◌++◌, length, take, min, is_some, false, true};
 ghost use Rattle.circular_buffer.specs.Buffer.{buffer};
-ghost use Rattle.superio_core.specs.Serial.Port.Coherent.{Coherent, ShowsHeldBytes};
-ghost use Rattle.vm_superio.specs.Links.Objects.{all_ok};
-ghost use Rattle.vm_superio.specs.Serial.Port.Model.{refusal_in_result};
-ghost use Rattle.superio_core.specs.Serial.Step.Restore.{restore_calls};
-ghost use Rattle.vm_superio.specs.Serial.Step.PortStep.{with_trigger};
+ghost use Rattle.superio_core.specs.Serial.Port.{Coherent, ShowsHeldBytes};
+ghost use Rattle.vm_superio.specs.Serial.{refusal_in_result};
+ghost use Rattle.superio_core.specs.Serial.Step.Raising.{restore_calls};
+ghost use Rattle.vm_superio.specs.Serial.Step.{with_trigger};
 ghost use Rattle.superio_examples.specs.Console.{Feeds, FeedsIf, is_open, TimesOut, TimesOutIf, ReadsThenFeeds, RefusesAgain, WritesThenFeeds};
 ghost use Rattle.superio_examples.specs.Interrupts.{answers_none};
 

@@ -2,10 +2,10 @@
 ghost use Rattle.std.specs.Prelude.{◌≡◌, [], ◌++◌, false, IfOk, OnErr, IsTrue};
 ghost use Rattle.vm_superio.specs.Claims.{is_fresh};
 ghost use Rattle.vm_superio.specs.Serial.History.Registers.{accepted_bytes};
-ghost use Rattle.vm_superio.specs.Serial.Laws.PollingDriver.{driver_bytes, polls_after_data_ready};
-ghost use Rattle.superio_core.specs.Serial.Port.Coherent.{Coherent};
+ghost use Rattle.vm_superio.specs.Serial.Laws.Consequences.{driver_bytes, polls_after_data_ready};
+ghost use Rattle.superio_core.specs.Serial.Port.{Coherent};
 ghost use Rattle.vm_superio.specs.Serial.Run.Three.{ThreeHistory};
-ghost use Rattle.vm_superio.specs.Serial.Run.Trace.{entries_of, trace_of};
+ghost use Rattle.vm_superio.specs.Serial.Run.{entries_of, trace_of};
 
 use std::alloc::{AllocError, Global};
 use std::io::Write;

@@ -1,13 +1,12 @@
 //! Input for a guest. It waits until the serial port's FIFO has room, and no byte of it is lost.
-ghost use Rattle.vm_superio.specs.Links.OutCalls.{WriterCalls};
+ghost use Rattle.vm_superio.specs.Links.{WriterCalls};
 ghost use Rattle.std.specs.Prelude.{◌≡◌, ◌≤◌, ◌+◌, ◌-◌, ℕ, List, [], ◌∷◌, ◌++◌, length, take, drop, min, OnOk, IfOk, IfErr};
 ghost use Rattle.circular_buffer.specs.Buffer.{Buffer, buffer};
-ghost use Rattle.superio_core.specs.Serial.Port.Coherent.{Coherent};
+ghost use Rattle.superio_core.specs.Serial.Port.{Coherent, state_of_port, CoherentPort};
 ghost use Rattle.superio_core.specs.declared.trace.Asked.{Asked};
-ghost use Rattle.superio_core.specs.Serial.Port.Operations.{Enqueue};
-ghost use Rattle.superio_core.specs.Serial.Port.SerialPort.{state_of_port, CoherentPort};
+ghost use Rattle.superio_core.specs.Serial.Operations.{Enqueue};
 ghost use Rattle.superio_core.specs.Serial.Step.Admissible.{step_calls};
-ghost use Rattle.superio_core.specs.Serial.Step.Transition.{step};
+ghost use Rattle.superio_core.specs.Serial.Step.{step};
 ghost use Rattle.superio_examples.specs.Input.{room_in, shows_ready, ForwardsEnqueue};
 
 use circular_buffer::HeapCircularBuffer;

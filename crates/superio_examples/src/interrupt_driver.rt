@@ -2,12 +2,11 @@
 //! Input arrives between the handler's reads too.
 ghost use Rattle.std.specs.Prelude.{◌≡◌, ◌+◌, ◌<◌, ◌≤◌, ◌++◌, [], length, drop, false, true, IfOk, IsTrue};
 ghost use Rattle.superio_core.specs.Bits.{has_bits};
-ghost use Rattle.superio_core.specs.Serial.Port.Bits.{lsr_dr_bit};
-ghost use Rattle.superio_core.specs.Serial.Port.State.{SameSettings};
-ghost use Rattle.superio_core.specs.Serial.Port.Coherent.{ShowsHeldBytes};
-ghost use Rattle.superio_core.specs.Serial.Port.Operations.{count_if};
+ghost use Rattle.superio_core.specs.Serial.{lsr_dr_bit, SameSettings};
+ghost use Rattle.superio_core.specs.Serial.Port.{ShowsHeldBytes};
+ghost use Rattle.superio_core.specs.Serial.Operations.{count_if};
 ghost use Rattle.superio_core.specs.declared.serial.registers.Condition.TheVariants.{Rda};
-ghost use Rattle.superio_core.specs.Serial.Port.Registers.{ier_bit, is_dlab, is_loopback};
+ghost use Rattle.superio_core.specs.Serial.RegisterMap.{ier_bit, is_dlab, is_loopback};
 ghost use Rattle.superio_core.specs.Serial.Step.Raising.{iir_none_bit, enqueued_bytes};
 ghost use Rattle.superio_examples.specs.Interrupts.{IsArrival, IsPartOfRun, EndsRun, IsRunOfDriver, GotFirst, has_waiting, IsAttentive};
 

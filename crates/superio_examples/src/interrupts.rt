@@ -6,12 +6,11 @@ ghost use Rattle.std.specs.Prelude.{◌≡◌, ℕ, length};
 ghost use Rattle.superio_core.specs.declared.trace.Asked.{Asked};
 ghost use Rattle.superio_core.specs.declared.trace.Sent.{Sent};
 ghost use Rattle.superio_core.specs.Bits.{has_bits};
-ghost use Rattle.superio_core.specs.Serial.Port.State.{State, SameSettings};
-ghost use Rattle.superio_core.specs.Serial.Port.Coherent.{Coherent};
-ghost use Rattle.superio_core.specs.Serial.Port.SerialPort.{state_of_port, CoherentPort};
-ghost use Rattle.superio_core.specs.Serial.Port.Operations.{Read, Enqueue, ByteRead};
+ghost use Rattle.superio_core.specs.Serial.{State, SameSettings};
+ghost use Rattle.superio_core.specs.Serial.Port.{Coherent, state_of_port, CoherentPort};
+ghost use Rattle.superio_core.specs.Serial.Operations.{Read, Enqueue, ByteRead};
 ghost use Rattle.superio_core.specs.Serial.Step.Raising.{iir_none_bit, enqueued_bytes};
-ghost use Rattle.superio_core.specs.Serial.Step.Transition.{step, step_response};
+ghost use Rattle.superio_core.specs.Serial.Step.{step, step_response};
 ghost use Rattle.superio_core.specs.Serial.Step.Admissible.{step_calls};
 ghost use Rattle.superio_examples.specs.Interrupts.{more_edges, state_after_read, edges_after_read, IsAttentive};
 

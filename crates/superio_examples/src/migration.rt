@@ -4,8 +4,8 @@
 ghost use Rattle.std.specs.Prelude.{◌≡◌, length, max, Some, None, IfOk, IfErr, IfSome};
 ghost use Rattle.std.specs.Option.{option_or};
 ghost use Rattle.circular_buffer.specs.Buffer.{buffer};
-ghost use Rattle.vm_superio.specs.Serial.Port.SavedState.{state_of};
-ghost use Rattle.superio_core.specs.Saved.Form.{serial_form, clock_form};
+ghost use Rattle.vm_superio.specs.Saved.{state_of};
+ghost use Rattle.superio_core.specs.Saved.{serial_form, clock_form};
 ghost use Rattle.superio_examples.specs.Migration.{first_fault, IsRestoredFrom, ReturnsObjects};
 
 use crate::input::Input;

@@ -3,8 +3,8 @@
 //! A loop around it makes [`Event`]s of what its hypervisor, its terminal and its timers report, passes them to
 //! [`Monitor::run`], and carries out the replies. What `run` claims rests on no object: it calls none.
 ghost use Rattle.std.specs.Prelude.{◌≡◌, ◌≤◌, map, OnOk, OnErr, IfOk, Some};
-ghost use Rattle.superio_core.specs.Serial.Port.SerialPort.{state_of_port};
-ghost use Rattle.superio_core.specs.Serial.Port.Operations.{Read};
+ghost use Rattle.superio_core.specs.Serial.Port.{state_of_port};
+ghost use Rattle.superio_core.specs.Serial.Operations.{Read};
 ghost use Rattle.superio_examples.specs.Monitor.{shown_at, calls_by, after_call};
 
 use crate::alarm::RTCMIS;

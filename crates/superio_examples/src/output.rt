@@ -1,13 +1,12 @@
 //! Output of a guest. It waits until the monitor's sink takes it, and the guest never waits for the sink.
-ghost use Rattle.vm_superio.specs.Links.OutCalls.{WriterCalls};
+ghost use Rattle.vm_superio.specs.Links.{WriterCalls};
 ghost use Rattle.std.specs.Prelude.{◌≡◌, ◌≤◌, ◌-◌, ◌==◌, ◌++◌, [], ◌∷◌, length, drop, min, max, Some, IfOk, OnErr};
 ghost use Rattle.std.specs.Io.{WritesAtMost};
 ghost use Rattle.std.specs.Io.KnownBytes.{WriteAppends, Appends, Keeps};
-ghost use Rattle.superio_core.specs.Serial.Port.Coherent.{Coherent};
-ghost use Rattle.superio_core.specs.Serial.Port.OpKinds.{sent_by};
-ghost use Rattle.superio_core.specs.Serial.Port.Operations.{Write};
+ghost use Rattle.superio_core.specs.Serial.Port.{Coherent};
+ghost use Rattle.superio_core.specs.Serial.Operations.{sent_by, Write};
 ghost use Rattle.superio_core.specs.Serial.Step.Admissible.{kind_in_state};
-ghost use Rattle.vm_superio.specs.Serial.Step.PortStep.{IsWriteStep};
+ghost use Rattle.vm_superio.specs.Serial.Step.{IsWriteStep};
 ghost use Rattle.superio_examples.specs.Output.{Waiting, OutputLaw, after_sent, dropped_by};
 
 use circular_buffer::HeapCircularBuffer;

@@ -1,8 +1,8 @@
 //! Serves a guest's port accesses of any width byte by byte, as the bus of a PC does for 8-bit devices.
-ghost use Rattle.vm_superio.specs.Links.OutCalls.{WriterCalls};
+ghost use Rattle.vm_superio.specs.Links.{WriterCalls};
 ghost use Rattle.std.specs.Prelude.{◌≡◌, [], ◌∷◌, length, replicate};
 ghost use Rattle.std.specs.Bool.{OnTrue, OnFalse};
-ghost use Rattle.superio_core.specs.Serial.Port.Coherent.{Coherent};
+ghost use Rattle.superio_core.specs.Serial.Port.{Coherent};
 ghost use Rattle.superio_examples.specs.PortIo.{is_width, ReadsBytes, WritesBytes};
 
 use crate::bus::{Bus, BusError};

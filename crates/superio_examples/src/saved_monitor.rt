@@ -1,6 +1,6 @@
 //! A monitor as plain data: it goes on from there on another machine, as if nothing had happened.
 ghost use Rattle.std.specs.Prelude.{◌≡◌, ◌++◌, IfOk};
-ghost use Rattle.superio_core.specs.Saved.Laws.{IsClock};
+ghost use Rattle.superio_core.specs.Saved.{IsClock};
 ghost use Rattle.superio_examples.specs.Monitor.{Machine, machine_of, after, replies_to};
 ghost use Rattle.superio_examples.specs.SavedMonitor.{IsSavedAs, saved_input, saved_output};
 

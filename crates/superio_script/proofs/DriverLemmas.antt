@@ -1,22 +1,20 @@
 -- A driver that reads while LSR shows data ready takes all bytes of a port in a coherent state, and stops in any state.
-use Rattle.std.proofs.Common.{◌≡◌, ◌≢◌, lit<, ℕ, zero, suc, ◌+◌, ◌-◌, ◌<◌, ◌≤◌, Bool, true, false, ◌==◌, List, [], ◌∷◌, ◌++◌, length, refl, ap, sym, ◌∙◌, subst, arith}
+use Rattle.std.proofs.Common.{◌≡◌, ◌≢◌, lit<, ℕ, zero, suc, ◌+◌, ◌-◌, ◌<◌, ◌≤◌, Bool, true, false, ◌==◌, List, [], ◌∷◌, ◌++◌, length, refl, ap, sym, ◌∙◌, subst, arith, ◌↔◌, IsTrue, bit_and, drop, slice_index, if◌then◌else◌, ◌&&◌}
 use Rattle.std.proofs.Math.Nat.{mod-lt}
 use Rattle.std.proofs.lemmas.Bool.{false≢true}
 use Rattle.std.specs.Int.Bits.{and_mask}
-use Rattle.std.specs.Prelude.{◌↔◌, IsTrue, bit_and, drop, slice_index, if◌then◌else◌, ◌&&◌}
 use Rattle.superio_core.specs.declared.trace.Asked.TheVariants.{Nothing}
 use Rattle.superio_core.specs.Bits.{has_bits, without_bits}
-use Rattle.superio_core.specs.Serial.Port.State.{State, not_empty}
-use Rattle.superio_core.specs.Serial.Port.Coherent.{Coherent}
+use Rattle.superio_core.specs.Serial.{State, not_empty}
+use Rattle.superio_core.specs.Serial.Port.{Coherent}
 use Rattle.superio_core.specs.declared.serial.registers.Register.TheVariants.{RbrThr}
-use Rattle.superio_core.specs.Serial.Port.Registers.{register_at, is_dlab, register_read, identification_of}
-use Rattle.superio_core.specs.Serial.Port.Operations.{Read, Response, ByteRead, Event, buffer_read, in_buffer_empty}
-use Rattle.vm_superio.specs.Links.Objects.{Link, TriggerAnswer}
-use Rattle.vm_superio.specs.Links.OutCalls.{OutCall}
-use Rattle.vm_superio.specs.Serial.Port.Model.{Port}
-use Rattle.vm_superio.specs.Serial.Step.PortStep.{IsReadStep}
-use Rattle.superio_core.specs.Serial.Step.Transition.{rbr_read, read_step, step, read_events}
-use Rattle.vm_superio.specs.Serial.Laws.Agreement.{CoherenceLaw}
+use Rattle.superio_core.specs.Serial.RegisterMap.{register_at, is_dlab, register_read, identification_of}
+use Rattle.superio_core.specs.Serial.Operations.{Read, Response, ByteRead, Event, buffer_read, in_buffer_empty}
+use Rattle.vm_superio.specs.Links.{Link, TriggerAnswer, OutCall}
+use Rattle.vm_superio.specs.Serial.{Port}
+use Rattle.vm_superio.specs.Serial.Step.{IsReadStep}
+use Rattle.superio_core.specs.Serial.Step.{rbr_read, read_step, step, read_events}
+use Rattle.vm_superio.specs.Serial.Laws.{CoherenceLaw}
 use Rattle.vm_superio.specs.Serial.Laws.OneCall.{RbrDataReadyLaw}
 use Rattle.superio_script.specs.Driver.{IsReady, ReadsWhileReady, bytes_while_ready, without_bytes, drain_events, TakesAll}
 
@@ -35,9 +33,7 @@ reads_left-few s few = left-few (has_bits s.line_status 0x01) s.in_buffer few
 
 one-less : (held : List ℕ) (ready : Bool) → ready ≡ not_empty (drop 1 held)
     → (if ready then 1 + (length (drop 1 held) - 1) else 0) + 1 ≡ 1 + (length held - 1)
-one-less [] ready is = rw is refl
-one-less (byte ∷ []) ready is = rw is refl
-one-less (byte ∷ next ∷ held) ready is = rw is (omega arith)
+one-less held ready is = grind arith
 
 -- ---- one read
 
@@ -134,17 +130,12 @@ thre-kept : (thre rda : Bool)
     has_bits (if identification == 0 then 0x01 else identification) 0x02)
     ≡ has_bits (identification_of thre rda) 0x02
 unfolding has_bits
-thre-kept false false = refl
-thre-kept false true = refl
-thre-kept true false = refl
-thre-kept true true = refl
+thre-kept thre rda = grind arith
 
 none-pending : (thre rda : Bool) → rda ≡ false
     → identification_of (has_bits (identification_of thre rda) 0x02) false ≡ identification_of thre rda
 unfolding has_bits
-none-pending thre true none = absurd (false≢true (sym none))
-none-pending false false none = refl
-none-pending true false none = refl
+none-pending thre rda none = grind arith
 
 -- LSR after a read that leaves these bytes
 ready-cleared : (left : List ℕ) (line_status : ℕ)

@@ -1,9 +1,7 @@
-pub mod SplittingLemmas
-pub mod ReadLemmas
+pub mod DriverLemmas
+pub mod LineLemmas
 pub mod PartLemmas
 pub mod PortSessionLemmas
-pub mod ClockLineLemmas
-pub mod LoadingLemmas
-pub mod SerialScriptLemmas
-pub mod DriverLemmas
 pub mod ScriptLemmas
+pub mod SerialScriptLemmas
+pub mod SplittingLemmas

@@ -1,9 +1,8 @@
 -- What was written is a first part of the text, whatever ended the run.
-use Rattle.std.proofs.Common.{◌≡◌, ℕ, ◌+◌, List, [], ◌∷◌, ◌++◌, Option, None, Some, refl, ap, sym, ◌∙◌, append_assoc, append-nil, take, drop, take-append-drop}
+use Rattle.std.proofs.Common.{arith, ◌≡◌, ℕ, List, [], ◌∷◌, ◌++◌, Option, None, Some, refl, ap, sym, ◌∙◌, append_assoc, append-nil, take, drop, take-append-drop, IfSome, IsSomeAnd}
 use Rattle.std.proofs.lemmas.List.{append_cancel_left}
 use Rattle.std.specs.Io.KnownBytes.{Keeps, Appends, append_known}
-use Rattle.std.specs.Prelude.{IfSome, IsSomeAnd}
-use Rattle.vm_superio.proofs.Lemmas.Links.Writer.{Appends-nothing}
+use Rattle.vm_superio.proofs.Lemmas.{Appends-nothing}
 use Rattle.superio_script.specs.Board.{Devices, IsLineStep}
 use Rattle.superio_script.specs.Command.{command_of}
 use Rattle.superio_script.specs.Script.{PrintsLines, StopsWithoutMemory, WritesFirst, WritesPart, text_of_lines, good_commands}
@@ -14,10 +13,7 @@ use Rattle.superio_script.proofs.ScriptLemmas.{HasCarriedOut, HasCarriedOut-afte
 
 pub Appends-then_kept :
     (before middle after : Option (List ℕ)) (bytes : List ℕ) → Appends before middle bytes → Keeps middle after → Appends before after bytes
-Appends-then_kept None middle after bytes first kept = tt
-Appends-then_kept (Some xs) None after bytes first kept = absurd first
-Appends-then_kept (Some xs) (Some ys) None bytes first kept = kept
-Appends-then_kept (Some xs) (Some ys) (Some zs) bytes first kept = kept ∙ first
+Appends-then_kept before middle after bytes first kept = grind arith
 
 -- so much was written, and then more of the rest
 pub whole_then : (bytes written rest : List ℕ) (count : ℕ) → bytes ≡ written ++ rest → bytes ≡ (written ++ take count rest) ++ drop count rest

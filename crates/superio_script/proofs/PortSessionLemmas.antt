@@ -1,28 +1,23 @@
 -- A session is where the steps of its calls lead: from a coherent start by the laws of the history, from any other by
 -- definition.
-use Rattle.std.proofs.Common.{◌≡◌, ℕ, Bool, true, false, not, ◌&&◌, List, [], ◌∷◌, length, ◌≤◌, Option, Some, None, refl, ap, sym, ◌∙◌, subst, append-nil, arith}
+use Rattle.std.proofs.Common.{◌≡◌, ℕ, Bool, true, false, not, ◌&&◌, List, [], ◌∷◌, length, ◌≤◌, Option, Some, None, refl, ap, sym, ◌∙◌, subst, append-nil, arith, IsTrue, ◌==◌, ◌||◌, nat_le, if◌then◌else◌}
 use Rattle.std.specs.Bool.{beq}
 use Rattle.std.specs.Cmp.Derive.{both_true}
-use Rattle.std.specs.Prelude.{IsTrue, ◌==◌, ◌||◌, nat_le, if◌then◌else◌}
-use Rattle.std.proofs.lemmas.Bool.{and_parts, false≢true, eqb-true}
+use Rattle.std.proofs.lemmas.Bool.{and_parts, eqb-true}
 use Rattle.std.proofs.lemmas.Bool.Decides.{nat_tests}
 use Rattle.superio_core.specs.declared.trace.Asked.{Asked}
 use Rattle.superio_core.specs.declared.trace.Sent.{Sent}
-use Rattle.superio_core.specs.declared.trace.Sent.TheVariants as sent
+use Rattle.superio_core.specs.Serial.Operations.{Op, TraceEntry, Trace, is_sent, is_lost, kind_of, sent_by}
 use Rattle.superio_core.specs.Bits.{has_bits}
-use Rattle.superio_core.specs.Serial.Port.Coherent.{Coherent}
-use Rattle.superio_core.specs.declared.serial.registers.Register.{Register}
-use Rattle.superio_core.specs.declared.serial.registers.Register.TheVariants.{RbrThr, Ier, Iir}
-use Rattle.superio_core.specs.Serial.Port.Registers.{register_at, is_dlab, is_loopback, identification_of}
-use Rattle.superio_core.specs.Serial.Port.State.{State, not_empty}
-use Rattle.superio_core.specs.Serial.Port.Operations.{Op, Read, Write, Enqueue, CharacterTimeout, Restore, TraceEntry, Trace, is_sent, is_lost}
-use Rattle.superio_core.specs.Serial.Port.OpKinds.{read_kind, write_kind, kind_of, sent_by}
+use Rattle.superio_core.specs.Serial.Port.{Coherent}
+use Rattle.superio_core.specs.Serial.RegisterMap.{is_dlab, is_loopback, identification_of}
+use Rattle.superio_core.specs.Serial.{State, not_empty}
 use Rattle.vm_superio.specs.Links.Writer.{bytes_sent}
 use Rattle.superio_core.specs.Serial.Step.Admissible.{step_calls, kind_in_state, is_admissible}
-use Rattle.superio_core.specs.Serial.Step.Restore.{restore_calls}
-use Rattle.superio_core.specs.Serial.Step.Transition.{step_response, step_events}
+use Rattle.superio_core.specs.Serial.Step.Raising.{restore_calls}
+use Rattle.superio_core.specs.Serial.Step.{step_response, step_events}
 use Rattle.vm_superio.specs.Serial.History.Registers.{modem_control}
-use Rattle.vm_superio.specs.Serial.Laws.Agreement.{state_after, RegisterLaw, HeldBytesLaw, StateLaw, ResponseLaw, StepLaw, CoherenceLaw}
+use Rattle.vm_superio.specs.Serial.Laws.{state_after, RegisterLaw, HeldBytesLaw, StateLaw, ResponseLaw, StepLaw, CoherenceLaw}
 use Rattle.superio_script.specs.PortSession.{Session, shows_conditions, is_coherent, CoherenceIsDecided, output_since, known_output, session_from, session_dlab, session_kind, session_held_bytes, session_state, stepped_state, session_calls_due, session_response, session_events, session_restore_calls}
 
 -- ---- a coherent state
@@ -35,27 +30,13 @@ ShowsConditions identification holds_bytes =
 conditions-by : (identification : ℕ) (one two four six holds_bytes : Bool) →
     (one ≡ true → identification ≡ 0x01) → (two ≡ true → identification ≡ 0x02) → (four ≡ true → identification ≡ 0x04) → (six ≡ true → identification ≡ 0x06) →
     IsTrue (one || two || ((four || six) && holds_bytes)) → ShowsConditions identification holds_bytes
-conditions-by identification true two four six holds_bytes is1 is2 is4 is6 shown = (false, false, is1 refl, λ is. absurd (false≢true is))
-conditions-by identification false true four six holds_bytes is1 is2 is4 is6 shown = (true, false, is2 refl, λ is. absurd (false≢true is))
-conditions-by identification false false true six true is1 is2 is4 is6 shown = (false, true, is4 refl, λ is. refl)
-conditions-by identification false false true six false is1 is2 is4 is6 shown = absurd (false≢true shown)
-conditions-by identification false false false true true is1 is2 is4 is6 shown = (true, true, is6 refl, λ is. refl)
-conditions-by identification false false false true false is1 is2 is4 is6 shown = absurd (false≢true shown)
-conditions-by identification false false false false holds_bytes is1 is2 is4 is6 shown = absurd (false≢true shown)
+conditions-by identification one two four six holds_bytes is1 is2 is4 is6 shown = grind arith
 
 shown : (thre rda holds_bytes : Bool) → (IsTrue rda → IsTrue holds_bytes) → IsTrue (shows_conditions (identification_of thre rda) holds_bytes)
-shown false false holds_bytes received = refl
-shown true false holds_bytes received = refl
-shown false true true received = refl
-shown false true false received = absurd (false≢true (received refl))
-shown true true true received = refl
-shown true true false received = absurd (false≢true (received refl))
+shown thre rda holds_bytes received = grind arith
 
 same-by_test : (a b : Bool) → IsTrue (beq a b) → a ≡ b
-same-by_test true true is = refl
-same-by_test true false is = absurd (false≢true is)
-same-by_test false true is = absurd (false≢true is)
-same-by_test false false is = refl
+same-by_test a b is = grind arith
 
 test-of_same : (a b : Bool) → a ≡ b → IsTrue (beq a b)
 test-of_same true b is = rw (← is) refl
@@ -189,38 +170,7 @@ known_output-from session start = kept (known_output session)
 abbrev IsOutcome : (bytes : List ℕ) (outcome : Sent) → Type 0
 IsOutcome bytes outcome = IsTrue (beq (is_sent outcome) (not_empty bytes))
 
-written-none : (offset value : ℕ) (outcome : Sent) → IsOutcome [] outcome → bytes_sent (Write offset value) outcome ≡ []
-written-none offset value sent.Nothing fits = refl
-written-none offset value sent.Out fits = absurd (false≢true fits)
-written-none offset value sent.Lost fits = absurd (false≢true fits)
-
-written-one : (offset value : ℕ) (outcome : Sent) → IsTrue (not (is_lost outcome)) → IsOutcome (value ∷ []) outcome →
-    bytes_sent (Write offset value) outcome ≡ value ∷ []
-written-one offset value sent.Nothing kept fits = absurd (false≢true fits)
-written-one offset value sent.Out kept fits = refl
-written-one offset value sent.Lost kept fits = absurd (false≢true kept)
-
-write-written : (r : Register) (loopback : Bool) (offset value : ℕ) (outcome : Sent) → IsTrue (not (is_lost outcome)) →
-    IsOutcome (sent_by (write_kind r loopback value)) outcome → bytes_sent (Write offset value) outcome ≡ sent_by (write_kind r loopback value)
-write-written RbrThr true offset value outcome kept fits = written-none offset value outcome fits
-write-written RbrThr false offset value outcome kept fits = written-one offset value outcome kept fits
-write-written Ier loopback offset value outcome kept fits = written-none offset value outcome fits
-write-written _ loopback offset value outcome kept fits = written-none offset value outcome fits
-
-read-sends_none : (r : Register) → [] ≡ sent_by (read_kind r)
-read-sends_none RbrThr = refl
-read-sends_none Iir = refl
-read-sends_none _ = refl
-
-enqueue-sends_none : (latch loopback : Bool) (bytes : List ℕ) → [] ≡ sent_by (kind_of latch loopback (Enqueue bytes))
-enqueue-sends_none latch true bytes = refl
-enqueue-sends_none latch false bytes = refl
-
 -- if no byte is lost, the writer took the one that the call sends
 pub written-is_sent : (latch loopback : Bool) (op : Op) (outcome : Sent) → IsTrue (not (is_lost outcome)) →
     IsOutcome (sent_by (kind_of latch loopback op)) outcome → bytes_sent op outcome ≡ sent_by (kind_of latch loopback op)
-written-is_sent latch loopback (Read offset) outcome kept fits = read-sends_none (register_at latch offset)
-written-is_sent latch loopback (Write offset value) outcome kept fits = write-written (register_at latch offset) loopback offset value outcome kept fits
-written-is_sent latch loopback (Enqueue bytes) outcome kept fits = enqueue-sends_none latch loopback bytes
-written-is_sent latch loopback CharacterTimeout outcome kept fits = refl
-written-is_sent latch loopback Restore outcome kept fits = refl
+written-is_sent latch loopback op outcome kept fits = grind arith

@@ -1,23 +1,19 @@
 -- What one good line adds to what was written, whatever is still to come.
-use Rattle.std.proofs.Common.{◌≡◌, ℕ, zero, suc, ◌+◌, ◌≤◌, Bool, true, false, List, [], ◌∷◌, ◌++◌, length, Option, Some, None, Result, Ok, Err, refl, ap, sym, ◌∙◌, subst, arith, append_assoc, append-nil, length-append}
+use Rattle.std.proofs.Common.{◌≡◌, ℕ, zero, suc, ◌+◌, ◌≤◌, Bool, true, false, List, [], ◌∷◌, ◌++◌, length, Option, Some, None, Result, Ok, Err, refl, ap, sym, ◌∙◌, subst, arith, append_assoc, append-nil, length-append, IsTrue, IsSomeAnd, IfSome, is_some, if◌then◌else◌}
 use Rattle.std.specs.Cmp.Derive.{both_true}
 use Rattle.std.proofs.lemmas.Bool.{and_parts, false≢true}
 use Rattle.std.specs.Io.KnownBytes.{Appends}
-use Rattle.std.specs.Prelude.{IsTrue, IsSomeAnd, IfSome, is_some, if◌then◌else◌}
 use Rattle.std.specs.List.{list_all}
 use Rattle.superio_core.specs.declared.trace.Sent.{Sent}
+use Rattle.superio_core.specs.Serial.Operations.{Op, Read, Write, Enqueue, CharacterTimeout, is_sent, OpKind, ThrWrite, sent_by}
 use Rattle.superio_core.specs.declared.trace.Sent.TheVariants as sent
 use Rattle.superio_core.specs.declared.saved.Error.{Error as Fault}
-use Rattle.superio_core.specs.Serial.Port.State.{State, not_empty}
-use Rattle.superio_core.specs.Serial.Port.Operations.{Op, Read, Write, Enqueue, CharacterTimeout, is_sent}
-use Rattle.superio_core.specs.Serial.Port.OpKinds.{OpKind, ThrWrite, sent_by}
-use Rattle.vm_superio.specs.Rtc.Device.{ClockDevice}
-use Rattle.vm_superio.specs.Serial.Port.Model.{Port}
-use Rattle.vm_superio.proofs.Lemmas.Links.Writer.{Appends-nothing, Appends-append}
-use Rattle.vm_superio.proofs.Lemmas.Rtc.FreshClock.{fresh_clock-history}
-use Rattle.superio_script.specs.InterruptLine.{InterruptLine}
-use Rattle.superio_script.specs.Counts.{EventCounts}
-use Rattle.superio_script.specs.Output.{written_bytes}
+use Rattle.superio_core.specs.Serial.{State, not_empty}
+use Rattle.vm_superio.specs.Rtc.{ClockDevice}
+use Rattle.vm_superio.specs.Serial.{Port}
+use Rattle.vm_superio.proofs.Lemmas.{Appends-nothing, Appends-append}
+use Rattle.vm_superio.proofs.Lemmas.Rtc.{fresh_clock-history}
+use Rattle.superio_script.specs.Objects.{InterruptLine, EventCounts, written_bytes}
 use Rattle.superio_script.specs.Command.{command_of, TakesMemory}
 use Rattle.superio_script.specs.Reply.{digits_reply}
 use Rattle.superio_script.specs.Loading.{loaded_port}
@@ -52,10 +48,7 @@ IsPossibleFrom-no_environment None few = record { sent = refl; room = tt; short 
 IsPossibleFrom-no_environment (Some all) few = record { sent = refl; room = omega arith; short = refl }
 
 first-sent : (outcomes : List Sent) → IsTrue (list_all is_sent outcomes) → IsTrue (is_sent (first_outcome outcomes))
-first-sent [] all = refl
-first-sent (sent.Nothing ∷ outcomes) all = absurd (false≢true all)
-first-sent (sent.Out ∷ outcomes) all = refl
-first-sent (sent.Lost ∷ outcomes) all = refl
+first-sent outcomes all = grind arith
 
 first-short : (outputs : List (List ℕ)) → IsTrue (list_all is_short outputs) → IsTrue (is_short (first_output outputs))
 first-short [] all = refl

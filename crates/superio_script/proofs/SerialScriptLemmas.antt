@@ -1,41 +1,35 @@
 -- A line of the serial port is a step of its session.
-use Rattle.std.proofs.Common.{◌≡◌, ℕ, zero, suc, ◌-◌, ◌≤◌, Bool, true, false, List, [], ◌∷◌, ◌++◌, length, Option, Some, None, Result, Ok, Err, refl, ap, sym, ◌∙◌, subst, arith, append_assoc, append-nil, inl, inr}
+use Rattle.std.proofs.Common.{◌≡◌, ℕ, zero, suc, ◌-◌, ◌≤◌, Bool, true, false, List, [], ◌∷◌, ◌++◌, length, Option, Some, None, Result, Ok, Err, refl, ap, sym, ◌∙◌, subst, arith, append_assoc, append-nil, inl, inr, ◌⊎◌, ◌≢◌, IsTrue, IsSome, IfSome, IfOk, if◌then◌else◌, nat_le, not, codes, fold, ◌&&◌}
 use Rattle.std.specs.Cmp.Derive.{both_true}
 use Rattle.std.specs.Option.{option_map}
-use Rattle.std.specs.Prelude.{◌⊎◌, ◌≢◌, IsTrue, IsSome, IfSome, IfOk, if◌then◌else◌, nat_le, not, codes, fold, ◌&&◌}
 use Rattle.std.specs.Bool.{beq}
 use Rattle.std.proofs.lemmas.Bool.{and_parts, false≢true}
 use Rattle.std.proofs.lemmas.Bool.Decides.{nat_tests}
 use Rattle.superio_core.specs.declared.saved.Error.{Error as Fault}
+use Rattle.superio_core.specs.Saved.{serial_form}
 use Rattle.superio_core.specs.declared.trace.Asked.{Asked}
-use Rattle.superio_core.specs.declared.trace.Asked.TheVariants.{Nothing, Took, Refused, TookTook, TookRefused}
 use Rattle.superio_core.specs.declared.trace.Sent.{Sent}
+use Rattle.superio_core.specs.Serial.Operations.{Op, Read, Write, Enqueue, CharacterTimeout, TraceEntry, Response, ByteRead, is_sent, is_lost, ends_in_refusal, OpKind, Arrival, Other, sent_by}
+use Rattle.superio_core.specs.declared.trace.Asked.TheVariants.{Nothing, Took, Refused, TookTook, TookRefused}
 use Rattle.superio_core.specs.declared.trace.Sent.TheVariants as sent
-use Rattle.superio_core.specs.Serial.Port.State.{State, not_empty, fresh_state}
+use Rattle.superio_core.specs.Serial.{State, not_empty, fresh_state}
 use Rattle.superio_core.specs.Bits.{has_bits, only_bits}
-use Rattle.superio_core.specs.Serial.Port.Coherent.{Coherent}
+use Rattle.superio_core.specs.Serial.Port.{Coherent}
 use Rattle.superio_core.specs.declared.serial.registers.Condition.{Condition}
-use Rattle.superio_core.specs.Serial.Port.Registers.{is_dlab, pending_in_order}
-use Rattle.superio_core.specs.Serial.Port.Operations.{Op, Read, Write, Enqueue, CharacterTimeout, TraceEntry, Response, ByteRead, is_sent, is_lost, ends_in_refusal}
-use Rattle.superio_core.specs.Serial.Port.OpKinds.{OpKind, Arrival, Other, sent_by}
+use Rattle.superio_core.specs.Serial.RegisterMap.{is_dlab, pending_in_order}
 use Rattle.superio_core.specs.Serial.Step.Admissible.{answers_all, step_calls, sends_byte, is_admissible}
-use Rattle.superio_core.specs.Serial.Step.Restore.{restore_calls}
-use Rattle.vm_superio.specs.Serial.Step.Restore.{RefusesRestore}
+use Rattle.superio_core.specs.Serial.Step.Raising.{restore_calls}
+use Rattle.vm_superio.specs.Serial.Step.{RefusesRestore, IsPortStep}
 use Rattle.vm_superio.specs.Serial.History.Registers.{kind_at, loopback}
-use Rattle.vm_superio.specs.Serial.History.Reads.{none_lost, output}
-use Rattle.vm_superio.specs.Serial.Laws.Agreement.{StateLaw, StepLaw}
-use Rattle.vm_superio.specs.Links.Objects.{Link, answers_of, all_ok, StopsAtRefusal}
+use Rattle.vm_superio.specs.Serial.History.{none_lost, output}
+use Rattle.vm_superio.specs.Serial.Laws.{StateLaw, StepLaw}
+use Rattle.vm_superio.specs.Links.{Link, answers_of, all_ok, StopsAtRefusal, OutCall, Put, Flush, WriterCalls}
 use Rattle.vm_superio.specs.Links.Writer.{PortLinks, port_links, bytes_sent, outcome_of, AreSendings, OutLink}
-use Rattle.vm_superio.specs.Links.OutCalls.{OutCall, Put, Flush, WriterCalls}
-use Rattle.vm_superio.specs.Serial.Port.Model.{Port, failure_response}
-use Rattle.superio_core.specs.Saved.Form.{serial_form}
-use Rattle.vm_superio.specs.Serial.Step.PortStep.{IsPortStep}
 use Rattle.vm_superio.specs.declared.serial.errors.Error.{Error}
 use Rattle.vm_superio.specs.declared.serial.errors.Error.TheVariants.{Trigger, IOError, FullFifo, Memory}
+use Rattle.vm_superio.specs.Serial.{Port, failure_response}
 use Rattle.vm_superio.specs.Links.FoldsEvents.{FoldsEvents}
-use Rattle.superio_script.specs.InterruptLine.{InterruptLine, fresh_interrupt_line, InterruptLineLink, is_call_refused, interrupt_line_after_call}
-use Rattle.superio_script.specs.Counts.{EventCounts, no_counts, counts_after_event}
-use Rattle.superio_script.specs.Output.{written_bytes}
+use Rattle.superio_script.specs.Objects.{InterruptLine, fresh_interrupt_line, InterruptLineLink, is_call_refused, interrupt_line_after_call, EventCounts, no_counts, counts_after_event, written_bytes}
 use Rattle.superio_script.specs.Reply.{with_lf, response_reply, digits_reply, count_digits, counts_reply}
 use Rattle.superio_script.specs.Loading.{loaded_port, fault_words}
 use Rattle.superio_script.specs.PortSession.{Session, fresh_session, output_since, known_output, is_coherent, session_from, session_dlab, session_kind, session_held_bytes, stepped_state, session_response, session_events, drained_bytes}

@@ -1,10 +1,9 @@
 -- The first piece ends at the first separator. If there is none, it is all of the bytes.
-use Rattle.std.proofs.Common.{◌≡◌, ◌≢◌, ℕ, ◌+◌, ◌<◌, ◌≤◌, ◌==◌, Bool, true, false, cond, ◌-◌, subst, List, [], ◌∷◌, length, take, drop, refl, arith, add-one, one-add}
-use Rattle.std.specs.Prelude.{not, if◌then◌else◌, Some, None, nat_lt}
+use Rattle.std.proofs.Common.{◌≡◌, ◌≢◌, ℕ, ◌+◌, ◌<◌, ◌≤◌, ◌==◌, Bool, true, false, cond, ◌-◌, subst, List, [], ◌∷◌, length, take, drop, refl, arith, add-one, one-add, not, if◌then◌else◌, Some, None, nat_lt}
 use Rattle.std.specs.List.{position, position_or_len}
 use Rattle.std.proofs.lemmas.Bool.Decides.{nat_tests}
 use Rattle.std.proofs.lemmas.List.{take_rest}
-use Rattle.superio_script.specs.Splitting.{prepend_to_first, pieces_of, lines_of}
+use Rattle.superio_script.specs.Fields.{prepend_to_first, pieces_of, lines_of}
 
 module _ (separator : ℕ) (end : List (List ℕ)) where
   -- the first separator of a list, or its length

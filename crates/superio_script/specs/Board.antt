@@ -1,13 +1,11 @@
 -- What a contract sees of a board, and of one line on it.
 use Rattle.std.specs.Prelude.{◌≡◌, ℕ, Bool, false, if◌then◌else◌, List, codes, IfSome, IsTrue}
 use Rattle.superio_core.specs.declared.rtc_pl031.state.RtcState.{RtcState}
-use Rattle.superio_core.specs.Serial.Port.State.{State}
-use Rattle.vm_superio.specs.Serial.Port.Model.{Port}
-use Rattle.superio_core.specs.Rtc.Registers.{fresh_clock}
-use Rattle.vm_superio.specs.Rtc.Device.{ClockDevice}
-use Rattle.superio_script.specs.InterruptLine.{InterruptLine, fresh_interrupt_line}
-use Rattle.superio_script.specs.Counts.{EventCounts, no_counts}
-use Rattle.superio_script.specs.Output.{written_bytes}
+use Rattle.superio_core.specs.Rtc.{fresh_clock}
+use Rattle.superio_core.specs.Serial.{State}
+use Rattle.vm_superio.specs.Serial.{Port}
+use Rattle.vm_superio.specs.Rtc.{ClockDevice}
+use Rattle.superio_script.specs.Objects.{InterruptLine, fresh_interrupt_line, EventCounts, no_counts, written_bytes}
 use Rattle.superio_script.specs.Reply.{with_lf, controller_reply}
 use Rattle.superio_script.specs.PortSession.{Session, fresh_session, known_output, session_state}
 use Rattle.superio_script.specs.SerialScript.{Environment, IsPossible, serial_reply, is_restore_refused, restored_session, session_after_line}

@@ -3,8 +3,7 @@ use Rattle.std.specs.Prelude.{◌≡◌, ℕ, ◌==◌, Bool, true, false, List,
 use Rattle.std.specs.Option.{option_map}
 use Rattle.std.specs.Str.{bytes_eq}
 use Rattle.std.specs.Int.{w8, w16, w32, w64}
-use Rattle.superio_script.specs.Fields.{number, bytes, end}
-use Rattle.superio_script.specs.Splitting.{fields_of}
+use Rattle.superio_script.specs.Fields.{number, bytes, end, fields_of}
 use Rattle.superio_script.specs.declared.command.Command.{Command}
 use Rattle.superio_script.specs.declared.command.Command.TheVariants.{Serial, Clock, Controller}
 use Rattle.superio_script.specs.declared.command.SerialCommand.{SerialCommand}

@@ -2,17 +2,15 @@
 use Rattle.std.specs.Prelude.{◌≡◌, ◌++◌, ℕ, zero, suc, false, if◌then◌else◌, List, [], ◌∷◌, length, IsTrue}
 use Rattle.std.specs.List.{repeat}
 use Rattle.superio_core.specs.Bits.{has_bits, without_bits}
-use Rattle.superio_core.specs.Serial.Port.Bits.{lsr_dr_bit}
-use Rattle.superio_core.specs.Serial.Port.State.{State}
+use Rattle.superio_core.specs.Serial.{lsr_dr_bit, State}
 use Rattle.superio_core.specs.declared.serial.registers.Register.TheVariants.{RbrThr}
-use Rattle.superio_core.specs.Serial.Port.Registers.{register_read, iir_bit, identification_of}
 use Rattle.superio_core.specs.declared.serial.registers.Condition.TheVariants.{Thre}
-use Rattle.superio_core.specs.Serial.Port.Operations.{Event, buffer_read, in_buffer_empty}
-use Rattle.vm_superio.specs.Links.Objects.{Link, TriggerAnswer}
-use Rattle.vm_superio.specs.Links.OutCalls.{OutCall}
-use Rattle.vm_superio.specs.Serial.Port.Model.{Port}
-use Rattle.vm_superio.specs.Serial.Step.PortStep.{IsReadStep}
-use Rattle.superio_core.specs.Serial.Step.Transition.{rbr_read}
+use Rattle.superio_core.specs.Serial.RegisterMap.{register_read, iir_bit, identification_of}
+use Rattle.superio_core.specs.Serial.Operations.{Event, buffer_read, in_buffer_empty}
+use Rattle.vm_superio.specs.Links.{Link, TriggerAnswer, OutCall}
+use Rattle.vm_superio.specs.Serial.{Port}
+use Rattle.vm_superio.specs.Serial.Step.{IsReadStep}
+use Rattle.superio_core.specs.Serial.Step.{rbr_read}
 
 -- LSR shows data ready
 abbrev pub IsReady : (s : State) → Type 0

@@ -5,10 +5,8 @@ use Rattle.hex.specs.Hex.{encode_lower}
 use Rattle.superio_core.specs.declared.rtc_pl031.state.RtcState.{RtcState}
 use Rattle.superio_core.specs.declared.saved.Error.{Error}
 use Rattle.superio_core.specs.declared.saved.Error.TheVariants.{TooShort, NotASavedState, OtherDevice, UnknownVersion, WrongLength, TooManyBytes, InvalidArmed}
-use Rattle.superio_core.specs.Serial.Port.State.{State, state_of_bytes}
-use Rattle.superio_core.specs.Saved.Form.{serial_form, clock_form}
-use Rattle.superio_core.specs.Saved.Faults.{serial_fault, clock_fault}
-use Rattle.superio_core.specs.Saved.Laws.{IsClock}
+use Rattle.superio_core.specs.Saved.{serial_form, clock_form, serial_fault, clock_fault, IsClock}
+use Rattle.superio_core.specs.Serial.{State, state_of_bytes}
 
 -- ---- the states
 

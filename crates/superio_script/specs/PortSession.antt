@@ -4,23 +4,19 @@ use Rattle.std.specs.Bool.{beq}
 use Rattle.std.specs.Option.{option_map}
 use Rattle.superio_core.specs.declared.trace.Asked.{Asked}
 use Rattle.superio_core.specs.declared.trace.Sent.{Sent}
+use Rattle.superio_core.specs.Serial.Operations.{Op, TraceEntry, Trace, Response, Event, OpKind}
 use Rattle.superio_core.specs.Bits.{has_bits}
-use Rattle.superio_core.specs.Serial.Port.Bits.{lsr_dr_bit}
-use Rattle.superio_core.specs.Serial.Port.Coherent.{Coherent}
-use Rattle.superio_core.specs.Serial.Port.State.{fresh_state, State, not_empty}
+use Rattle.superio_core.specs.Serial.{lsr_dr_bit, fresh_state, State, not_empty}
+use Rattle.superio_core.specs.Serial.Port.{Coherent}
 use Rattle.superio_core.specs.declared.serial.registers.Condition.{Condition}
-use Rattle.superio_core.specs.Serial.Port.Operations.{Op, TraceEntry, Trace, Response, Event}
-use Rattle.superio_core.specs.Serial.Port.OpKinds.{OpKind}
-use Rattle.superio_core.specs.Serial.Step.Transition.{step_response, step_events}
+use Rattle.superio_core.specs.Serial.Step.{step_response, step_events}
 use Rattle.superio_core.specs.Serial.Step.Admissible.{step_calls}
-use Rattle.superio_core.specs.Serial.Step.Restore.{restore_calls}
+use Rattle.superio_core.specs.Serial.Step.Raising.{restore_calls}
 use Rattle.vm_superio.specs.Serial.History.Registers.{kind_at, dlab, held_bytes}
-use Rattle.vm_superio.specs.Serial.History.Calls.{calls_due, history_events}
+use Rattle.vm_superio.specs.Serial.History.{calls_due, history_events, none_lost, output, state_of_history, history_response}
 use Rattle.vm_superio.specs.Serial.History.Interrupts.{restore_calls_due}
-use Rattle.vm_superio.specs.Serial.History.Reads.{none_lost, output, state_of_history, history_response}
-use Rattle.vm_superio.specs.Serial.Laws.Agreement.{state_after}
-use Rattle.superio_script.specs.InterruptLine.{InterruptLine, fresh_interrupt_line}
-use Rattle.superio_script.specs.Counts.{EventCounts, no_counts}
+use Rattle.vm_superio.specs.Serial.Laws.{state_after}
+use Rattle.superio_script.specs.Objects.{InterruptLine, fresh_interrupt_line, EventCounts, no_counts}
 use Rattle.superio_script.specs.Driver.{bytes_while_ready}
 
 -- ---- a coherent state

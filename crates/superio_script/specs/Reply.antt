@@ -1,11 +1,14 @@
--- The reply to a line.
+-- The reply to a line, and how a program reports the fault that ended its run.
 use Rattle.std.specs.Prelude.{ℕ, List, [], ◌∷◌, ◌++◌, if◌then◌else◌, codes}
 use Rattle.std.specs.Int.{w64, to_be_bytes}
+use Rattle.std.specs.Fmt.{decimal}
 use Rattle.hex.specs.Hex.{encode_lower}
-use Rattle.superio_core.specs.Serial.Port.Operations.{Response, ByteRead, WriteOk, EnqueueOk, TimeoutOk, TriggerRefused, WriterFailed, FifoFull, OutOfMemory, NoResponse}
+use Rattle.superio_core.specs.Serial.Operations.{Response, ByteRead, WriteOk, EnqueueOk, TimeoutOk, TriggerRefused, WriterFailed, FifoFull, OutOfMemory, NoResponse}
 use Rattle.superio_core.specs.I8042.{is_reset_command}
-use Rattle.superio_script.specs.Counts.{EventCounts}
+use Rattle.superio_script.specs.Objects.{EventCounts}
 use Rattle.superio_script.specs.declared.command.ControllerCommand.{ControllerCommand}
+use Rattle.superio_script.specs.declared.fault.ScriptFault.{ScriptFault}
+use Rattle.superio_script.specs.declared.fault.ScriptFault.TheVariants.{Bad, Io, Memory, TooLong}
 use Rattle.superio_script.specs.declared.command.ControllerCommand.TheVariants as controller
 
 -- ---- the text of a reply
@@ -53,3 +56,19 @@ controller_reply (controller.Read offset) = digits_reply (0 ∷ [])
 -- the reset command, and nothing else, calls the reset line
 controller_reply (controller.Write offset value) =
     with_lf (if is_reset_command offset value then codes "reset" else codes "ok")
+
+-- ---- how a program reports the fault that ended its run
+
+-- its exit status
+abbrev pub status_of : (fault : ScriptFault) → ℕ
+status_of (Bad number) = 1
+status_of Io = 2
+status_of Memory = 3
+status_of TooLong = 4
+
+-- its message, without the LF
+abbrev pub message_of : (fault : ScriptFault) → List ℕ
+message_of (Bad number) = codes "bad line " ++ decimal number
+message_of Io = codes "input or output fault"
+message_of Memory = codes "out of memory"
+message_of TooLong = codes "script too long"

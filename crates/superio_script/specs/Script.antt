@@ -2,7 +2,7 @@
 use Rattle.std.specs.Prelude.{◌≡◌, ℕ, ◌+◌, ◌≤◌, List, [], ◌∷◌, ◌++◌, length, map, if◌then◌else◌, Bool, Option, Some, None, is_some, IsTrue}
 use Rattle.std.specs.List.{list_all}
 use Rattle.std.specs.Io.KnownBytes.{Appends, Consumes, IsAtEnd}
-use Rattle.superio_script.specs.Splitting.{lines_of}
+use Rattle.superio_script.specs.Fields.{lines_of}
 use Rattle.superio_script.specs.Command.{command_of, mask_of, TakesMemory}
 use Rattle.superio_script.specs.Reply.{controller_reply}
 use Rattle.superio_script.specs.PortSession.{Session, fresh_session}

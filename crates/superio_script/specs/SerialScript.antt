@@ -3,14 +3,12 @@
 use Rattle.std.specs.Prelude.{ℕ, zero, suc, ◌+◌, ◌-◌, ◌≤◌, Bool, nat_le, if◌then◌else◌, List, [], ◌∷◌, length, drop, fold, codes, Option, Some, None, Result, Ok, Err, IsTrue}
 use Rattle.std.specs.List.{list_all}
 use Rattle.superio_core.specs.declared.saved.Error.{Error}
+use Rattle.superio_core.specs.Saved.{serial_form}
 use Rattle.superio_core.specs.declared.trace.Asked.{Asked}
 use Rattle.superio_core.specs.declared.trace.Sent.{Sent}
-use Rattle.superio_core.specs.Serial.Port.State.{State, not_empty}
-use Rattle.superio_core.specs.Serial.Port.Operations.{Op, Read, Write, Enqueue, CharacterTimeout, TraceEntry, is_sent, ends_in_refusal}
-use Rattle.superio_core.specs.Serial.Port.OpKinds.{sent_by}
-use Rattle.superio_core.specs.Saved.Form.{serial_form}
-use Rattle.superio_script.specs.InterruptLine.{InterruptLine, is_call_refused, interrupt_line_after_call}
-use Rattle.superio_script.specs.Counts.{counts_after_event}
+use Rattle.superio_core.specs.Serial.Operations.{Op, Read, Write, Enqueue, CharacterTimeout, TraceEntry, is_sent, ends_in_refusal, sent_by}
+use Rattle.superio_core.specs.Serial.{State, not_empty}
+use Rattle.superio_script.specs.Objects.{InterruptLine, is_call_refused, interrupt_line_after_call, counts_after_event}
 use Rattle.superio_script.specs.PortSession.{Session, session_kind, session_held_bytes, known_output, session_from, session_state, session_calls_due, session_response, session_events, session_restore_calls, drained_bytes}
 use Rattle.superio_script.specs.Loading.{loaded_port, fault_words}
 use Rattle.superio_script.specs.Reply.{with_lf, response_reply, digits_reply, count_digits, counts_reply}

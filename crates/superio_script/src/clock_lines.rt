@@ -1,7 +1,7 @@
 //! The lines of the clock.
 ghost use Rattle.std.specs.Prelude.{◌≡◌};
 ghost use Rattle.superio_script.specs.Board.{IsClockLineStep};
-ghost use Rattle.superio_script.specs.Counts.{no_counts};
+ghost use Rattle.superio_script.specs.Objects.{no_counts};
 ghost use Rattle.superio_script.specs.declared.command.ClockCommand.TheVariants.{Read, Write, Save, Load};
 
 use crate::command::ClockCommand;

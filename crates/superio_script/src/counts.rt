@@ -1,6 +1,6 @@
 //! Counts of the events that the devices of a board report.
 ghost use Rattle.std.specs.Prelude.{◌≡◌};
-ghost use Rattle.superio_script.specs.InterruptLine.{saturating_increment};
+ghost use Rattle.superio_script.specs.Objects.{saturating_increment};
 
 use std::marker::Model;
 use vm_superio::rtc_pl031::RtcEvents;
@@ -18,7 +18,7 @@ pub struct Counts {
 }
 
 impl Model for Counts {
-    ghost use Rattle.superio_script.specs.Counts.{EventCounts};
+    ghost use Rattle.superio_script.specs.Objects.{EventCounts};
 
     ghost Value = { EventCounts };
 
@@ -42,7 +42,7 @@ impl Model for Counts {
 }
 
 impl Counts {
-    ghost use Rattle.superio_script.specs.Counts.{no_counts};
+    ghost use Rattle.superio_script.specs.Objects.{no_counts};
 
     /// Counts of 0.
     pub fn new() -> Counts
@@ -103,7 +103,7 @@ impl Counts {
 
 impl SerialEvents for Counts {
     ghost use Rattle.vm_superio.specs.Links.FoldsEvents.{FoldsEvents, FoldsEvents-nil, FoldsEvents-append};
-    ghost use Rattle.superio_script.specs.Counts.{counts_after_event};
+    ghost use Rattle.superio_script.specs.Objects.{counts_after_event};
 
     ghost link = { FoldsEvents counts_after_event };
 
@@ -130,7 +130,7 @@ impl SerialEvents for Counts {
 
 impl RtcEvents for Counts {
     ghost use Rattle.vm_superio.specs.Links.FoldsEvents.{FoldsEvents, FoldsEvents-nil, FoldsEvents-append};
-    ghost use Rattle.superio_script.specs.Counts.{counts_after_clock_event};
+    ghost use Rattle.superio_script.specs.Objects.{counts_after_clock_event};
 
     ghost link = { FoldsEvents counts_after_clock_event };
 

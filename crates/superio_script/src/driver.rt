@@ -1,10 +1,10 @@
 //! A driver on the guest's side of a serial port.
-ghost use Rattle.vm_superio.specs.Links.OutCalls.{WriterCalls};
+ghost use Rattle.vm_superio.specs.Links.{WriterCalls};
 ghost use Rattle.std.specs.Prelude.{◌≡◌, ◌≤◌, [], ◌++◌, length, false, IsTrue};
 ghost use Rattle.superio_core.specs.Bits.{has_bits};
-ghost use Rattle.superio_core.specs.Serial.Port.Bits.{lcr_dlab_bit, lsr_dr_bit};
-ghost use Rattle.superio_core.specs.Serial.Port.Coherent.{Coherent};
-ghost use Rattle.superio_core.specs.Serial.Port.Registers.{is_dlab};
+ghost use Rattle.superio_core.specs.Serial.{lcr_dlab_bit, lsr_dr_bit};
+ghost use Rattle.superio_core.specs.Serial.Port.{Coherent};
+ghost use Rattle.superio_core.specs.Serial.RegisterMap.{is_dlab};
 ghost use Rattle.superio_script.specs.Driver.{ReadsWhileReady, TakesAll};
 
 use arrayvec::ArrayVec;

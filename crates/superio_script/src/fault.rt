@@ -27,7 +27,7 @@ pub enum ScriptFault {
 }
 
 impl ScriptFault {
-    ghost use Rattle.superio_script.specs.ScriptFault.{status_of};
+    ghost use Rattle.superio_script.specs.Reply.{status_of};
 
     /// The exit status of a program that ends with this fault: 1 for a bad line, 2 for input or output, 3 for memory,
     /// and 4 for a script that is too long.
@@ -44,7 +44,7 @@ impl ScriptFault {
 }
 
 impl fmt::Display for ScriptFault {
-    ghost use Rattle.superio_script.specs.ScriptFault.{message_of};
+    ghost use Rattle.superio_script.specs.Reply.{message_of};
     ghost use Rattle.std.specs.Prelude.{Some};
 
     ghost output = { λ fault. Some (message_of fault) };

@@ -1,8 +1,7 @@
 //! The fields of a line, read one after another.
 ghost use Rattle.std.specs.Prelude.{◌≡◌};
 ghost use Rattle.std.specs.Int.{w8, w16, w32, w64};
-ghost use Rattle.superio_script.specs.Splitting.{remaining_fields};
-ghost use Rattle.superio_script.specs.Fields.{bytes_of, field_bytes_of, first_array, first_number, first_bytes, later_fields, end};
+ghost use Rattle.superio_script.specs.Fields.{remaining_fields, bytes_of, field_bytes_of, first_array, first_number, first_bytes, later_fields, end};
 
 use crate::splitting::Fields;
 use arrayvec::ArrayVec;

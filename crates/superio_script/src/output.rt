@@ -18,7 +18,7 @@ pub struct Output {
 }
 
 impl Output {
-    ghost use Rattle.superio_script.specs.Output.{written_bytes};
+    ghost use Rattle.superio_script.specs.Objects.{written_bytes};
 
     /// An empty output.
     pub fn new() -> Output
@@ -38,7 +38,7 @@ impl Output {
 }
 
 impl Write for Output {
-    ghost use Rattle.superio_script.specs.Output.{written_bytes};
+    ghost use Rattle.superio_script.specs.Objects.{written_bytes};
 
     ghost contents = { λ output. Some (written_bytes output) };
 

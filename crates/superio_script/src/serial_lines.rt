@@ -1,7 +1,7 @@
 //! The lines of the serial port.
 ghost use Rattle.std.specs.Prelude.{◌≡◌, ◌<◌, ◌≤◌, length, IfOk, IfErr, OnErr, IsTrue};
-ghost use Rattle.vm_superio.specs.Serial.Port.Model.{write_response, enqueue_response, timeout_response, failure_response};
-ghost use Rattle.vm_superio.specs.Serial.Port.SavedState.{state_of};
+ghost use Rattle.vm_superio.specs.Serial.{write_response, enqueue_response, timeout_response, failure_response};
+ghost use Rattle.vm_superio.specs.Saved.{state_of};
 ghost use Rattle.superio_script.specs.Reply.{response_reply};
 ghost use Rattle.superio_script.specs.Board.{IsSerialLineStep, IsRestore};
 ghost use Rattle.superio_script.specs.Command.{takes_memory};

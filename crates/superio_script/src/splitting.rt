@@ -1,6 +1,6 @@
 //! Bytes split at a separator: a script into lines, and a line into fields.
 ghost use Rattle.std.specs.Prelude.{◌≡◌, ◌≢◌, List, ℕ, [], ◌∷◌, ◌==◌, position, IfSome, IfNone, MatchOption};
-ghost use Rattle.superio_script.specs.Splitting.{pieces_of, fields_of, remaining_fields, lines_of};
+ghost use Rattle.superio_script.specs.Fields.{pieces_of, fields_of, remaining_fields, lines_of};
 
 const SPACE: u8 = b' ';
 

@@ -31,7 +31,7 @@ pub struct Line {
 }
 
 impl Model for Line {
-    ghost use Rattle.superio_script.specs.InterruptLine.{InterruptLine};
+    ghost use Rattle.superio_script.specs.Objects.{InterruptLine};
 
     ghost Value = { InterruptLine };
 
@@ -41,7 +41,7 @@ impl Model for Line {
 }
 
 impl Line {
-    ghost use Rattle.superio_script.specs.InterruptLine.{fresh_interrupt_line};
+    ghost use Rattle.superio_script.specs.Objects.{fresh_interrupt_line};
 
     /// An interrupt line that was never called. Bit k of `mask` names call number k. A mask of 0 refuses no call.
     pub fn new(mask: u64) -> Line
@@ -68,7 +68,7 @@ impl Line {
 impl Trigger for Line {
     type E = LineRefused;
 
-    ghost use Rattle.superio_script.specs.InterruptLine.{InterruptLineLink, InterruptLineLink-append};
+    ghost use Rattle.superio_script.specs.Objects.{InterruptLineLink, InterruptLineLink-append};
 
     ghost link = { InterruptLineLink };
 

@@ -4,14 +4,14 @@ use Rattle.std.specs.Prelude.{◌≡◌, ℕ, Bool, true, false, List}
 pub use Rattle.superio_core.specs.declared.rtc_pl031.state.RtcState.{RtcState}
 pub use Rattle.superio_core.specs.Bits.{has_bits}
 pub use Rattle.superio_core.specs.I8042.{is_reset_command}
-pub use Rattle.superio_core.specs.Rtc.Registers.{fresh_clock, read, write}
+pub use Rattle.superio_core.specs.Rtc.{fresh_clock, read, write}
 pub use Rattle.superio_core.specs.Rtc.Step.{clock_step}
-pub use Rattle.superio_core.specs.Serial.Port.Coherent.{Coherent}
-pub use Rattle.superio_core.specs.Serial.Port.State.{State, fresh_state, not_empty, SameSettings}
-pub use Rattle.vm_superio.specs.Serial.Port.Model.{Port}
-pub use Rattle.vm_superio.specs.Serial.Port.SavedState.{state_of}
+pub use Rattle.superio_core.specs.Serial.Port.{Coherent}
+pub use Rattle.superio_core.specs.Serial.{State, fresh_state, not_empty, SameSettings}
+pub use Rattle.vm_superio.specs.Serial.{Port}
+pub use Rattle.vm_superio.specs.Saved.{state_of}
 use Rattle.superio_core.specs.declared.serial.registers.Condition.TheVariants.{Rda}
-use Rattle.superio_core.specs.Serial.Port.Registers.{is_dlab, is_loopback, ier_bit, iir_bit}
+use Rattle.superio_core.specs.Serial.RegisterMap.{is_dlab, is_loopback, ier_bit, iir_bit}
 
 module _ {T EV W : Type 0} (port : Port T EV W) where
   -- a port in the state of a new one

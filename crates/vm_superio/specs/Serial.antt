@@ -1,6 +1,79 @@
--- The serial port: what it is, the step of one call, the history, runs, and the laws that join them.
-pub mod Port
-pub mod Step
+-- The serial port: what a contract sees of it, and of what its calls return. Below are the step of one call, the
+-- history, runs, and the laws that join them.
 pub mod History
-pub mod Run
 pub mod Laws
+pub mod Run
+pub mod Step
+use Rattle.std.specs.Prelude.{ℕ, Option, Some, None, Result, Ok, Err, List, ◌++◌, codes}
+use Rattle.std.specs.Option.{option_map}
+use Rattle.std.specs.declared.io.Error as io
+pub use Rattle.vm_superio.specs.declared.serial.errors.Error.{Error}
+pub use Rattle.vm_superio.specs.declared.serial.errors.Error.TheVariants.{Trigger, IOError, FullFifo, Memory}
+pub use Rattle.vm_superio.specs.declared.serial.objects.Three.{Three}
+pub use Rattle.vm_superio.specs.declared.serial.out.WriterOut.{WriterOut}
+use Rattle.superio_core.specs.Serial.{State}
+use Rattle.superio_core.specs.Serial.Operations.{Response, WriteOk, EnqueueOk, TimeoutOk, TriggerRefused, WriterFailed, FifoFull, OutOfMemory}
+
+-- the state, and the objects that the port owns
+pub record Port (T EV W : Type 0) : Type 0 where
+  pub state : State
+  pub trigger : T
+  pub events : EV
+  pub out : W
+
+-- the port over one object in all three roles: the state, and the object
+pub record OnePort (O : Type 0) : Type 0 where
+  pub state : State
+  pub objects : O
+
+-- the port over its three objects as one
+abbrev pub one_port : {T EV W : Type 0} → (port : Port T EV W) → OnePort (Three T EV (WriterOut W))
+one_port port = record {
+  state = port.state;
+  objects = record { trigger = port.trigger; events = port.events; out = record { writer = port.out } };
+}
+
+-- what a write or an enqueue returns, as a response, and the refusal in it. Neither takes memory
+abbrev pub failure_response : {E : Type 0} → (error : Error E) → Response
+failure_response (Trigger refusal) = TriggerRefused
+failure_response (IOError fault) = WriterFailed
+failure_response FullFifo = FifoFull
+failure_response Memory = OutOfMemory
+
+abbrev pub write_response : {E : Type 0} → (answer : Result (Unit {0}) (Error E)) → Response
+write_response (Ok done) = WriteOk
+write_response (Err error) = failure_response error
+
+abbrev pub enqueue_response : {E : Type 0} → (answer : Result ℕ (Error E)) → Response
+enqueue_response (Ok count) = EnqueueOk count
+enqueue_response (Err error) = failure_response error
+
+abbrev pub timeout_response : {E : Type 0} → (answer : Result (Unit {0}) (Error E)) → Response
+timeout_response (Ok done) = TimeoutOk
+timeout_response (Err error) = failure_response error
+
+abbrev pub refusal_in_error : {E : Type 0} → (error : Error E) → Option E
+refusal_in_error (Trigger refusal) = Some refusal
+refusal_in_error _ = None
+
+abbrev pub refusal_in_result : {R E : Type 0} → (answer : Result R (Error E)) → Option E
+refusal_in_result (Ok done) = None
+refusal_in_result (Err error) = refusal_in_error error
+
+-- the output's fault that a call returned
+abbrev pub fault_in_error : {E : Type 0} → (error : Error E) → Option io.Error
+fault_in_error (IOError fault) = Some fault
+fault_in_error _ = None
+
+abbrev pub fault_in_result : {R E : Type 0} → (answer : Result R (Error E)) → Option io.Error
+fault_in_result (Ok done) = None
+fault_in_result (Err error) = fault_in_error error
+
+-- ---- what an error of a serial port prints
+
+-- given what the trigger's refusal prints. The text of a writer's fault is not known
+abbrev pub text_of : {E : Type 0} → (E → Option (List ℕ)) → Error E → Option (List ℕ)
+text_of output (Trigger cause) = option_map (λ text. codes "Failed to trigger interrupt: " ++ text) (output cause)
+text_of output (IOError cause) = None
+text_of output FullFifo = Some (codes "No space left in FIFO")
+text_of output Memory = Some (codes "Out of memory")

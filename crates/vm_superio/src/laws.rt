@@ -3,12 +3,9 @@
 //! A step states what one call does to a state, as a device would. The history keeps no state: it searches the start
 //! and the trace of the calls so far for the last write, the bytes not yet taken, and any condition raised and not
 //! acknowledged. The first laws state that both describe the same port. The others follow from one of the two alone.
-ghost use Rattle.vm_superio.specs.Serial.Laws.Agreement.{RegisterLaw, HeldBytesLaw, LineStatusLaw, InterruptLaw, CoherenceLaw, StateLaw, ResponseLaw, StepLaw, CallLaw, RetryLaw, WholeRunLaw};
-ghost use Rattle.vm_superio.specs.Serial.Laws.Consequences.{PendingByPrefixesLaw, TriggerBoundLaw, WaitingBytesLaw, SameReadsLaw, TakenThenHeldLaw, ReadsAreTakenLaw, ReadThenHeldLaw, OutputLaw};
-ghost use Rattle.vm_superio.specs.Serial.Laws.CharacterTimeout.{NoByteWaitsLaw, TimeoutCallsLaw, TimeoutsShowLaw};
-ghost use Rattle.vm_superio.specs.Serial.Laws.InterruptDriver.{OwedAfterRunLaw, TakenAfterRunsLaw};
-ghost use Rattle.vm_superio.specs.Serial.Laws.InterruptLine.{LineAfterLaw, UpAfterCallLaw, GoesUpLaw, StaysUpLaw, LineOfHistoryLaw};
-ghost use Rattle.vm_superio.specs.Serial.Laws.PollingDriver.{PollingDriverLaw, DriverGetsAllLaw, PollsAfterDataReadyLaw};
+ghost use Rattle.vm_superio.specs.Serial.Laws.{RegisterLaw, HeldBytesLaw, LineStatusLaw, InterruptLaw, CoherenceLaw, StateLaw, ResponseLaw, StepLaw, CallLaw, RetryLaw, WholeRunLaw};
+ghost use Rattle.vm_superio.specs.Serial.Laws.Consequences.{PendingByPrefixesLaw, TriggerBoundLaw, WaitingBytesLaw, SameReadsLaw, TakenThenHeldLaw, ReadsAreTakenLaw, ReadThenHeldLaw, OutputLaw, PollingDriverLaw, DriverGetsAllLaw, PollsAfterDataReadyLaw};
+ghost use Rattle.vm_superio.specs.Serial.Laws.Line.{NoByteWaitsLaw, TimeoutCallsLaw, TimeoutsShowLaw, OwedAfterRunLaw, TakenAfterRunsLaw, LineAfterLaw, UpAfterCallLaw, GoesUpLaw, StaysUpLaw, LineOfHistoryLaw};
 ghost use Rattle.vm_superio.specs.Links.Writer.{KnownOutputLaw};
 ghost use Rattle.vm_superio.specs.Serial.Laws.PortRun.{PortRunLaw, PortOutputLaw, PortBoundLaw};
 ghost use Rattle.vm_superio.specs.Serial.Laws.OneCall.{OneCallLaw, OneReadLaw, ReceivedLaw, RbrReadLaw, RbrDataReadyLaw, ThrWriteLaw, OutcomeEventsLaw, TurnedBitsLaw};
@@ -20,14 +17,14 @@ pub use clock::{alarm_due_by_history, clock_is_history, raw_bits_by_history, set
 use std::io::Write;
 
 /// From any start, each register that stores writes holds its last effective one, and MSR never changes.
-#[tactic(auto, using(crate::proofs::Lemmas::Serial::Laws::Registers::register_law))]
+#[tactic(auto, using(crate::proofs::Lemmas::Serial::Laws::register_law))]
 pub fn registers()
     ensures { RegisterLaw }
 {}
 
 /// The held-bytes law, from any start: the bytes in the FIFO are those of the history. LSR shows whether there are any
 /// if the start's LSR did.
-#[tactic(auto, using(crate::proofs::Lemmas::Serial::Laws::HeldBytes::held_bytes_laws))]
+#[tactic(auto, using(crate::proofs::Lemmas::Serial::Laws::held_bytes_laws))]
 pub fn held_bytes()
     ensures bytes { HeldBytesLaw }
     ensures line_status { LineStatusLaw }
@@ -41,14 +38,14 @@ pub fn interrupts()
 {}
 
 /// Every step, even a refused call, keeps a coherent state coherent.
-#[tactic(auto, using(superio_core::proofs::Lemmas::Serial::Laws::Coherence::coherence_law))]
+#[tactic(auto, using(superio_core::proofs::Lemmas::Serial::Coherence::coherence_law))]
 pub fn coherence()
     ensures { CoherenceLaw }
 {}
 
 /// From a coherent start, the state after any trace is that of the history, and a call responds as the history says: a
 /// read with the guest read.
-#[tactic(auto, using(crate::proofs::Lemmas::Serial::Laws::StatesOfHistory::states_of_history_laws))]
+#[tactic(auto, using(crate::proofs::Lemmas::Serial::Laws::StepsOfHistory::states_of_history_laws))]
 pub fn states_of_history()
     ensures state { StateLaw }
     ensures response { ResponseLaw }
@@ -75,7 +72,7 @@ pub fn retries_of_history()
 
 /// From a coherent start, entries connected by steps form a well-formed trace with these responses. They end in the
 /// state that it leads to, which is coherent.
-#[tactic(auto, using(crate::proofs::Lemmas::Serial::Laws::WholeRuns::whole_run_law))]
+#[tactic(auto, using(crate::proofs::Lemmas::Serial::Laws::StepsOfHistory::whole_run_law))]
 pub fn whole_runs()
     ensures { WholeRunLaw }
 {}
@@ -93,28 +90,28 @@ pub fn whole_runs_of_ports()
 
 /// From any start, a condition is pending exactly if it was raised at some point or pending at the start, and no later
 /// point acknowledged it.
-#[tactic(auto, using(crate::proofs::Lemmas::Serial::Laws::PendingByPrefixes::pending_by_prefixes_law))]
+#[tactic(auto, using(crate::proofs::Lemmas::Serial::Laws::Consequences::pending_by_prefixes_law))]
 pub fn pending_by_prefixes()
     ensures { PendingByPrefixesLaw }
 {}
 
 /// From any start, a well-formed trace calls the trigger at most twice, plus twice for each IIR read and once for each
 /// RBR read. Calls of restores do not count.
-#[tactic(auto, using(crate::proofs::Lemmas::Serial::Laws::TriggerBound::trigger_bound_law))]
+#[tactic(auto, using(crate::proofs::Lemmas::Serial::Laws::Consequences::trigger_bound_law))]
 pub fn trigger_bound()
     ensures { TriggerBoundLaw }
 {}
 
 /// From any start, after a byte is accepted or IER is written, and until IIR or RBR is read, RDA is pending whenever
 /// bytes are held and IER enables it.
-#[tactic(auto, using(crate::proofs::Lemmas::Serial::Laws::WaitingBytes::waiting_bytes_law))]
+#[tactic(auto, using(crate::proofs::Lemmas::Serial::Laws::Consequences::waiting_bytes_law))]
 pub fn waiting_bytes()
     ensures { WaitingBytesLaw }
 {}
 
 /// From any start, right after a character timeout no byte waits without an interrupt: if bytes are held and IER
 /// enables RDA, it is pending. If it was not pending before, the trigger is called once, and otherwise not at all.
-#[tactic(auto, using(crate::proofs::Lemmas::Serial::Laws::CharacterTimeout::no_byte_waits_laws))]
+#[tactic(auto, using(crate::proofs::Lemmas::Serial::Laws::InterruptDriver::no_byte_waits_laws))]
 pub fn no_byte_waits()
     ensures pending { NoByteWaitsLaw }
     ensures called { TimeoutCallsLaw }
@@ -145,20 +142,20 @@ pub fn interrupt_line()
 
 /// From any start, two traces with the same operations and trigger answers, restores left out, give the same guest
 /// reads, whatever the writer did.
-#[tactic(auto, using(crate::proofs::Lemmas::Serial::Laws::SameReads::same_reads_law))]
+#[tactic(auto, using(crate::proofs::Lemmas::Serial::Laws::Reads::same_reads_law))]
 pub fn same_reads()
     ensures { SameReadsLaw }
 {}
 
 /// From any start, the bytes taken, then those held, are those held at the start, then those accepted.
-#[tactic(auto, using(crate::proofs::Lemmas::Serial::Laws::HeldBytes::taken_then_held))]
+#[tactic(auto, using(crate::proofs::Lemmas::Serial::Laws::taken_then_held))]
 pub fn taken_then_held()
     ensures { TakenThenHeldLaw }
 {}
 
 /// From any start, if calls respond as the history says, the bytes that they give a guest from the FIFO are those that
 /// they take. So the bytes read, then those held, are those held at the start, then those accepted.
-#[tactic(auto, using(crate::proofs::Lemmas::Serial::Laws::ReadsAreTaken::reads_are_taken_laws))]
+#[tactic(auto, using(crate::proofs::Lemmas::Serial::Laws::Reads::reads_are_taken_laws))]
 pub fn reads_are_taken()
     ensures taken { ReadsAreTakenLaw }
     ensures held { ReadThenHeldLaw }
@@ -168,7 +165,7 @@ pub fn reads_are_taken()
 /// the start, then those accepted. If LSR does not show data ready in the end, it got all of these bytes. A driver
 /// polls if it reads RBR only after a read of LSR has shown data ready since its previous RBR read. Other calls in
 /// between do not matter.
-#[tactic(auto, using(crate::proofs::Lemmas::Serial::Laws::PollingDriver::polling_driver_laws))]
+#[tactic(auto, using(crate::proofs::Lemmas::Serial::Laws::Reads::polling_driver_laws))]
 pub fn polling_driver()
     ensures bytes { PollingDriverLaw }
     ensures all { DriverGetsAllLaw }
@@ -176,13 +173,13 @@ pub fn polling_driver()
 {}
 
 /// A writer of known contents that lost no byte has grown by the bytes that were sent to it.
-#[tactic(auto, using(crate::proofs::Lemmas::Links::Writer::known_output_law))]
+#[tactic(auto, using(crate::proofs::Lemmas::known_output_law))]
 pub fn known_output<W: Write>()
     ensures { KnownOutputLaw W.contents }
 {}
 
 /// From any start, the bytes that the newest entries of a well-formed trace record as sent are the output.
-#[tactic(auto, using(crate::proofs::Lemmas::Serial::Laws::Output::output_law))]
+#[tactic(auto, using(crate::proofs::Lemmas::Serial::Laws::Consequences::output_law))]
 pub fn output()
     ensures { OutputLaw }
 {}
@@ -203,7 +200,7 @@ pub fn one_call()
 
 /// In any state, a THR write outside loopback reports either `out_byte` or `tx_lost_byte`, exactly once. No other call
 /// does.
-#[tactic(auto, using(crate::proofs::Lemmas::Serial::Laws::OutcomeEvents::events_law))]
+#[tactic(auto, using(crate::proofs::Lemmas::Serial::Laws::OneCall::events_law))]
 pub fn outcome_events()
     ensures { OutcomeEventsLaw }
 {}

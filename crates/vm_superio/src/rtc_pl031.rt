@@ -9,15 +9,9 @@
 ghost use Rattle.std.specs.Prelude.{◌≡◌, ◌↔◌, ◌<◌, ◌^◌, List, [], ◌∷◌, ◌++◌, IfSome, is_some, not, false};
 ghost use Rattle.std.specs.Bool.{OnTrue, OnFalse};
 ghost use Rattle.std.proofs.Common.{◌∙◌};
-ghost use Rattle.superio_core.specs.Rtc.Alarm.{is_line_up, IsAlarmDue};
-ghost use Rattle.vm_superio.specs.Rtc.Events.{RtcEvent, invalid_read, invalid_write};
-ghost use Rattle.superio_core.specs.Rtc.Clock.{state_of_clock};
-ghost use Rattle.superio_core.specs.Rtc.Registers.{read, write, write_of, clock_register_at, is_readable, is_writable};
-ghost use Rattle.superio_core.specs.Rtc.Registers.{host_time, bytes_left};
-ghost use Rattle.vm_superio.specs.Rtc.Device.{ClockDevice, clock_events};
-ghost use Rattle.superio_core.specs.Rtc.Step.{after_alarm, clock_response, clock_step};
-ghost use Rattle.superio_core.specs.Rtc.Registers.{fresh_clock};
-ghost use Rattle.vm_superio.specs.Rtc.Laws.{ReadsByHistory, GoesOnByHistory};
+ghost use Rattle.superio_core.specs.Rtc.Step.{is_line_up, IsAlarmDue, after_alarm, clock_response, clock_step};
+ghost use Rattle.vm_superio.specs.Rtc.{RtcEvent, invalid_read, invalid_write, ClockDevice, clock_events, ReadsByHistory, GoesOnByHistory};
+ghost use Rattle.superio_core.specs.Rtc.{state_of_clock, read, write, write_of, clock_register_at, is_readable, is_writable, host_time, bytes_left, fresh_clock};
 
 use std::marker::Model;
 pub use superio_core::rtc_pl031::{Clock, ClockRegister, RtcState, saved_form};
@@ -137,7 +131,7 @@ impl Rtc<NoEvents> {
 impl<EV: RtcEvents> Rtc<EV> {
     ghost use Rattle.std.specs.Borrow.{Lends, sem};
     ghost use Rattle.vm_superio.specs.contracts.rtc_pl031.Rtc.{the_row};
-    ghost use Rattle.vm_superio.specs.Rtc.Device.{with_clock_events};
+    ghost use Rattle.vm_superio.specs.Rtc.{with_clock_events};
 
     /// Makes a clock from `state`, whatever its values, that owns the events object `rtc_events`. Does not call the
     /// object.

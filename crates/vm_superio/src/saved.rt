@@ -13,7 +13,7 @@ pub enum Error {
 }
 
 impl fmt::Display for Error {
-    ghost use Rattle.vm_superio.specs.Serial.Port.SavedText.{text_of};
+    ghost use Rattle.vm_superio.specs.Saved.{text_of};
 
     ghost output = { text_of };
 

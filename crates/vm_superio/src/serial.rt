@@ -1,12 +1,11 @@
 //! A serial port with the registers of a 16550.
-ghost use Rattle.vm_superio.specs.Links.OutCalls.{WriterCalls};
+ghost use Rattle.vm_superio.specs.Links.{WriterCalls, all_ok, RefusesOwnState};
 ghost use Rattle.std.specs.Prelude.{◌≡◌, ◌<◌, ◌≤◌, ◌+◌, ◌-◌, ◌==◌, not, ℕ, [], ◌∷◌, ◌++◌, if◌then◌else◌, false, length, vec_len, IsErr, IfOk, OnOk, OnErr, IfErr};
-ghost use Rattle.superio_core.specs.Serial.Port.Coherent.{Coherent};
-ghost use Rattle.vm_superio.specs.Links.Objects.{all_ok, RefusesOwnState};
-ghost use Rattle.superio_core.specs.Serial.Port.State.{fresh_state};
-ghost use Rattle.vm_superio.specs.Serial.Port.SavedState.{state_of};
-ghost use Rattle.superio_core.specs.Serial.Step.Restore.{is_line_up, restore_calls};
-ghost use Rattle.vm_superio.specs.Serial.Step.Restore.{RefusesRestore};
+ghost use Rattle.superio_core.specs.Serial.Port.{Coherent};
+ghost use Rattle.superio_core.specs.Serial.{fresh_state};
+ghost use Rattle.vm_superio.specs.Saved.{state_of};
+ghost use Rattle.superio_core.specs.Serial.Step.Raising.{is_line_up, restore_calls};
+ghost use Rattle.vm_superio.specs.Serial.Step.{RefusesRestore};
 
 mod errors;
 mod events;
@@ -50,8 +49,8 @@ pub struct Serial<T: Trigger, EV: SerialEvents, W: Write> {
 }
 
 impl<T: Trigger, EV: SerialEvents, W: Write> Model for Serial<T, EV, W> {
-    ghost use Rattle.vm_superio.specs.Serial.Port.Model.{Port};
-    ghost use Rattle.superio_core.specs.Serial.Port.State.{state_with};
+    ghost use Rattle.vm_superio.specs.Serial.{Port};
+    ghost use Rattle.superio_core.specs.Serial.{state_with};
 
     ghost Value = { Port T EV W };
 
@@ -95,20 +94,20 @@ impl<T: Trigger, EV: SerialEvents, W: Write> Serial<T, EV, W> {
     ghost use Rattle.std.specs.Borrow.{Lends, sem};
     ghost use Rattle.vm_superio.specs.Links.Writer.{taken_calls};
     ghost use Rattle.vm_superio.specs.contracts.serial.Serial.{the_row};
-    ghost use Rattle.vm_superio.specs.Serial.Step.PortStep.{with_trigger, with_events, with_writer};
-    ghost use Rattle.vm_superio.specs.Serial.Step.PortStep.{IsReadStep, IsWriteStep, IsEnqueueStep, IsTimeoutStep, IsRetryStep};
-    ghost use Rattle.vm_superio.specs.Serial.Step.Fate.{WriteFate, EnqueueFate, TimeoutFate};
+    ghost use Rattle.vm_superio.specs.Serial.Step.{with_trigger, with_events, with_writer};
+    ghost use Rattle.vm_superio.specs.Serial.Step.{IsReadStep, IsWriteStep, IsEnqueueStep, IsTimeoutStep, IsRetryStep};
+    ghost use Rattle.vm_superio.specs.Serial.Step.{WriteFate, EnqueueFate, TimeoutFate};
     ghost use Rattle.vm_superio.specs.Links.Three.{ThreeLink};
-    ghost use Rattle.vm_superio.specs.Links.WriterOut.{WriterLink};
+    ghost use Rattle.vm_superio.specs.Links.Writer.{WriterLink};
     ghost use Rattle.vm_superio.specs.Serial.Step.ObjectStep.{one_port};
-    ghost use Rattle.vm_superio.specs.Serial.Run.Steps.{IsRun};
+    ghost use Rattle.vm_superio.specs.Serial.Step.ObjectStep.{IsRun};
     ghost use Rattle.vm_superio.specs.Serial.Run.Three.{ThreeHistory};
-    ghost use Rattle.superio_core.specs.Serial.Port.Coherent.{ShowsHeldBytes};
+    ghost use Rattle.superio_core.specs.Serial.Port.{ShowsHeldBytes};
     ghost use Rattle.superio_core.specs.Serial.Step.Admissible.{kind_in_state, sends_byte};
-    ghost use Rattle.superio_core.specs.Serial.Port.Operations.{Read, Write};
-    ghost use Rattle.superio_core.specs.Serial.Port.OpKinds.{Other, sent_by};
-    ghost use Rattle.superio_core.specs.Serial.Port.Registers.{is_dlab};
-    ghost use Rattle.superio_core.specs.Serial.Port.State.{SameSettings};
+    ghost use Rattle.superio_core.specs.Serial.Operations.{Read, Write};
+    ghost use Rattle.superio_core.specs.Serial.Operations.{Other, sent_by};
+    ghost use Rattle.superio_core.specs.Serial.RegisterMap.{is_dlab};
+    ghost use Rattle.superio_core.specs.Serial.{SameSettings};
     ghost use Rattle.superio_core.specs.Serial.Step.Raising.{enqueued_bytes};
 
     /// Makes a serial port as `new` does, but reports events to `serial_evts`. Calls neither the trigger nor the events

@@ -1,2 +1,151 @@
-pub mod Examples
-pub mod Forms
+-- Lemmas on the byte form of a saved state. Other crates' proofs use the public ones too.
+use Rattle.std.proofs.Common.{◌≡◌, ℕ, ◌<◌, ◌^◌, Bool, true, false, ap, sym, ◌∙◌, arith, refl, List, drop, ◌==◌, slice_index, Some, None, IfOk, Result, Ok, Err, ℤ, pos, negsuc, FitsSigned, length, [], ◌∷◌, take, ◌++◌, replicate}
+use Rattle.std.specs.Result.{result_err}
+use Rattle.std.specs.Int.{w32, w64, to_le_bytes, from_le_bytes, cast_unsigned, cast_signed}
+use Rattle.std.proofs.lemmas.Int.{to_z-of_z}
+use Rattle.std.proofs.lemmas.Nat.{from_le_bytes-to_le_bytes_4, from_le_bytes-to_le_bytes_8}
+use Rattle.superio_core.specs.declared.rtc_pl031.state.RtcState.{RtcState}
+use Rattle.superio_core.specs.Saved.{Error, flag, clock_form, clock_fault, IsClock, SerialFormLaw, ClockFormLaw, OneSerialStateLaw, OneClockStateLaw, serial_form, serial_fault, TooShort, NotASavedState, OtherDevice, UnknownVersion, WrongLength, TooManyBytes, InvalidArmed}
+use Rattle.superio_core.specs.Serial.{state_of_bytes, fresh_state, State}
+
+-- the numbers at their places
+abbrev pub numbers_in : (bytes : List ℕ) → RtcState
+numbers_in bytes = record {
+  lr = from_le_bytes w32 (drop 8 bytes);
+  mr = from_le_bytes w32 (drop 12 bytes);
+  imsc = from_le_bytes w32 (drop 16 bytes);
+  ris = from_le_bytes w32 (drop 20 bytes);
+  offset = cast_signed w64 (from_le_bytes w64 (drop 24 bytes));
+  armed = slice_index bytes 32 == 1;
+}
+
+of-same : (lr mr imsc ris lr' mr' imsc' ris' : ℕ) (offset offset' : ℤ) (armed armed' : Bool) →
+    lr ≡ lr' → mr ≡ mr' → imsc ≡ imsc' → ris ≡ ris' → offset ≡ offset' → armed ≡ armed' →
+    let a : RtcState = record { lr = lr; offset = offset; mr = mr; imsc = imsc; ris = ris; armed = armed } in
+    let b : RtcState = record { lr = lr'; offset = offset'; mr = mr'; imsc = imsc'; ris = ris'; armed = armed' } in
+    a ≡ b
+of-same lr mr imsc ris lr' mr' imsc' ris' offset offset' armed armed' e f g h i j = cc
+
+flag-back : (set : Bool) → (flag set == 1) ≡ set
+flag-back true = refl
+flag-back false = refl
+
+offset-bits : (offset : ℤ) → FitsSigned w64 offset → cast_unsigned w64 offset < 2 ^ 64
+offset-bits (pos n) fits = let small : n < 2 ^ 63 = fits.sfits in omega arith
+offset-bits (negsuc n) fits = omega arith
+
+offset-back : (offset : ℤ) (n : ℕ) → n ≡ cast_unsigned w64 offset → n < 2 ^ 64 → cast_signed w64 (from_le_bytes w64 (to_le_bytes w64 n)) ≡ cast_signed w64 (cast_unsigned w64 offset)
+offset-back offset n e h = ap (cast_signed w64) (from_le_bytes-to_le_bytes_8 n h ∙ e)
+
+-- they are those of the state that has this form
+pub numbers_in-form : (state : RtcState) → IsClock state → numbers_in (clock_form state) ≡ state
+numbers_in-form state fits =
+    of-same _ _ _ _ _ _ _ _ _ _ _ _
+    (from_le_bytes-to_le_bytes_4 state.lr fits.lr)
+    (from_le_bytes-to_le_bytes_4 state.mr fits.mr)
+    (from_le_bytes-to_le_bytes_4 state.imsc fits.imsc)
+    (from_le_bytes-to_le_bytes_4 state.ris fits.ris)
+    (offset-back state.offset (cast_unsigned w64 state.offset) refl (offset-bits state.offset fits.offset) ∙ to_z-of_z w64 state.offset fits.offset)
+    (flag-back state.armed)
+
+pub one_clock_state : OneClockStateLaw
+one_clock_state a b a_fits b_fits same =
+    sym (numbers_in-form a a_fits) ∙ ap numbers_in same ∙ numbers_in-form b b_fits
+
+pub one_serial_state : OneSerialStateLaw
+one_serial_state a b same = ap (λ (bytes : List ℕ). state_of_bytes (drop 8 bytes)) same
+
+pub serial_form_has_no_fault : SerialFormLaw
+serial_form_has_no_fault state few = grind arith
+
+clock_form_has_no_fault-by : (set : Bool) (state : RtcState) → state.armed ≡ set → clock_fault (clock_form state) ≡ None
+clock_form_has_no_fault-by true state is = rw is refl
+clock_form_has_no_fault-by false state is = rw is refl
+
+pub clock_form_has_no_fault : ClockFormLaw
+clock_form_has_no_fault state = clock_form_has_no_fault-by state.armed state refl
+
+-- what is read of the form of a state is this state
+pub clock_form_read : (bytes : List ℕ) (result : Result RtcState Error) → IfOk result IsClock →
+    IfOk result (λ state. bytes ≡ clock_form state) → result_err result ≡ clock_fault bytes →
+    (state : RtcState) → IsClock state → bytes ≡ clock_form state → result ≡ Ok state
+clock_form_read bytes (Ok found) numbers form fault state fits is = ap Ok (one_clock_state found state numbers fits (sym form ∙ is))
+clock_form_read bytes (Err error) numbers form fault state fits is =
+    let none : Some error ≡ None = fault ∙ ap clock_fault is ∙ clock_form_has_no_fault state in cc
+
+-- ---- what the laws rest on
+
+pub ruleset one_state_of_a_form_laws = (one_serial_state, one_clock_state)
+
+pub ruleset forms_are_read_laws = (serial_form_has_no_fault, clock_form_has_no_fault)
+
+-- ---- worked examples of the byte form: those of docs/SAVED-STATES.md, and one for each check
+
+-- two bytes are held, and received data is pending
+abbrev two_held : State
+two_held = record fresh_state {
+  interrupt_enable = 0x01;
+  interrupt_identification = 0x04;
+  line_status = 0x61;
+  scratch = 0x5A;
+  in_buffer = 0x61 ∷ 0x62 ∷ [];
+}
+
+two_held_form : serial_form two_held ≡
+    0x53 ∷ 0x49 ∷ 0x4F ∷ 0x53 ∷ 0x01 ∷ 0x01 ∷ 0x0B ∷ 0x00
+    ∷ 0x0C ∷ 0x00 ∷ 0x01 ∷ 0x04 ∷ 0x03 ∷ 0x61 ∷ 0x08 ∷ 0xB0 ∷ 0x5A
+    ∷ 0x61 ∷ 0x62 ∷ []
+two_held_form = refl
+
+-- guest time is an hour behind, and an alarm is set
+abbrev hour_behind : RtcState
+hour_behind = record { lr = 0x65920080; offset = negsuc 3599; mr = 0x659200BC; imsc = 1; ris = 0; armed = true }
+
+hour_behind_form : clock_form hour_behind ≡
+    0x53 ∷ 0x49 ∷ 0x4F ∷ 0x53 ∷ 0x02 ∷ 0x01 ∷ 0x19 ∷ 0x00
+    ∷ 0x80 ∷ 0x00 ∷ 0x92 ∷ 0x65 ∷ 0xBC ∷ 0x00 ∷ 0x92 ∷ 0x65 ∷ 0x01 ∷ 0x00 ∷ 0x00 ∷ 0x00 ∷ 0x00 ∷ 0x00 ∷ 0x00 ∷ 0x00
+    ∷ 0xF0 ∷ 0xF1 ∷ 0xFF ∷ 0xFF ∷ 0xFF ∷ 0xFF ∷ 0xFF ∷ 0xFF ∷ 0x01 ∷ []
+hour_behind_form = refl
+
+-- ---- the checks, in order
+
+good : serial_fault (serial_form two_held) ≡ None
+good = refl
+
+seven_bytes : serial_fault (take 7 (serial_form two_held)) ≡ Some TooShort
+seven_bytes = refl
+
+header_alone : serial_fault (take 8 (serial_form two_held)) ≡ Some WrongLength
+header_alone = refl
+
+other_letter : serial_fault (0x73 ∷ drop 1 (serial_form two_held)) ≡ Some NotASavedState
+other_letter = refl
+
+clock_at_port : serial_fault (clock_form hour_behind) ≡ Some OtherDevice
+clock_at_port = refl
+
+second_version : serial_fault (0x53 ∷ 0x49 ∷ 0x4F ∷ 0x53 ∷ 0x01 ∷ 0x02 ∷ []) ≡ Some TooShort
+second_version = refl
+
+second_version_whole : serial_fault (0x53 ∷ 0x49 ∷ 0x4F ∷ 0x53 ∷ 0x01 ∷ 0x02 ∷ 0x00 ∷ 0x00 ∷ []) ≡ Some (UnknownVersion 2)
+second_version_whole = refl
+
+byte_after_the_end : serial_fault (serial_form two_held ++ 0x63 ∷ []) ≡ Some WrongLength
+byte_after_the_end = refl
+
+-- eight bytes are too few for the registers, though the header says eight
+eight_registers : serial_fault (0x53 ∷ 0x49 ∷ 0x4F ∷ 0x53 ∷ 0x01 ∷ 0x01 ∷ 0x08 ∷ 0x00 ∷ replicate 8 0) ≡ Some WrongLength
+eight_registers = refl
+
+full_port : serial_fault (0x53 ∷ 0x49 ∷ 0x4F ∷ 0x53 ∷ 0x01 ∷ 0x01 ∷ 0x49 ∷ 0x00 ∷ replicate 73 0) ≡ None
+full_port = refl
+
+-- the law speaks of full ports too
+full_form : SerialFormLaw → (state : State) → length state.in_buffer ≡ 64 → serial_fault (serial_form state) ≡ None
+full_form law state full = law state (omega (arith, full))
+
+one_more_byte : serial_fault (0x53 ∷ 0x49 ∷ 0x4F ∷ 0x53 ∷ 0x01 ∷ 0x01 ∷ 0x4A ∷ 0x00 ∷ replicate 74 0) ≡ Some TooManyBytes
+one_more_byte = refl
+
+armed_twice : clock_fault (take 32 (clock_form hour_behind) ++ 0x02 ∷ []) ≡ Some InvalidArmed
+armed_twice = refl

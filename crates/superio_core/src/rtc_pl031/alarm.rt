@@ -1,7 +1,7 @@
 //! When guest time reaches a value.
 ghost use Rattle.std.specs.Prelude.{◌≡◌, pos, ◌+ℤ◌};
-ghost use Rattle.superio_core.specs.Rtc.Registers.{guest_time};
-ghost use Rattle.superio_core.specs.Rtc.Alarm.{FirstCome, SecondsUntil};
+ghost use Rattle.superio_core.specs.Rtc.{guest_time};
+ghost use Rattle.superio_core.specs.Rtc.Step.{FirstCome, SecondsUntil};
 
 /// Guest time at the host's time `time`.
 #[inline(always)]

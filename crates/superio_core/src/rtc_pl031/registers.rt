@@ -1,6 +1,6 @@
 //! The PL031's register map.
 ghost use Rattle.std.specs.Prelude.{◌≡◌};
-ghost use Rattle.superio_core.specs.Rtc.Registers.{clock_register_at};
+ghost use Rattle.superio_core.specs.Rtc.{clock_register_at};
 
 /// The data register: guest time. Read only.
 pub(super) const RTCDR: u16 = 0x000;

@@ -2,8 +2,7 @@
 ghost use Rattle.std.specs.Prelude.{◌≡◌, ◌+◌, ◌≤◌, length, ◌++◌, IfOk};
 ghost use Rattle.std.specs.Result.{result_err};
 ghost use Rattle.std.specs.Int.{w32, w64, to_le_bytes, cast_unsigned};
-ghost use Rattle.superio_core.specs.Saved.Faults.{clock_fault};
-ghost use Rattle.superio_core.specs.Saved.Laws.{IsClock};
+ghost use Rattle.superio_core.specs.Saved.{clock_fault, IsClock};
 
 use super::super::saved::{CLOCK_KIND, Error, contents_of, header};
 use super::RtcState;
@@ -15,7 +14,7 @@ pub const SAVED_SIZE: usize = 33;
 const CONTENTS_SIZE: usize = 25;
 
 impl RtcState {
-    ghost use Rattle.superio_core.specs.Saved.Form.{clock_form};
+    ghost use Rattle.superio_core.specs.Saved.{clock_form};
 
     /// The state as bytes; `from_bytes` reads them back.
     ///
@@ -43,7 +42,7 @@ impl RtcState {
     /// # Errors
     ///
     /// Returns the first check that fails, in the order of [`Error`]: any case but [`Error::TooManyBytes`].
-    #[tactic(auto, using(crate::proofs::Lemmas::Saved::Forms::clock_form_read))]
+    #[tactic(auto, using(crate::proofs::Lemmas::Saved::clock_form_read))]
     pub fn from_bytes(bytes: &[u8]) -> Result<RtcState, Error>
         ensures form { IfOk result (λ state. bytes.now ≡ clock_form state) }
         ensures read { (state : RtcState) → IsClock state → bytes.now ≡ clock_form state → result ≡ Ok state }

@@ -1,8 +1,7 @@
 //! The state of a clock, as vm-superio names its fields.
 ghost use Rattle.std.specs.Prelude.{◌≡◌, ◌<◌, ◌^◌, false, IfSome};
-ghost use Rattle.superio_core.specs.Rtc.Alarm.{is_line_up, IsAlarmDue};
-ghost use Rattle.superio_core.specs.Rtc.Registers.{read, write, clock_register_at, is_writable};
-ghost use Rattle.superio_core.specs.Rtc.Step.{clock_response, clock_step};
+ghost use Rattle.superio_core.specs.Rtc.Step.{is_line_up, IsAlarmDue, clock_response, clock_step};
+ghost use Rattle.superio_core.specs.Rtc.{read, write, clock_register_at, is_writable};
 
 use super::Clock;
 

@@ -4,7 +4,7 @@ use std::error::Error as StdError;
 use std::fmt;
 
 impl fmt::Display for Error {
-    ghost use Rattle.superio_core.specs.Saved.ErrorText.{text_of};
+    ghost use Rattle.superio_core.specs.Saved.{text_of};
 
     ghost output = { text_of };
 

@@ -103,7 +103,7 @@ pub(super) fn only_bits(byte: u8, bits: u8) -> u8
 }
 
 /// The byte with these bits cleared.
-#[tactic(auto, using(crate::proofs::Lemmas::Bits::and_not_is_without_byte))]
+#[tactic(auto, using(crate::proofs::Lemmas::and_not_is_without_byte))]
 #[inline(always)]
 pub(super) fn without_bits(byte: u8, bits: u8) -> u8
     ensures { result ≡ without_bits byte bits }

@@ -1,9 +1,9 @@
 //! The registers of a 16550: which one an offset reaches, and the bytes that they hold.
 ghost use Rattle.std.specs.Prelude.{◌≡◌, ◌↔◌, ◌≤◌, if◌then◌else◌, ℕ, Bool, List, [], length, IsTrue};
 ghost use Rattle.superio_core.specs.Bits.{has_bits};
-ghost use Rattle.superio_core.specs.Serial.Port.State.{fresh_state, state_with, register_bytes, not_empty};
-ghost use Rattle.superio_core.specs.Serial.Port.Coherent.{Coherent};
-ghost use Rattle.superio_core.specs.Serial.Port.Registers.{identification_of};
+ghost use Rattle.superio_core.specs.Serial.{fresh_state, state_with, register_bytes, not_empty};
+ghost use Rattle.superio_core.specs.Serial.Port.{Coherent};
+ghost use Rattle.superio_core.specs.Serial.RegisterMap.{identification_of};
 
 use super::bits::{
     DATA_OFFSET, DEFAULT_BAUD_DIVISOR_LOW, DEFAULT_LINE_CONTROL, DEFAULT_LINE_STATUS,
@@ -51,7 +51,7 @@ pub enum Condition {
 }
 
 impl Condition {
-    ghost use Rattle.superio_core.specs.Serial.Port.Registers.{ier_bit, iir_bit};
+    ghost use Rattle.superio_core.specs.Serial.RegisterMap.{ier_bit, iir_bit};
 
     /// The bit of IER that enables it.
     #[inline(always)]
@@ -104,7 +104,7 @@ pub struct Registers {
 }
 
 impl Registers {
-    ghost use Rattle.superio_core.specs.Serial.Port.Registers.{register_at, is_dlab, is_loopback, msr_read};
+    ghost use Rattle.superio_core.specs.Serial.RegisterMap.{register_at, is_dlab, is_loopback, msr_read};
 
     /// The registers of a fresh port.
     pub fn new() -> Registers

@@ -1,6 +1,6 @@
 //! A receive FIFO in the 64 places of an array.
 ghost use Rattle.std.specs.Prelude.{◌≡◌, ◌<◌, ◌≤◌, ◌+◌, ◌%◌, min, []};
-ghost use Rattle.superio_core.specs.Serial.Port.RxRing.{held_bytes};
+ghost use Rattle.superio_core.specs.Serial.Port.{held_bytes};
 
 use super::super::fifo::{FIFO_SIZE, ReceiveFifo};
 

@@ -2,16 +2,12 @@
 //! with every receive FIFO, and call no object: a step returns what is left to do, which is a byte to send, an
 //! interrupt to ask for, or an event to report.
 ghost use Rattle.std.specs.Prelude.{◌≡◌, ◌≤◌, ◌==◌, not, if◌then◌else◌, [], length, slice_index};
-ghost use Rattle.superio_core.specs.Serial.Port.State.{not_empty, state_with};
+ghost use Rattle.superio_core.specs.Serial.{not_empty, state_with, lsr_dr_bit};
 ghost use Rattle.superio_core.specs.Bits.{only_bits, with_bits};
-ghost use Rattle.superio_core.specs.Serial.Port.Bits.{lsr_dr_bit};
-ghost use Rattle.superio_core.specs.Serial.Port.Registers.{Rda, Thre, RbrThr, is_loopback, register_read};
-ghost use Rattle.superio_core.specs.Serial.Port.Operations.{count_if, is_first_of_two_refused};
-ghost use Rattle.superio_core.specs.Serial.Port.OpKinds.{write_kind, sent_by};
-ghost use Rattle.superio_core.specs.Serial.Port.Effects.{events_of_read};
-ghost use Rattle.superio_core.specs.Serial.Step.Raising.{becomes_pending, raise, raise_rda_while_held, lower, bytes_that_fit, receive_bytes};
-ghost use Rattle.superio_core.specs.Serial.Step.Transition.{rbr_read, ier_write, read_step, write_step, character_timeout, read_events};
-ghost use Rattle.superio_core.specs.Serial.Step.Restore.{is_asserted, is_line_up, restore_calls};
+ghost use Rattle.superio_core.specs.Serial.RegisterMap.{Rda, Thre, RbrThr, is_loopback, register_read};
+ghost use Rattle.superio_core.specs.Serial.Operations.{count_if, is_first_of_two_refused, write_kind, sent_by, events_of_read};
+ghost use Rattle.superio_core.specs.Serial.Step.Raising.{becomes_pending, raise, raise_rda_while_held, lower, bytes_that_fit, receive_bytes, is_asserted, is_line_up, restore_calls};
+ghost use Rattle.superio_core.specs.Serial.Step.{rbr_read, ier_write, read_step, write_step, character_timeout, read_events};
 ghost use Rattle.superio_core.specs.Serial.Step.Admissible.{ier_write_calls, arrival_calls, timeout_calls, kind_calls};
 
 use super::super::fifo::ReceiveFifo;
@@ -243,7 +239,7 @@ impl Registers {
 
     /// Whether the interrupt line is up: a condition is pending and enabled.
     #[inline(always)]
-    #[tactic(auto, using(crate::proofs::Lemmas::Serial::Step::Restore::up_while_due))]
+    #[tactic(auto, using(crate::proofs::Lemmas::Serial::Step::up_while_due))]
     pub fn interrupt_line(&self) -> bool
         ensures line { result ≡ is_line_up (state_with self.now []) }
         ensures due { result ≡ not (length (restore_calls (state_with self.now [])) == 0) }

@@ -2,10 +2,8 @@
 use Rattle.std.specs.Prelude.{◌≡◌, ◌↔◌, List, [], ◌∷◌, ◌++◌}
 use Rattle.std.proofs.Common.{refl, ap, ◌∙◌, subst}
 use Rattle.vm_superio.specs.declared.serial.objects.Three.{Three}
-use Rattle.superio_core.specs.Serial.Port.Operations.{Event}
-use Rattle.vm_superio.specs.Links.OutCalls.{OutCall}
-use Rattle.vm_superio.specs.Links.Objects.{Link, TriggerAnswer}
-use Rattle.vm_superio.specs.Links.ObjectCalls.{ObjectCall, ToTrigger, ToOut, ToEvents, answers_in, out_calls_in, events_in}
+use Rattle.superio_core.specs.Serial.Operations.{Event}
+use Rattle.vm_superio.specs.Links.{OutCall, Link, TriggerAnswer, ObjectCall, ToTrigger, ToOut, ToEvents, answers_in, out_calls_in, events_in}
 
 module _ {E : Type 0} where
   pub answers_in-append : (first second : List (ObjectCall E))

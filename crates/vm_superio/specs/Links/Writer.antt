@@ -1,12 +1,14 @@
--- The calls of a port's output object, how a byte is sent by them, and the links of a port's three objects.
-use Rattle.std.specs.Prelude.{◌≡◌, ℕ, not, List, [], ◌∷◌, ⊤, IsTrue, Option, Some, None, Ok, Err}
+-- The links of a port's three objects: how its output object sends bytes, and the link of an output that a writer
+-- makes.
+use Rattle.std.specs.Prelude.{◌≡◌, ℕ, not, List, [], ◌∷◌, ⊤, IsTrue, Option, Some, None, Ok, Err, ◌↔◌, ◌++◌}
 use Rattle.std.specs.List.{list_all}
 use Rattle.std.specs.Io.KnownBytes.{Appends}
 use Rattle.std.specs.declared.io.Error.{Error}
+use Rattle.std.proofs.Common.{ap}
 use Rattle.superio_core.specs.declared.trace.Sent.{Sent}
-use Rattle.superio_core.specs.Serial.Port.Operations.{Op, Write, Event, is_lost}
-use Rattle.vm_superio.specs.Links.OutCalls.{OutCall, Put, Flush, WriterCalls}
-use Rattle.vm_superio.specs.Links.Objects.{Link, TriggerAnswer}
+use Rattle.superio_core.specs.Serial.Operations.{Op, Write, Event, is_lost}
+use Rattle.vm_superio.specs.Links.{OutCall, Put, Flush, WriterCalls, Link, TriggerAnswer, WriterCalls-append}
+use Rattle.vm_superio.specs.declared.serial.out.WriterOut.{WriterOut}
 
 -- what the types of a port's trigger, events object and output state
 pub record PortLinks (T E EV W : Type 0) : Type 1 where
@@ -72,3 +74,22 @@ KnownOutputLaw {W} contents = (old new : W) (outcomes : List Sent) (bytes : List
     → OutLink (WriterCalls contents) outcomes bytes old new
     → IsTrue (list_all (λ outcome. not (is_lost outcome)) outcomes)
     → Appends (contents old) (contents new) bytes
+
+-- ---- the link of an output that a writer makes
+
+module _ {W : Type 0} (contents : W → Option (List ℕ)) where
+  -- the link of its writer
+  abbrev pub WriterLink : (old : WriterOut W) (calls : List OutCall) (new : WriterOut W) → Type 0
+  WriterLink old calls new = WriterCalls contents old.writer calls new.writer
+
+  -- the law `no_call`
+  pub WriterLink-nil : (old new : WriterOut W) → WriterLink old [] new ↔ (old ≡ new)
+  WriterLink-nil old new =
+      (ap (λ writer. record { writer = writer }), ap (λ (out : WriterOut W). out.writer))
+
+  -- the law `joined`
+  pub WriterLink-append :
+      (old between new : WriterOut W) (first second : List OutCall) → WriterLink old first between →
+      WriterLink between second new → WriterLink old (first ++ second) new
+  WriterLink-append old between new first second to_between to_new =
+      WriterCalls-append contents old.writer between.writer new.writer first second to_between to_new

@@ -1,7 +1,103 @@
--- A run: a list of calls with a record of each, and the history theorem about them.
-pub mod Trace
-pub mod Steps
-pub mod Reads
-pub mod Objects
+-- The records of a run as a trace.
 pub mod HistoryTheorem
 pub mod Three
+use Rattle.std.specs.Prelude.{◌≡◌, ⊤, List, [], ◌∷◌, Bool, true, false, not, Option, None}
+use Rattle.std.specs.List.{filter}
+use Rattle.std.specs.declared.io.Error as io
+pub use Rattle.vm_superio.specs.declared.run.Act.{Act}
+pub use Rattle.vm_superio.specs.declared.run.Reply.{Reply}
+pub use Rattle.vm_superio.specs.declared.run.Reply.TheVariants.{Byte, Wrote, Enqueued, TimedOut, Restored, NotRestored}
+pub use Rattle.vm_superio.specs.declared.run.Call.{Call}
+pub use Rattle.vm_superio.specs.declared.run.Done.{Done}
+use Rattle.superio_core.specs.Serial.Operations.{Op, Read, Write, Enqueue, CharacterTimeout, Restore, TraceEntry, Response, ByteRead, NoResponse, Trace}
+use Rattle.vm_superio.specs.Serial.{write_response, enqueue_response, timeout_response, refusal_in_result, fault_in_result}
+use Rattle.superio_core.specs.Serial.{State}
+use Rattle.vm_superio.specs.Serial.History.{guest_read}
+
+abbrev pub op_of : (act : Act) → Op
+op_of (Act.Read offset) = Read offset
+op_of (Act.Write offset value) = Write offset value
+op_of (Act.Enqueue bytes) = Enqueue bytes.items
+op_of Act.CharacterTimeout = CharacterTimeout
+op_of Act.Restore = Restore
+
+abbrev pub is_restore : (act : Act) → Bool
+is_restore Act.Restore = true
+is_restore _ = false
+
+-- the call without its object
+abbrev pub act_of : {O : Type 0} → (call : Call O) → Act
+act_of (Call.Read offset) = Act.Read offset
+act_of (Call.Write offset value) = Act.Write offset value
+act_of (Call.Enqueue bytes) = Act.Enqueue bytes
+act_of Call.CharacterTimeout = Act.CharacterTimeout
+act_of (Call.Restore objects) = Act.Restore
+
+-- the trace with further entries, oldest first, each with its response
+abbrev pub trace_after : (trace : Trace) (later : List (TraceEntry × Response)) → Trace
+trace_after trace [] = trace
+trace_after trace (next ∷ later) = trace_after (next.0 ∷ trace) later
+
+module _ {O E : Type 0} where
+  -- a reply is of the kind that belongs to the act
+  abbrev pub IsReplyTo : (act : Act) (reply : Reply O E) → Type 0
+  IsReplyTo (Act.Read offset) (Byte byte) = ⊤
+  IsReplyTo (Act.Write offset value) (Wrote answer) = ⊤
+  IsReplyTo (Act.Enqueue bytes) (Enqueued answer) = ⊤
+  IsReplyTo Act.CharacterTimeout (TimedOut answer) = ⊤
+  IsReplyTo Act.Restore (Restored old) = ⊤
+  IsReplyTo Act.Restore (NotRestored refused) = ⊤
+  IsReplyTo _ _ = ⊥
+
+  -- there is one record for each call, in order
+  abbrev pub RecordsOf : (calls : List (Call O)) (records : List (Done O E)) → Type 0
+  RecordsOf [] [] = ⊤
+  RecordsOf (call ∷ calls) (done ∷ later) =
+      (done.act ≡ act_of call) × IsReplyTo (act_of call) done.reply × RecordsOf calls later
+  RecordsOf _ _ = ⊥
+
+  abbrev pub entry_of : (done : Done O E) → TraceEntry
+  entry_of done = record { op = op_of done.act; asked = done.asked; sent = done.sent }
+
+  abbrev pub response_of : (reply : Reply O E) → Response
+  response_of (Byte byte) = ByteRead byte
+  response_of (Wrote answer) = write_response answer
+  response_of (Enqueued answer) = enqueue_response answer
+  response_of (TimedOut answer) = timeout_response answer
+  response_of _ = NoResponse
+
+  -- the refusal of an interrupt that a reply carries, of the port's own objects
+  abbrev pub refusal_in_reply : (reply : Reply O E) → Option E
+  refusal_in_reply (Wrote answer) = refusal_in_result answer
+  refusal_in_reply (Enqueued answer) = refusal_in_result answer
+  refusal_in_reply (TimedOut answer) = refusal_in_result answer
+  refusal_in_reply _ = None
+
+  -- and the fault of the output
+  abbrev pub fault_in_reply : (reply : Reply O E) → Option io.Error
+  fault_in_reply (Wrote answer) = fault_in_result answer
+  fault_in_reply _ = None
+
+  abbrev pub entries_of : (records : List (Done O E)) → List (TraceEntry × Response)
+  entries_of [] = []
+  entries_of (done ∷ later) = (entry_of done, response_of done.reply) ∷ entries_of later
+
+  -- the trace at the end of a run
+  abbrev pub trace_of : (records : List (Done O E)) → Trace
+  trace_of records = trace_after [] (entries_of records)
+
+  abbrev pub without_restores : (records : List (Done O E)) → List (Done O E)
+  without_restores records = filter (λ (done : Done O E). not (is_restore done.act)) records
+
+-- ---- what a guest reads over a run from a coherent start, by the history alone
+
+module _ {O E : Type 0} where
+  -- the reply to each read is the guest read at its point of the trace
+  abbrev pub ReadIs : (start : State) (trace : Trace) (act : Act) (reply : Reply O E) → Type 0
+  ReadIs start trace (Act.Read offset) reply = reply ≡ Byte (guest_read start trace offset)
+  ReadIs start trace _ reply = ⊤
+
+  abbrev pub ReadsAre : (start : State) (trace : Trace) (records : List (Done O E)) → Type 0
+  ReadsAre start trace [] = ⊤
+  ReadsAre start trace (done ∷ later) =
+      ReadIs start trace done.act done.reply × ReadsAre start (entry_of done ∷ trace) later

@@ -1,10 +1,146 @@
--- The step of one call: what a call does to any state, register by register, as a device does it.
-pub mod PortStep
-pub mod Restore
-pub use Rattle.superio_core.specs.Serial.Step.Raising
-pub use Rattle.superio_core.specs.Serial.Step.Transition
-pub use Rattle.superio_core.specs.Serial.Step.Admissible
-pub use Rattle.superio_core.specs.Serial.Step.Calls
-pub mod CallsOf
+-- One call of a port, as its contract states it.
 pub mod ObjectStep
-pub mod Fate
+use Rattle.std.specs.Prelude.{◌≡◌, ℕ, ◌+◌, Bool, not, ◌&&◌, length, List, IsTrue, Option, None, Result, is_some, ◌<◌, ◌≤◌, ◌-◌, ◌++◌, take}
+use Rattle.superio_core.specs.declared.trace.Asked.{Asked}
+use Rattle.superio_core.specs.declared.trace.Sent.{Sent}
+use Rattle.superio_core.specs.Serial.Operations.{Op, Read, Write, Enqueue, CharacterTimeout, Restore, Response, ByteRead, NoResponse, Event, ends_in_refusal, count_if}
+use Rattle.vm_superio.specs.Serial.{Error, Port, write_response, enqueue_response, timeout_response, refusal_in_result, fault_in_result, FullFifo, Trigger, IOError}
+use Rattle.superio_core.specs.Bits.{has_bits}
+use Rattle.superio_core.specs.Serial.{State}
+use Rattle.superio_core.specs.declared.serial.registers.Condition.TheVariants.{Rda, Thre}
+use Rattle.superio_core.specs.Serial.RegisterMap.{iir_bit}
+use Rattle.vm_superio.specs.Links.{Link, TriggerAnswer, answers_of, OutCall, RefusesOwnState}
+use Rattle.vm_superio.specs.Links.Writer.{PortLinks, port_links, bytes_sent, outcome_of, OutLink, AnsweredFault}
+use Rattle.superio_core.specs.Serial.Step.{step, step_response, step_events}
+use Rattle.superio_core.specs.Serial.Step.Admissible.{is_admissible, sends_byte}
+use Rattle.superio_core.specs.Serial.Step.Raising.{restore_calls}
+
+-- a call takes a port from `old` to `new` by one step, with these answers of the trigger and this outcome of a byte. A
+-- refusal is that of the trigger's last call
+pub record IsPortStep
+    {T E EV W : Type 0} (links : PortLinks T E EV W) (op : Op) (asked : Asked) (sent : Sent) (reply : Response)
+    (refusal : Option E) (old new : Port T EV W) : Type 0 where
+  pub admissible : IsTrue (is_admissible old.state op asked sent)
+  pub response : reply ≡ step_response old.state op asked sent
+  pub refused : is_some refusal ≡ ends_in_refusal asked
+  pub state : new.state ≡ step old.state op asked
+  pub trigger : links.trigger old.trigger (answers_of asked refusal) new.trigger
+  pub events : links.events old.events (step_events old.state op sent) new.events
+  pub out : OutLink links.out (outcome_of sent) (bytes_sent op sent) old.out new.out
+
+-- the port with another writer, and nothing else changed
+abbrev pub with_writer : {T EV W : Type 0} → (port : Port T EV W) (writer : W) → Port T EV W
+with_writer port writer = record port { out = writer }
+
+-- the port with another trigger, and nothing else changed
+abbrev pub with_trigger : {T EV W : Type 0} → (port : Port T EV W) (trigger : T) → Port T EV W
+with_trigger port trigger = record port { trigger = trigger }
+
+-- the port with another events object, likewise
+abbrev pub with_events : {T EV W : Type 0} → (port : Port T EV W) (object : EV) → Port T EV W
+with_events port object = record port { events = object }
+
+-- ---- trigger calls, by the bits of IIR
+
+-- the bit goes from clear to set
+abbrev pub turns_on : (bit old new : ℕ) → Bool
+turns_on bit old new = not (has_bits old bit) && has_bits new bit
+
+-- how many of the two pending bits turn on
+abbrev pub turned_on_count : (old new : State) → ℕ
+turned_on_count old new =
+    count_if (turns_on (iir_bit Rda) old.interrupt_identification new.interrupt_identification)
+    + count_if (turns_on (iir_bit Thre) old.interrupt_identification new.interrupt_identification)
+
+-- ---- the calls
+
+module _ {T E EV W : Type 0} (trigger : Link T (TriggerAnswer E)) (events : Link EV Event) (out : Link W OutCall) where
+  -- a read calls no trigger and sends no byte
+  abbrev pub IsReadStep : (offset byte : ℕ) (old new : Port T EV W) → Type 0
+  IsReadStep offset byte old new =
+      IsPortStep (port_links trigger events out) (Read offset) Asked.Nothing Sent.Nothing
+      (ByteRead byte) None old new
+
+  -- a write, with the trigger's answers and the outcome of its byte. A fault that it returns is the one that the output
+  -- answered
+  pub record IsRecordedWrite
+      (offset value : ℕ) (asked : Asked) (sent : Sent) (result : Result (Unit {0}) (Error E))
+      (old new : Port T EV W) : Type 0 where
+    pub step :
+        IsPortStep (port_links trigger events out) (Write offset value) asked sent
+        (write_response result) (refusal_in_result result) old new
+    pub fault : AnsweredFault (fault_in_result result) step.out.calls
+
+  -- a write. There is one answer of the trigger for each pending bit of IIR that the write turns on
+  pub record IsWriteStep
+      (offset value : ℕ) (result : Result (Unit {0}) (Error E)) (old new : Port T EV W) : Type 0 where
+    pub asked : Asked
+    pub sent : Sent
+    pub step :
+        IsPortStep (port_links trigger events out) (Write offset value) asked sent
+        (write_response result) (refusal_in_result result) old new
+    pub fault : AnsweredFault (fault_in_result result) step.out.calls
+    pub calls : length (answers_of asked (refusal_in_result result)) ≡ turned_on_count old.state new.state
+
+  -- an enqueue, likewise
+  pub record IsEnqueueStep
+      (bytes : List ℕ) (result : Result ℕ (Error E)) (old new : Port T EV W) : Type 0 where
+    pub asked : Asked
+    pub sent : Sent
+    pub step :
+        IsPortStep (port_links trigger events out) (Enqueue bytes) asked sent
+        (enqueue_response result) (refusal_in_result result) old new
+    pub calls : length (answers_of asked (refusal_in_result result)) ≡ turned_on_count old.state new.state
+
+  -- a character timeout, likewise
+  pub record IsTimeoutStep (result : Result (Unit {0}) (Error E)) (old new : Port T EV W) : Type 0 where
+    pub asked : Asked
+    pub step :
+        IsPortStep (port_links trigger events out) CharacterTimeout asked Sent.Nothing
+        (timeout_response result) (refusal_in_result result) old new
+    pub calls : length (answers_of asked (refusal_in_result result)) ≡ turned_on_count old.state new.state
+
+  -- a retry of refused interrupts: except for its trigger, the port makes the step of a restore without answers
+  abbrev pub IsRetryStep : (old new : Port T EV W) → Type 0
+  IsRetryStep old new =
+      IsPortStep (port_links trigger events out) Restore Asked.Nothing Sent.Nothing
+      NoResponse None (with_trigger old new.trigger) new
+
+-- ---- why a restore is refused
+
+-- a state that was not restored: why, and what became of the trigger. Either it holds more than 64 bytes, and the
+-- trigger was not called, or it holds no more, and is refused as a port's own state is
+abbrev pub RefusesRestore :
+    {T E : Type 0} → (link : Link T (TriggerAnswer E)) (s : State) (error : Error E) (old new : T) → Type 0
+RefusesRestore link s FullFifo old new = (64 < length s.in_buffer) × (new ≡ old)
+RefusesRestore link s error old new =
+    (length s.in_buffer ≤ 64) × RefusesOwnState link (restore_calls s) error old new
+
+-- ---- what stands after a call that failed
+
+-- IIR shows a condition that it did not show before
+abbrev pub ShowsMore : (old new : State) → Type 0
+ShowsMore old new = 0 < turned_on_count old new
+
+module _ {E : Type 0} where
+  -- a write. If the trigger refused a call, IIR shows the condition nonetheless. If the output failed, the byte was one
+  -- to send, and the registers are as after `Ok`. It fails for no other reason
+  abbrev pub WriteFate : (offset value : ℕ) (error : Error E) (old new : State) → Type 0
+  WriteFate offset value (Trigger refusal) old new = ShowsMore old new
+  WriteFate offset value (IOError fault) old new =
+      IsTrue (sends_byte old (Write offset value)) × (new ≡ step old (Write offset value) Asked.Nothing)
+  WriteFate offset value _ old new = ⊥
+
+  -- an enqueue. If the trigger refused a call, IIR shows RDA nonetheless, and bytes are held: the first of the input,
+  -- as many as the capacity shrank by. If the FIFO was full, it held 64 bytes. It fails for no other reason
+  abbrev pub EnqueueFate : (input : List ℕ) (error : Error E) (old new : State) → Type 0
+  EnqueueFate input (Trigger refusal) old new =
+      ShowsMore old new
+      × (new.in_buffer ≡ old.in_buffer ++ take ((64 - length old.in_buffer) - (64 - length new.in_buffer)) input)
+  EnqueueFate input FullFifo old new = 64 ≤ length old.in_buffer
+  EnqueueFate input _ old new = ⊥
+
+  -- a character timeout. If the trigger refused a call, IIR shows RDA nonetheless. It fails for no other reason
+  abbrev pub TimeoutFate : (error : Error E) (old new : State) → Type 0
+  TimeoutFate (Trigger refusal) old new = ShowsMore old new
+  TimeoutFate _ old new = ⊥

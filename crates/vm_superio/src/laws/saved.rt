@@ -1,9 +1,8 @@
 //! The laws of saved states. The round trips are calls whose contracts are the laws.
 ghost use Rattle.std.specs.Prelude.{◌≡◌, ◌≤◌, length, IfOk, MatchResult};
-ghost use Rattle.vm_superio.specs.Serial.Port.SavedState.{state_of};
-ghost use Rattle.superio_core.specs.Serial.Port.SerialPort.{state_of_port};
-ghost use Rattle.superio_core.specs.Saved.Laws.{SerialFormLaw, OneSerialStateLaw, ClockFormLaw, OneClockStateLaw};
-ghost use Rattle.vm_superio.specs.Versions.{SerialVersionLaw, ClockVersionLaw, OtherSerialVersionLaw, OtherClockVersionLaw};
+ghost use Rattle.vm_superio.specs.Saved.{state_of, SerialVersionLaw, ClockVersionLaw, OtherSerialVersionLaw, OtherClockVersionLaw};
+ghost use Rattle.superio_core.specs.Serial.Port.{state_of_port};
+ghost use Rattle.superio_core.specs.Saved.{SerialFormLaw, OneSerialStateLaw, ClockFormLaw, OneClockStateLaw};
 
 use crate::saved::{Error, Fault};
 use crate::serial::saved_form::SerialForm;
@@ -13,14 +12,14 @@ use superio_core::rtc_pl031::saved_form::SAVED_SIZE;
 use superio_core::serial::SerialPort;
 
 /// A written form passes every check when read.
-#[tactic(auto, using(superio_core::proofs::Lemmas::Saved::Forms::forms_are_read_laws))]
+#[tactic(auto, using(superio_core::proofs::Lemmas::Saved::forms_are_read_laws))]
 pub fn forms_are_read()
     ensures serial { SerialFormLaw }
     ensures clock { ClockFormLaw }
 {}
 
 /// No two states share a form.
-#[tactic(auto, using(superio_core::proofs::Lemmas::Saved::Forms::one_state_of_a_form_laws))]
+#[tactic(auto, using(superio_core::proofs::Lemmas::Saved::one_state_of_a_form_laws))]
 pub fn one_state_of_a_form()
     ensures serial { OneSerialStateLaw }
     ensures clock { OneClockStateLaw }

@@ -20,7 +20,7 @@ pub enum Error<E> {
 }
 
 impl<E: fmt::Display> fmt::Display for Error<E> {
-    ghost use Rattle.vm_superio.specs.Serial.Port.ErrorText.{text_of};
+    ghost use Rattle.vm_superio.specs.Serial.{text_of};
 
     ghost output = { text_of E.output };
 

@@ -1,7 +1,7 @@
 //! The events that a serial port reports.
 ghost use Rattle.std.specs.Prelude.{◌≡◌, ◌↔◌, List, [], ◌∷◌, ◌++◌};
 ghost use Rattle.std.proofs.Common.{◌∙◌};
-ghost use Rattle.superio_core.specs.Serial.Port.Operations.{Event, buffer_read, out_byte, tx_lost_byte, in_buffer_empty};
+ghost use Rattle.superio_core.specs.Serial.Operations.{Event, buffer_read, out_byte, tx_lost_byte, in_buffer_empty};
 
 /// Hears what a serial port does, to count it, log it, or feed more input after the port runs empty.
 ///

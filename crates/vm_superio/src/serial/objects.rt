@@ -1,8 +1,7 @@
 //! The objects of a serial port as one: its trigger, its output and its events object.
 ghost use Rattle.std.specs.Prelude.{◌≡◌, ◌↔◌, List, [], ◌∷◌, ◌++◌};
-ghost use Rattle.vm_superio.specs.Links.OutCalls.{Put, Flush};
-ghost use Rattle.vm_superio.specs.Links.ObjectCalls.{ObjectCall, ToTrigger, ToOut, ToEvents};
-ghost use Rattle.superio_core.specs.Serial.Port.Operations.{buffer_read, out_byte, tx_lost_byte, in_buffer_empty};
+ghost use Rattle.vm_superio.specs.Links.{Put, Flush, ObjectCall, ToTrigger, ToOut, ToEvents};
+ghost use Rattle.superio_core.specs.Serial.Operations.{buffer_read, out_byte, tx_lost_byte, in_buffer_empty};
 
 use super::events::SerialEvents;
 use super::out::{SerialOut, WriterOut};

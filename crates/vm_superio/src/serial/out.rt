@@ -1,6 +1,6 @@
 //! The output of a serial port: where its bytes go.
 ghost use Rattle.std.specs.Prelude.{◌≡◌, ◌↔◌, List, [], ◌∷◌, ◌++◌};
-ghost use Rattle.vm_superio.specs.Links.OutCalls.{OutCall, Put, Flush};
+ghost use Rattle.vm_superio.specs.Links.{OutCall, Put, Flush};
 
 use std::io;
 use std::io::Write;
@@ -38,7 +38,7 @@ pub struct WriterOut<W> {
 }
 
 impl<W: Write> SerialOut for WriterOut<W> {
-    ghost use Rattle.vm_superio.specs.Links.WriterOut.{WriterLink, WriterLink-nil, WriterLink-append};
+    ghost use Rattle.vm_superio.specs.Links.Writer.{WriterLink, WriterLink-nil, WriterLink-append};
 
     ghost link = { WriterLink W.contents };
 

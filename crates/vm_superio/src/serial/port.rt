@@ -1,19 +1,15 @@
 //! A serial port with one object for all three roles: its contract states the order of the calls.
 ghost use Rattle.std.specs.Prelude.{◌≡◌, ◌≤◌, ◌+◌, ◌==◌, not, List, Result, length, map, [], ◌∷◌, is_some, IsTrue, IfOk, IfErr, OnOk, OnErr};
-ghost use Rattle.superio_core.specs.Serial.Port.Coherent.{Coherent};
-ghost use Rattle.superio_core.specs.Serial.Port.State.{fresh_state};
-ghost use Rattle.vm_superio.specs.Serial.Run.Steps.{IsRun};
+ghost use Rattle.superio_core.specs.Serial.Port.{Coherent};
+ghost use Rattle.superio_core.specs.Serial.{fresh_state};
+ghost use Rattle.vm_superio.specs.Serial.Step.ObjectStep.{IsRun, IsObjectStep, SendsThenReports, LosesByte, port_with, Taken, byte_calls};
 ghost use Rattle.vm_superio.specs.Serial.Run.HistoryTheorem.{HistoryTheorem};
-ghost use Rattle.superio_core.specs.Serial.Step.Restore.{is_line_up, restore_calls};
-ghost use Rattle.vm_superio.specs.Serial.Port.SavedState.{state_of};
-ghost use Rattle.vm_superio.specs.Serial.Step.Restore.{RefusesRestore};
-ghost use Rattle.superio_core.specs.Serial.Port.Operations.{Read, Write, Enqueue, CharacterTimeout, ByteRead, is_sent, is_lost, ends_in_refusal, out_byte, tx_lost_byte};
-ghost use Rattle.superio_core.specs.Serial.Port.Effects.{events_of_read};
-ghost use Rattle.vm_superio.specs.Links.ObjectCalls.{ToTrigger, ToOut, ToEvents, raised};
-ghost use Rattle.vm_superio.specs.Serial.Step.ObjectStep.{IsObjectStep, SendsThenReports, LosesByte, port_with};
-ghost use Rattle.vm_superio.specs.Serial.Step.CallsOf.{Taken, byte_calls};
-ghost use Rattle.vm_superio.specs.Links.Objects.{answers_of, all_ok, StopsAtRefusal, RefusesOwnState};
-ghost use Rattle.vm_superio.specs.Serial.Port.Model.{write_response, enqueue_response, timeout_response, refusal_in_result, fault_in_result};
+ghost use Rattle.superio_core.specs.Serial.Step.Raising.{is_line_up, restore_calls};
+ghost use Rattle.vm_superio.specs.Saved.{state_of};
+ghost use Rattle.vm_superio.specs.Serial.Step.{RefusesRestore};
+ghost use Rattle.superio_core.specs.Serial.Operations.{Read, Write, Enqueue, CharacterTimeout, ByteRead, is_sent, is_lost, ends_in_refusal, out_byte, tx_lost_byte, events_of_read};
+ghost use Rattle.vm_superio.specs.Links.{ToTrigger, ToOut, ToEvents, raised, answers_of, all_ok, StopsAtRefusal, RefusesOwnState};
+ghost use Rattle.vm_superio.specs.Serial.{write_response, enqueue_response, timeout_response, refusal_in_result, fault_in_result};
 ghost use Rattle.superio_core.specs.Serial.Step.Admissible.{answers_all};
 
 use super::errors::Error;
@@ -45,7 +41,7 @@ pub struct Port<O: Objects> {
 
 impl<O: Objects> Model for Port<O> {
     ghost use Rattle.vm_superio.specs.Serial.Step.ObjectStep.{OnePort};
-    ghost use Rattle.superio_core.specs.Serial.Port.State.{state_with};
+    ghost use Rattle.superio_core.specs.Serial.{state_with};
 
     ghost Value = { OnePort O };
 

@@ -1,11 +1,10 @@
 //! The calls of a serial port with their records: each takes a step of the registers and carries out its effects.
-ghost use Rattle.vm_superio.specs.Links.OutCalls.{WriterCalls};
+ghost use Rattle.vm_superio.specs.Links.{WriterCalls};
 ghost use Rattle.std.specs.Prelude.{◌≡◌, if◌then◌else◌, is_some};
-ghost use Rattle.superio_core.specs.Serial.Port.Operations.{Read, Write, Enqueue, CharacterTimeout};
-ghost use Rattle.superio_core.specs.Serial.Port.Operations.{ByteRead, WriteOk, TriggerRefused, WriterFailed};
+ghost use Rattle.superio_core.specs.Serial.Operations.{Read, Write, Enqueue, CharacterTimeout, ByteRead, WriteOk, TriggerRefused, WriterFailed};
 ghost use Rattle.superio_core.specs.declared.trace.Sent.{Sent};
 ghost use Rattle.vm_superio.specs.Links.Writer.{port_links};
-ghost use Rattle.vm_superio.specs.Serial.Port.Model.{write_response, enqueue_response, timeout_response, refusal_in_result, fault_in_result};
+ghost use Rattle.vm_superio.specs.Serial.{write_response, enqueue_response, timeout_response, refusal_in_result, fault_in_result};
 
 use super::Serial;
 use super::errors::Error;
@@ -17,7 +16,7 @@ use std::io;
 use std::io::Write;
 
 impl<T: Trigger, EV: SerialEvents, W: Write> Serial<T, EV, W> {
-    ghost use Rattle.vm_superio.specs.Serial.Step.PortStep.{IsPortStep, IsRecordedWrite};
+    ghost use Rattle.vm_superio.specs.Serial.Step.{IsPortStep, IsRecordedWrite};
 
     /// `read`, which calls no trigger and sends no byte.
     pub(crate) fn recorded_read(&mut self, offset: u8) -> Recorded<u8>

@@ -1,11 +1,10 @@
 //! A restore: what a port takes from a saved state, and its interrupts.
 ghost use Rattle.std.specs.Prelude.{◌≡◌, List, [], Result, OnOk, IfOk, IfErr};
-ghost use Rattle.vm_superio.specs.Links.Objects.{all_ok, StopsAtRefusal};
-ghost use Rattle.vm_superio.specs.Links.ObjectCalls.{raised};
-ghost use Rattle.vm_superio.specs.Serial.Port.SavedState.{state_of};
-ghost use Rattle.superio_core.specs.Serial.Port.State.{state_with};
-ghost use Rattle.superio_core.specs.Serial.Step.Restore.{restore_calls};
-ghost use Rattle.vm_superio.specs.Serial.Step.Restore.{RefusesRestore};
+ghost use Rattle.vm_superio.specs.Links.{all_ok, StopsAtRefusal, raised};
+ghost use Rattle.vm_superio.specs.Saved.{state_of};
+ghost use Rattle.superio_core.specs.Serial.{state_with};
+ghost use Rattle.superio_core.specs.Serial.Step.Raising.{restore_calls};
+ghost use Rattle.vm_superio.specs.Serial.Step.{RefusesRestore};
 
 use super::errors::Error;
 use super::objects::Objects;

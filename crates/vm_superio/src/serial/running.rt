@@ -1,8 +1,7 @@
 //! Runs on a port's parts: calls made in order, with a record of each.
 ghost use Rattle.std.specs.Prelude.{◌≡◌, IfOk, OnErr};
-ghost use Rattle.vm_superio.specs.Serial.Step.ObjectStep.{port_with};
-ghost use Rattle.vm_superio.specs.Serial.Run.Steps.{IsCallStep, IsRun};
-ghost use Rattle.vm_superio.specs.Serial.Run.Trace.{act_of};
+ghost use Rattle.vm_superio.specs.Serial.Step.ObjectStep.{port_with, IsCallStep, IsRun};
+ghost use Rattle.vm_superio.specs.Serial.Run.{act_of};
 
 use super::errors::Error;
 use super::objects::Objects;

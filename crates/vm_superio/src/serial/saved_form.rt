@@ -1,9 +1,8 @@
 //! The byte form of a serial port's saved state.
 ghost use Rattle.std.specs.Prelude.{◌≡◌, ◌↔◌, ◌≤◌, ℕ, List, length, take, IfOk, IfErr, IsOk, IfSome, MatchResult};
-ghost use Rattle.vm_superio.specs.Serial.Port.SavedState.{state_of};
-ghost use Rattle.superio_core.specs.Serial.Port.State.{State};
-ghost use Rattle.superio_core.specs.Saved.Form.{serial_form};
-ghost use Rattle.superio_core.specs.Saved.Faults.{serial_fault};
+ghost use Rattle.vm_superio.specs.Saved.{state_of};
+ghost use Rattle.superio_core.specs.Serial.{State};
+ghost use Rattle.superio_core.specs.Saved.{serial_form, serial_fault};
 
 use super::state::SerialState;
 use crate::saved::{Error, Fault};

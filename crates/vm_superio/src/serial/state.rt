@@ -1,7 +1,7 @@
 //! A saved serial port.
 ghost use Rattle.std.specs.Prelude.{◌≡◌, ◌↔◌, ◌≤◌, length, IfOk, IfErr, IsOk, IsTrue};
-ghost use Rattle.superio_core.specs.Serial.Port.State.{fresh_state};
-ghost use Rattle.superio_core.specs.Serial.Port.Coherent.{Coherent};
+ghost use Rattle.superio_core.specs.Serial.{fresh_state};
+ghost use Rattle.superio_core.specs.Serial.Port.{Coherent};
 
 use crate::saved::Fault;
 use std::alloc::{AllocError, Global};
@@ -37,9 +37,9 @@ pub struct SerialState {
 }
 
 impl SerialState {
-    ghost use Rattle.vm_superio.specs.Serial.Port.SavedState.{state_of};
-    ghost use Rattle.superio_core.specs.Serial.Port.State.{state_with};
-    ghost use Rattle.superio_core.specs.Serial.Port.SerialPort.{state_of_port};
+    ghost use Rattle.vm_superio.specs.Saved.{state_of};
+    ghost use Rattle.superio_core.specs.Serial.{state_with};
+    ghost use Rattle.superio_core.specs.Serial.Port.{state_of_port};
 
     /// The state of a new port. Allocates no memory.
     pub fn default(alloc: Global) -> SerialState

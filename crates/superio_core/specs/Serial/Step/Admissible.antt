@@ -1,15 +1,16 @@
--- Which answers of the trigger and which outcome of a byte are admissible for a call in a state.
-use Rattle.std.specs.Prelude.{ℕ, ◌+◌, Bool, ◌==◌, ◌&&◌, nat_le, List, [], ◌∷◌}
+-- Which answers of the trigger and which outcome of a byte are admissible for a call in a state, and what a call of a
+-- port makes of them.
+use Rattle.std.specs.Prelude.{ℕ, ◌+◌, Bool, ◌==◌, ◌&&◌, nat_le, List, [], ◌∷◌, ◌≡◌, not, ◌||◌, length}
 use Rattle.std.specs.Bool.{beq}
-use Rattle.superio_core.specs.declared.trace.Asked.{Asked}
-use Rattle.superio_core.specs.declared.trace.Sent.{Sent}
+use Rattle.superio_core.specs.Serial.Operations.{Asked, Sent, Op, is_sent, count_if, OpKind, IerWrite, ThrWrite, Arrival, Timeout, kind_of, sent_by, Read, Write, Enqueue, CharacterTimeout, ByteRead, events_of_read}
 use Rattle.superio_core.specs.Bits.{only_bits}
-use Rattle.superio_core.specs.Serial.Port.Bits.{ier_bits}
-use Rattle.superio_core.specs.Serial.Port.State.{State, not_empty}
-use Rattle.superio_core.specs.Serial.Port.Registers.{Rda, Thre, is_dlab, is_loopback}
-use Rattle.superio_core.specs.Serial.Port.Operations.{Op, is_sent, count_if}
-use Rattle.superio_core.specs.Serial.Port.OpKinds.{OpKind, IerWrite, ThrWrite, Arrival, Timeout, kind_of, sent_by}
-use Rattle.superio_core.specs.Serial.Step.Raising.{becomes_pending, rda_becomes_pending, raise_rda_while_held, bytes_that_fit}
+use Rattle.superio_core.specs.Serial.{ier_bits, State, not_empty}
+use Rattle.superio_core.specs.Serial.RegisterMap.{Rda, Thre, is_dlab, is_loopback}
+use Rattle.superio_core.specs.Serial.Step.Raising.{becomes_pending, rda_becomes_pending, raise_rda_while_held, bytes_that_fit, enqueued_bytes}
+use Rattle.superio_core.specs.declared.serial.effects.ReadEffects.{ReadEffects}
+use Rattle.superio_core.specs.declared.serial.effects.WriteEffects.{WriteEffects}
+use Rattle.superio_core.specs.declared.serial.effects.EnqueueEffects.{EnqueueEffects}
+use Rattle.superio_core.specs.Serial.Step.{step, step_response, step_events}
 
 -- what an operation means in a state
 abbrev pub kind_in_state : (s : State) (op : Op) → OpKind
@@ -60,3 +61,35 @@ sends_byte s op = not_empty (sent_by (kind_in_state s op))
 abbrev pub is_admissible : (s : State) (op : Op) (asked : Asked) (sent : Sent) → Bool
 is_admissible s op asked sent =
     answers_all (step_calls s op) asked && beq (is_sent sent) (sends_byte s op)
+
+-- ---- one call of a port, as its contract states it: the effects that the caller has to carry out, and the state
+-- after it, which is that of a step without a refusal, whatever the caller finds when it does
+
+-- ---- the calls
+
+-- a read gives the byte, and which events it reports; it asks for no interrupt
+pub record IsPortRead (offset : ℕ) (effects : ReadEffects) (old new : State) : Type 0 where
+  pub response : ByteRead effects.byte ≡ step_response old (Read offset) Asked.Nothing Sent.Nothing
+  pub events : events_of_read effects ≡ step_events old (Read offset) Sent.Nothing
+  pub state : new ≡ step old (Read offset) Asked.Nothing
+
+-- a write, whatever becomes of its byte and of the interrupts
+pub record IsPortWrite (offset value : ℕ) (effects : WriteEffects) (old new : State) : Type 0 where
+  pub sends : effects.sends ≡ sends_byte old (Write offset value)
+  pub interrupts : effects.interrupts ≡ step_calls old (Write offset value)
+  pub state : new ≡ step old (Write offset value) Asked.Nothing
+
+-- an enqueue: the bytes that have room are accepted, whatever becomes of the interrupt. The FIFO is reported full if
+-- bytes are passed outside loopback while 64 are held
+pub record IsPortEnqueue (bytes : List ℕ) (effects : EnqueueEffects) (old new : State) : Type 0 where
+  pub taken : effects.taken ≡ length (enqueued_bytes old bytes)
+  pub full :
+      effects.full
+      ≡ (not (is_loopback old.modem_control || (length bytes == 0)) && nat_le 64 (length old.in_buffer))
+  pub interrupts : effects.interrupts ≡ step_calls old (Enqueue bytes)
+  pub state : new ≡ step old (Enqueue bytes) Asked.Nothing
+
+-- a character timeout, whatever becomes of the interrupt
+pub record IsPortTimeout (due : ℕ) (old new : State) : Type 0 where
+  pub interrupts : due ≡ step_calls old CharacterTimeout
+  pub state : new ≡ step old CharacterTimeout Asked.Nothing

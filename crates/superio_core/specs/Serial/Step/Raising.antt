@@ -1,10 +1,9 @@
--- Raising and lowering a condition, and receiving bytes: the small parts of a step. A step may raise a condition that
--- IER does not enable, which does nothing.
-use Rattle.std.specs.Prelude.{ℕ, ◌-◌, Bool, not, ◌==◌, ◌&&◌, if◌then◌else◌, List, [], ◌∷◌, ◌++◌, length, take}
+-- The interrupt conditions: raising and lowering one, receiving bytes, the interrupt line, and the calls of a restore.
+-- These are the small parts of a step. A step may raise a condition that IER does not enable, which does nothing.
+use Rattle.std.specs.Prelude.{ℕ, ◌-◌, Bool, not, ◌==◌, ◌&&◌, if◌then◌else◌, List, [], ◌∷◌, ◌++◌, length, take, ◌||◌}
 use Rattle.superio_core.specs.Bits.{has_bits, with_bits, without_bits}
-use Rattle.superio_core.specs.Serial.Port.Bits.{lsr_dr_bit}
-use Rattle.superio_core.specs.Serial.Port.State.{State, not_empty}
-use Rattle.superio_core.specs.Serial.Port.Registers.{is_loopback, Condition, Rda, ier_bit, iir_bit}
+use Rattle.superio_core.specs.Serial.{lsr_dr_bit, State, not_empty}
+use Rattle.superio_core.specs.Serial.RegisterMap.{is_loopback, Condition, Rda, ier_bit, iir_bit, Thre, pending_in_order}
 
 -- IIR: nothing is pending. The steps alone use this bit
 abbrev pub iir_none_bit : ℕ
@@ -58,3 +57,18 @@ receive_bytes (byte ∷ bytes) s = record s {
   line_status = with_bits s.line_status lsr_dr_bit;
   interrupt_identification = raise Rda s.interrupt_enable s.interrupt_identification;
 }
+
+-- ---- the interrupt line, and the trigger calls of a restore, by the state
+
+-- a condition is pending and enabled
+abbrev pub is_asserted : (condition : Condition) (s : State) → Bool
+is_asserted condition s =
+    has_bits s.interrupt_identification (iir_bit condition) && has_bits s.interrupt_enable (ier_bit condition)
+
+-- the line, as a 16550 drives it: up while such a condition is there
+abbrev pub is_line_up : (s : State) → Bool
+is_line_up s = is_asserted Thre s || is_asserted Rda s
+
+-- one call for each such condition, as long as none is refused: THRE first
+abbrev pub restore_calls : (s : State) → List Condition
+restore_calls s = pending_in_order (is_asserted Thre s) (is_asserted Rda s)

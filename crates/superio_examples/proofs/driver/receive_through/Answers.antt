@@ -3,8 +3,8 @@ use Rattle.std.proofs.Common.{rules, ◌≡◌, ◌≤◌, ◌-◌, [], ◌++◌
 use Rattle.std.proofs.lemmas.List.{take-append-drop, take_all}
 use Rattle.std.specs.Prelude.{if◌then◌else◌}
 use Rattle.superio_core.specs.Bits.{has_bits}
-use Rattle.superio_core.specs.Serial.Port.State.{fresh_state, State}
-use Rattle.superio_core.specs.Serial.Port.Registers.{is_dlab, is_loopback}
+use Rattle.superio_core.specs.Serial.{fresh_state, State}
+use Rattle.superio_core.specs.Serial.RegisterMap.{is_dlab, is_loopback}
 use Rattle.superio_core.specs.Serial.Step.Raising.{receive_bytes}
 use Rattle.superio_examples.proofs.driver.receive_through.Goals as goal
 

@@ -1,7 +1,7 @@
 -- What the driver got, then what is left of the input, is the input. The port holds no byte.
 use Rattle.std.proofs.Common.{◌≡◌, false, [], ◌++◌, length}
-use Rattle.superio_core.specs.Serial.Port.Coherent.{Coherent}
-use Rattle.superio_core.specs.Serial.Port.Registers.{is_dlab, is_loopback}
+use Rattle.superio_core.specs.Serial.Port.{Coherent}
+use Rattle.superio_core.specs.Serial.RegisterMap.{is_dlab, is_loopback}
 use Rattle.superio_examples.proofs.driver.receive_through.Given as goal
 
 abbrev pub invariant-loop-rest : goal.invariant-loop-rest

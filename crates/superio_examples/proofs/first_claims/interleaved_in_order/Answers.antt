@@ -1,7 +1,7 @@
 -- A byte that is enqueued follows those before it on both sides. A byte that is read goes from one list to the other.
 use Rattle.std.proofs.Common.{[], ◌∷◌, ◌++◌, ap, ◌∙◌, append_assoc}
-use Rattle.superio_core.specs.Serial.Port.Registers.{is_dlab, is_loopback}
-use Rattle.superio_core.specs.Serial.Port.State.{State}
+use Rattle.superio_core.specs.Serial.RegisterMap.{is_dlab, is_loopback}
+use Rattle.superio_core.specs.Serial.{State}
 use Rattle.superio_examples.proofs.ClaimLemmas.{enqueued_last}
 use Rattle.superio_examples.proofs.first_claims.interleaved_in_order.Goals.{in-Some+in_ok-push-in-Some, in-Some+else-fifo_capacity-gt0, in-None+in_ok-push-in-None, in-None+else-fifo_capacity-lt64}
 use Rattle.superio_examples.proofs.first_claims.interleaved_in_order.Goals as goal

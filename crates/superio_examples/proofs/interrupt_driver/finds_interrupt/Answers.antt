@@ -1,7 +1,7 @@
 use Rattle.std.proofs.Common.{ℕ, List, [], not, ap, sym, ◌∙◌, subst, length, ◌<◌}
 use Rattle.std.proofs.lemmas.Bool.{false≢true}
 use Rattle.superio_core.specs.Bits.{has_bits}
-use Rattle.superio_core.specs.Serial.Port.State.{State}
+use Rattle.superio_core.specs.Serial.{State}
 use Rattle.superio_examples.proofs.InterruptLemmas.{arrived, reads_iir, none_answered, shown_some, shown_none, none_waits, enabled-kept, used_one, part-arrival, part-state, part-then, ends_run}
 use Rattle.superio_examples.proofs.interrupt_driver.finds_interrupt.Goals as goal
 

@@ -2,7 +2,7 @@
 use Rattle.std.proofs.Common.{◌≡◌, ◌+◌, ◌<◌, ◌≤◌, length, true, false}
 use Rattle.std.specs.Prelude.{if◌then◌else◌}
 use Rattle.superio_core.specs.Bits.{has_bits}
-use Rattle.superio_core.specs.Serial.Port.Coherent.{ShowsHeldBytes}
+use Rattle.superio_core.specs.Serial.Port.{ShowsHeldBytes}
 use Rattle.superio_core.specs.Serial.Step.Raising.{iir_none_bit}
 use Rattle.superio_examples.specs.Interrupts.{IsPartOfRun}
 use Rattle.superio_examples.proofs.interrupt_driver.handle.Given as goal

@@ -1,6 +1,6 @@
 -- The runs so far, in a trace. Each leaves a port with which the next may begin.
-use Rattle.superio_core.specs.Serial.Port.State.{SameSettings}
-use Rattle.superio_core.specs.Serial.Port.Coherent.{ShowsHeldBytes}
+use Rattle.superio_core.specs.Serial.{SameSettings}
+use Rattle.superio_core.specs.Serial.Port.{ShowsHeldBytes}
 use Rattle.superio_examples.proofs.RunLemmas.{Ran}
 use Rattle.superio_examples.proofs.interrupt_driver.handle_repeatedly.Given as goal
 

@@ -1,7 +1,7 @@
 use Rattle.std.proofs.Common.{rules, ◌≡◌, ap}
 use Rattle.superio_core.specs.Bits.{has_bits}
-use Rattle.superio_core.specs.Serial.Port.State.{State, fresh_state}
-use Rattle.superio_core.specs.Serial.Port.Registers.{is_dlab, is_loopback}
+use Rattle.superio_core.specs.Serial.{State, fresh_state}
+use Rattle.superio_core.specs.Serial.RegisterMap.{is_dlab, is_loopback}
 use Rattle.superio_examples.proofs.InterruptLemmas.{enabled_state, enabled_attentive}
 use Rattle.superio_examples.proofs.interrupt_driver.receive_all_by_interrupts.Goals as goal
 

@@ -1,9 +1,9 @@
 use Rattle.std.proofs.Common.{ap, ◌∙◌}
 use Rattle.superio_core.specs.declared.trace.Asked.{Asked}
 use Rattle.superio_core.specs.Bits.{has_bits}
-use Rattle.superio_core.specs.Serial.Port.State.{State}
-use Rattle.superio_core.specs.Serial.Port.SerialPort.{state_of_port}
-use Rattle.superio_core.specs.Serial.Port.Registers.{is_dlab, is_loopback}
+use Rattle.superio_core.specs.Serial.{State}
+use Rattle.superio_core.specs.Serial.Port.{state_of_port}
+use Rattle.superio_core.specs.Serial.RegisterMap.{is_dlab, is_loopback}
 use Rattle.superio_examples.proofs.InterruptLemmas.{enabled_state}
 use Rattle.superio_examples.proofs.interrupt_driver.receive_all_in_pieces.Goals as goal
 

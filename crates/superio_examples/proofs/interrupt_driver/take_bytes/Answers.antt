@@ -1,6 +1,5 @@
-use Rattle.std.proofs.Common.{ap, sym, ◌∙◌, length, arith, length-append}
-use Rattle.std.proofs.Common.{[], ◌∷◌}
-use Rattle.superio_core.specs.Serial.Port.State.{State}
+use Rattle.std.proofs.Common.{ap, sym, ◌∙◌, length, arith, length-append, [], ◌∷◌}
+use Rattle.superio_core.specs.Serial.{State}
 use Rattle.superio_examples.proofs.InterruptLemmas.{arrived, takes_byte, some_ready, none_ready, latch-kept, fewer, none-kept, part-arrival, part-byte, part-look, part-then}
 use Rattle.superio_examples.proofs.interrupt_driver.take_bytes.Goals as goal
 

@@ -4,14 +4,13 @@ use Rattle.std.specs.Prelude.{IfErr}
 use Rattle.std.specs.declared.io.Error as io
 use Rattle.vm_superio.specs.declared.serial.errors.Error.{Error}
 use Rattle.vm_superio.specs.declared.serial.errors.Error.TheVariants.{Trigger, IOError, FullFifo, Memory}
-use Rattle.superio_core.specs.Serial.Port.Operations.{Write}
-use Rattle.superio_core.specs.Serial.Step.Transition.{step_events}
-use Rattle.vm_superio.specs.Links.Objects.{answers_of}
-use Rattle.vm_superio.specs.Links.OutCalls.{OutCall, Put, Flush}
+use Rattle.superio_core.specs.Serial.Operations.{Write}
+use Rattle.superio_core.specs.Serial.Step.{step_events}
+use Rattle.vm_superio.specs.Links.{answers_of, OutCall, Put, Flush}
 use Rattle.vm_superio.specs.Links.Writer.{first_fault, AnsweredFault}
-use Rattle.vm_superio.specs.Serial.Port.Model.{refusal_in_result, fault_in_result}
-use Rattle.vm_superio.specs.Serial.Step.CallsOf.{sent_in, out_calls}
-use Rattle.vm_superio.proofs.Lemmas.Serial.Step.ObjectStep.{out_in_order}
+use Rattle.vm_superio.specs.Serial.{refusal_in_result, fault_in_result}
+use Rattle.vm_superio.specs.Serial.Step.ObjectStep.{sent_in, out_calls}
+use Rattle.vm_superio.proofs.Lemmas.Serial.{out_in_order}
 use Rattle.superio_examples.specs.declared.last_byte.LastByte.{LastByte}
 use Rattle.superio_examples.specs.LastByte.{LastByteLink, IsNoFault}
 use Rattle.superio_examples.proofs.last_byte.write_kept.Goals as goal

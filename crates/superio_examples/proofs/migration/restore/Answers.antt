@@ -3,9 +3,9 @@ use Rattle.std.proofs.Common.{◌≡◌, Option, Some, None, Result, Err, IfSome
 use Rattle.superio_core.specs.declared.saved.Error.{Error as Fault}
 use Rattle.vm_superio.specs.declared.saved.Error.{Error}
 use Rattle.vm_superio.specs.declared.saved.Error.TheVariants.{Bytes, Memory}
-use Rattle.vm_superio.specs.Links.Objects.{all_ok}
-use Rattle.superio_core.specs.Saved.Form.{serial_form, clock_form}
-use Rattle.superio_core.specs.Serial.Step.Restore.{restore_calls}
+use Rattle.vm_superio.specs.Links.{all_ok}
+use Rattle.superio_core.specs.Saved.{serial_form, clock_form}
+use Rattle.superio_core.specs.Serial.Step.Raising.{restore_calls}
 use Rattle.superio_examples.specs.Migration.{IsFaultOf, first_fault}
 use Rattle.superio_examples.proofs.migration.restore.Goals as goal
 

@@ -2,13 +2,11 @@
 use Rattle.std.proofs.Common.{◌≡◌, map, List, [], ◌∷◌, ◌++◌, refl, sym, ap, ◌∙◌, subst, inl, inr}
 use Rattle.std.specs.Prelude.{fold}
 use Rattle.std.proofs.lemmas.List.Sums.{fold-append}
-use Rattle.superio_core.specs.Serial.Port.Operations.{Event, Write}
-use Rattle.superio_core.specs.Serial.Step.Transition.{step_events}
-use Rattle.vm_superio.specs.Links.Objects.{TriggerAnswer, answers_of}
-use Rattle.vm_superio.specs.Links.OutCalls.{OutCall, Put, Flush}
-use Rattle.vm_superio.specs.Links.ObjectCalls.{ToTrigger, ToOut, ToEvents}
-use Rattle.vm_superio.specs.Serial.Port.Model.{refusal_in_result}
-use Rattle.vm_superio.specs.Serial.Step.CallsOf.{sent_in, out_calls}
+use Rattle.superio_core.specs.Serial.Operations.{Event, Write}
+use Rattle.superio_core.specs.Serial.Step.{step_events}
+use Rattle.vm_superio.specs.Links.{TriggerAnswer, answers_of, OutCall, Put, Flush, ToTrigger, ToOut, ToEvents}
+use Rattle.vm_superio.specs.Serial.{refusal_in_result}
+use Rattle.vm_superio.specs.Serial.Step.ObjectStep.{sent_in, out_calls}
 use Rattle.superio_examples.specs.declared.monitor_object.MonitorObject.{MonitorObject}
 use Rattle.superio_examples.specs.MonitorObject.{after_object_call, IsByteBeforeInterrupt}
 use Rattle.superio_examples.proofs.monitor_object.write_in_order.Goals as goal

@@ -2,9 +2,9 @@
 use Rattle.std.proofs.Common.{rules, ◌≡◌, ◌∙◌, [], Result, ap, sym, subst}
 use Rattle.superio_core.specs.declared.rtc_pl031.state.RtcState.{RtcState}
 use Rattle.superio_core.specs.declared.saved.Error.{Error}
-use Rattle.superio_core.specs.Saved.Laws.{IsClock}
+use Rattle.superio_core.specs.Saved.{IsClock}
 use Rattle.superio_script.specs.ClockScript.{clock_load_reply, clock_session_state, clock_session_after_load}
-use Rattle.superio_script.proofs.LoadingLemmas.{clock-loaded}
+use Rattle.superio_script.proofs.LineLemmas.{clock-loaded}
 use Rattle.superio_script.proofs.clock_lines.load.Goals as goal
 
 pub returns-in-Ok : goal.returns-in-Ok

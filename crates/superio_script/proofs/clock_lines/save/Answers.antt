@@ -1,6 +1,6 @@
 -- The saved form is that of the session's state.
 use Rattle.std.proofs.Common.{ap, ◌∙◌}
-use Rattle.superio_core.specs.Saved.Form.{clock_form}
+use Rattle.superio_core.specs.Saved.{clock_form}
 use Rattle.superio_script.specs.Reply.{digits_reply}
 use Rattle.superio_script.proofs.clock_lines.save.Goals as goal
 

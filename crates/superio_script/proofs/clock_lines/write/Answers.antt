@@ -1,9 +1,8 @@
 -- The reply shows whether the register takes the write, and the session goes on with it.
-use Rattle.std.proofs.Common.{◌∙◌, ap, sym, Bool}
-use Rattle.std.specs.Prelude.{codes, if◌then◌else◌}
-use Rattle.superio_core.specs.Rtc.Registers.{clock_register_at, is_writable}
+use Rattle.std.proofs.Common.{◌∙◌, ap, sym, Bool, codes, if◌then◌else◌}
+use Rattle.superio_core.specs.Rtc.{clock_register_at, is_writable}
 use Rattle.superio_script.specs.Reply.{with_lf}
-use Rattle.superio_script.proofs.ClockLineLemmas.{counted-is_invalid, uncounted-is_valid, write-goes_on}
+use Rattle.superio_script.proofs.LineLemmas.{counted-is_invalid, uncounted-is_valid, write-goes_on}
 use Rattle.superio_script.proofs.clock_lines.write.Goals as goal
 
 pub returns-then-invalid_write_count-eq1 : goal.returns-then-invalid_write_count-eq1

@@ -1,4 +1,4 @@
-use Rattle.superio_script.proofs.LoadingLemmas.{port_form-loads, clock_form-loads}
+use Rattle.superio_script.proofs.LineLemmas.{port_form-loads, clock_form-loads}
 use Rattle.superio_script.proofs.laws.saved_forms_load.Goals as goal
 
 pub returns-clause-port : goal.returns-clause-port

@@ -1,5 +1,5 @@
 -- A read adds what it gave to what was read before.
-use Rattle.superio_script.proofs.ReadLemmas.{Consumes-append, room_holds-filled}
+use Rattle.superio_script.proofs.LineLemmas.{Consumes-append, room_holds-filled}
 use Rattle.superio_script.proofs.script.fill.Goals as goal
 
 pub loop-filled-preserved : goal.loop-filled-preserved

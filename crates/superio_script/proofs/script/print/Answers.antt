@@ -1,8 +1,8 @@
 -- A write takes a first part of the rest, and none of it at a fault.
-use Rattle.std.proofs.Common.{◌≡◌, Bor, ℕ, List, ap, sym, ◌∙◌, ◌++◌, [], refl, subst, append-nil, arith, length, take, drop, rules}
+use Rattle.std.proofs.Common.{◌≡◌, Bor, ℕ, List, ap, sym, ◌∙◌, ◌++◌, [], subst, append-nil, length, take, drop, rules}
 use Rattle.std.proofs.lemmas.List.{nil_from_length}
 use Rattle.std.specs.Io.KnownBytes.{Appends, WriteAppends}
-use Rattle.vm_superio.proofs.Lemmas.Links.Writer.{Appends-nothing, Appends-append}
+use Rattle.vm_superio.proofs.Lemmas.{Appends-nothing, Appends-append}
 use Rattle.superio_script.proofs.PartLemmas.{Appends-then_kept, whole_then}
 use Rattle.superio_script.proofs.script.print.Goals.{in-Ok, in-Err}
 use Rattle.superio_script.proofs.script.print.Goals as goal

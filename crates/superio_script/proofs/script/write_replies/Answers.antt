@@ -1,7 +1,7 @@
 -- Each reply that is written goes from what is still to come to what was carried out.
 use Rattle.std.proofs.Common.{◌≡◌, ap, ◌∙◌, Err, Some, inr, arith, length, length-append, ◌++◌, ◌+◌}
 use Rattle.std.proofs.KnownBytes.{Keeps-refl}
-use Rattle.superio_script.specs.Splitting.{lines_of}
+use Rattle.superio_script.specs.Fields.{lines_of}
 use Rattle.superio_script.proofs.ScriptLemmas.{HasCarriedOut-at_start, HasCarriedOut-after_line, first_bad_line-here, Prints-before_bad, Stops-here, none-bad, Prints-all}
 use Rattle.superio_script.proofs.PartLemmas.{WritesPart-nothing, WritesPart-all, WritesPart-stopped, WritesPart-in_reply}
 use Rattle.superio_script.proofs.script.write_replies.Goals as goal

@@ -1,6 +1,6 @@
 -- The lines so far were carried out, and their replies were written.
 use Rattle.std.proofs.Common.{◌≡◌, ℕ, ◌+◌, length}
-use Rattle.superio_script.specs.Splitting.{lines_of}
+use Rattle.superio_script.specs.Fields.{lines_of}
 use Rattle.superio_script.proofs.ScriptLemmas.{HasCarriedOut}
 use Rattle.superio_script.proofs.script.write_replies.Given as goal
 

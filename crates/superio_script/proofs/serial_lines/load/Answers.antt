@@ -1,9 +1,9 @@
 -- Bytes that are a state restore the port, and other bytes change nothing.
 use Rattle.std.proofs.Common.{Err, ap}
-use Rattle.vm_superio.specs.Serial.Port.SavedState.{state_of}
-use Rattle.superio_core.specs.Saved.Faults.{serial_fault}
+use Rattle.vm_superio.specs.Saved.{state_of}
+use Rattle.superio_core.specs.Saved.{serial_fault}
 use Rattle.superio_script.specs.Loading.{port_in}
-use Rattle.superio_script.proofs.LoadingLemmas.{port-loaded, port-refused}
+use Rattle.superio_script.proofs.LineLemmas.{port-loaded, port-refused}
 use Rattle.superio_script.proofs.SerialScriptLemmas.{load-step, refused-load-step, reply-weaker}
 use Rattle.superio_script.proofs.serial_lines.load.Goals as goal
 

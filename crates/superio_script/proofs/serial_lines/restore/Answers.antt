@@ -1,6 +1,6 @@
 -- A restore from the port's own state.
 use Rattle.std.proofs.Common.{subst}
-use Rattle.superio_core.specs.Serial.Port.State.{State}
+use Rattle.superio_core.specs.Serial.{State}
 use Rattle.superio_script.specs.Board.{IsRestore}
 use Rattle.superio_script.proofs.SerialScriptLemmas.{restore-step, reply-weaker}
 use Rattle.superio_script.proofs.serial_lines.restore.Goals as goal

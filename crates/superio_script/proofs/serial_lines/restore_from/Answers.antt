@@ -1,13 +1,12 @@
 -- A restore, whether its calls were accepted or one was refused. Without memory it has no reply.
 use Rattle.std.proofs.Common.{◌≡◌, refl, ap, sym, ◌∙◌, subst}
 use Rattle.vm_superio.specs.declared.serial.errors.Error.TheVariants.{Memory}
-use Rattle.vm_superio.specs.Serial.Port.SavedState.{state_of}
-use Rattle.superio_core.specs.Serial.Step.Restore.{restore_calls}
-use Rattle.vm_superio.specs.Serial.Step.Restore.{RefusesRestore}
-use Rattle.vm_superio.specs.Serial.Port.Model.{Port}
-use Rattle.vm_superio.specs.Links.Objects.{all_ok}
-use Rattle.superio_script.specs.InterruptLine.{InterruptLine, InterruptLineLink}
-use Rattle.superio_script.specs.Counts.{EventCounts}
+use Rattle.vm_superio.specs.Serial.{Port}
+use Rattle.vm_superio.specs.Saved.{state_of}
+use Rattle.superio_core.specs.Serial.Step.Raising.{restore_calls}
+use Rattle.vm_superio.specs.Serial.Step.{RefusesRestore}
+use Rattle.vm_superio.specs.Links.{all_ok}
+use Rattle.superio_script.specs.Objects.{InterruptLine, InterruptLineLink, EventCounts}
 use Rattle.superio_script.specs.declared.output.Output.{Output}
 use Rattle.superio_script.proofs.SerialScriptLemmas.{restore-accepts, restore-refuses}
 use Rattle.superio_script.proofs.serial_lines.restore_from.Goals as goal

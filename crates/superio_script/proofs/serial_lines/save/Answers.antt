@@ -1,6 +1,6 @@
 -- The saved form is that of the session's state.
 use Rattle.std.proofs.Common.{ℕ, List, ap, sym, ◌∙◌, subst}
-use Rattle.superio_core.specs.Saved.Form.{serial_form}
+use Rattle.superio_core.specs.Saved.{serial_form}
 use Rattle.superio_script.specs.Board.{IsSerialLineStep}
 use Rattle.superio_script.specs.Reply.{digits_reply}
 use Rattle.superio_script.specs.declared.command.SerialCommand.TheVariants.{Save}

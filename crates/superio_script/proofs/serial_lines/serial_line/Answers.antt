@@ -1,7 +1,7 @@
 -- Each line is a step of the session.
 use Rattle.std.proofs.Common.{None}
-use Rattle.vm_superio.specs.Serial.Port.Model.{write_response, enqueue_response, timeout_response, refusal_in_result}
-use Rattle.superio_core.specs.Serial.Port.Operations.{ByteRead}
+use Rattle.vm_superio.specs.Serial.{write_response, enqueue_response, timeout_response, refusal_in_result}
+use Rattle.superio_core.specs.Serial.Operations.{ByteRead}
 use Rattle.superio_script.proofs.SerialScriptLemmas.{read-step, drain-step, write-step, enqueue-step, timeout-step, capacity-step, output-step, calls-step, events-step}
 use Rattle.superio_script.proofs.serial_lines.serial_line.Goals as goal
 

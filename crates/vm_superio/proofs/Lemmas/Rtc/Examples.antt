@@ -1,13 +1,10 @@
 -- Worked examples of the clock, each computed by the steps of the accesses and by the history.
-use Rattle.std.specs.Prelude.{◌≡◌, ℕ, ◌+◌, ◌-◌, ◌^◌, ◌<◌, ℤ, Bool, true, false, pos, negsuc, List, [], ◌∷◌, ◌++◌, Option, Some, None, refl}
 use Rattle.superio_core.specs.declared.rtc_pl031.state.RtcState.{RtcState}
+use Rattle.superio_core.specs.Rtc.{Access, read, write, bytes_left, fresh_clock, host_time}
 use Rattle.superio_core.specs.Bits.{with_bits}
-use Rattle.vm_superio.specs.Rtc.Events.{RtcEvent, invalid_read, invalid_write}
-use Rattle.std.proofs.Common.{zero, suc, arith}
-use Rattle.superio_core.specs.Rtc.Registers.{Access, read, write, bytes_left, fresh_clock, host_time}
-use Rattle.superio_core.specs.Rtc.Step.{is_alarm_reached, clock_response, clock_step, state_after_accesses}
-use Rattle.vm_superio.specs.Rtc.Device.{clock_events}
-use Rattle.superio_core.specs.Rtc.Alarm.{is_line_up, IsDueIn}
+use Rattle.vm_superio.specs.Rtc.{RtcEvent, invalid_read, invalid_write, clock_events}
+use Rattle.std.proofs.Common.{zero, suc, arith, ◌≡◌, ℕ, ◌+◌, ◌-◌, ◌^◌, ◌<◌, ℤ, Bool, true, false, pos, negsuc, List, [], ◌∷◌, ◌++◌, Option, Some, None, refl}
+use Rattle.superio_core.specs.Rtc.Step.{is_alarm_reached, clock_response, clock_step, state_after_accesses, is_line_up, IsDueIn}
 use Rattle.vm_superio.specs.Rtc.History.{clock_of_history, clock_history_response}
 
 -- the answers of some accesses, oldest first, by the steps

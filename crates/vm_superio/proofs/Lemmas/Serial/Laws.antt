@@ -1,21 +1,364 @@
-pub mod CharacterTimeout
-pub mod Coherence
-pub mod HeldBytes
+-- The register law: one call leaves in each register what it wrote there, and otherwise what was there.
+pub mod Consequences
 pub mod InterruptDriver
 pub mod InterruptLine
 pub mod Interrupts
 pub mod OneCall
-pub mod OutcomeEvents
-pub mod Output
-pub mod PendingByPrefixes
-pub mod PollingDriver
-pub mod ReadsAreTaken
-pub mod Registers
-pub mod SameReads
-pub mod StatesOfHistory
+pub mod Reads
 pub mod StepsOfHistory
-pub mod TriggerBound
 pub mod TurnedBits
-pub mod WaitingBytes
-pub mod WholeRuns
 pub mod WholeRunsOfPorts
+use Rattle.std.proofs.Common.{rules, ◌≡◌, ℕ, zero, suc, Bool, true, false, eqb, List, [], ◌∷◌, Option, Some, None, refl, ap, sym, ◌∙◌, ⊎_elim, ◌<◌, lit<, arith, subst, ◌++◌, length, drop, append_assoc, append-nil, length-append, if◌then◌else◌, unwrap_or}
+use Rattle.std.proofs.lemmas.Bool.Decides.{eqb_tells}
+use Rattle.std.specs.Option.{option_or, option_map_or}
+use Rattle.std.proofs.Math.Seq.{drop-append-add}
+use Rattle.superio_core.specs.declared.trace.Asked.{Asked}
+use Rattle.superio_core.specs.Serial.Operations.{Op, Read, Write, Enqueue, CharacterTimeout, Restore, TraceEntry, OpKind, kind_of, RbrRead, IirRead, Arrival}
+use Rattle.superio_core.specs.Serial.{State, not_empty}
+use Rattle.superio_core.specs.Bits.{only_bits, has_bits, without_bits}
+use Rattle.superio_core.specs.declared.serial.registers.Register.{Register}
+use Rattle.superio_core.specs.declared.serial.registers.Register.TheVariants.{RbrThr, Iir, Unassigned}
+use Rattle.superio_core.specs.Serial.RegisterMap.{register_at, is_dlab, is_loopback}
+use Rattle.superio_core.specs.Serial.Step.Raising.{receive_bytes, enqueued_bytes, bytes_that_fit}
+use Rattle.superio_core.specs.Serial.Step.{step, read_step, write_step, thr_write, character_timeout}
+use Rattle.vm_superio.specs.Serial.History.Registers.{value_written_at, last_found, dlab, kind_at, accepted_by, taken_by, remaining_bytes, accepted_bytes, taken_bytes, held_bytes}
+use Rattle.vm_superio.specs.Serial.History.{state_of_history, with_data_ready, line_status}
+use Rattle.vm_superio.specs.Serial.Laws.{RegisterLaw, state_after, HeldBytesLaw, LineStatusLaw}
+use Rattle.superio_core.specs.Serial.Step.Admissible.{kind_in_state}
+use Rattle.superio_core.proofs.Lemmas.Serial.Step.{SameBytes, by_kind, next_by_kind}
+use Rattle.vm_superio.specs.Serial.Laws.Consequences.{TakenThenHeldLaw}
+use Rattle.vm_superio.proofs.Lemmas.{data_ready_right, data_ready_twice}
+use Rattle.superio_core.proofs.Lemmas.Serial.Coherence.{not_empty-append}
+use Rattle.vm_superio.proofs.Lemmas.Serial.Laws.OneCall.{taken_first, left_by_kind}
+
+-- ---- one call
+
+-- the call leaves in each register what the operation wrote there, under this DLAB
+pub record Steps (dlab : Bool) (op : Op) (s new : State) : Type 0 where
+  pub divisor_low : new.baud_divisor_low ≡ unwrap_or (if dlab then value_written_at 0 op else None) s.baud_divisor_low
+  pub divisor_high : new.baud_divisor_high ≡ unwrap_or (if dlab then value_written_at 1 op else None) s.baud_divisor_high
+  pub interrupt_enable : new.interrupt_enable
+      ≡ option_map_or (λ value. only_bits value 0x0F) (if dlab then None else value_written_at 1 op) s.interrupt_enable
+  pub line_control : new.line_control ≡ unwrap_or (value_written_at 3 op) s.line_control
+  pub modem_control : new.modem_control ≡ unwrap_or (value_written_at 4 op) s.modem_control
+  pub modem_status : new.modem_status ≡ s.modem_status
+  pub scratch : new.scratch ≡ unwrap_or (value_written_at 7 op) s.scratch
+
+-- the new state has the old one's registers
+SameRegisters : State → State → Type 0
+SameRegisters s new = new ≡ record s {
+  interrupt_identification = new.interrupt_identification;
+  line_status = new.line_status;
+  in_buffer = new.in_buffer;
+}
+
+-- the operation writes nothing that a register keeps
+WritesNothing : Bool → Op → Type 0
+WritesNothing dlab op =
+    ((if dlab then value_written_at 0 op else None) ≡ None)
+    × ((if dlab then value_written_at 1 op else None) ≡ None)
+    × ((if dlab then None else value_written_at 1 op) ≡ None)
+    × (value_written_at 3 op ≡ None)
+    × (value_written_at 4 op ≡ None)
+    × (value_written_at 7 op ≡ None)
+
+kept : (dlab : Bool) (op : Op) (s new : State) → WritesNothing dlab op → SameRegisters s new → Steps dlab op s new
+unfolding WritesNothing SameRegisters
+kept dlab op s new nothing same = record {
+  divisor_low = rw nothing.0 (ap (λ (t : State). t.baud_divisor_low) same);
+  divisor_high = rw nothing.1 (ap (λ (t : State). t.baud_divisor_high) same);
+  interrupt_enable = rw nothing.2 (ap (λ (t : State). t.interrupt_enable) same);
+  line_control = rw nothing.3 (ap (λ (t : State). t.line_control) same);
+  modem_control = rw nothing.4 (ap (λ (t : State). t.modem_control) same);
+  modem_status = ap (λ (t : State). t.modem_status) same;
+  scratch = rw nothing.5 (ap (λ (t : State). t.scratch) same);
+}
+
+received : (bytes : List ℕ) (s : State) → SameRegisters s (receive_bytes bytes s)
+unfolding SameRegisters
+received [] s = refl
+received (byte ∷ bytes) s = refl
+
+read_done : (r : Register) (s : State) → SameRegisters s (read_step r s)
+unfolding SameRegisters
+read_done r s = grind arith
+
+data_written : (value : ℕ) (loopback : Bool) (s : State) → is_loopback s.modem_control ≡ loopback
+    → SameRegisters s (thr_write value s)
+unfolding SameRegisters
+data_written value true s e = rw e (received (bytes_that_fit s.in_buffer (value ∷ [])) s)
+data_written value false s e = rw e refl
+
+none_either : (b : Bool) → ◌≡◌ {A = Option ℕ} (if b then None else None) None
+none_either true = refl
+none_either false = refl
+
+reads_nothing : (dlab : Bool) (offset : ℕ) → WritesNothing dlab (Read offset)
+unfolding WritesNothing
+reads_nothing dlab offset = (none_either dlab, none_either dlab, none_either dlab, refl, refl, refl)
+
+enqueues_nothing : (dlab : Bool) (bytes : List ℕ) → WritesNothing dlab (Enqueue bytes)
+unfolding WritesNothing
+enqueues_nothing dlab bytes = (none_either dlab, none_either dlab, none_either dlab, refl, refl, refl)
+
+times_out_nothing : (dlab : Bool) → WritesNothing dlab CharacterTimeout
+unfolding WritesNothing
+times_out_nothing dlab = (none_either dlab, none_either dlab, none_either dlab, refl, refl, refl)
+
+restores_nothing : (dlab : Bool) → WritesNothing dlab Restore
+unfolding WritesNothing
+restores_nothing dlab = (none_either dlab, none_either dlab, none_either dlab, refl, refl, refl)
+
+timed_out : (s : State) → SameRegisters s (character_timeout s)
+unfolding SameRegisters
+timed_out s = refl
+
+all_kept : (s : State) → SameRegisters s s
+unfolding SameRegisters
+all_kept s = refl
+
+-- there is no register from offset 8 on
+apart : (n k : ℕ) → k < 8 → eqb (suc (suc (suc (suc (suc (suc (suc (suc n)))))))) k ≡ false
+apart n k below =
+    ⊎_elim (λ same. let e : suc (suc (suc (suc (suc (suc (suc (suc n))))))) ≡ k =
+    same.1 in absurd (omega arith)) (λ other. other.0)
+    (eqb_tells (suc (suc (suc (suc (suc (suc (suc (suc n)))))))) k)
+
+unknown : (dlab : Bool) (n : ℕ) → register_at dlab (suc (suc (suc (suc (suc (suc (suc (suc n)))))))) ≡ Unassigned
+unknown dlab n =
+    simp (
+      apart n 0 (lit< tt),
+      apart n 1 (lit< tt),
+      apart n 2 (lit< tt),
+      apart n 3 (lit< tt),
+      apart n 4
+          (lit< tt),
+      apart n 5 (lit< tt),
+      apart n 6 (lit< tt),
+      apart n 7 (lit< tt),
+    )
+
+nothing_there : (dlab : Bool) (n value : ℕ)
+    → WritesNothing dlab (Write (suc (suc (suc (suc (suc (suc (suc (suc n)))))))) value)
+unfolding WritesNothing
+nothing_there true n value =
+    simp (apart n 0 (lit< tt), apart n 1 (lit< tt), apart n 3 (lit< tt), apart n 4 (lit< tt), apart n 7 (lit< tt))
+    (refl, refl, refl, refl, refl, refl)
+nothing_there false n value =
+    simp (apart n 1 (lit< tt), apart n 3 (lit< tt), apart n 4 (lit< tt), apart n 7 (lit< tt))
+    (refl, refl, refl, refl, refl, refl)
+
+-- a write, offset by offset
+write_done : (dlab : Bool) (offset value : ℕ) (asked : Asked) (s : State)
+    → Steps dlab (Write offset value) s (write_step (register_at dlab offset) value asked s)
+unfolding WritesNothing SameRegisters
+write_done true zero value asked s = search rules
+write_done false zero value asked s =
+    kept false (Write 0 value) s (thr_write value s) (refl, refl, refl, refl, refl, refl)
+    (data_written value _ s refl)
+write_done true (suc zero) value asked s = search rules
+write_done false (suc zero) value asked s = search rules
+write_done true (suc (suc zero)) value asked s = search rules
+write_done false (suc (suc zero)) value asked s = search rules
+write_done true (suc (suc (suc zero))) value asked s = search rules
+write_done false (suc (suc (suc zero))) value asked s = search rules
+write_done true (suc (suc (suc (suc zero)))) value asked s = search rules
+write_done false (suc (suc (suc (suc zero)))) value asked s = search rules
+write_done true (suc (suc (suc (suc (suc zero))))) value asked s = search rules
+write_done false (suc (suc (suc (suc (suc zero))))) value asked s = search rules
+write_done true (suc (suc (suc (suc (suc (suc zero)))))) value asked s = search rules
+write_done false (suc (suc (suc (suc (suc (suc zero)))))) value asked s = search rules
+write_done true (suc (suc (suc (suc (suc (suc (suc zero))))))) value asked s = search rules
+write_done false (suc (suc (suc (suc (suc (suc (suc zero))))))) value asked s = search rules
+write_done dlab (suc (suc (suc (suc (suc (suc (suc (suc n)))))))) value asked s =
+    rw (unknown dlab n)
+    (kept dlab (Write (suc (suc (suc (suc (suc (suc (suc (suc n)))))))) value) s s (nothing_there dlab n value) refl)
+
+pub call_done : (s : State) (op : Op) (asked : Asked) → Steps (is_dlab s.line_control) op s (step s op asked)
+call_done s (Read offset) asked =
+    kept _ (Read offset) s _ (reads_nothing _ offset) (read_done (register_at (is_dlab s.line_control) offset) s)
+call_done s (Write offset value) asked = write_done _ offset value asked s
+call_done s (Enqueue bytes) asked =
+    kept _ (Enqueue bytes) s _ (enqueues_nothing _ bytes) (received (enqueued_bytes s bytes) s)
+call_done s CharacterTimeout asked = kept _ CharacterTimeout s _ (times_out_nothing _) (timed_out s)
+call_done s Restore asked = kept _ Restore s s (restores_nothing _) (all_kept s)
+
+-- ---- any trace
+
+unwrap_or-or : (one other : Option ℕ) (byte : ℕ)
+    → unwrap_or (option_or one other) byte ≡ unwrap_or one (unwrap_or other byte)
+unwrap_or-or None other byte = refl
+unwrap_or-or (Some value) other byte = refl
+
+option_map_or-or : (f : ℕ → ℕ) (one other : Option ℕ) (byte : ℕ)
+    → option_map_or f (option_or one other) byte ≡ option_map_or f one (option_map_or f other byte)
+option_map_or-or f None other byte = refl
+option_map_or-or f (Some value) other byte = refl
+
+-- what the newest entry left of what the others left is what the whole trace says
+more : (found : List TraceEntry → Op → Option ℕ) (entry : TraceEntry) (trace : List TraceEntry) (byte old new : ℕ)
+    → old ≡ unwrap_or (last_found found trace) byte → new ≡ unwrap_or (found trace entry.op) old
+    → new ≡ unwrap_or (last_found found (entry ∷ trace)) byte
+more found entry trace byte old new before step =
+    step ∙ ap (unwrap_or (found trace entry.op)) before
+    ∙ sym (unwrap_or-or (found trace entry.op) (last_found found trace) byte)
+
+more_masked : (found : List TraceEntry → Op → Option ℕ) (entry : TraceEntry) (trace : List TraceEntry) (byte old new : ℕ)
+    → old ≡ option_map_or (λ value. only_bits value 0x0F) (last_found found trace) byte
+    → new ≡ option_map_or (λ value. only_bits value 0x0F) (found trace entry.op) old
+    → new ≡ option_map_or (λ value. only_bits value 0x0F) (last_found found (entry ∷ trace)) byte
+more_masked found entry trace byte old new before step =
+    step ∙ ap (option_map_or (λ value. only_bits value 0x0F) (found trace entry.op)) before
+    ∙ sym (option_map_or-or (λ value. only_bits value 0x0F) (found trace entry.op) (last_found found trace) byte)
+
+pub register_law : RegisterLaw
+register_law start [] = search rules
+register_law start (entry ∷ trace) =
+    let before = register_law start trace in
+    let step = call_done (state_after start trace) entry.op entry.asked in
+    let same : is_dlab (state_after start trace).line_control ≡ dlab start trace = ap is_dlab before.line_control in
+    record {
+      divisor_low = more _ entry trace _ _ _ before.divisor_low (rw same at step.divisor_low);
+      divisor_high = more _ entry trace _ _ _ before.divisor_high (rw same at step.divisor_high);
+      interrupt_enable = more_masked _ entry trace _ _ _ before.interrupt_enable (rw same at step.interrupt_enable);
+      line_control = more (λ _ op. value_written_at 3 op) entry trace _ _ _ before.line_control step.line_control;
+      modem_control = more (λ _ op. value_written_at 4 op) entry trace _ _ _ before.modem_control step.modem_control;
+      modem_status = step.modem_status ∙ before.modem_status;
+      scratch = more (λ _ op. value_written_at 7 op) entry trace _ _ _ before.scratch step.scratch;
+    }
+
+-- but for IIR, LSR and the bytes, the state of the history is the state after the trace
+pub state_of_history-by_state :
+    (start : State) (trace : List TraceEntry) (identification line_status : ℕ) (bytes : List ℕ) →
+    record (state_of_history start trace) {
+      interrupt_identification = identification;
+      line_status = line_status;
+      in_buffer = bytes;
+    }
+    ≡ record (state_after start trace) {
+      interrupt_identification = identification;
+      line_status = line_status;
+      in_buffer = bytes;
+    }
+state_of_history-by_state start trace identification line_status bytes =
+    let registers = register_law start trace in
+    λ i. record {
+      baud_divisor_low = sym registers.divisor_low i;
+      baud_divisor_high = sym registers.divisor_high i;
+      interrupt_enable = sym registers.interrupt_enable i;
+      interrupt_identification = identification;
+      line_control = sym registers.line_control i;
+      line_status = line_status;
+      modem_control = sym registers.modem_control i;
+      modem_status = sym registers.modem_status i;
+      scratch = sym registers.scratch i;
+      in_buffer = bytes;
+    }
+
+-- ---- a call at a point of a trace, by what its operation is there
+
+-- the state after a trace tells what an operation is at that point
+pub same_kind : (start : State) (trace : List TraceEntry) (op : Op)
+    → kind_in_state (state_after start trace) op ≡ kind_at start trace op
+same_kind start trace op =
+    let s = state_after start trace in
+    let registers = register_law start trace in
+    ap (λ byte. kind_of (is_dlab byte) (is_loopback s.modem_control) op) registers.line_control
+    ∙ ap (λ byte. kind_of (dlab start trace) (is_loopback byte) op) registers.modem_control
+
+-- so the state after one more entry is that by its kind there
+pub next_at_point : (start : State) (trace : List TraceEntry) (entry : TraceEntry)
+    → SameBytes (state_after start (entry ∷ trace))
+    (by_kind (kind_at start trace entry.op) entry.asked (state_after start trace))
+next_at_point start trace entry =
+    let s = state_after start trace in
+    subst (λ (k : OpKind). SameBytes (step s entry.op entry.asked) (by_kind k entry.asked s))
+    (same_kind start trace entry.op)
+    (next_by_kind s entry.op entry.asked)
+
+-- ---- the held-bytes law: no byte is lost or made up, and data ready says whether one is held
+
+-- ---- any trace
+
+-- what is left of all bytes and the new ones, after those taken and then some more
+drop_more : (all taken_bytes remaining_bytes more new : List ℕ) → taken_bytes ++ remaining_bytes ≡ all
+    → drop (length (taken_bytes ++ more)) (all ++ new) ≡ drop (length more) (remaining_bytes ++ new)
+drop_more all taken_bytes remaining_bytes more new parts =
+    ap (λ bytes. drop (length (taken_bytes ++ more)) (bytes ++ new)) (sym parts)
+    ∙ ap (drop (length (taken_bytes ++ more))) (append_assoc taken_bytes remaining_bytes new)
+    ∙ ap (λ n. drop n (taken_bytes ++ (remaining_bytes ++ new))) (length-append taken_bytes more)
+    ∙ drop-append-add taken_bytes (remaining_bytes ++ new) (length more)
+
+-- the held bytes after one more entry, if those taken and those held are all bytes
+pub held_more : (start : State) (trace : List TraceEntry) (entry : TraceEntry)
+    → taken_bytes start trace ++ held_bytes start trace ≡ start.in_buffer ++ accepted_bytes start trace
+    → let k = kind_at start trace entry.op in
+    held_bytes start (entry ∷ trace)
+    ≡ drop (length (taken_by k (held_bytes start trace))) (held_bytes start trace ++ accepted_by k (held_bytes start trace))
+held_more start trace entry parts =
+    let k = kind_at start trace entry.op in
+    let bytes = held_bytes start trace in
+    ap (drop (length (taken_bytes start (entry ∷ trace))))
+    (sym (append_assoc start.in_buffer (accepted_bytes start trace) (accepted_by k bytes)))
+    ∙ drop_more (start.in_buffer ++ accepted_bytes start trace) (taken_bytes start trace) bytes (taken_by k bytes)
+    (accepted_by k bytes) parts
+
+pub taken_then_held : TakenThenHeldLaw
+taken_then_held start [] = refl
+taken_then_held start (entry ∷ trace) =
+    let before = taken_then_held start trace in
+    let k = kind_at start trace entry.op in
+    let bytes = held_bytes start trace in
+    ap (λ rest. taken_bytes start (entry ∷ trace) ++ rest) (held_more start trace entry before)
+    ∙ append_assoc (taken_bytes start trace) (taken_by k bytes) _
+    ∙ ap (λ rest. taken_bytes start trace ++ rest) (taken_first k bytes (accepted_by k bytes))
+    ∙ sym (append_assoc (taken_bytes start trace) bytes (accepted_by k bytes))
+    ∙ ap (λ all. all ++ accepted_by k bytes) before
+    ∙ append_assoc start.in_buffer (accepted_bytes start trace) (accepted_by k bytes)
+
+pub held_bytes_law : HeldBytesLaw
+held_bytes_law start [] = sym (append-nil start.in_buffer)
+held_bytes_law start (entry ∷ trace) =
+    let s = state_after start trace in
+    let k = kind_at start trace entry.op in
+    (next_at_point start trace entry).in_buffer
+    ∙ left_by_kind k entry.asked s
+    ∙ ap (λ bytes. drop (length (taken_by k bytes)) (bytes ++ accepted_by k bytes)) (held_bytes_law start trace)
+    ∙ sym (held_more start trace entry (taken_then_held start trace))
+
+-- ---- data ready
+
+-- LSR of a state shows whether bytes are held
+abbrev IsReady : State → Type 0
+IsReady s = s.line_status ≡ with_data_ready s.line_status (not_empty s.in_buffer)
+
+-- LSR that a call leaves, from one that shows whether bytes are held
+ready_more : (s : State) (op : Op) (asked : Asked) → IsReady s
+    → (step s op asked).line_status ≡ with_data_ready s.line_status (not_empty (step s op asked).in_buffer)
+ready_more s op asked ready = grind arith
+
+-- the start's LSR, with data ready as bytes are held now
+ready_after : (start : State) (trace : List TraceEntry)
+    → has_bits start.line_status 0x01 ≡ not_empty start.in_buffer
+    → (state_after start trace).line_status
+    ≡ with_data_ready start.line_status (not_empty (state_after start trace).in_buffer)
+ready_after start [] right =
+    sym (data_ready_right start.line_status) ∙ ap (with_data_ready start.line_status) right
+ready_after start (entry ∷ trace) right =
+    let s = state_after start trace in
+    let before = ready_after start trace right in
+    let again = λ (ready : Bool). data_ready_twice start.line_status (not_empty s.in_buffer) ready in
+    let ready : IsReady s =
+    before ∙ sym (again (not_empty s.in_buffer))
+    ∙ ap (λ byte. with_data_ready byte (not_empty s.in_buffer)) (sym before) in
+    let now = not_empty (step s entry.op entry.asked).in_buffer in
+    ready_more s entry.op entry.asked ready ∙ ap (λ byte. with_data_ready byte now) before ∙ again now
+
+pub line_status_law : LineStatusLaw
+line_status_law start trace right =
+    ready_after start trace right
+    ∙ ap (λ bytes. with_data_ready start.line_status (not_empty bytes)) (held_bytes_law start trace)
+
+-- ---- what the law rests on
+
+pub ruleset held_bytes_laws = (held_bytes_law, line_status_law)

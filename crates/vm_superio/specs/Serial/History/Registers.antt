@@ -3,11 +3,9 @@
 use Rattle.std.specs.Prelude.{◌≡◌, ℕ, ◌-◌, Bool, ◌==◌, if◌then◌else◌, List, [], ◌∷◌, ◌++◌, length, take, drop, Option, Some, None, unwrap_or}
 use Rattle.std.specs.Option.{option_or, option_map_or}
 use Rattle.superio_core.specs.Bits.{only_bits}
-use Rattle.superio_core.specs.Serial.Port.Bits.{ier_bits}
-use Rattle.superio_core.specs.Serial.Port.State.{State}
-use Rattle.superio_core.specs.Serial.Port.Registers.{is_dlab, is_loopback}
-use Rattle.superio_core.specs.Serial.Port.Operations.{Op, Write, Trace}
-use Rattle.superio_core.specs.Serial.Port.OpKinds.{OpKind, RbrRead, Arrival, kind_of}
+use Rattle.superio_core.specs.Serial.{ier_bits, State}
+use Rattle.superio_core.specs.Serial.RegisterMap.{is_dlab, is_loopback}
+use Rattle.superio_core.specs.Serial.Operations.{Op, Write, Trace, OpKind, RbrRead, Arrival, kind_of}
 
 -- ---- the last effective write to a register
 

@@ -3,20 +3,17 @@
 use Rattle.std.specs.Prelude.{◌≡◌, ⊤, ℕ, ◌+◌, ◌*◌, ◌≤◌, not, ◌==◌, ◌&&◌, ◌||◌, nat_le, if◌then◌else◌, List, [], ◌∷◌, ◌++◌, length, count_by}
 use Rattle.superio_core.specs.declared.trace.Asked.{Asked}
 use Rattle.superio_core.specs.declared.trace.Sent.{Sent}
+use Rattle.superio_core.specs.Serial.Operations.{events_of_read, Read, Write, Enqueue, CharacterTimeout, Restore, TraceEntry, Trace, Op, sent_by, is_iir_read, is_rbr_read}
 use Rattle.superio_core.specs.declared.serial.effects.ReadEffects.{ReadEffects}
 use Rattle.superio_core.specs.declared.serial.effects.WriteEffects.{WriteEffects}
 use Rattle.superio_core.specs.declared.serial.effects.EnqueueEffects.{EnqueueEffects}
-use Rattle.superio_core.specs.Serial.Port.State.{State, not_empty}
-use Rattle.superio_core.specs.Serial.Port.Coherent.{Coherent}
-use Rattle.superio_core.specs.Serial.Port.Effects.{events_of_read}
-use Rattle.superio_core.specs.Serial.Port.Operations.{Read, Write, Enqueue, CharacterTimeout, Restore, TraceEntry, Trace, Op}
-use Rattle.superio_core.specs.Serial.Port.OpKinds.{sent_by, is_iir_read, is_rbr_read}
-use Rattle.superio_core.specs.Serial.Step.Restore.{restore_calls}
-use Rattle.superio_core.specs.Serial.Step.Calls.{IsPortRead, IsPortWrite, IsPortEnqueue, IsPortTimeout}
+use Rattle.superio_core.specs.Serial.{State, not_empty}
+use Rattle.superio_core.specs.Serial.Port.{Coherent}
+use Rattle.superio_core.specs.Serial.Step.Raising.{restore_calls}
+use Rattle.superio_core.specs.Serial.Step.Admissible.{IsPortRead, IsPortWrite, IsPortEnqueue, IsPortTimeout}
 use Rattle.vm_superio.specs.Serial.History.Registers.{kind_at, loopback, accepted_by, held_bytes}
 use Rattle.vm_superio.specs.Serial.History.Interrupts.{restore_calls_due, op_kinds}
-use Rattle.vm_superio.specs.Serial.History.Calls.{calls_due, history_events}
-use Rattle.vm_superio.specs.Serial.History.Reads.{guest_read, output, state_of_history}
+use Rattle.vm_superio.specs.Serial.History.{calls_due, history_events, guest_read, output, state_of_history}
 
 -- a call with its effects
 pub data PortCall : Type 0 where

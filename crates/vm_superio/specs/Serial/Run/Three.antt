@@ -3,20 +3,16 @@ use Rattle.std.specs.Prelude.{ℕ, not, List, [], ◌∷◌, ◌++◌, ⊤, IsTr
 use Rattle.std.specs.List.{list_all}
 use Rattle.std.specs.Io.KnownBytes.{Appends}
 use Rattle.vm_superio.specs.declared.run.Call.TheVariants.{Restore}
-use Rattle.vm_superio.specs.declared.serial.objects.Three.{Three}
-use Rattle.vm_superio.specs.declared.serial.out.WriterOut.{WriterOut}
-use Rattle.superio_core.specs.Serial.Port.State.{State}
+use Rattle.vm_superio.specs.Serial.{Three, WriterOut, Port, one_port}
+use Rattle.superio_core.specs.Serial.{State}
 use Rattle.superio_core.specs.declared.trace.Asked.{Asked}
-use Rattle.superio_core.specs.Serial.Port.Operations.{Event, TraceEntry, Trace, is_lost}
-use Rattle.vm_superio.specs.Links.Objects.{Link, TriggerAnswer, answers_of, all_ok, RefusesOwnState}
-use Rattle.vm_superio.specs.Links.OutCalls.{OutCall, WriterCalls}
+use Rattle.superio_core.specs.Serial.Operations.{Event, TraceEntry, Trace, is_lost}
+use Rattle.vm_superio.specs.Links.{Link, TriggerAnswer, answers_of, all_ok, RefusesOwnState, OutCall, WriterCalls}
 use Rattle.vm_superio.specs.Links.Three.{ThreeLink}
-use Rattle.vm_superio.specs.Links.WriterOut.{WriterLink}
-use Rattle.vm_superio.specs.Links.Writer.{OutLink}
-use Rattle.vm_superio.specs.Serial.Port.Model.{Port, one_port}
+use Rattle.vm_superio.specs.Links.Writer.{WriterLink, OutLink}
 use Rattle.vm_superio.specs.Serial.History.Interrupts.{restore_calls_due}
-use Rattle.vm_superio.specs.Serial.History.Reads.{output, outcomes}
-use Rattle.vm_superio.specs.Serial.Run.Trace.{Call, Reply, Restored, NotRestored, Done, entry_of, refusal_in_reply}
+use Rattle.vm_superio.specs.Serial.History.{output, outcomes}
+use Rattle.vm_superio.specs.Serial.Run.{Call, Reply, Restored, NotRestored, Done, entry_of, refusal_in_reply}
 use Rattle.vm_superio.specs.Serial.Run.HistoryTheorem.{HistoryTheorem}
 
 -- ---- output

@@ -1,11 +1,9 @@
 -- A step keeps a coherent state coherent.
 use Rattle.std.proofs.Common.{sym, subst}
-use Rattle.superio_core.specs.declared.trace.Asked.{Asked}
-use Rattle.superio_core.specs.Serial.Port.SerialPort.{state_of_port}
-use Rattle.superio_core.specs.Serial.Port.Operations.{CharacterTimeout}
-use Rattle.superio_core.proofs.Lemmas.Serial.Laws.Coherence.{coherence_law}
-use Rattle.superio_core.specs.Serial.Port.Coherent.{Coherent, ShowsHeldBytes}
-use Rattle.superio_core.proofs.Lemmas.Serial.Step.CharacterTimeout.{shows_held_bytes}
+use Rattle.superio_core.specs.Serial.Operations.{Asked, CharacterTimeout}
+use Rattle.superio_core.specs.Serial.Port.{state_of_port, Coherent, ShowsHeldBytes}
+use Rattle.superio_core.proofs.Lemmas.Serial.Coherence.{coherence_law}
+use Rattle.superio_core.proofs.Lemmas.Serial.Step.{shows_held_bytes}
 use Rattle.superio_core.proofs.serial.SerialPort.character_timeout.Goals as goal
 
 pub returns-clause-pending : goal.returns-clause-pending

@@ -1,8 +1,8 @@
 -- A fresh port is coherent.
 use Rattle.std.proofs.Common.{sym, ap, ◌∙◌, subst}
-use Rattle.superio_core.specs.Serial.Port.Coherent.{Coherent}
-use Rattle.superio_core.specs.Serial.Port.State.{state_with}
-use Rattle.superio_core.proofs.Lemmas.Serial.Port.Coherent.{fresh_coherent}
+use Rattle.superio_core.specs.Serial.Port.{Coherent}
+use Rattle.superio_core.specs.Serial.{state_with}
+use Rattle.superio_core.proofs.Lemmas.Serial.{fresh_coherent}
 use Rattle.superio_core.proofs.serial.SerialPort.new.Goals as goal
 
 pub returns-clause-coherent : goal.returns-clause-coherent

@@ -1,11 +1,9 @@
 -- A step keeps a coherent state coherent.
 use Rattle.std.proofs.Common.{sym, ap, ◌∙◌, subst}
-use Rattle.superio_core.specs.declared.trace.Asked.{Asked}
-use Rattle.superio_core.specs.Serial.Port.Coherent.{Coherent}
-use Rattle.superio_core.specs.Serial.Port.SerialPort.{state_of_port}
-use Rattle.superio_core.specs.Serial.Port.Operations.{Write}
-use Rattle.superio_core.specs.Serial.Step.Transition.{write_step}
-use Rattle.superio_core.proofs.Lemmas.Serial.Laws.Coherence.{coherence_law}
+use Rattle.superio_core.specs.Serial.Operations.{Asked, Write}
+use Rattle.superio_core.specs.Serial.Port.{Coherent, state_of_port}
+use Rattle.superio_core.specs.Serial.Step.{write_step}
+use Rattle.superio_core.proofs.Lemmas.Serial.Coherence.{coherence_law}
 use Rattle.superio_core.proofs.serial.SerialPort.write.Goals as goal
 
 pub returns-clause-coherent : goal.returns-clause-coherent

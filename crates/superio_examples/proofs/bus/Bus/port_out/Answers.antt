@@ -1,5 +1,5 @@
 -- One write for each byte.
-use Rattle.vm_superio.specs.Links.OutCalls.{WriterCalls}
+use Rattle.vm_superio.specs.Links.{WriterCalls}
 use Rattle.std.proofs.Common.{◌≡◌, length, [], ◌∷◌, Ok, refl, sym, subst, arith}
 use Rattle.std.specs.Prelude.{slice_index}
 use Rattle.superio_examples.specs.PortIo.{WritesBytes}

@@ -3,8 +3,8 @@ use Rattle.std.proofs.Common.{◌≡◌, ℕ, ◌-◌, Bool, true, false, Some, 
 use Rattle.std.specs.Prelude.{if◌then◌else◌, unwrap_or}
 use Rattle.std.specs.Bool.{OnTrue}
 use Rattle.superio_examples.specs.Bus.{is_serial}
-use Rattle.vm_superio.specs.Links.OutCalls.{WriterCalls}
-use Rattle.vm_superio.specs.Serial.Step.PortStep.{IsWriteStep}
+use Rattle.vm_superio.specs.Links.{WriterCalls}
+use Rattle.vm_superio.specs.Serial.Step.{IsWriteStep}
 use Rattle.superio_examples.proofs.bus.Bus.write.Goals as goal
 
 at_offset : (test : Bool) (offset given : ℕ) (P : ℕ → Type 0) → Some offset ≡ (if test then Some given else None) → P offset

@@ -1,6 +1,6 @@
 -- The port reads, then input goes in if no byte is left, and then a timeout follows if IIR showed nothing pending.
 use Rattle.std.proofs.Common.{Bool, refl, subst}
-use Rattle.vm_superio.specs.Links.OutCalls.{WriterCalls}
+use Rattle.vm_superio.specs.Links.{WriterCalls}
 use Rattle.superio_examples.specs.Console.{FeedsIf, TimesOutIf}
 use Rattle.superio_examples.proofs.console.Console.read.Goals as goal
 

@@ -1,7 +1,7 @@
 -- The bytes that were taken wait, and then go in if input may.
 use Rattle.std.proofs.Common.{ℕ, true, subst}
 use Rattle.circular_buffer.specs.Buffer.{Buffer}
-use Rattle.vm_superio.specs.Links.OutCalls.{WriterCalls}
+use Rattle.vm_superio.specs.Links.{WriterCalls}
 use Rattle.superio_examples.specs.Console.{FeedsIf}
 use Rattle.superio_examples.proofs.console.Console.receive.Goals as goal
 

@@ -1,11 +1,11 @@
 -- The room shows what went in, which is what the port's step accepts.
-use Rattle.vm_superio.specs.Links.OutCalls.{WriterCalls}
+use Rattle.vm_superio.specs.Links.{WriterCalls}
 use Rattle.std.proofs.Common.{◌≡◌, ℕ, ◌-◌, ◌≤◌, length, drop, arith, Option, None, Result, rules, refl, ap, ◌∙◌}
 use Rattle.std.specs.List.{refill}
 use Rattle.circular_buffer.specs.Buffer.{Buffer, buffer}
 use Rattle.vm_superio.specs.declared.serial.errors.Error.{Error}
-use Rattle.vm_superio.specs.Serial.Step.PortStep.{IsEnqueueStep}
-use Rattle.vm_superio.specs.Serial.Port.Model.{refusal_in_result, refusal_in_error}
+use Rattle.vm_superio.specs.Serial.Step.{IsEnqueueStep}
+use Rattle.vm_superio.specs.Serial.{refusal_in_result, refusal_in_error}
 use Rattle.superio_core.specs.Serial.Step.Raising.{enqueued_bytes, receive_bytes}
 use Rattle.superio_examples.proofs.InputLemmas.{room-taken, held-waiting, length-accepted, drop-accepted, keep-drop, refusal_in-other}
 use Rattle.superio_examples.proofs.input.Input.feed.Given.{Over}

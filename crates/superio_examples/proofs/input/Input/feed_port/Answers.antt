@@ -1,7 +1,7 @@
 -- The bytes that the port took are the first that waited.
 use Rattle.std.proofs.Common.{◌≡◌, ◌≤◌, length, arith, rules, refl, ap, ◌∙◌}
 use Rattle.std.specs.List.{refill}
-use Rattle.superio_core.specs.Serial.Port.SerialPort.{state_of_port}
+use Rattle.superio_core.specs.Serial.Port.{state_of_port}
 use Rattle.superio_core.specs.Serial.Step.Raising.{enqueued_bytes}
 use Rattle.superio_examples.proofs.InputLemmas.{length-accepted, drop-accepted, keep-drop}
 use Rattle.superio_examples.proofs.input.Input.feed_port.Goals as goal

@@ -1,6 +1,6 @@
 use Rattle.std.proofs.Common.{◌++◌, ap, ◌∙◌, arith}
 use Rattle.std.proofs.lemmas.List.{take_all}
-use Rattle.superio_core.specs.Serial.Port.State.{State}
+use Rattle.superio_core.specs.Serial.{State}
 use Rattle.superio_core.specs.Serial.Step.Raising.{enqueued_bytes}
 use Rattle.superio_examples.proofs.InterruptLemmas.{received_held}
 use Rattle.superio_examples.proofs.interrupt_driver.Feed.offer.Goals as goal

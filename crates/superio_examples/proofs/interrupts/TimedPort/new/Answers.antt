@@ -1,5 +1,5 @@
 use Rattle.std.proofs.Common.{◌∙◌}
-use Rattle.superio_core.specs.Serial.Port.SerialPort.{state_of_port}
+use Rattle.superio_core.specs.Serial.Port.{state_of_port}
 use Rattle.superio_examples.proofs.InterruptLemmas.{attentive_from_due}
 use Rattle.superio_examples.proofs.interrupts.TimedPort.new.Goals as goal
 

@@ -1,12 +1,10 @@
 -- After a line of the serial port or of the clock, its session goes on.
-use Rattle.std.proofs.Common.{◌≡◌, ℕ, List, Result, Ok, Err, sym, subst}
-use Rattle.std.specs.Prelude.{IfOk, OnErr}
-use Rattle.vm_superio.specs.Rtc.Device.{ClockDevice}
-use Rattle.vm_superio.specs.Serial.Port.Model.{Port}
+use Rattle.std.proofs.Common.{◌≡◌, ℕ, List, Result, Ok, Err, sym, subst, IfOk, OnErr}
+use Rattle.vm_superio.specs.Rtc.{ClockDevice}
+use Rattle.vm_superio.specs.Serial.{Port}
 use Rattle.superio_script.specs.Board.{IsBetweenLines, IsSerialLineStep}
 use Rattle.superio_script.specs.ClockScript.{clock_session_after_line}
-use Rattle.superio_script.specs.Counts.{EventCounts}
-use Rattle.superio_script.specs.InterruptLine.{InterruptLine}
+use Rattle.superio_script.specs.Objects.{EventCounts, InterruptLine}
 use Rattle.superio_script.specs.SerialScript.{session_after_line}
 use Rattle.superio_script.specs.declared.command.SerialCommand.{SerialCommand}
 use Rattle.superio_script.specs.declared.output.Output.{Output}

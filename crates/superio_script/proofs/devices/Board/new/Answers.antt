@@ -1,7 +1,7 @@
 -- No call and no access led to fresh devices.
 use Rattle.std.proofs.Common.{rules, ◌≡◌, ◌∙◌}
-use Rattle.superio_core.specs.Rtc.Registers.{fresh_clock}
-use Rattle.vm_superio.proofs.Lemmas.Rtc.FreshClock.{fresh_clock-history}
+use Rattle.superio_core.specs.Rtc.{fresh_clock}
+use Rattle.vm_superio.proofs.Lemmas.Rtc.{fresh_clock-history}
 use Rattle.superio_script.specs.ClockScript.{fresh_clock_session}
 use Rattle.superio_script.specs.PortSession.{fresh_session}
 use Rattle.superio_script.proofs.SerialScriptLemmas.{at-start}

@@ -1,24 +1,19 @@
 -- The line after a call, by the bits of IIR that the call turns.
-use Rattle.std.proofs.Common.{◌≡◌, ℕ, ◌+◌, Bool, true, false, not, ◌==◌, ◌&&◌, ◌||◌, List, [], ◌∷◌, length, inl, inr, refl, ap, sym, ◌∙◌, subst}
-use Rattle.std.proofs.lemmas.Bool.{and_parts, false≢true, eqb-true}
-use Rattle.std.specs.Prelude.{◌⊎◌, if◌then◌else◌, IsTrue}
+use Rattle.std.proofs.Common.{arith, ◌≡◌, ℕ, ◌+◌, Bool, true, false, not, ◌==◌, ◌&&◌, ◌||◌, List, [], ◌∷◌, length, inl, inr, refl, ap, sym, ◌∙◌, subst, ◌⊎◌, if◌then◌else◌, IsTrue}
+use Rattle.std.proofs.lemmas.Bool.{and_parts, eqb-true}
 use Rattle.std.specs.Bool.{IsFalse}
 use Rattle.superio_core.specs.declared.trace.Asked.{Asked}
-use Rattle.superio_core.specs.Serial.Port.State.{State, not_empty}
+use Rattle.superio_core.specs.Serial.Operations.{is_refused_at_once, count_if, answer_count, OpKind, RbrRead, IirRead, IerWrite, ThrWrite, Arrival, Timeout, Other}
+use Rattle.superio_core.specs.Serial.{State, not_empty}
 use Rattle.superio_core.specs.Bits.{has_bits, only_bits, without_bits}
 use Rattle.superio_core.specs.declared.serial.registers.Condition.TheVariants.{Rda, Thre}
-use Rattle.superio_core.specs.Serial.Port.Operations.{is_refused_at_once, count_if, answer_count}
-use Rattle.superio_core.specs.Serial.Port.OpKinds.{OpKind, RbrRead, IirRead, IerWrite, ThrWrite, Arrival, Timeout, Other}
-use Rattle.superio_core.specs.Serial.Step.Raising.{becomes_pending, raise, bytes_that_fit, receive_bytes}
+use Rattle.superio_core.specs.Serial.Step.Raising.{becomes_pending, raise, bytes_that_fit, receive_bytes, is_line_up}
 use Rattle.superio_core.specs.Serial.Step.Admissible.{kind_in_state, kind_calls, step_calls, answers_all}
-use Rattle.superio_core.specs.Serial.Step.Restore.{is_asserted, is_line_up}
-use Rattle.superio_core.specs.Serial.Step.Transition.{step}
-use Rattle.superio_core.proofs.Lemmas.Bits.{and-without, and-without-apart}
-use Rattle.superio_core.proofs.Lemmas.Serial.Step.ByKind.{by_kind, next_by_kind}
-use Rattle.superio_core.proofs.Lemmas.Serial.Step.CharacterTimeout.{rda_asked}
-use Rattle.superio_core.proofs.Lemmas.Serial.Step.Restore.{one_or_both, up_while_due}
-use Rattle.vm_superio.specs.Serial.Laws.Agreement.{state_after}
-use Rattle.vm_superio.specs.Serial.Laws.InterruptLine.{is_called, is_line_up_under, line_after, EnablesPending, may_lower_line, is_asserted_at, LineAfterLaw, UpAfterCallLaw, GoesUpLaw, StaysUpLaw, LineOfHistoryLaw}
+use Rattle.superio_core.specs.Serial.Step.{step}
+use Rattle.superio_core.proofs.Lemmas.{and-without, and-without-apart}
+use Rattle.superio_core.proofs.Lemmas.Serial.Step.{by_kind, next_by_kind, rda_asked, one_or_both, up_while_due}
+use Rattle.vm_superio.specs.Serial.Laws.{state_after}
+use Rattle.vm_superio.specs.Serial.Laws.Line.{is_called, is_line_up_under, line_after, EnablesPending, may_lower_line, is_asserted_at, LineAfterLaw, UpAfterCallLaw, GoesUpLaw, StaysUpLaw, LineOfHistoryLaw}
 use Rattle.vm_superio.proofs.Lemmas.Serial.Laws.Interrupts.{interrupt_law}
 use Rattle.vm_superio.proofs.Lemmas.Serial.Laws.TurnedBits.{first, first_leaves, turned_by_kind, rda_other, thre_asked, thre_other}
 
@@ -29,51 +24,17 @@ abbrev IsOnlyRaised : (enabled old new : Bool) → Type 0
 IsOnlyRaised enabled old new = new ≡ (old || (enabled && new))
 
 stays : (enabled old new : Bool) → new ≡ old → IsOnlyRaised enabled old new
-stays true true new e = e
-stays true false true e = refl
-stays true false false e = refl
-stays false true new e = e
-stays false false new e = e
+stays enabled old new e = grind arith
 
 is_raised : (enabled old new : Bool) → new ≡ (enabled || old) → IsOnlyRaised enabled old new
-is_raised true true new e = e
-is_raised true false true e = refl
-is_raised true false false e = absurd (false≢true e)
-is_raised false true new e = e
-is_raised false false new e = e
+is_raised enabled old new e = grind arith
 
 -- after it the bit is set and enabled if it was turned, or set and enabled before
 asserted : (enabled old new : Bool) → IsOnlyRaised enabled old new
     → (new && enabled) ≡ ((not old && new) || (old && enabled))
-asserted true true true e = refl
-asserted true true false e = absurd (false≢true e)
-asserted false true true e = refl
-asserted false true false e = refl
-asserted true false true e = refl
-asserted true false false e = refl
-asserted false false true e = absurd (false≢true (sym e))
-asserted false false false e = refl
+asserted enabled old new e = grind arith
 
 -- ---- both bits
-
-shuffled : (thre rda had_thre had_rda : Bool)
-    → ((thre || had_thre) || (rda || had_rda)) ≡ (not (count_if rda + count_if thre == 0) || (had_thre || had_rda))
-shuffled true true had_thre had_rda = refl
-shuffled true false had_thre had_rda = refl
-shuffled false true true had_rda = refl
-shuffled false true false had_rda = refl
-shuffled false false had_thre had_rda = refl
-
-line_after_turns : (thre_enabled rda_enabled old_thre old_rda new_thre new_rda : Bool)
-    → IsOnlyRaised thre_enabled old_thre new_thre → IsOnlyRaised rda_enabled old_rda new_rda
-    → ((new_thre && thre_enabled) || (new_rda && rda_enabled))
-    ≡ (not (count_if (not old_rda && new_rda) + count_if (not old_thre && new_thre) == 0)
-    || ((old_thre && thre_enabled) || (old_rda && rda_enabled)))
-line_after_turns thre_enabled rda_enabled old_thre old_rda new_thre new_rda thre rda =
-    ap (λ bit. bit || (new_rda && rda_enabled)) (asserted thre_enabled old_thre new_thre thre)
-    ∙ ap (λ bit. ((not old_thre && new_thre) || (old_thre && thre_enabled)) || bit)
-    (asserted rda_enabled old_rda new_rda rda)
-    ∙ shuffled (not old_thre && new_thre) (not old_rda && new_rda) (old_thre && thre_enabled) (old_rda && rda_enabled)
 
 -- ---- the calls that lower nothing
 
@@ -145,9 +106,7 @@ unfolding has_bits
 down enable = refl
 
 left_alone : (thre rda enabled : Bool) → rda ≡ false → (thre || (rda && enabled)) ≡ thre
-left_alone true rda enabled e = refl
-left_alone false true enabled e = absurd (false≢true (sym e))
-left_alone false false enabled e = refl
+left_alone thre rda enabled e = grind arith
 
 -- an RBR read leaves THRE as it was: if no bit is left, it was clear
 thre_left : (old : ℕ) (empty : Bool) → (without_bits old 0x04 == 0) ≡ empty
@@ -179,10 +138,7 @@ from_bits : (enable old new : ℕ) (asked : Asked) → OnlyRaised enable old new
     → answer_count asked ≡ count_if (not (has_bits old 0x04) && has_bits new 0x04)
     + count_if (not (has_bits old 0x02) && has_bits new 0x02)
     → line enable new ≡ (is_called asked || line enable old)
-from_bits enable old new asked bits counted =
-    line_after_turns (has_bits enable 0x02) (has_bits enable 0x01) (has_bits old 0x02) (has_bits old 0x04)
-    (has_bits new 0x02) (has_bits new 0x04) bits.thre bits.rda
-    ∙ ap (λ calls. not (calls == 0) || line enable old) (sym counted)
+from_bits enable old new asked bits counted = grind arith
 
 line_by_kind : (k : OpKind) (asked : Asked) (s : State) → IsTrue (answers_all (kind_calls k s) asked)
     → is_line_up (by_kind k asked s) ≡ line_after k (is_called asked) s
@@ -219,33 +175,16 @@ line_after_law s op asked sent fit =
 -- ---- what follows
 
 no_calls : (asked : Asked) → IsTrue (answers_all 0 asked) → IsTrue (is_called asked) → ⊥
-no_calls Asked.Nothing fit called = false≢true called
-no_calls Asked.Took fit called = false≢true fit
-no_calls _ fit called = false≢true fit
+no_calls asked fit called = grind arith
 
 up_by_kind : (k : OpKind) (asked : Asked) (s : State) → IsTrue (answers_all (kind_calls k s) asked)
     → IsTrue (is_called asked) → IsTrue (line_after k (is_called asked) s)
-up_by_kind IirRead asked s fit called = absurd (no_calls asked fit called)
-up_by_kind RbrRead asked s fit called = absurd (no_calls asked fit called)
-up_by_kind (IerWrite value) asked s fit called = ap (λ bit. bit || is_line_up_under value s) called
-up_by_kind _ asked s fit called = ap (λ bit. bit || is_line_up s) called
+up_by_kind k asked s fit called = grind arith
 
 pub up_after_call : UpAfterCallLaw
 up_after_call s op asked sent fit called =
     line_after_law s op asked sent fit
     ∙ up_by_kind (kind_in_state s op) asked s (and_parts (answers_all (step_calls s op) asked) _ fit).0 called
-
-one_of : (one other : Bool) → IsTrue (one || other) → IsTrue one ⊎ IsTrue other
-one_of true other is = inl refl
-one_of false other is = inr is
-
-thre_was_up : (thre rda : Bool) → IsFalse (thre || rda) → IsTrue thre → ⊥
-thre_was_up true rda was_down up = false≢true (sym was_down)
-thre_was_up false rda was_down up = false≢true up
-
-called_or_up : (called up : Bool) → IsFalse up → IsTrue (called || up) → IsTrue called
-called_or_up true up was_down is = refl
-called_or_up false up was_down is = absurd (false≢true (sym was_down ∙ is))
 
 enables : (value : ℕ) (s : State) (asked : Asked) → IsTrue (is_called asked) ⊎ IsTrue (is_line_up_under value s)
     → IsTrue (is_called asked) ⊎ EnablesPending (IerWrite value) s
@@ -254,12 +193,7 @@ enables value s asked (inr up) = inr (value, refl, up)
 
 goes_up_by_kind : (k : OpKind) (asked : Asked) (s : State) → IsFalse (is_line_up s)
     → IsTrue (line_after k (is_called asked) s) → IsTrue (is_called asked) ⊎ EnablesPending k s
-goes_up_by_kind IirRead asked s was_down up = absurd (false≢true up)
-goes_up_by_kind RbrRead asked s was_down up =
-    absurd (thre_was_up (is_asserted Thre s) (is_asserted Rda s) was_down up)
-goes_up_by_kind (IerWrite value) asked s was_down up =
-    enables value s asked (one_of (is_called asked) (is_line_up_under value s) up)
-goes_up_by_kind _ asked s was_down up = inl (called_or_up (is_called asked) (is_line_up s) was_down up)
+goes_up_by_kind k asked s was_down up = grind arith
 
 pub goes_up : GoesUpLaw
 goes_up s op asked sent fit was_down up =
@@ -271,10 +205,7 @@ or_true false = refl
 
 stays_up_by_kind : (k : OpKind) (called : Bool) (s : State) → IsFalse (may_lower_line k) → IsTrue (is_line_up s)
     → IsTrue (line_after k called s)
-stays_up_by_kind IirRead called s not_here up = absurd (false≢true (sym not_here))
-stays_up_by_kind RbrRead called s not_here up = absurd (false≢true (sym not_here))
-stays_up_by_kind (IerWrite value) called s not_here up = absurd (false≢true (sym not_here))
-stays_up_by_kind _ called s not_here up = ap (λ bit. called || bit) up ∙ or_true called
+stays_up_by_kind k called s not_here up = grind arith
 
 pub stays_up : StaysUpLaw
 stays_up s op asked sent fit not_here up =

@@ -1,27 +1,23 @@
 -- The interrupt law: IIR shows the pending conditions, and an entry is admissible exactly if it is well-formed.
-use Rattle.std.proofs.Common.{◌≡◌, ℕ, ◌+◌, zero-add, add-zero, Bool, true, false, not, ◌==◌, ◌&&◌, ◌||◌, List, [], ◌∷◌, refl, ap, sym, ◌∙◌}
+use Rattle.std.proofs.Common.{arith, ◌≡◌, ℕ, ◌+◌, zero-add, add-zero, Bool, false, not, ◌==◌, ◌&&◌, ◌||◌, List, [], ◌∷◌, refl, ap, sym, ◌∙◌}
 use Rattle.std.specs.Bool.{beq}
 use Rattle.std.proofs.Math.Bool.{and-true}
 use Rattle.superio_core.specs.declared.trace.Asked.{Asked}
-use Rattle.superio_core.specs.Serial.Port.State.{State, not_empty}
+use Rattle.superio_core.specs.Serial.Operations.{TraceEntry, is_refused_at_once, is_sent, count_if, answer_count, OpKind, RbrRead, IirRead, IerWrite, ThrWrite, Arrival, Timeout, Other, sent_by, is_iir_read}
+use Rattle.superio_core.specs.Serial.{State, not_empty}
 use Rattle.superio_core.specs.Bits.{has_bits, only_bits}
 use Rattle.superio_core.specs.declared.serial.registers.Condition.TheVariants.{Thre, Rda}
-use Rattle.superio_core.specs.Serial.Port.Registers.{identification_of, pending_in_order}
-use Rattle.superio_core.specs.Serial.Port.Operations.{TraceEntry, is_refused_at_once, is_sent, count_if, answer_count}
-use Rattle.superio_core.specs.Serial.Step.Raising.{raise_rda_while_held, becomes_pending, rda_becomes_pending, bytes_that_fit}
-use Rattle.superio_core.specs.Serial.Port.OpKinds.{OpKind, RbrRead, IirRead, IerWrite, ThrWrite, Arrival, Timeout, Other, sent_by, is_iir_read}
+use Rattle.superio_core.specs.Serial.RegisterMap.{identification_of, pending_in_order}
+use Rattle.superio_core.specs.Serial.Step.Raising.{raise_rda_while_held, becomes_pending, rda_becomes_pending, bytes_that_fit, restore_calls}
 use Rattle.superio_core.specs.Serial.Step.Admissible.{arrival_calls, kind_calls, answers_all, step_calls, is_admissible}
 use Rattle.vm_superio.specs.Serial.History.Registers.{kind_at, held_bytes}
 use Rattle.vm_superio.specs.Serial.History.Interrupts.{raises_rda, acknowledges, is_pending, raises_thre, is_well_formed_entry, restore_calls_due}
-use Rattle.vm_superio.specs.Serial.History.Reads.{interrupt_identification}
-use Rattle.superio_core.specs.Serial.Step.Restore.{restore_calls}
-use Rattle.vm_superio.specs.Serial.Laws.Agreement.{state_after, InterruptLaw}
-use Rattle.superio_core.proofs.Lemmas.Serial.Step.Raising.{rda_bit, thre_bit, rda_new, thre_new, ier_write_raises_rda, ier_write_raises_thre, timeout_raises_rda, answers_counted}
-use Rattle.superio_core.proofs.Lemmas.Serial.Laws.Coherence.{pending_by_kind as pending_after}
-use Rattle.superio_core.proofs.Lemmas.Serial.Step.ByKind.{by_kind}
-use Rattle.vm_superio.proofs.Lemmas.Serial.Step.ByKind.{next_at_point, same_kind}
-use Rattle.vm_superio.proofs.Lemmas.Serial.Laws.Registers.{register_law}
-use Rattle.vm_superio.proofs.Lemmas.Serial.Laws.HeldBytes.{held_bytes_law}
+use Rattle.vm_superio.specs.Serial.History.{interrupt_identification}
+use Rattle.vm_superio.specs.Serial.Laws.{state_after, InterruptLaw}
+use Rattle.superio_core.proofs.Lemmas.Serial.Step.{rda_bit, thre_bit, rda_new, thre_new, ier_write_raises_rda, ier_write_raises_thre, timeout_raises_rda, answers_counted, by_kind}
+use Rattle.superio_core.proofs.Lemmas.Serial.Coherence.{pending_by_kind as pending_after, coherence_law}
+use Rattle.vm_superio.proofs.Lemmas.Serial.Laws.{next_at_point, same_kind, register_law, held_bytes_law}
+use Rattle.superio_core.specs.Serial.Port.{Coherent}
 
 -- ---- one operation
 
@@ -91,18 +87,10 @@ due_is _ s thre rda e = refl
 ends_early : (k : OpKind) (held_bytes : List ℕ) (enable : ℕ) (rda refused : Bool)
     → (raises_thre k enable false && not (rda_called k held_bytes enable rda && refused))
     ≡ raises_thre k enable (rda_called k held_bytes enable rda && refused)
-ends_early (IerWrite value) held_bytes enable rda refused =
-    ap (λ raised. raised && not (rda_called (IerWrite value) held_bytes enable rda && refused))
-    (and-true (has_bits value 0x02))
-ends_early (ThrWrite value) held_bytes enable rda refused = and-true (has_bits enable 0x02)
-ends_early _ held_bytes enable rda refused = refl
+ends_early k held_bytes enable rda refused = grind arith
 
 and_swap : (a b c : Bool) → ((a && b) && c) ≡ ((a && c) && b)
-and_swap true true true = refl
-and_swap true true false = refl
-and_swap true false true = refl
-and_swap true false false = refl
-and_swap false _ _ = refl
+and_swap a b c = grind arith
 
 -- as many answers as the conditions that become pending
 test_by_kind : (k : OpKind) (asked : Asked) (s : State) (thre rda : Bool)
@@ -190,3 +178,10 @@ interrupt_law start trace thre rda e = record {
   calls = λ entry. well_formed_law start trace thre rda entry e;
   restoring = restoring_law start trace thre rda e;
 }
+
+-- ---- a run keeps a coherent state coherent
+
+pub coherent_after : (start : State) (trace : List TraceEntry) → Coherent start → Coherent (state_after start trace)
+coherent_after start [] coherent = coherent
+coherent_after start (entry ∷ trace) coherent =
+    coherence_law (state_after start trace) entry.op entry.asked (coherent_after start trace coherent)

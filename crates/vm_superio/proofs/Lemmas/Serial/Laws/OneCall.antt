@@ -1,39 +1,35 @@
 -- One call: the bytes that it takes, accepts and gives, and the byte that a THR write sends.
-use Rattle.std.proofs.Common.{◌≡◌, ℕ, Bool, true, List, [], ◌∷◌, ◌++◌, length, drop, refl, ap, sym, ◌∙◌, append-nil, ◌<◌, false, subst, arith, IsTrue}
-use Rattle.std.specs.Prelude.{if◌then◌else◌, slice_index, drop, ◌&&◌}
+use Rattle.std.proofs.Common.{◌≡◌, ℕ, Bool, true, List, [], ◌∷◌, ◌++◌, length, drop, refl, ap, sym, ◌∙◌, append-nil, ◌<◌, false, subst, arith, IsTrue, if◌then◌else◌, ◌&&◌, count_by}
+use Rattle.std.proofs.Math.Bool.{and-true, and-false}
+use Rattle.std.specs.Bool.{beq}
+use Rattle.std.proofs.lemmas.Bool.{and_parts}
 use Rattle.superio_core.specs.declared.trace.Asked.{Asked}
-use Rattle.superio_core.specs.Serial.Port.State.{State, not_empty}
+use Rattle.superio_core.specs.declared.trace.Sent.{Sent}
+use Rattle.superio_core.specs.Serial.Operations.{Op, Read, Write, Enqueue, Response, ByteRead, WriteOk, WriterFailed, TriggerRefused, is_sent, is_lost, ends_in_refusal, OpKind, RbrRead, IirRead, Arrival, read_kind, write_kind, kind_of, sent_by}
+use Rattle.superio_core.specs.Serial.{State, not_empty}
 use Rattle.superio_core.specs.Bits.{has_bits, without_bits}
-use Rattle.vm_superio.specs.Serial.History.Reads.{line_status, byte_read}
-use Rattle.superio_core.specs.Serial.Port.Operations.{Op, Read, Write, Enqueue, CharacterTimeout, Restore, Response, ByteRead, WriteOk, WriterFailed, TriggerRefused, is_sent, is_lost, ends_in_refusal}
+use Rattle.vm_superio.specs.Serial.History.{line_status, byte_read}
 use Rattle.superio_core.specs.Serial.Step.Raising.{receive_bytes, bytes_that_fit, raise}
 use Rattle.superio_core.specs.Serial.Step.Admissible.{kind_in_state, answers_all, step_calls, sends_byte}
-use Rattle.superio_core.specs.Serial.Port.OpKinds.{OpKind, RbrRead, IirRead, Arrival, read_kind, write_kind, kind_of, sent_by}
 use Rattle.vm_superio.specs.Serial.History.Registers.{accepted_by, taken_by}
-use Rattle.superio_core.specs.Serial.Step.Transition.{step, read_step, step_response, write_step}
-use Rattle.vm_superio.specs.Serial.Laws.OneCall.{OneCallLaw, ReceivedLaw, OneReadLaw, RbrReadLaw, RbrDataReadyLaw, ThrWriteLaw}
-use Rattle.superio_core.proofs.Lemmas.Serial.Port.Bits.{data_ready_cleared}
-use Rattle.superio_core.proofs.Lemmas.Serial.Step.ByKind.{by_kind, next_by_kind}
-use Rattle.std.proofs.Math.Bool.{and-true, and-false}
+use Rattle.superio_core.specs.Serial.Step.{step, read_step, step_response, write_step, read_events, sent_events, step_events}
+use Rattle.vm_superio.specs.Serial.Laws.OneCall.{OneCallLaw, ReceivedLaw, OneReadLaw, RbrReadLaw, RbrDataReadyLaw, ThrWriteLaw, OutcomeEventsLaw, reports_outcome}
+use Rattle.superio_core.proofs.Lemmas.Serial.{data_ready_cleared}
+use Rattle.superio_core.proofs.Lemmas.Serial.Step.{by_kind, next_by_kind}
 use Rattle.superio_core.specs.declared.trace.Asked.TheVariants.{Nothing}
-use Rattle.superio_core.specs.declared.trace.Sent.{Sent}
-use Rattle.superio_core.specs.declared.trace.Sent.TheVariants as sent
 use Rattle.superio_core.specs.declared.serial.registers.Register.{Register}
-use Rattle.superio_core.specs.declared.serial.registers.Register.TheVariants.{RbrThr, Ier, Iir}
-use Rattle.superio_core.specs.Serial.Port.Registers.{register_at, is_dlab, is_loopback, register_read}
+use Rattle.superio_core.specs.declared.serial.registers.Register.TheVariants.{RbrThr}
 use Rattle.superio_core.specs.declared.serial.registers.Condition.TheVariants.{Thre}
-use Rattle.std.specs.Bool.{beq}
+use Rattle.superio_core.specs.Serial.RegisterMap.{register_at, is_dlab, is_loopback, register_read}
 use Rattle.superio_core.specs.declared.trace.Sent.TheVariants.{Nothing, Out, Lost}
+use Rattle.superio_core.specs.declared.trace.Sent.TheVariants as sent
 
 -- ---- bytes taken and accepted
 
 -- what is taken is the front of what is there
 pub taken_first : (k : OpKind) (bytes new : List ℕ)
     → taken_by k bytes ++ drop (length (taken_by k bytes)) (bytes ++ new) ≡ bytes ++ new
-taken_first RbrRead [] new = refl
-taken_first RbrRead (byte ∷ bytes) new = refl
-taken_first IirRead bytes new = refl
-taken_first _ bytes new = refl
+taken_first k bytes new = grind arith
 
 pub received : ReceivedLaw
 received s [] = ap (λ bytes. record s { in_buffer = bytes }) (sym (append-nil s.in_buffer))
@@ -62,27 +58,17 @@ one_call s op asked =
 
 -- ---- bytes read
 
--- an RBR read replies with the byte that it takes
-first_byte : (held : List ℕ) → byte_read RbrRead held (ByteRead (slice_index held 0)) ≡ taken_by RbrRead held
-first_byte [] = refl
-first_byte (byte ∷ held) = refl
-
 -- of a read of any register
 pub of_read : (register : Register) (s : State)
     → byte_read (read_kind register) s.in_buffer (ByteRead (register_read register s))
     ≡ taken_by (read_kind register) s.in_buffer
-of_read RbrThr s = first_byte s.in_buffer
-of_read Iir s = refl
-of_read _ s = refl
+of_read register s = grind arith
 
 -- a write takes no byte, and gives none
 pub of_write : (register : Register) (in_loopback : Bool) (value : ℕ) (held : List ℕ) (reply : Response)
     → byte_read (write_kind register in_loopback value) held reply
     ≡ taken_by (write_kind register in_loopback value) held
-of_write RbrThr false value held reply = refl
-of_write RbrThr true value held reply = refl
-of_write Ier in_loopback value held reply = refl
-of_write _ in_loopback value held reply = refl
+of_write register in_loopback value held reply = grind arith
 
 pub of_enqueue : (latch in_loopback : Bool) (bytes held : List ℕ) (reply : Response)
     → byte_read (kind_of latch in_loopback (Enqueue bytes)) held reply
@@ -93,13 +79,7 @@ of_enqueue latch false bytes held reply = refl
 of_step : (s : State) (op : Op) (asked : Asked) (sent : Sent)
     → byte_read (kind_in_state s op) s.in_buffer (step_response s op asked sent)
     ≡ taken_by (kind_in_state s op) s.in_buffer
-of_step s (Read offset) asked sent = of_read (register_at (is_dlab s.line_control) offset) s
-of_step s (Write offset value) asked sent =
-    of_write (register_at (is_dlab s.line_control) offset) (is_loopback s.modem_control) value s.in_buffer _
-of_step s (Enqueue bytes) asked sent =
-    of_enqueue (is_dlab s.line_control) (is_loopback s.modem_control) bytes s.in_buffer _
-of_step s CharacterTimeout asked sent = refl
-of_step s Restore asked sent = refl
+of_step s op asked sent = grind arith
 
 pub one_read : OneReadLaw
 one_read s op asked sent =
@@ -117,9 +97,7 @@ pub kept : (register : Register) (s : State) → read_step register s ≡ record
   line_status = (read_step register s).line_status;
   interrupt_identification = (read_step register s).interrupt_identification;
 }
-kept RbrThr s = refl
-kept Iir s = refl
-kept _ s = refl
+kept register s = grind arith
 
 pub rbr_read : RbrReadLaw
 rbr_read s byte hidden some response = record {
@@ -149,19 +127,12 @@ rbr_data_ready s hidden = subst
 taken : (is_refused : Bool) (sent : Sent) → IsTrue (is_sent sent)
     → WriteOk ≡ (if is_refused then TriggerRefused else (if is_lost sent then WriterFailed else WriteOk))
     → sent ≡ Out
-taken true sent outcome ok = cc
-taken false Nothing outcome ok = cc
-taken false Out outcome ok = refl
-taken false Lost outcome ok = cc
+taken is_refused sent outcome ok = grind arith
 
 -- if a byte is sent, an admissible call has an outcome of it
 outcome : (is_answered sends : Bool) (sent : Sent) → sends ≡ true → IsTrue (is_answered && beq (is_sent sent) sends)
     → IsTrue (is_sent sent)
-outcome true true Nothing is admissible = cc
-outcome true true Out is admissible = refl
-outcome true true Lost is admissible = refl
-outcome true false sent is admissible = cc
-outcome false sends sent is admissible = cc
+outcome is_answered sends sent is admissible = grind arith
 
 pub thr_write : ThrWriteLaw
 thr_write s value asked sent hidden outside admissible =
@@ -180,3 +151,29 @@ thr_write s value asked sent hidden outside admissible =
 -- ---- what the law rests on
 
 pub ruleset one_call_laws = (one_call, received, one_read, rbr_read, rbr_data_ready, thr_write)
+
+-- ---- one call, in any state: the events that it reports
+
+-- an outcome is recorded exactly if a byte is sent
+abbrev sent_fits : Bool → Sent → Bool
+sent_fits sends_byte outcome = beq (is_sent outcome) sends_byte
+
+-- ---- events
+
+read_reported : (r : Register) (held : List ℕ) → count_by reports_outcome (read_events r held) ≡ length (sent_by (read_kind r))
+read_reported r held = grind arith
+
+not_sent : (outcome : Sent) → IsTrue (sent_fits false outcome) → count_by reports_outcome (sent_events outcome) ≡ 0
+not_sent outcome fit = grind arith
+
+enqueue_reported : (loopback dlab : Bool) (bytes : List ℕ) → 0 ≡ length (sent_by (kind_of dlab loopback (Enqueue bytes)))
+enqueue_reported true dlab bytes = refl
+enqueue_reported false dlab bytes = refl
+
+reported : (s : State) (op : Op) (outcome : Sent) → IsTrue (sent_fits (sends_byte s op) outcome)
+    → count_by reports_outcome (step_events s op outcome) ≡ length (sent_by (kind_in_state s op))
+reported s op outcome fit = grind arith
+
+pub events_law : OutcomeEventsLaw
+events_law s op asked outcome fit =
+    reported s op outcome (and_parts (answers_all (step_calls s op) asked) (sent_fits (sends_byte s op) outcome) fit).1

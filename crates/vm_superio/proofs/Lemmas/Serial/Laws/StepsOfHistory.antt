@@ -1,74 +1,70 @@
--- A call in the state that a trace describes is a step of the history.
-use Rattle.std.proofs.Common.{◌≡◌, ℕ, ◌+◌, Bool, true, false, not, ◌&&◌, List, [], ◌∷◌, refl, ap, sym, ◌∙◌, subst}
+-- The state after a trace is that of the history, and a call responds as the history says.
+use Rattle.std.proofs.Common.{arith, sym, ◌≡◌, ℕ, Bool, true, false, List, [], refl, ap, ◌∙◌, ◌+◌, not, ◌&&◌, ◌∷◌, subst, IsTrue}
 use Rattle.std.proofs.Math.Bool.{and-false}
-use Rattle.std.proofs.lemmas.Bool.{and_parts, false≢true}
-use Rattle.std.specs.Prelude.{IsTrue}
+use Rattle.std.proofs.lemmas.Bool.{and_parts}
 use Rattle.std.specs.Bool.{beq}
+use Rattle.std.specs.Cmp.Derive.{both_true}
 use Rattle.superio_core.specs.declared.trace.Asked.{Asked}
 use Rattle.superio_core.specs.declared.trace.Sent.{Sent}
-use Rattle.superio_core.specs.declared.trace.Sent.TheVariants as sent
-use Rattle.superio_core.specs.Serial.Port.State.{State, not_empty}
+use Rattle.superio_core.specs.Serial.Operations.{Op, Read, Write, Enqueue, CharacterTimeout, Restore, TraceEntry, Arrival, Other, NoResponse, is_sent, count_if, OpKind, Timeout, read_kind, write_kind, kind_of, sent_by, Response}
+use Rattle.superio_core.specs.Serial.{State, not_empty}
+use Rattle.superio_core.specs.Serial.Step.Raising.{restore_calls}
+use Rattle.vm_superio.specs.Serial.History.Registers.{loopback, held_bytes, kind_at, dlab, interrupt_enable}
+use Rattle.superio_core.specs.Serial.Step.{step_response, step, read_step, read_events, sent_events, step_events}
+use Rattle.vm_superio.specs.Serial.History.{history_response, state_of_history, calls_due, kind_events, history_events}
+use Rattle.vm_superio.specs.Serial.Laws.{state_after, StateLaw, ResponseLaw, StepLaw, CallLaw, RetryLaw, StepsFollow, RunAgrees, WholeRunLaw}
+use Rattle.vm_superio.proofs.Lemmas.Serial.Laws.{state_of_history-by_state, held_bytes_law, line_status_law}
+use Rattle.vm_superio.proofs.Lemmas.Serial.Laws.Interrupts.{interrupt_law, due_is, coherent_after}
 use Rattle.superio_core.specs.declared.serial.registers.Register.{Register}
-use Rattle.superio_core.specs.declared.serial.registers.Register.TheVariants.{RbrThr, Ier, Iir}
-use Rattle.superio_core.specs.Serial.Port.Registers.{register_at}
 use Rattle.superio_core.specs.declared.serial.registers.Condition.TheVariants.{Rda, Thre}
-use Rattle.superio_core.specs.Serial.Port.Operations.{Op, Read, Write, Enqueue, CharacterTimeout, Restore, TraceEntry, NoResponse, is_sent, count_if}
+use Rattle.superio_core.specs.Serial.RegisterMap.{register_at}
 use Rattle.superio_core.specs.Serial.Step.Admissible.{answers_all, step_calls, sends_byte, is_admissible}
-use Rattle.superio_core.specs.Serial.Step.Transition.{step_response, step, read_step, read_events, sent_events, step_events}
-use Rattle.superio_core.specs.Serial.Step.Restore.{restore_calls}
-use Rattle.superio_core.specs.Serial.Port.OpKinds.{OpKind, IerWrite, ThrWrite, Arrival, Timeout, Other, read_kind, write_kind, kind_of, sent_by}
-use Rattle.vm_superio.specs.Serial.History.Registers.{kind_at, dlab, loopback, interrupt_enable, held_bytes}
-use Rattle.vm_superio.specs.Serial.History.Interrupts.{raises_rda, is_pending, raises_thre}
-use Rattle.vm_superio.specs.Serial.History.Calls.{calls_due, kind_events, history_events}
-use Rattle.vm_superio.specs.Serial.History.Reads.{state_of_history}
-use Rattle.vm_superio.specs.Serial.Laws.Agreement.{StepLaw, CallLaw, RetryLaw}
-use Rattle.vm_superio.proofs.Lemmas.Serial.Laws.Interrupts.{due_is, interrupt_law}
-use Rattle.vm_superio.proofs.Lemmas.Serial.Laws.StatesOfHistory.{state_law, response_law}
-use Rattle.vm_superio.proofs.Lemmas.Serial.Laws.Output.{call_written}
+use Rattle.vm_superio.specs.Serial.History.Interrupts.{raises_rda, is_pending, raises_thre, is_well_formed}
+use Rattle.vm_superio.proofs.Lemmas.Serial.Laws.Consequences.{call_written}
+use Rattle.superio_core.specs.Serial.Port.{Coherent}
+use Rattle.superio_core.specs.declared.trace.Sent.TheVariants as sent
+
+pub state_law : StateLaw
+state_law start trace coherent =
+    let interrupts = interrupt_law start trace coherent.thre coherent.rda coherent.identification in
+    (λ i. record (state_after start trace) {
+      interrupt_identification = interrupts.pending i;
+      line_status = line_status_law start trace coherent.data_ready i;
+      in_buffer = held_bytes_law start trace i;
+    })
+    ∙ sym (state_of_history-by_state start trace _ _ _)
+
+answer_reported : (start : State) (trace : List TraceEntry) (op : Op) (asked : Asked) (outcome : Sent)
+    → step_response (state_of_history start trace) op asked outcome ≡ history_response start trace op asked outcome
+answer_reported start trace op asked outcome = grind arith
+
+pub response_law : ResponseLaw
+response_law start trace entry coherent =
+    ap (λ (s : State). step_response s entry.op entry.asked entry.sent) (state_law start trace coherent)
+    ∙ answer_reported start trace entry.op entry.asked entry.sent
+
+-- ---- what the law rests on
+
+pub ruleset states_of_history_laws = (state_law, response_law)
+
+-- ---- a call in the state that a trace describes is a step of the history
 
 -- ---- events
 
 -- if nothing is sent, no outcome is reported
 not_sent : (outcome : Sent) → IsTrue (beq (is_sent outcome) false) → outcome ≡ sent.Nothing
-not_sent sent.Nothing outcome_fits = refl
-not_sent sent.Out outcome_fits = absurd (false≢true outcome_fits)
-not_sent sent.Lost outcome_fits = absurd (false≢true outcome_fits)
+not_sent outcome outcome_fits = grind arith
 
 read_reported : (r : Register) (s : State) (after : List ℕ) → (read_step r s).in_buffer ≡ after
     → read_events r s.in_buffer ≡ kind_events (read_kind r) after sent.Nothing
-read_reported RbrThr s after same = ap (λ bytes. kind_events (read_kind RbrThr) bytes sent.Nothing) same
-read_reported Iir s after same = refl
-read_reported _ s after same = refl
+read_reported r s after same = grind arith
 
 -- no write is an RBR read
 abbrev TellsFate : OpKind → Type 0
 TellsFate k = (after : List ℕ) (outcome : Sent) → sent_events outcome ≡ kind_events k after outcome
 
-other_reported : TellsFate Other
-other_reported after sent.Nothing = refl
-other_reported after sent.Out = refl
-other_reported after sent.Lost = refl
-
-arrival_reported : (bytes : List ℕ) → TellsFate (Arrival bytes)
-arrival_reported bytes after sent.Nothing = refl
-arrival_reported bytes after sent.Out = refl
-arrival_reported bytes after sent.Lost = refl
-
-data_reported : (value : ℕ) → TellsFate (ThrWrite value)
-data_reported value after sent.Nothing = refl
-data_reported value after sent.Out = refl
-data_reported value after sent.Lost = refl
-
-ier_write_reported : (value : ℕ) → TellsFate (IerWrite value)
-ier_write_reported value after sent.Nothing = refl
-ier_write_reported value after sent.Out = refl
-ier_write_reported value after sent.Lost = refl
-
 write_reported : (r : Register) (loopback : Bool) (value : ℕ) → TellsFate (write_kind r loopback value)
-write_reported RbrThr true value = arrival_reported (value ∷ [])
-write_reported RbrThr false value = data_reported value
-write_reported Ier loopback value = ier_write_reported value
-write_reported _ loopback value = other_reported
+write_reported r loopback value = grind arith
 
 enqueue_reported : (loopback dlab : Bool) (bytes after : List ℕ) (outcome : Sent)
     → IsTrue (beq (is_sent outcome) (not_empty (sent_by (kind_of dlab loopback (Enqueue bytes)))))
@@ -79,9 +75,7 @@ enqueue_reported false dlab bytes after outcome outcome_fits =
     ap (λ (outcome : Sent). kind_events (Arrival bytes) after outcome) (sym (not_sent outcome outcome_fits))
 
 read_sends : (r : Register) → not_empty (sent_by (read_kind r)) ≡ false
-read_sends RbrThr = refl
-read_sends Iir = refl
-read_sends _ = refl
+read_sends r = grind arith
 
 -- the events of a call are those of its point
 reported_at_point : (start : State) (trace : List TraceEntry) (op : Op) (asked : Asked) (outcome : Sent)
@@ -167,3 +161,29 @@ retry_law start trace s coherent here = record {
       call_law start trace (record { op = Restore; asked = Asked.Nothing; sent = sent.Nothing }) NoResponse s s coherent here
       refl refl refl;
 }
+
+-- ---- entries that follow each other by steps form a well-formed trace
+
+run_from : (start : State) (trace : List TraceEntry) (calls : List (TraceEntry × Response)) (end : State) → Coherent start
+    → IsTrue (is_well_formed start trace) → StepsFollow (state_after start trace) calls end
+    → RunAgrees start trace calls end
+run_from start trace [] end coherent well_formed follow = record {
+  well_formed = well_formed;
+  responses = tt;
+  state = follow ∙ state_law start trace coherent;
+  coherent = subst Coherent (sym follow) (coherent_after start trace coherent);
+}
+run_from start trace (call ∷ later) end coherent well_formed follow =
+    let interrupts = interrupt_law start trace coherent.thre coherent.rda coherent.identification in
+    let here = sym (interrupts.calls call.0) ∙ follow.0 in
+    let all = both_true here well_formed in
+    let rest = run_from start (call.0 ∷ trace) later end coherent all follow.2 in
+    record {
+      well_formed = rest.well_formed;
+      responses = (follow.1 ∙ response_law start trace call.0 coherent, rest.responses);
+      state = rest.state;
+      coherent = rest.coherent;
+    }
+
+pub whole_run_law : WholeRunLaw
+whole_run_law start end calls coherent follow = run_from start [] calls end coherent refl follow

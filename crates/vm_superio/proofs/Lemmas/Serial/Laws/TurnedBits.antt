@@ -1,24 +1,19 @@
 -- The trigger is called once for each pending bit that a call turns from clear to set, in any state.
-use Rattle.std.proofs.Common.{add-zero, zero-add, ◌≡◌, ℕ, ◌+◌, Bool, true, false, not, ◌==◌, ◌&&◌, ◌||◌, List, [], ◌∷◌, refl, ap, sym, ◌∙◌}
-use Rattle.std.proofs.lemmas.Bool.{and_parts, false≢true, eqb-true}
+use Rattle.std.proofs.Common.{arith, add-zero, zero-add, ◌≡◌, ℕ, ◌+◌, Bool, true, false, not, ◌==◌, ◌&&◌, ◌||◌, List, [], ◌∷◌, refl, ap, sym, ◌∙◌, if◌then◌else◌, IsTrue}
+use Rattle.std.proofs.lemmas.Bool.{and_parts, eqb-true}
 use Rattle.std.proofs.Math.Bool.{and-true, and-false}
-use Rattle.std.specs.Prelude.{if◌then◌else◌, IsTrue}
 use Rattle.superio_core.specs.declared.trace.Asked.{Asked}
-use Rattle.superio_core.specs.declared.trace.Asked.TheVariants.{Nothing, Took, Refused}
-use Rattle.superio_core.specs.Serial.Port.State.{State, not_empty}
+use Rattle.superio_core.specs.Serial.Operations.{is_refused_at_once, count_if, answer_count, OpKind, RbrRead, IirRead, IerWrite, ThrWrite, Arrival, Timeout, Other}
+use Rattle.superio_core.specs.Serial.{State, not_empty}
 use Rattle.superio_core.specs.Bits.{has_bits, only_bits, with_bits, without_bits}
 use Rattle.superio_core.specs.declared.serial.registers.Condition.TheVariants.{Rda, Thre}
-use Rattle.vm_superio.specs.Serial.Step.PortStep.{turns_on}
-use Rattle.superio_core.specs.Serial.Port.Operations.{is_refused_at_once, count_if, answer_count}
-use Rattle.superio_core.specs.Serial.Port.OpKinds.{OpKind, RbrRead, IirRead, IerWrite, ThrWrite, Arrival, Timeout, Other}
+use Rattle.vm_superio.specs.Serial.Step.{turns_on}
 use Rattle.superio_core.specs.Serial.Step.Admissible.{kind_in_state, arrival_calls, kind_calls, step_calls, answers_all}
 use Rattle.superio_core.specs.Serial.Step.Raising.{bytes_that_fit, becomes_pending, raise, receive_bytes}
 use Rattle.vm_superio.specs.Serial.Laws.OneCall.{TurnedBitsLaw}
-use Rattle.superio_core.proofs.Lemmas.Serial.Step.Raising.{answers_counted}
-use Rattle.superio_core.proofs.Lemmas.Serial.Step.CharacterTimeout.{rda_asked}
-use Rattle.superio_core.proofs.Lemmas.Bits.{and-without, and-without-apart}
+use Rattle.superio_core.proofs.Lemmas.Serial.Step.{answers_counted, rda_asked, by_kind, next_by_kind}
+use Rattle.superio_core.proofs.Lemmas.{and-without, and-without-apart}
 use Rattle.std.proofs.lemmas.Nat.{and_or_self, and_or_apart}
-use Rattle.superio_core.proofs.Lemmas.Serial.Step.ByKind.{by_kind, next_by_kind}
 
 -- ---- the bits of an IIR
 
@@ -33,11 +28,7 @@ kept false = refl
 
 no_turn : (old_rda old_thre new_rda new_thre : Bool) → new_rda ≡ false → new_thre ≡ old_thre
     → count_if (not old_rda && new_rda) + count_if (not old_thre && new_thre) ≡ 0
-no_turn old_rda old_thre new_rda new_thre rda thre =
-    ap (λ bit. count_if (not old_rda && bit) + count_if (not old_thre && new_thre)) rda
-    ∙ ap (λ bit. count_if (not old_rda && false) + count_if (not old_thre && bit)) thre
-    ∙ ap (λ bit. count_if bit + count_if (not old_thre && old_thre)) (and-false (not old_rda))
-    ∙ ap (λ bit. 0 + count_if bit) (kept old_thre)
+no_turn old_rda old_thre new_rda new_thre rda thre = grind arith
 
 module _ (old : ℕ) where
   without_thre : has_bits (without_bits old 0x01) 0x02 ≡ has_bits old 0x02
@@ -98,27 +89,16 @@ module _ (old : ℕ) where
 
 -- a bit that is raised is turned if it was clear
 set_once : (enabled bit : Bool) → (not bit && (enabled || bit)) ≡ (enabled && not bit)
-set_once true true = refl
-set_once true false = refl
-set_once false true = refl
-set_once false false = refl
+set_once enabled bit = grind arith
 
 no_answers : (asked : Asked) → IsTrue (answers_all 0 asked) → answer_count asked ≡ 0
-no_answers Nothing fit = refl
-no_answers Took fit = absurd (false≢true fit)
-no_answers _ fit = absurd (false≢true fit)
+no_answers asked fit = grind arith
 
 one_answer : (call : Bool) (asked : Asked) → IsTrue (answers_all (count_if call) asked) → answer_count asked ≡ count_if call
-one_answer false asked fit = no_answers asked fit
-one_answer true Nothing fit = absurd (false≢true fit)
-one_answer true Took fit = refl
-one_answer true Refused fit = refl
-one_answer true _ fit = absurd (false≢true fit)
+one_answer call asked fit = grind arith
 
 none_turned : (old : ℕ) → 0 ≡ count old old
-none_turned old =
-    sym (ap (λ turned. count_if turned + count_if (turns_on 0x02 old old)) (kept (has_bits old 0x04))
-    ∙ ap (λ turned. 0 + count_if turned) (kept (has_bits old 0x02)))
+none_turned old = grind arith
 
 rda_turned : (enable old : ℕ)
     → count_if (becomes_pending Rda enable old) ≡ count old (raise Rda enable old)

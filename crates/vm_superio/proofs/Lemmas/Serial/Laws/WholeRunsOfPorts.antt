@@ -1,46 +1,34 @@
 -- The calls of a port without objects, by the history.
-use Rattle.std.proofs.Common.{◌≡◌, ℕ, ◌&&◌, Bool, true, false, List, [], ◌∷◌, ◌++◌, length, refl, sym, ap, ◌∙◌, subst, append_assoc, append-nil, arith, ◌+◌}
-use Rattle.std.specs.Prelude.{if◌then◌else◌, not, ◌==◌, ◌||◌, nat_le, IsTrue}
+use Rattle.std.proofs.Common.{◌≡◌, ℕ, ◌&&◌, Bool, true, false, List, [], ◌∷◌, ◌++◌, length, refl, sym, ap, ◌∙◌, subst, append_assoc, append-nil, arith, ◌+◌, if◌then◌else◌, not, ◌==◌, ◌||◌, nat_le, IsTrue}
 use Rattle.std.specs.Bool.{beq}
 use Rattle.superio_core.specs.declared.trace.Asked.TheVariants.{Nothing}
 use Rattle.superio_core.specs.declared.trace.Sent.{Sent}
-use Rattle.superio_core.specs.Serial.Port.State.{State, not_empty}
+use Rattle.superio_core.specs.Serial.Operations.{Other, Arrival, read_kind, sent_by, Write, Enqueue, CharacterTimeout, Response, ByteRead, Trace, is_sent, Op, Read}
+use Rattle.superio_core.specs.Serial.{State, not_empty}
 use Rattle.superio_core.specs.declared.serial.registers.Register.{Register}
-use Rattle.superio_core.specs.declared.serial.registers.Register.TheVariants.{RbrThr, Ier, Iir}
-use Rattle.superio_core.specs.Serial.Port.Registers.{is_dlab, is_loopback, register_at, register_read}
-use Rattle.superio_core.specs.Serial.Port.Coherent.{Coherent}
-use Rattle.superio_core.specs.Serial.Port.OpKinds.{Other, Arrival, read_kind, write_kind, kind_of, sent_by}
-use Rattle.superio_core.specs.Serial.Port.Operations.{Write, Enqueue, CharacterTimeout, Restore, Response, ByteRead, Trace, is_sent, Op, Read}
-use Rattle.superio_core.specs.Serial.Step.Raising.{bytes_that_fit}
-use Rattle.superio_core.specs.Serial.Step.Transition.{step, step_events}
+use Rattle.superio_core.specs.Serial.RegisterMap.{is_dlab, is_loopback, register_at, register_read}
+use Rattle.superio_core.specs.Serial.Port.{Coherent}
+use Rattle.superio_core.specs.Serial.Step.Raising.{bytes_that_fit, restore_calls}
+use Rattle.superio_core.specs.Serial.Step.{step, step_events}
 use Rattle.superio_core.specs.Serial.Step.Admissible.{kind_calls, step_calls, sends_byte, answers_all}
-use Rattle.superio_core.specs.Serial.Step.Restore.{restore_calls}
-use Rattle.vm_superio.specs.Serial.History.Registers.{kind_at, dlab, loopback, accepted_by, held_bytes}
-use Rattle.vm_superio.specs.Serial.History.Reads.{output, state_of_history}
+use Rattle.vm_superio.specs.Serial.History.Registers.{kind_at, loopback, accepted_by, held_bytes}
+use Rattle.vm_superio.specs.Serial.History.{output, state_of_history, calls_due}
 use Rattle.vm_superio.specs.Serial.Laws.PortRun.{PortCall, PortRead, PortWrite, PortEnqueue, PortTimeout, PortRestore, IsPortCall, PortCallsFollow, op_of_call, ops_of_calls, unasked, trace_with, EffectsAre, AllEffectsAre, PortRunLaw, told_by, bytes_told, PortOutputLaw, interrupts_of, interrupts_told, PortBoundLaw}
-use Rattle.vm_superio.proofs.Lemmas.Serial.Laws.Coherence.{coherent_after}
-use Rattle.vm_superio.proofs.Lemmas.Serial.Laws.StatesOfHistory.{state_law}
-use Rattle.vm_superio.proofs.Lemmas.Serial.Laws.StepsOfHistory.{step_law}
-use Rattle.vm_superio.proofs.Lemmas.Serial.Laws.TriggerBound.{due_so_far, due-within}
-use Rattle.vm_superio.specs.Serial.History.Calls.{calls_due}
+use Rattle.vm_superio.proofs.Lemmas.Serial.Laws.Interrupts.{coherent_after}
+use Rattle.vm_superio.proofs.Lemmas.Serial.Laws.StepsOfHistory.{state_law, step_law}
+use Rattle.vm_superio.proofs.Lemmas.Serial.Laws.Consequences.{due_so_far, due-within}
 
 -- ---- one call
 
 -- it is a step without a refusal
 step-of-call : (call : PortCall) (old new : State) → IsPortCall call old new → new ≡ step old (op_of_call call) Nothing
-step-of-call (PortRead offset effects) old new is = is.state
-step-of-call (PortWrite offset value effects) old new is = is.state
-step-of-call (PortEnqueue bytes effects) old new is = is.state
-step-of-call (PortTimeout interrupts) old new is = is.state
-step-of-call (PortRestore interrupts) old new is = is.1
+step-of-call call old new is = grind arith
 
 read-possible :
     (register : Register) (s : State)
     → IsTrue (answers_all (kind_calls (read_kind register) s) Nothing
     && beq (is_sent Sent.Nothing) (not_empty (sent_by (read_kind register))))
-read-possible RbrThr s = refl
-read-possible Iir s = refl
-read-possible _ s = refl
+read-possible register s = grind arith
 
 -- the byte of a read's response
 abbrev byte_in : Response → ℕ
@@ -133,35 +121,10 @@ port_run_law start end calls before follow =
 
 -- ---- the output
 
-told-by-register :
-    (register : Register) (in_loopback : Bool) (value : ℕ)
-    → (if not_empty (sent_by (write_kind register in_loopback value)) then value ∷ [] else [])
-    ≡ sent_by (write_kind register in_loopback value)
-told-by-register RbrThr true value = refl
-told-by-register RbrThr false value = refl
-told-by-register Ier in_loopback value = refl
-told-by-register _ in_loopback value = refl
-
-read-sends-none : (register : Register) → [] ≡ sent_by (read_kind register)
-read-sends-none RbrThr = refl
-read-sends-none Iir = refl
-read-sends-none _ = refl
-
-enqueue-sends-none : (latch in_loopback : Bool) (bytes : List ℕ) → [] ≡ sent_by (kind_of latch in_loopback (Enqueue bytes))
-enqueue-sends-none latch true bytes = refl
-enqueue-sends-none latch false bytes = refl
-
 told-at-point :
     (start : State) (trace : Trace) (call : PortCall) → EffectsAre start trace call
     → told_by call ≡ sent_by (kind_at start trace (op_of_call call))
-told-at-point start trace (PortRead offset effects) are = read-sends-none (register_at (dlab start trace) offset)
-told-at-point start trace (PortWrite offset value effects) are =
-    ap (λ told. if told then value ∷ [] else []) are.0
-    ∙ told-by-register (register_at (dlab start trace) offset) (loopback start trace) value
-told-at-point start trace (PortEnqueue bytes effects) are =
-    enqueue-sends-none (dlab start trace) (loopback start trace) bytes
-told-at-point start trace (PortTimeout interrupts) are = refl
-told-at-point start trace (PortRestore interrupts) are = refl
+told-at-point start trace call are = grind arith
 
 told-is-output :
     (start : State) (trace : Trace) (calls : List PortCall) → AllEffectsAre start trace calls
@@ -181,22 +144,11 @@ port_output_law start end calls before follow =
 
 -- ---- interrupts
 
-read-asks-none : (register : Register) (s : State) → kind_calls (read_kind register) s ≡ 0
-read-asks-none RbrThr s = refl
-read-asks-none Iir s = refl
-read-asks-none _ s = refl
-
 module _ (start : State) (coherent : Coherent start) where
   told-due :
       (trace : Trace) (call : PortCall) → EffectsAre start trace call
       → interrupts_of call ≡ calls_due start trace (op_of_call call)
-  told-due trace (PortRead offset effects) are =
-      sym (read-asks-none (register_at (dlab start trace) offset) (state_of_history start trace))
-      ∙ (step_law start trace coherent).calls (Read offset)
-  told-due trace (PortWrite offset value effects) are = are.1
-  told-due trace (PortEnqueue bytes effects) are = are.2
-  told-due trace (PortTimeout interrupts) are = are
-  told-due trace (PortRestore interrupts) are = (step_law start trace coherent).calls Restore
+  told-due trace call are = grind arith
 
   told-so-far :
       (trace : Trace) (calls : List PortCall) → AllEffectsAre start trace calls

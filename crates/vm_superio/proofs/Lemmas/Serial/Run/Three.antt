@@ -1,46 +1,31 @@
 -- What the calls of three objects in one list show of each of them.
-use Rattle.std.proofs.Common.{◌≡◌, ℕ, map, List, [], ◌∷◌, ◌++◌, Option, refl, sym, ap, ◌∙◌, subst, append-nil}
-use Rattle.std.specs.Prelude.{◌↔◌, IsTrue}
+use Rattle.std.proofs.Common.{arith, ◌≡◌, ℕ, map, List, [], ◌∷◌, ◌++◌, Option, refl, sym, ap, ◌∙◌, subst, append-nil, ◌↔◌, IsTrue}
 use Rattle.std.specs.Cmp.Derive.{both_true}
-use Rattle.vm_superio.specs.declared.run.Call.{Call}
+use Rattle.vm_superio.specs.Serial.Run.{Call, Reply, Restored, NotRestored, Done, act_of, op_of, entry_of, entries_of, refusal_in_reply, RecordsOf}
 use Rattle.vm_superio.specs.declared.run.Call.TheVariants.{Read, Write, Enqueue, CharacterTimeout, Restore}
-use Rattle.vm_superio.specs.declared.run.Reply.{Reply}
-use Rattle.vm_superio.specs.declared.run.Reply.TheVariants.{Restored, NotRestored}
-use Rattle.vm_superio.specs.declared.run.Done.{Done}
-use Rattle.vm_superio.specs.declared.serial.errors.Error.{Error}
-use Rattle.vm_superio.specs.declared.serial.errors.Error.TheVariants as error
-use Rattle.vm_superio.specs.declared.serial.objects.Three.{Three}
-use Rattle.vm_superio.specs.declared.serial.out.WriterOut.{WriterOut}
+use Rattle.vm_superio.specs.Serial.{Error, Three, WriterOut, Port}
 use Rattle.superio_core.specs.declared.serial.registers.Condition.{Condition}
-use Rattle.superio_core.specs.Serial.Port.State.{State}
-use Rattle.superio_core.specs.Serial.Port.Operations.{Op, Event, TraceEntry}
-use Rattle.superio_core.specs.Serial.Port.Coherent.{Coherent}
+use Rattle.superio_core.specs.Serial.{State}
+use Rattle.superio_core.specs.Serial.Operations.{Op, Event, TraceEntry}
+use Rattle.superio_core.specs.Serial.Port.{Coherent}
 use Rattle.superio_core.specs.Serial.Step.Admissible.{is_admissible}
-use Rattle.vm_superio.specs.Links.Objects.{Link, TriggerAnswer, answers_of, all_ok, RefusesOwnState}
-use Rattle.vm_superio.specs.Links.ObjectCalls.{ObjectCall, ToTrigger, answers_in, out_calls_in, raised}
-use Rattle.vm_superio.specs.Links.OutCalls.{WriterCalls}
+use Rattle.vm_superio.specs.Links.{Link, TriggerAnswer, answers_of, all_ok, RefusesOwnState, ObjectCall, ToTrigger, answers_in, out_calls_in, raised, WriterCalls}
 use Rattle.vm_superio.specs.Links.Three.{ThreeLink, answers_in-append, out_calls_in-append}
-use Rattle.vm_superio.specs.Links.WriterOut.{WriterLink}
-use Rattle.vm_superio.specs.Links.Writer.{bytes_sent, outcome_of, AreSendings}
-use Rattle.vm_superio.specs.Serial.Port.Model.{Port}
-use Rattle.vm_superio.specs.Serial.Step.CallsOf.{Sending, sent_in, out_calls}
-use Rattle.vm_superio.specs.Serial.Step.ObjectStep.{one_port}
-use Rattle.vm_superio.specs.Serial.History.Calls.{history_events}
+use Rattle.vm_superio.specs.Links.Writer.{WriterLink, bytes_sent, outcome_of, AreSendings}
+use Rattle.vm_superio.specs.Serial.Step.ObjectStep.{Sending, sent_in, out_calls, one_port, IsRun}
+use Rattle.vm_superio.specs.Serial.History.{history_events, outcomes}
 use Rattle.vm_superio.specs.Serial.History.Interrupts.{is_well_formed, restore_calls_due}
-use Rattle.vm_superio.specs.Serial.History.Reads.{outcomes}
 use Rattle.vm_superio.specs.Serial.Laws.Consequences.{recorded_output}
-use Rattle.superio_core.specs.Serial.Port.Operations as operation
-use Rattle.superio_core.specs.Serial.Step.Transition.{step}
-use Rattle.vm_superio.specs.Serial.Laws.Agreement.{state_after, StepsFollow}
-use Rattle.vm_superio.specs.Serial.Run.Steps.{IsRun}
-use Rattle.vm_superio.specs.Serial.Run.Trace.{act_of, op_of, entry_of, entries_of, refusal_in_reply, RecordsOf}
-use Rattle.vm_superio.specs.Serial.Run.Objects.{calls_at, ObjectSegment, ObjectAtRestore, next_object_segment, ObjectsAre}
+use Rattle.superio_core.specs.Serial.Operations as operation
+use Rattle.superio_core.specs.Serial.Step.{step}
+use Rattle.vm_superio.specs.Serial.Laws.{state_after, StepsFollow}
+use Rattle.vm_superio.specs.Serial.Run.HistoryTheorem.{calls_at, ObjectSegment, ObjectAtRestore, next_object_segment, ObjectsAre}
 use Rattle.vm_superio.specs.Serial.Run.Three.{WriterSegment, OutputIs, KnownOutputIs, OutputAtRestore, next_writer_segment, OutputsAre, TriggerSegment, TriggerAtRestore, next_trigger_segment, TriggersAre, ThreeHistory}
-use Rattle.vm_superio.proofs.Lemmas.Links.Writer.{AreSendings-append, known_output_law}
-use Rattle.vm_superio.proofs.Lemmas.Serial.Laws.Output.{output_law}
+use Rattle.vm_superio.proofs.Lemmas.{AreSendings-append, known_output_law}
+use Rattle.vm_superio.proofs.Lemmas.Serial.Laws.Consequences.{output_law}
 use Rattle.vm_superio.proofs.Lemmas.Serial.Laws.Interrupts.{interrupt_law}
-use Rattle.vm_superio.proofs.Lemmas.Serial.Run.HistoryTheorem.{StepsFollow-run, HistoryTheorem-run}
-use Rattle.vm_superio.proofs.Lemmas.Serial.Step.ObjectStep.{answers_in_order, out_in_order, sendings_of}
+use Rattle.vm_superio.proofs.Lemmas.Serial.Run.{StepsFollow-run, HistoryTheorem-run}
+use Rattle.vm_superio.proofs.Lemmas.Serial.{answers_in_order, out_in_order, sendings_of}
 
 -- the answers of interrupts alone
 answers_raised : {E : Type 0} (answers : List (TriggerAnswer E)) → answers_in (map ToTrigger answers) ≡ answers
@@ -56,9 +41,7 @@ RefusesOwnState-three :
     {T E EV W : Type 0} (link : Link (Three T EV W) (ObjectCall E)) (trigger : Link T (TriggerAnswer E)) (due : List Condition) (error : Error E) (old new : Three T EV W) →
     ((answers : List (TriggerAnswer E)) → raised link old answers new → trigger old.trigger answers new.trigger) →
     RefusesOwnState (raised link) due error old new → RefusesOwnState trigger due error old.trigger new.trigger
-RefusesOwnState-three link trigger due (error.Trigger refusal) old new shows refused = (refused.0, refused.1, shows refused.0 refused.2)
-RefusesOwnState-three link trigger due error.Memory old new shows refused = ap (λ three. three.trigger) refused
-RefusesOwnState-three link trigger due _ old new shows refused = absurd refused
+RefusesOwnState-three link trigger due error old new shows refused = grind arith
 
 module _
     {T E EV W : Type 0} (trigger : Link T (TriggerAnswer E)) (events : Link EV Event) (contents : W → Option (List ℕ))

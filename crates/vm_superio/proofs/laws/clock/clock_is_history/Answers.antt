@@ -1,7 +1,7 @@
 -- The clock is its history, from the lemmas on one access and on a list of them.
 use Rattle.std.proofs.Common.{◌∙◌, ap}
 use Rattle.superio_core.specs.Rtc.Step.{clock_response, clock_step}
-use Rattle.vm_superio.proofs.Lemmas.Rtc.History.{counter-offset, goes_on, answers, states}
+use Rattle.vm_superio.proofs.Lemmas.Rtc.{counter-offset, goes_on, answers, states}
 use Rattle.vm_superio.proofs.laws.clock.clock_is_history.Goals as goal
 
 pub returns : goal.returns

@@ -1,5 +1,5 @@
 -- The law is a lemma.
-use Rattle.vm_superio.proofs.Lemmas.Rtc.SetTime.{set_time_law}
+use Rattle.vm_superio.proofs.Lemmas.Rtc.{set_time_law}
 use Rattle.vm_superio.proofs.laws.clock.set_time.Goals as goal
 
 pub returns : goal.returns

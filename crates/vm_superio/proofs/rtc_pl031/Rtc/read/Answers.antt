@@ -1,9 +1,9 @@
 -- A read continues each history: it may reach the alarm, and has no other effect.
 use Rattle.std.proofs.Common.{rules, ◌≡◌, ◌∙◌, ap}
-use Rattle.superio_core.specs.Rtc.Registers.{read, bytes_left}
-use Rattle.vm_superio.specs.Rtc.Device.{ClockDevice}
+use Rattle.superio_core.specs.Rtc.{read, bytes_left}
+use Rattle.vm_superio.specs.Rtc.{ClockDevice}
 use Rattle.superio_core.specs.Rtc.Step.{clock_response, clock_step}
-use Rattle.vm_superio.proofs.Lemmas.Rtc.History.{ReadsByHistory-read, GoesOnByHistory-step}
+use Rattle.vm_superio.proofs.Lemmas.Rtc.{ReadsByHistory-read, GoesOnByHistory-step}
 use Rattle.vm_superio.proofs.rtc_pl031.Rtc.read.Goals as goal
 
 pub returns-in-Some-clause-response_by_history : goal.returns-in-Some-clause-response_by_history

@@ -1,10 +1,9 @@
 -- A write continues each history, since it leaves the state of its step.
 use Rattle.std.proofs.Common.{◌∙◌, ap}
-use Rattle.superio_core.specs.Rtc.Clock.{state_of_clock}
-use Rattle.superio_core.specs.Rtc.Registers.{write, write_of}
-use Rattle.vm_superio.specs.Rtc.Device.{ClockDevice}
+use Rattle.superio_core.specs.Rtc.{state_of_clock, write, write_of}
+use Rattle.vm_superio.specs.Rtc.{ClockDevice}
 use Rattle.superio_core.specs.Rtc.Step.{clock_step}
-use Rattle.vm_superio.proofs.Lemmas.Rtc.History.{GoesOnByHistory-step}
+use Rattle.vm_superio.proofs.Lemmas.Rtc.{GoesOnByHistory-step}
 use Rattle.vm_superio.proofs.rtc_pl031.Rtc.write.Goals as goal
 
 pub returns-then-not-write-clause-history : goal.returns-then-not-write-clause-history

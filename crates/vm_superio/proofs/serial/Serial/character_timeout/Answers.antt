@@ -1,17 +1,16 @@
 -- A step calls the trigger once for each bit that it turns on, and keeps a coherent state coherent.
-use Rattle.vm_superio.specs.Links.OutCalls.{WriterCalls}
+use Rattle.vm_superio.specs.Links.{WriterCalls}
 use Rattle.std.proofs.Common.{sym, subst, ap, ◌∙◌}
-use Rattle.superio_core.specs.Serial.Port.State.{State}
-use Rattle.vm_superio.proofs.Lemmas.Serial.Step.Quiet.{quiet}
-use Rattle.vm_superio.specs.Serial.Port.Model.{timeout_response, refusal_in_result}
-use Rattle.superio_core.specs.Serial.Port.Operations.{CharacterTimeout}
+use Rattle.superio_core.specs.Serial.{State}
+use Rattle.vm_superio.proofs.Lemmas.Serial.Step.{quiet, timeout_fate}
+use Rattle.vm_superio.specs.Serial.{timeout_response, refusal_in_result}
+use Rattle.superio_core.specs.Serial.Operations.{CharacterTimeout}
 use Rattle.vm_superio.specs.Links.Writer.{port_links}
-use Rattle.vm_superio.specs.Serial.Step.PortStep.{IsPortStep}
-use Rattle.vm_superio.proofs.Lemmas.Serial.Step.PortStep.{length-answers_of-step}
-use Rattle.vm_superio.proofs.Lemmas.Serial.Step.Fate.{timeout_fate}
-use Rattle.superio_core.proofs.Lemmas.Serial.Laws.Coherence.{coherence_law}
-use Rattle.superio_core.specs.Serial.Port.Coherent.{ShowsHeldBytes}
-use Rattle.superio_core.proofs.Lemmas.Serial.Step.CharacterTimeout.{shows_held_bytes}
+use Rattle.vm_superio.specs.Serial.Step.{IsPortStep}
+use Rattle.vm_superio.proofs.Lemmas.Serial.{length-answers_of-step}
+use Rattle.superio_core.proofs.Lemmas.Serial.Coherence.{coherence_law}
+use Rattle.superio_core.specs.Serial.Port.{ShowsHeldBytes}
+use Rattle.superio_core.proofs.Lemmas.Serial.Step.{shows_held_bytes}
 use Rattle.vm_superio.proofs.serial.Serial.character_timeout.Goals as goal
 
 pub returns-clause-step : goal.returns-clause-step

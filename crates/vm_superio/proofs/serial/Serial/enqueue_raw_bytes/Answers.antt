@@ -1,13 +1,12 @@
 -- A step calls the trigger once for each bit that it turns on, and keeps a coherent state coherent.
-use Rattle.vm_superio.specs.Links.OutCalls.{WriterCalls}
-use Rattle.superio_core.specs.Serial.Port.Operations.{Enqueue}
+use Rattle.vm_superio.specs.Links.{WriterCalls}
+use Rattle.superio_core.specs.Serial.Operations.{Enqueue}
 use Rattle.vm_superio.specs.Links.Writer.{port_links}
-use Rattle.vm_superio.proofs.Lemmas.Serial.Step.PortStep.{length-answers_of-step}
+use Rattle.vm_superio.proofs.Lemmas.Serial.{length-answers_of-step}
 use Rattle.std.proofs.Common.{ap, ◌∙◌}
-use Rattle.superio_core.specs.Serial.Port.State.{State}
-use Rattle.vm_superio.proofs.Lemmas.Serial.Step.Quiet.{quiet, enable_kept, settings_kept}
-use Rattle.vm_superio.proofs.Lemmas.Serial.Step.Fate.{enqueue_fate}
-use Rattle.superio_core.proofs.Lemmas.Serial.Laws.Coherence.{coherence_law}
+use Rattle.superio_core.specs.Serial.{State}
+use Rattle.vm_superio.proofs.Lemmas.Serial.Step.{quiet, enable_kept, settings_kept, enqueue_fate}
+use Rattle.superio_core.proofs.Lemmas.Serial.Coherence.{coherence_law}
 use Rattle.superio_core.specs.Serial.Step.Raising.{enqueued_bytes}
 use Rattle.vm_superio.proofs.Lemmas.Serial.Laws.OneCall.{received_bytes}
 use Rattle.vm_superio.proofs.serial.Serial.enqueue_raw_bytes.Goals as goal

@@ -1,12 +1,12 @@
 -- A step keeps a coherent state coherent, and an RBR read gives the oldest byte.
-use Rattle.superio_core.specs.Serial.Port.Operations.{Read, ByteRead}
-use Rattle.superio_core.specs.Serial.Step.Transition.{step, step_response}
-use Rattle.superio_core.proofs.Lemmas.Serial.Laws.Coherence.{coherence_law}
+use Rattle.superio_core.specs.Serial.Operations.{Read, ByteRead}
+use Rattle.superio_core.specs.Serial.Step.{step, step_response}
+use Rattle.superio_core.proofs.Lemmas.Serial.Coherence.{coherence_law}
 use Rattle.vm_superio.proofs.Lemmas.Serial.Laws.OneCall.{rbr_read, kept}
 use Rattle.vm_superio.proofs.serial.Serial.read.Goals as goal
 use Rattle.std.proofs.Common.{◌≡◌, ℕ, ◌<◌, false, length, ap, ◌∙◌, ◌∷◌}
-use Rattle.superio_core.specs.Serial.Port.State.{State}
-use Rattle.superio_core.specs.Serial.Port.Registers.{register_at, is_dlab}
+use Rattle.superio_core.specs.Serial.{State}
+use Rattle.superio_core.specs.Serial.RegisterMap.{register_at, is_dlab}
 use Rattle.superio_core.specs.declared.trace.Asked.TheVariants as Asked
 use Rattle.superio_core.specs.declared.trace.Sent.TheVariants as Sent
 

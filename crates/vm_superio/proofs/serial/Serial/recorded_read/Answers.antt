@@ -1,5 +1,5 @@
 -- What the calls in order show of each object.
-use Rattle.vm_superio.proofs.Lemmas.Serial.Step.ObjectStep.{IsPortStep-three}
+use Rattle.vm_superio.proofs.Lemmas.Serial.{IsPortStep-three}
 use Rattle.vm_superio.proofs.serial.Serial.recorded_read.Goals as goal
 
 pub returns : goal.returns

@@ -1,5 +1,5 @@
 -- What the calls in order show of each object.
-use Rattle.vm_superio.proofs.Lemmas.Serial.Step.ObjectStep.{IsRecordedWrite-three}
+use Rattle.vm_superio.proofs.Lemmas.Serial.{IsRecordedWrite-three}
 use Rattle.vm_superio.proofs.serial.Serial.recorded_write.Goals as goal
 
 pub returns : goal.returns

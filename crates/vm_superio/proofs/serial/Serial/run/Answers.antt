@@ -1,8 +1,8 @@
 -- The run over the three objects as one, and what it shows of each.
 use Rattle.vm_superio.proofs.Lemmas.Serial.Run.Three.{ThreeHistory-run}
-use Rattle.vm_superio.proofs.Lemmas.Serial.Run.Steps.{ok_follows}
+use Rattle.vm_superio.proofs.Lemmas.Serial.Run.{ok_follows}
 use Rattle.vm_superio.specs.Links.Three.{ThreeLink-nil, ThreeLink-append}
-use Rattle.vm_superio.specs.Links.WriterOut.{WriterLink, WriterLink-nil, WriterLink-append}
+use Rattle.vm_superio.specs.Links.Writer.{WriterLink, WriterLink-nil, WriterLink-append}
 use Rattle.vm_superio.proofs.serial.Serial.run.Goals as goal
 
 pub returns-clause-history : goal.returns-clause-history

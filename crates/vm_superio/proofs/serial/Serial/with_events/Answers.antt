@@ -1,7 +1,7 @@
 -- A fresh port is coherent.
 use Rattle.std.proofs.Common.{sym, subst}
-use Rattle.superio_core.specs.Serial.Port.Coherent.{Coherent}
-use Rattle.superio_core.proofs.Lemmas.Serial.Port.Coherent.{fresh_coherent}
+use Rattle.superio_core.specs.Serial.Port.{Coherent}
+use Rattle.superio_core.proofs.Lemmas.Serial.{fresh_coherent}
 use Rattle.vm_superio.proofs.serial.Serial.with_events.Goals as goal
 
 pub returns-clause-coherent : goal.returns-clause-coherent

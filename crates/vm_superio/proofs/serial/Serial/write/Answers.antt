@@ -1,11 +1,10 @@
 -- A step calls the trigger once for each bit that it turns on, and keeps a coherent state coherent.
-use Rattle.vm_superio.specs.Links.OutCalls.{WriterCalls, WriterCalls-nil}
-use Rattle.superio_core.specs.Serial.Port.Operations.{Write}
+use Rattle.vm_superio.specs.Links.{WriterCalls, WriterCalls-nil}
+use Rattle.superio_core.specs.Serial.Operations.{Write}
 use Rattle.vm_superio.specs.Links.Writer.{port_links}
-use Rattle.vm_superio.proofs.Lemmas.Serial.Step.PortStep.{length-answers_of-step}
-use Rattle.vm_superio.proofs.Lemmas.Serial.Step.Quiet.{quiet, silent, sends}
-use Rattle.vm_superio.proofs.Lemmas.Serial.Step.Fate.{write_fate}
-use Rattle.superio_core.proofs.Lemmas.Serial.Laws.Coherence.{coherence_law}
+use Rattle.vm_superio.proofs.Lemmas.Serial.{length-answers_of-step}
+use Rattle.vm_superio.proofs.Lemmas.Serial.Step.{quiet, silent, sends, write_fate}
+use Rattle.superio_core.proofs.Lemmas.Serial.Coherence.{coherence_law}
 use Rattle.vm_superio.proofs.serial.Serial.write.Goals as goal
 
 pub returns-clause-step : goal.returns-clause-step

@@ -1,6 +1,6 @@
 -- A put and a flush in a row are linked by the list of both.
 use Rattle.std.proofs.Common.{refl}
-use Rattle.vm_superio.specs.Serial.Step.CallsOf.{NotPut, NotFlushed}
+use Rattle.vm_superio.specs.Serial.Step.ObjectStep.{NotPut, NotFlushed}
 use Rattle.vm_superio.proofs.serial.port.put_and_flush.Goals as goal
 
 pub returns-in-Err-clause-lost : goal.returns-in-Err-clause-lost

@@ -1,6 +1,6 @@
 -- A byte that the output took is out, and its event follows its calls.
 use Rattle.std.proofs.Common.{refl}
-use Rattle.vm_superio.specs.Serial.Step.CallsOf.{Taken}
+use Rattle.vm_superio.specs.Serial.Step.ObjectStep.{Taken}
 use Rattle.vm_superio.proofs.serial.port.send_where_due.Goals as goal
 
 pub returns-in-Ok-clause-calls : goal.returns-in-Ok-clause-calls

@@ -1,11 +1,10 @@
 -- The step of the registers, with THRE taken back if the first of two calls was refused; and the calls in order.
-use Rattle.std.proofs.Common.{◌≡◌, Bool, true, false, Option, None, List, rules, refl, ap, ◌∙◌, subst, sym}
-use Rattle.std.specs.Prelude.{if◌then◌else◌}
+use Rattle.std.proofs.Common.{◌≡◌, Bool, true, false, Option, None, List, rules, refl, ap, ◌∙◌, subst, sym, if◌then◌else◌}
 use Rattle.std.specs.declared.io.Error.{Error}
-use Rattle.superio_core.specs.Serial.Port.State.{state_with}
-use Rattle.superio_core.specs.Serial.Step.Transition.{write_step}
-use Rattle.superio_core.proofs.Lemmas.Serial.Step.FirstRefused.{write_step-settled}
-use Rattle.vm_superio.specs.Links.OutCalls.{OutCall}
+use Rattle.superio_core.specs.Serial.{state_with}
+use Rattle.superio_core.specs.Serial.Step.{write_step}
+use Rattle.superio_core.proofs.Lemmas.Serial.FirstRefused.{write_step-settled}
+use Rattle.vm_superio.specs.Links.{OutCall}
 use Rattle.vm_superio.specs.Links.Writer.{AnsweredFault}
 use Rattle.vm_superio.proofs.serial.port.write_with.Goals as goal
 

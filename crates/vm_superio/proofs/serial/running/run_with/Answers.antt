@@ -2,7 +2,7 @@
 use Rattle.std.proofs.Common.{◌∷◌, [], refl, append_assoc, append-nil, arith}
 use Rattle.std.proofs.lemmas.List.{nil_from_length}
 use Rattle.vm_superio.specs.Serial.Step.ObjectStep.{port_with}
-use Rattle.vm_superio.proofs.Lemmas.Serial.Run.Steps.{IsRun-step}
+use Rattle.vm_superio.proofs.Lemmas.Serial.Run.{IsRun-step}
 use Rattle.vm_superio.proofs.serial.running.run_with.Goals as goal
 
 pub loop-call-init : goal.loop-call-init

@@ -1,9 +1,7 @@
 -- What continues the run so far makes the whole run. The calls that are left get fewer.
-use Rattle.std.proofs.Common.{◌≤◌, ◌+◌, List, ◌++◌, vec_len}
-use Rattle.std.specs.Prelude.{vec_capacity}
+use Rattle.std.proofs.Common.{◌≤◌, ◌+◌, List, ◌++◌, vec_len, vec_capacity}
 use Rattle.std.specs.VecDeque.{deque_len}
-use Rattle.vm_superio.specs.Serial.Step.ObjectStep.{OnePort, port_with}
-use Rattle.vm_superio.specs.Serial.Run.Steps.{IsRun}
+use Rattle.vm_superio.specs.Serial.Step.ObjectStep.{OnePort, port_with, IsRun}
 use Rattle.vm_superio.specs.declared.run.Done.{Done}
 use Rattle.vm_superio.proofs.serial.running.run_with.Given as goal
 

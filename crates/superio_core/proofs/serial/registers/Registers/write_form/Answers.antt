@@ -1,8 +1,8 @@
 -- The start, the received bytes, and what follows them.
 use Rattle.std.proofs.Common.{◌≡◌, ◌+◌, List, ℕ, ◌++◌, length, drop, refl, sym, ap, ◌∙◌, append_assoc}
 use Rattle.std.proofs.Math.Seq.{drop-drop}
-use Rattle.superio_core.specs.Serial.Port.State.{state_with}
-use Rattle.superio_core.specs.Saved.Form.{serial_form}
+use Rattle.superio_core.specs.Serial.{state_with}
+use Rattle.superio_core.specs.Saved.{serial_form}
 use Rattle.superio_core.proofs.serial.registers.Registers.write_form.Goals as goal
 
 written :

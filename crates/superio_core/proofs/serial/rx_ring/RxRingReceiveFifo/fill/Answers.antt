@@ -1,9 +1,8 @@
 -- One more byte follows the others.
-use Rattle.std.proofs.Common.{◌≡◌, suc, ◌+◌, ◌<◌, [], ◌∷◌, ◌++◌, length, take, slice_index_or, slice_set, sym, ap, ◌∙◌, arith, length-set}
-use Rattle.std.proofs.lemmas.List.{append_assoc}
+use Rattle.std.proofs.Common.{◌≡◌, suc, ◌+◌, ◌<◌, [], ◌∷◌, ◌++◌, length, take, slice_index_or, slice_set, sym, ap, ◌∙◌, arith, length-set, append_assoc}
 use Rattle.std.proofs.Math.Seq.{take-suc}
-use Rattle.superio_core.specs.Serial.Port.RxRing.{held_bytes, ring_from}
-use Rattle.superio_core.proofs.Lemmas.Serial.Port.RxRing.{take-ring-set}
+use Rattle.superio_core.specs.Serial.Port.{held_bytes, ring_from}
+use Rattle.superio_core.proofs.Lemmas.Serial.{take-ring-set}
 use Rattle.superio_core.proofs.serial.rx_ring.RxRingReceiveFifo.fill.Goals as goal
 
 pub loop-i-preserved : goal.loop-i-preserved

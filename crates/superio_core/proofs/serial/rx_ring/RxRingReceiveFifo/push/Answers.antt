@@ -1,8 +1,7 @@
 -- One more byte follows the others.
-use Rattle.std.proofs.Common.{◌≡◌, ◌+◌, ◌-◌, ◌<◌, ◌≤◌, min, [], ◌∷◌, ◌++◌, length, take, slice_set, sym, ap, ◌∙◌, arith, length-take}
-use Rattle.std.proofs.lemmas.List.{take_all}
-use Rattle.superio_core.specs.Serial.Port.RxRing.{held_bytes, ring_from}
-use Rattle.superio_core.proofs.Lemmas.Serial.Port.RxRing.{take-ring-set}
+use Rattle.std.proofs.Common.{◌≡◌, ◌+◌, ◌-◌, ◌<◌, ◌≤◌, min, [], ◌∷◌, ◌++◌, length, take, slice_set, sym, ap, ◌∙◌, arith, length-take, take_all}
+use Rattle.superio_core.specs.Serial.Port.{held_bytes, ring_from}
+use Rattle.superio_core.proofs.Lemmas.Serial.{take-ring-set}
 use Rattle.superio_core.proofs.serial.rx_ring.RxRingReceiveFifo.push.Goals as goal
 
 pub returns-clause-added : goal.returns-clause-added

@@ -1,6 +1,5 @@
 -- The run from a coherent start is a history.
-use Rattle.vm_superio.proofs.Lemmas.Serial.Run.HistoryTheorem.{HistoryTheorem-run}
-use Rattle.vm_superio.proofs.Lemmas.Serial.Run.Steps.{ok_follows}
+use Rattle.vm_superio.proofs.Lemmas.Serial.Run.{HistoryTheorem-run, ok_follows}
 use Rattle.vm_superio.proofs.serial.port.Port.run.Goals as goal
 
 pub returns-clause-history : goal.returns-clause-history

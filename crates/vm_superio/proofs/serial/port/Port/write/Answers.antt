@@ -1,6 +1,6 @@
 -- A step keeps a coherent state coherent.
-use Rattle.superio_core.specs.Serial.Port.Operations.{Write}
-use Rattle.superio_core.proofs.Lemmas.Serial.Laws.Coherence.{coherence_law}
+use Rattle.superio_core.specs.Serial.Operations.{Write}
+use Rattle.superio_core.proofs.Lemmas.Serial.Coherence.{coherence_law}
 use Rattle.vm_superio.proofs.serial.port.Port.write.Goals as goal
 
 pub returns-clause-coherent : goal.returns-clause-coherent

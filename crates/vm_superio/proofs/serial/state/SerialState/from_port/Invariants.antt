@@ -1,7 +1,6 @@
 -- What was copied and what is still held are what the port holds.
-use Rattle.std.proofs.Common.{◌≡◌, ◌+◌, ◌≤◌, ◌++◌, length, vec_len}
-use Rattle.std.specs.Prelude.{vec_capacity}
-use Rattle.superio_core.specs.Serial.Port.RxRing.{held_bytes}
+use Rattle.std.proofs.Common.{◌≡◌, ◌+◌, ◌≤◌, ◌++◌, length, vec_len, vec_capacity}
+use Rattle.superio_core.specs.Serial.Port.{held_bytes}
 use Rattle.vm_superio.proofs.serial.state.SerialState.from_port.Given as goal
 
 abbrev pub invariant-loop-byte : goal.invariant-loop-byte

@@ -1,0 +1,102 @@
+-- Lemmas on the lines that load a saved state, on those of the clock, and on reads.
+use Rattle.std.proofs.Common.{◌≡◌, ℕ, List, length, ◌≤◌, Option, Some, None, Result, Ok, Err, refl, ap, sym, ◌∙◌, ◌<◌, ◌^◌, Bool, true, false, [], ◌∷◌, arith, ◌+◌, ◌++◌, take, subst, append_assoc, length-append, IfErr, IfSome, ◌≢◌, if◌then◌else◌}
+use Rattle.std.specs.Int.{w32, to_le_bytes, from_le_bytes}
+use Rattle.std.proofs.lemmas.Nat.{from_le_bytes-to_le_bytes_4}
+use Rattle.std.specs.Io.KnownBytes.{Consumes}
+use Rattle.std.proofs.lemmas.List.{length-take-le, take-append-le}
+use Rattle.std.proofs.Math.Seq.{take-append-add}
+use Rattle.superio_core.specs.declared.rtc_pl031.state.RtcState.{RtcState}
+use Rattle.superio_core.specs.Rtc.{write, write_of}
+use Rattle.superio_core.specs.declared.saved.Error.{Error as Fault}
+use Rattle.superio_core.specs.Saved.{serial_form, clock_form, IsClock}
+use Rattle.vm_superio.specs.declared.saved.Error.{Error}
+use Rattle.vm_superio.specs.declared.serial.state.SerialState.{SerialState}
+use Rattle.vm_superio.specs.declared.saved.Error.TheVariants.{Bytes, Memory}
+use Rattle.superio_core.specs.Serial.{State}
+use Rattle.superio_core.proofs.Lemmas.Saved.{numbers_in-form, serial_form_has_no_fault, clock_form_has_no_fault}
+use Rattle.superio_script.specs.Loading.{unless_fault, port_in, loaded_port, clock_in, loaded_clock, PortFormLoads, ClockFormLoads}
+use Rattle.vm_superio.specs.Links.FoldsEvents.{FoldsEvents}
+use Rattle.vm_superio.specs.Rtc.{invalid_write, GoesOnByHistory}
+use Rattle.vm_superio.specs.Rtc.History.{clock_of_history}
+use Rattle.superio_script.specs.Objects.{EventCounts, no_counts, counts_after_clock_event}
+use Rattle.superio_script.specs.ClockScript.{ClockSession, clock_session_state, clock_session_after_access}
+
+-- ---- the laws
+
+pub port_form-loads : PortFormLoads
+port_form-loads state few = ap (λ (fault : Option Fault). unless_fault fault (port_in (serial_form state))) (serial_form_has_no_fault state few)
+
+pub clock_form-loads : ClockFormLoads
+clock_form-loads state numbers =
+    ap (λ (fault : Option Fault). unless_fault fault (clock_in (clock_form state))) (clock_form_has_no_fault state)
+    ∙ ap Ok (numbers_in-form state numbers)
+
+-- ---- what is read
+
+-- if a state was read, it is loaded
+pub port-loaded : (bytes : List ℕ) (state : State) → length state.in_buffer ≤ 64 → bytes ≡ serial_form state → loaded_port bytes ≡ Ok state
+port-loaded bytes state few is = ap loaded_port is ∙ port_form-loads state few
+
+pub clock-loaded : (bytes : List ℕ) (state : RtcState) → IsClock state → bytes ≡ clock_form state → loaded_clock bytes ≡ Ok state
+clock-loaded bytes state numbers is = ap loaded_clock is ∙ clock_form-loads state numbers
+
+-- if a check failed, the load has its error
+pub port-refused : (fault : Option Fault) (state : State) (result : Result SerialState Error) (error : Fault) → result ≡ Err (Bytes error) →
+    IfSome fault (λ fault. result ≡ Err (Bytes fault)) → (fault ≡ None → IfErr result (λ error. error ≡ Memory)) → unless_fault fault state ≡ Err error
+port-refused fault state result error is found memory = grind arith
+
+-- ---- what a write of the clock does: the count of invalid writes shows whether the register takes it, and the
+-- bytes are the value
+
+abbrev pub IsReported : (writable : Bool) (old new : EventCounts) → Type 0
+IsReported writable old new = FoldsEvents counts_after_clock_event old (if writable then [] else invalid_write ∷ []) new
+
+pub counted-is_invalid : (writable : Bool) (old new : EventCounts) → old ≡ no_counts → IsReported writable old new → new.invalid_writes ≡ 1 → writable ≡ false
+counted-is_invalid true old new none reported one =
+    let zero : new.invalid_writes ≡ 0 = ap (λ (counts : EventCounts). counts.invalid_writes) (reported.folds ∙ none) in
+    absurd (omega (arith, zero, one))
+counted-is_invalid false old new none reported one = refl
+
+pub uncounted-is_valid : (writable : Bool) (old new : EventCounts) → old ≡ no_counts → IsReported writable old new → new.invalid_writes ≢ 1 → writable ≡ true
+uncounted-is_valid true old new none reported other = refl
+uncounted-is_valid false old new none reported other =
+    let after = λ (counts : EventCounts). (counts_after_clock_event counts invalid_write).invalid_writes in
+    absurd (other (ap (λ (counts : EventCounts). counts.invalid_writes) reported.folds ∙ ap after none))
+
+pub write-goes_on :
+    (session : ClockSession) (old new : RtcState) (offset value moment : ℕ) (bytes : List ℕ) → value < 2 ^ 32 → bytes ≡ to_le_bytes w32 value →
+    old ≡ clock_session_state session → GoesOnByHistory old (write_of offset bytes moment) new →
+    new ≡ clock_session_state (clock_session_after_access session (write offset value moment))
+write-goes_on session old new offset value moment bytes few same at history =
+    history session.start session.accesses at
+    ∙ ap (λ (n : ℕ). clock_of_history session.start (write offset n moment ∷ session.accesses))
+    (ap (from_le_bytes w32) same ∙ from_le_bytes-to_le_bytes_4 value few)
+
+-- ---- what several reads together have consumed
+
+-- the front of a room, and after it a part that was filled
+take-append-take :
+    (filled count : ℕ) (room got rest : List ℕ) → filled ≤ length room → count ≤ length got →
+    take (filled + count) (take filled room ++ (got ++ rest)) ≡ take filled room ++ take count got
+take-append-take filled count room got rest h k =
+    let P : ℕ → Type 0 = λ n. take (n + count) (take filled room ++ (got ++ rest)) ≡ take filled room ++ take count got in
+    subst P (length-take-le filled room h)
+    (take-append-add (take filled room) (got ++ rest) count ∙ ap (λ more. take filled room ++ more) (take-append-le count got rest k))
+
+-- there is room for what was read
+pub room_holds-filled :
+    (filled count : ℕ) (room got rest : List ℕ) → filled ≤ length room → count ≤ length got →
+    filled + count ≤ length (take filled room ++ (got ++ rest))
+room_holds-filled filled count room got rest h k =
+    omega (arith, length-take-le filled room h, length-append (take filled room) (got ++ rest), length-append got rest)
+
+-- bytes that were read into the room after those that were read before
+pub Consumes-append :
+    (before middle after : Option (List ℕ)) (filled count : ℕ) (room got rest : List ℕ) → filled ≤ length room → count ≤ length got →
+    Consumes before middle (take filled room) → Consumes middle after (take count got) →
+    Consumes before after (take (filled + count) (take filled room ++ (got ++ rest)))
+Consumes-append None middle after filled count room got rest h k first second = tt
+Consumes-append (Some xs) None after filled count room got rest h k first second = absurd first
+Consumes-append (Some xs) (Some ys) None filled count room got rest h k first second = second
+Consumes-append (Some xs) (Some ys) (Some zs) filled count room got rest h k first second =
+    rw take-append-take (first ∙ ap (λ more. take filled room ++ more) second ∙ sym (append_assoc (take filled room) (take count got) zs))

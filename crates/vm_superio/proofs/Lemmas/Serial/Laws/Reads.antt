@@ -1,0 +1,299 @@
+-- Neither the writer nor a restore changes a read: each trace is read as one of operations with the trigger's answers.
+use Rattle.std.proofs.Common.{arith, ◌≡◌, Bool, List, [], ◌∷◌, ◌++◌, refl, ap, sym, ◌∙◌, append_assoc, append-nil, ℕ, true, false, ◌==◌, subst, IsTrue, not, ◌&&◌, ◌||◌, length, drop}
+use Rattle.std.proofs.lemmas.Bool.{and_parts, false≢true, eqb-true}
+use Rattle.std.specs.Cmp.Derive.{both_true}
+use Rattle.superio_core.specs.declared.trace.Asked.{Asked}
+use Rattle.superio_core.specs.declared.trace.Sent.{Sent}
+use Rattle.superio_core.specs.Serial.Operations.{Op, Read, Write, Enqueue, CharacterTimeout, Restore, TraceEntry, OpKind, Response, is_rbr_read}
+use Rattle.superio_core.specs.Serial.{State, not_empty}
+use Rattle.vm_superio.specs.Serial.History.{with_data_ready, state_of_history, history_response, byte_read, bytes_read, guest_read, ResponsesAre}
+use Rattle.superio_core.specs.declared.serial.registers.Condition.TheVariants.{Rda, Thre}
+use Rattle.superio_core.specs.Serial.RegisterMap.{register_read, register_at, is_dlab, identification_of}
+use Rattle.superio_core.specs.Serial.Step.{step}
+use Rattle.superio_core.specs.Serial.Step.Admissible.{kind_in_state}
+use Rattle.vm_superio.specs.Serial.History.Registers.{held_bytes, interrupt_enable, kind_at, taken_by, taken_bytes, accepted_by}
+use Rattle.vm_superio.specs.Serial.History.Interrupts.{is_pending}
+use Rattle.vm_superio.specs.Serial.Laws.{state_after}
+use Rattle.vm_superio.specs.Serial.Laws.Consequences.{SameReadsLaw, op_and_asked, ops_and_asked, ReadsAreTakenLaw, ReadThenHeldLaw, driver_byte, driver_bytes, polls, PollingDriverLaw, DriverGetsAllLaw, shows_data_ready, polls_after_data_ready, PollsAfterDataReadyLaw}
+use Rattle.vm_superio.proofs.Lemmas.Serial.Laws.{same_kind, register_law, state_of_history-by_state, held_bytes_law, taken_then_held, held_more}
+use Rattle.vm_superio.proofs.Lemmas.Serial.Laws.Interrupts.{thre_next, rda_next}
+use Rattle.vm_superio.specs.Serial.Run.{trace_after}
+use Rattle.superio_core.specs.Bits.{has_bits}
+use Rattle.superio_core.proofs.Lemmas.Serial.{data_ready_set, data_ready_cleared}
+use Rattle.superio_core.specs.declared.trace.Sent.TheVariants as sent
+
+-- the trace of these operations, in which nothing is sent
+unsent : List (Op × Asked) → List TraceEntry
+unsent [] = []
+unsent (call ∷ calls) = record { op = call.0; asked = call.1; sent = sent.Nothing } ∷ unsent calls
+
+-- what a guest can read: the state's registers and bytes, and the conditions that are pending
+record SameView (start : State) (one other : List TraceEntry) : Type 0 where
+  state : state_after start one ≡ state_after start other
+  rda : (is_pending Rda) start one ≡ is_pending Rda start other
+  thre : (is_pending Thre) start one ≡ is_pending Thre start other
+
+-- the conditions that are pending after one more operation, by the state before it
+rda_by_state : (start : State) (trace : List TraceEntry) (entry : TraceEntry) → let s = state_after start trace in
+    is_pending Rda start (entry ∷ trace)
+    ≡ rda_next (kind_in_state s entry.op) s.in_buffer s.interrupt_enable (is_pending Rda start trace)
+rda_by_state start trace entry =
+    let s = state_after start trace in
+    let r = is_pending Rda start trace in
+    ap (λ (k : OpKind). rda_next k (held_bytes start trace) (interrupt_enable start trace) r)
+    (sym (same_kind start trace entry.op))
+    ∙ ap (λ bytes. rda_next (kind_in_state s entry.op) bytes (interrupt_enable start trace) r)
+    (sym (held_bytes_law start trace))
+    ∙ ap (λ enable. rda_next (kind_in_state s entry.op) s.in_buffer enable r)
+    (sym (register_law start trace).interrupt_enable)
+
+thre_by_state : (start : State) (trace : List TraceEntry) (entry : TraceEntry) → let s = state_after start trace in
+    is_pending Thre start (entry ∷ trace)
+    ≡ thre_next (kind_in_state s entry.op) s.in_buffer s.interrupt_enable entry.asked (is_pending Thre start trace)
+    (is_pending Rda start trace)
+thre_by_state start trace entry =
+    let s = state_after start trace in
+    let r = is_pending Rda start trace in
+    let t = is_pending Thre start trace in
+    ap (λ (k : OpKind). thre_next k (held_bytes start trace) (interrupt_enable start trace) entry.asked t r)
+    (sym (same_kind start trace entry.op))
+    ∙ ap (λ bytes. thre_next (kind_in_state s entry.op) bytes (interrupt_enable start trace) entry.asked t r)
+    (sym (held_bytes_law start trace))
+    ∙ ap (λ enable. thre_next (kind_in_state s entry.op) s.in_buffer enable entry.asked t r)
+    (sym (register_law start trace).interrupt_enable)
+
+-- one more call in both traces
+more : (start : State) (one other : List TraceEntry) (op : Op) (asked : Asked) (first second : Sent)
+    → SameView start one other
+    → SameView start (record { op = op; asked = asked; sent = first } ∷ one)
+    (record { op = op; asked = asked; sent = second } ∷ other)
+more start one other op asked first second same =
+    let receive_of = λ (s : State) (r : Bool). rda_next (kind_in_state s op) s.in_buffer s.interrupt_enable r in
+    let transmit_of =
+    λ (s : State) (t r : Bool). thre_next (kind_in_state s op) s.in_buffer s.interrupt_enable asked t r in
+    let s = state_after start other in
+    record {
+      state = ap (λ (s : State). step s op asked) same.state;
+      rda =
+          rda_by_state start one (record { op = op; asked = asked; sent = first })
+          ∙ ap (λ (s : State). receive_of s (is_pending Rda start one)) same.state ∙ ap (receive_of s) same.rda
+          ∙ sym (rda_by_state start other (record { op = op; asked = asked; sent = second }));
+      thre =
+          thre_by_state start one (record { op = op; asked = asked; sent = first })
+          ∙ ap (λ (s : State). transmit_of s (is_pending Thre start one) (is_pending Rda start one)) same.state
+          ∙ ap (λ t. transmit_of s t (is_pending Rda start one)) same.thre
+          ∙ ap (transmit_of s (is_pending Thre start other)) same.rda
+          ∙ sym (thre_by_state start other (record { op = op; asked = asked; sent = second }));
+    }
+
+-- a restore in one of them
+restored : (start : State) (one other : List TraceEntry) (asked : Asked) (outcome : Sent) → SameView start one other
+    → SameView start (record { op = Restore; asked = asked; sent = outcome } ∷ one) other
+restored start one other asked outcome same =
+    record { state = same.state; rda = same.rda; thre = same.thre }
+
+one_unsent : (start : State) (trace : List TraceEntry) (calls : List (Op × Asked)) (op : Op) (asked : Asked)
+    (outcome : Sent)
+    → SameView start trace (unsent calls)
+    → SameView start (record { op = op; asked = asked; sent = outcome } ∷ trace)
+    (unsent (op_and_asked op asked ++ calls))
+unfolding unsent
+one_unsent start trace calls (Read offset) asked outcome same =
+    more start trace (unsent calls) (Read offset) asked outcome sent.Nothing same
+one_unsent start trace calls (Write offset value) asked outcome same =
+    more start trace (unsent calls) (Write offset value) asked outcome sent.Nothing same
+one_unsent start trace calls (Enqueue bytes) asked outcome same =
+    more start trace (unsent calls) (Enqueue bytes) asked outcome sent.Nothing same
+one_unsent start trace calls CharacterTimeout asked outcome same =
+    more start trace (unsent calls) CharacterTimeout asked outcome sent.Nothing same
+one_unsent start trace calls Restore asked outcome same = restored start trace (unsent calls) asked outcome same
+
+-- every trace shows what its operations and the trigger's answers show
+as_unsent : (start : State) (trace : List TraceEntry) → SameView start trace (unsent (ops_and_asked trace))
+unfolding unsent
+as_unsent start [] = record { state = refl; rda = refl; thre = refl }
+as_unsent start (entry ∷ trace) =
+    one_unsent start trace (ops_and_asked trace) entry.op entry.asked entry.sent (as_unsent start trace)
+
+-- the state that a trace describes, by the state after it and the conditions that are pending
+view_of : State → State → Bool → Bool → State
+view_of start s thre rda = record s {
+  interrupt_identification = identification_of thre rda;
+  line_status = with_data_ready start.line_status (not_empty s.in_buffer);
+}
+
+described_by_state : (start : State) (trace : List TraceEntry)
+    → state_of_history start trace
+    ≡ view_of start (state_after start trace) (is_pending Thre start trace) (is_pending Rda start trace)
+unfolding view_of
+described_by_state start trace =
+    state_of_history-by_state start trace _ _ _
+    ∙ ap (λ bytes. record (state_after start trace) {
+      interrupt_identification = identification_of (is_pending Thre start trace) (is_pending Rda start trace);
+      line_status = with_data_ready start.line_status (not_empty bytes);
+      in_buffer = bytes;
+    }) (sym (held_bytes_law start trace))
+
+same_described : (start : State) (one other : List TraceEntry) → SameView start one other
+    → state_of_history start one ≡ state_of_history start other
+same_described start one other same =
+    described_by_state start one
+    ∙ ap (λ (s : State). view_of start s (is_pending Thre start one) (is_pending Rda start one)) same.state
+    ∙ ap (λ t. view_of start (state_after start other) t (is_pending Rda start one)) same.thre
+    ∙ ap (view_of start (state_after start other) (is_pending Thre start other)) same.rda
+    ∙ sym (described_by_state start other)
+
+pub same_reads_law : SameReadsLaw
+same_reads_law start one other same offset =
+    let read_of = λ (s : State). register_read (register_at (is_dlab s.line_control) offset) s in
+    ap read_of
+    (same_described start one (unsent (ops_and_asked one)) (as_unsent start one)
+    ∙ ap (λ calls. state_of_history start (unsent calls)) same
+    ∙ sym (same_described start other (unsent (ops_and_asked other)) (as_unsent start other)))
+
+-- ---- the bytes that a guest reads from the FIFO are the bytes taken
+
+of_call : (start : State) (trace : List TraceEntry) (op : Op) (asked : Asked) (sent : Sent) (reply : Response)
+    → reply ≡ history_response start trace op asked sent
+    → byte_read (kind_at start trace op) (held_bytes start trace) reply
+    ≡ taken_by (kind_at start trace op) (held_bytes start trace)
+of_call start trace op asked sent reply is = grind arith
+
+pub reads_are_taken : ReadsAreTakenLaw
+reads_are_taken start trace [] are = append-nil (taken_bytes start trace)
+reads_are_taken start trace (call ∷ later) are =
+    let rest = bytes_read start (call.0 ∷ trace) later in
+    ap (λ byte. taken_bytes start trace ++ (byte ++ rest))
+    (of_call start trace call.0.op call.0.asked call.0.sent call.1 are.0)
+    ∙ sym (append_assoc (taken_bytes start trace) _ rest)
+    ∙ reads_are_taken start (call.0 ∷ trace) later are.1
+
+pub read_then_held : ReadThenHeldLaw
+read_then_held start calls are =
+    ap (λ bytes. bytes ++ held_bytes start (trace_after [] calls)) (reads_are_taken start [] calls are)
+    ∙ taken_then_held start (trace_after [] calls)
+
+-- ---- what the law rests on
+
+pub ruleset reads_are_taken_laws = (reads_are_taken, read_then_held)
+
+-- ---- a driver that polls reads RBR only while a byte is held, and so gets the bytes that a guest reads from the
+-- FIFO
+
+-- LSR shows data ready if a byte is held
+data_ready : (line_status : ℕ) (ready : Bool) → has_bits (with_data_ready line_status ready) 0x01 ≡ ready
+data_ready line_status true = data_ready_set line_status
+data_ready line_status false = data_ready_cleared line_status
+
+read_of_lsr : (start : State) (trace : List TraceEntry)
+    → has_bits (guest_read start trace 5) 0x01 ≡ not_empty (held_bytes start trace)
+read_of_lsr start trace = data_ready start.line_status (not_empty (held_bytes start trace))
+
+-- ---- data ready shows at each RBR read
+
+gets_byte : (kind : OpKind) (held : List ℕ) (reply : Response) → IsTrue (not (is_rbr_read kind) || not_empty held)
+    → driver_byte kind reply ≡ byte_read kind held reply
+gets_byte kind held reply polled = grind arith
+
+gets_bytes : (start : State) (trace : List TraceEntry) (calls : List (TraceEntry × Response))
+    → IsTrue (polls start trace calls) → driver_bytes start trace calls ≡ bytes_read start trace calls
+gets_bytes start trace [] polled = refl
+gets_bytes start trace (call ∷ later) polled =
+    let kind = kind_at start trace call.0.op in
+    let both = and_parts (not (is_rbr_read kind) || has_bits (guest_read start trace 5) 0x01)
+    (polls start (call.0 ∷ trace) later) polled in
+    let held = subst (λ ready. IsTrue (not (is_rbr_read kind) || ready)) (read_of_lsr start trace) both.0 in
+    ap (λ bytes. bytes ++ driver_bytes start (call.0 ∷ trace) later) (gets_byte kind (held_bytes start trace) call.1 held)
+    ∙ ap (λ bytes. byte_read kind (held_bytes start trace) call.1 ++ bytes) (gets_bytes start (call.0 ∷ trace) later both.1)
+
+pub polling_driver : PollingDriverLaw
+polling_driver start calls are polled =
+    ap (λ bytes. bytes ++ held_bytes start (trace_after [] calls)) (gets_bytes start [] calls polled)
+    ∙ read_then_held start calls are
+
+none_held : (held : List ℕ) → not_empty held ≡ false → held ≡ []
+none_held [] none = refl
+none_held (byte ∷ held) none = absurd (false≢true (sym none))
+
+pub driver_gets_all : DriverGetsAllLaw
+driver_gets_all start calls are polled clear =
+    let trace = trace_after [] calls in
+    let bytes = driver_bytes start [] calls in
+    sym (append-nil bytes)
+    ∙ ap (λ held. bytes ++ held) (sym (none_held (held_bytes start trace) (sym (read_of_lsr start trace) ∙ clear)))
+    ∙ polling_driver start calls are polled
+
+-- ---- as the driver sees it
+
+after_data_ready : {A : Type 0} (seen shows : Bool) → IsTrue (seen || shows) → (IsTrue seen → A) → (IsTrue shows → A) → A
+after_data_ready true shows either from_seen from_shows = from_seen refl
+after_data_ready false shows either from_seen from_shows = from_shows either
+
+reads_right : (other seen ready : Bool) → IsTrue (other || seen) → (IsTrue seen → IsTrue ready) → IsTrue (other || ready)
+reads_right true seen ready either right = refl
+reads_right false seen ready either right = right either
+
+-- if LSR has shown data ready, a byte is held
+abbrev IsRight : State → List TraceEntry → Bool → Type 0
+IsRight start trace seen = IsTrue seen → IsTrue (not_empty (held_bytes start trace))
+
+shown : (start : State) (trace : List TraceEntry) (op : Op) (asked : Asked) (sent : Sent) (reply : Response)
+    → reply ≡ history_response start trace op asked sent → IsRight start trace (shows_data_ready op reply)
+shown start trace (Read offset) asked sent reply is shows =
+    let both = and_parts (offset == 5) (has_bits (guest_read start trace offset) 0x01)
+    (subst (λ reply. IsTrue (shows_data_ready (Read offset) reply)) is shows) in
+    sym (read_of_lsr start trace)
+    ∙ ap (λ at. has_bits (guest_read start trace at) 0x01) (sym (eqb-true offset 5 both.0)) ∙ both.1
+shown start trace (Write offset value) asked sent reply is shows = absurd (false≢true shows)
+shown start trace (Enqueue bytes) asked sent reply is shows = absurd (false≢true shows)
+shown start trace CharacterTimeout asked sent reply is shows = absurd (false≢true shows)
+shown start trace Restore asked sent reply is shows = absurd (false≢true shows)
+
+-- no other operation takes a byte
+none_taken : (kind : OpKind) (held : List ℕ) → IsTrue (not (is_rbr_read kind)) → taken_by kind held ≡ []
+none_taken kind held other = grind arith
+
+still_held : (held accepted : List ℕ) → IsTrue (not_empty held) → IsTrue (not_empty (held ++ accepted))
+still_held [] accepted some = absurd (false≢true some)
+still_held (byte ∷ held) accepted some = refl
+
+stays_right : (start : State) (trace : List TraceEntry) (entry : TraceEntry)
+    → IsTrue (not (is_rbr_read (kind_at start trace entry.op))) → IsTrue (not_empty (held_bytes start trace))
+    → IsTrue (not_empty (held_bytes start (entry ∷ trace)))
+stays_right start trace entry other some =
+    let kind = kind_at start trace entry.op in
+    let held = held_bytes start trace in
+    ap not_empty (held_more start trace entry (taken_then_held start trace)
+    ∙ ap (λ taken. drop (length taken) (held ++ accepted_by kind held)) (none_taken kind held other))
+    ∙ still_held held (accepted_by kind held) some
+
+right_after : (start : State) (trace : List TraceEntry) (entry : TraceEntry) (reply : Response) (seen : Bool)
+    → reply ≡ history_response start trace entry.op entry.asked entry.sent → IsRight start trace seen
+    → let reads = is_rbr_read (kind_at start trace entry.op) in
+    IsRight start (entry ∷ trace) (not reads && (seen || shows_data_ready entry.op reply))
+right_after start trace entry reply seen is right now =
+    let reads = is_rbr_read (kind_at start trace entry.op) in
+    let shows = shows_data_ready entry.op reply in
+    let both = and_parts (not reads) (seen || shows) now in
+    stays_right start trace entry both.0
+    (after_data_ready seen shows both.1 right (shown start trace entry.op entry.asked entry.sent reply is))
+
+pub polls_from : (start : State) (trace : List TraceEntry) (seen : Bool) (calls : List (TraceEntry × Response))
+    → IsRight start trace seen → ResponsesAre start trace calls
+    → IsTrue (polls_after_data_ready start trace seen calls) → IsTrue (polls start trace calls)
+polls_from start trace seen [] right are sight = refl
+polls_from start trace seen (call ∷ later) right are sight =
+    let reads = is_rbr_read (kind_at start trace call.0.op) in
+    let next = not reads && (seen || shows_data_ready call.0.op call.1) in
+    let both = and_parts (not reads || seen) (polls_after_data_ready start (call.0 ∷ trace) next later) sight in
+    both_true
+    (reads_right (not reads) seen (has_bits (guest_read start trace 5) 0x01) both.0
+    (λ has_seen. read_of_lsr start trace ∙ right has_seen))
+    (polls_from start (call.0 ∷ trace) next later (right_after start trace call.0 call.1 seen are.0 right) are.1 both.1)
+
+pub polls_after_data_ready_law : PollsAfterDataReadyLaw
+polls_after_data_ready_law start calls are sight = polls_from start [] false calls (λ none. absurd (false≢true none)) are sight
+
+-- ---- what the law rests on
+
+pub ruleset polling_driver_laws = (polling_driver, driver_gets_all, polls_after_data_ready_law)

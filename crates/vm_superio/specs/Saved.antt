@@ -1,0 +1,53 @@
+-- Saved states: the state of one, what an error prints, and the version, which is that of the writer. A reader refuses
+-- every other.
+use Rattle.std.specs.Prelude.{ℕ, List, codes, Option, Some, ◌≡◌, ◌≢◌, ◌∷◌, ◌++◌, slice_index}
+use Rattle.vm_superio.specs.declared.serial.state.SerialState.{SerialState}
+use Rattle.superio_core.specs.Serial.{State}
+use Rattle.vm_superio.specs.declared.saved.Error.{Error}
+use Rattle.vm_superio.specs.declared.saved.Error.TheVariants.{Bytes, Memory}
+use Rattle.superio_core.specs.declared.rtc_pl031.state.RtcState.{RtcState}
+use Rattle.superio_core.specs.declared.saved.Error.{Error as Fault}
+use Rattle.superio_core.specs.declared.saved.Error.TheVariants.{UnknownVersion}
+use Rattle.superio_core.specs.Saved.{serial_fault, clock_fault, magic, serial_kind, clock_kind, version, serial_form, clock_form}
+use Rattle.superio_core.specs.Saved as check
+
+-- the fields of a saved state, with the received bytes as a list
+abbrev pub state_of : (saved : SerialState) → State
+state_of saved = record {
+  baud_divisor_low = saved.baud_divisor_low;
+  baud_divisor_high = saved.baud_divisor_high;
+  interrupt_enable = saved.interrupt_enable;
+  interrupt_identification = saved.interrupt_identification;
+  line_control = saved.line_control;
+  line_status = saved.line_status;
+  modem_control = saved.modem_control;
+  modem_status = saved.modem_status;
+  scratch = saved.scratch;
+  in_buffer = saved.in_buffer.items;
+}
+
+-- ---- what an error of a saved port prints
+
+abbrev pub text_of : (error : Error) → Option (List ℕ)
+text_of (Bytes fault) = check.text_of fault
+text_of Memory = Some (codes "Out of memory")
+
+-- ---- the version in a saved state: each form has that of its writer, and a reader refuses every other
+
+-- the version is at place 5 of each form
+abbrev pub SerialVersionLaw : Type 0
+SerialVersionLaw = (state : State) → slice_index (serial_form state) 5 ≡ version
+
+abbrev pub ClockVersionLaw : Type 0
+ClockVersionLaw = (state : RtcState) → slice_index (clock_form state) 5 ≡ version
+
+-- bytes of the device that have another version at this place are refused for it, whatever follows
+abbrev IsRefusedForVersion : (fault : List ℕ → Option Fault) (kind : ℕ) → Type 0
+IsRefusedForVersion fault kind = (other : ℕ) (rest : List ℕ) (low high : ℕ) → other ≢ version
+    → fault (magic ++ kind ∷ other ∷ low ∷ high ∷ rest) ≡ Some (UnknownVersion other)
+
+abbrev pub OtherSerialVersionLaw : Type 0
+OtherSerialVersionLaw = IsRefusedForVersion serial_fault serial_kind
+
+abbrev pub OtherClockVersionLaw : Type 0
+OtherClockVersionLaw = IsRefusedForVersion clock_fault clock_kind
