@@ -1,15 +1,14 @@
 //! Makes the calls that lines of standard input ask for. Prints the reply and the calls of objects for each.
 //!
 //! `tests/calls/README.md` describes the lines. It ends at a line of another form.
-mod devices;
+pub mod devices;
 pub mod objects;
 
-use anyhow::{Context, Result};
 use devices::Devices;
 use objects::Log;
 use std::alloc::Global;
 use std::io;
-use std::io::{BufRead, BufReader, BufWriter, Read, Write};
+use std::io::{BufRead, BufReader, BufWriter, ErrorKind, Read, Write};
 
 /// The words of a call. The log takes the words after them, which say what the objects answer.
 fn call_of<'a>(log: &Log, words: &'a [&'a str]) -> &'a [&'a str] {
@@ -27,24 +26,26 @@ fn answer(
     devices: &mut Devices,
     line: &str,
     output: &mut impl Write,
-) -> Result<()> {
+) -> io::Result<()> {
     let words: Vec<&str> = line.split(' ').collect(alloc)?;
-    let reply = devices.make(alloc, call_of(log, &words))?;
-    writeln!(output, "{reply}{}", log.take())?;
-    Ok(())
+    let Some(reply) = devices.make(alloc, call_of(log, &words)) else {
+        return Err(io::Error::from(ErrorKind::InvalidInput));
+    };
+    writeln!(output, "{reply}{}", log.take())
 }
 
-fn answer_all(alloc: Global, input: impl Read + Drop, output: &mut impl Write) -> Result<()> {
+fn answer_all(alloc: Global, input: impl Read + Drop, output: &mut impl Write) -> io::Result<()> {
     let log = Log::new();
-    let mut devices = Devices::new(alloc, &log)?;
-    let lines = BufReader::new(alloc, input)?.lines(alloc);
-    for (number, line) in (1u64..).zip(lines) {
-        answer(alloc, &log, &mut devices, &line?, output).context(format_args!("line {number}"))?;
+    let Some(mut devices) = Devices::new(alloc, &log) else {
+        return Err(io::Error::from(ErrorKind::OutOfMemory));
+    };
+    for line in BufReader::new(alloc, input)?.lines(alloc) {
+        answer(alloc, &log, &mut devices, &line?, output)?;
     }
     Ok(())
 }
 
-pub fn run(rt: &HostRuntime) -> Result<()> {
+pub fn run(rt: &HostRuntime) -> io::Result<()> {
     let mut output = BufWriter::new(rt.alloc(), io::writer(rt))?;
     let end = answer_all(rt.alloc(), rt.reader(), &mut output);
     output.flush()?;

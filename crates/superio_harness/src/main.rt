@@ -2,18 +2,18 @@
 #![tactic(auto)]
 
 mod calls;
-mod fields;
 mod refusals;
 
-use anyhow::{Context, Result, bail};
-use std::env;
+use std::io::ErrorKind;
+use std::{env, io};
 
-fn main(rt: HostRuntime) -> Result<()> {
-    let mut arguments = env::args(&rt)?.skip(1);
-    let mode = arguments.next().context("no mode")?;
-    match mode.as_str() {
-        "calls" => calls::run(&rt),
-        "refusals" => refusals::run(&rt),
-        _ => bail!("no such mode"),
+fn main(rt: HostRuntime) -> io::Result<()> {
+    if let Some(mode) = env::args(&rt)?.nth(1) {
+        match mode.as_str() {
+            "calls" => return calls::run(&rt),
+            "refusals" => return refusals::run(&rt),
+            _ => {}
+        }
     }
+    Err(io::Error::from(ErrorKind::InvalidInput))
 }

@@ -12,15 +12,32 @@ mod any_lines;
 mod any_state;
 mod source;
 
-use crate::calls::objects::Log;
-use any_state::{CALLS, is_refused, prepare};
-use anyhow::{Context, Result};
+use any_state::{CALLS, is_refused};
 use source::Source;
 use std::io;
-use std::io::Read;
+use std::io::{ErrorKind, Read};
 
 /// The length of the longest list, a power of two.
 const LONGEST: usize = 65_536;
+
+/// A call to make, by its place in `CALLS`, with a list of this length.
+#[derive(Drop)]
+pub struct Case<'a> {
+    call: usize,
+    name: &'a str,
+    length: usize,
+    is_printed: bool,
+}
+
+impl Case<'_> {
+    /// Prints that the call begins.
+    fn begin(&self, rt: &HostRuntime) -> io::Result<()> {
+        if self.is_printed {
+            println!(rt; "+ {}, {}", self.name, self.length)?;
+        }
+        Ok(())
+    }
+}
 
 /// What is printed of calls, and how many were made.
 #[derive(Drop)]
@@ -30,41 +47,26 @@ struct Calls {
 }
 
 impl Calls {
-    /// Makes a call with a list of this length, and prints what it returned.
-    fn make(
-        &mut self,
-        rt: &HostRuntime,
-        source: &mut Source,
-        (number, name): (usize, &str),
-        length: usize,
-    ) -> io::Result<()> {
-        let log = Log::new();
-        let Ok(call) = prepare(rt.alloc(), number, &log, source, length) else {
-            return println!(rt; "{name}, {length}: not prepared");
-        };
-        self.made = self.made.saturating_add(1);
-        if self.are_all_printed {
-            println!(rt; "+ {name}, {length}")?;
-        }
-        let is_refused = is_refused(rt.alloc(), call);
-        if is_refused {
-            println!(rt; "{name}, {length}: refused")
-        } else if self.are_all_printed {
-            println!(rt; "{name}, {length}: not refused")
-        } else {
-            Ok(())
-        }
-    }
-
-    /// Makes each call.
+    /// Makes each call with a list of this length, and prints what it returned.
     fn make_each(
         &mut self,
         rt: &HostRuntime,
         source: &mut Source,
         length: usize,
     ) -> io::Result<()> {
-        for (number, name) in CALLS.iter().enumerate() {
-            self.make(rt, source, (number, *name), length)?;
+        for (call, name) in CALLS.iter().enumerate() {
+            let case = Case {
+                call,
+                name,
+                length,
+                is_printed: self.are_all_printed,
+            };
+            self.made = self.made.saturating_add(1);
+            if is_refused(rt, &case, source)? {
+                println!(rt; "{name}, {length}: refused")?;
+            } else if self.are_all_printed {
+                println!(rt; "{name}, {length}: not refused")?;
+            }
         }
         Ok(())
     }
@@ -83,24 +85,30 @@ impl Calls {
     }
 }
 
-pub fn run(rt: &HostRuntime) -> Result<()> {
+fn number(word: &str) -> io::Result<u64> {
+    match word.parse() {
+        Ok(number) => Ok(number),
+        Err(_) => Err(io::Error::from(ErrorKind::InvalidInput)),
+    }
+}
+
+pub fn run(rt: &HostRuntime) -> io::Result<()> {
     let mut input = String::new(rt.alloc());
     rt.reader().read_to_string(&mut input)?;
     let mut words = input.trim_end().split(' ');
-    let mut source = Source::new(words.next().context("no seed")?.parse()?);
-    let rounds: Option<u64> = words.next().map(|word| word.parse()).transpose()?;
+    let mut source = Source::new(number(words.next().unwrap_or(""))?);
+    let rounds = words.next();
     let mut calls = Calls {
         are_all_printed: rounds.is_none(),
         made: 0,
     };
     calls.make_all(rt, &mut source)?;
-    let Some(rounds) = rounds else {
-        return Ok(());
-    };
-    for _ in 0..rounds {
-        let length = source.length();
-        calls.make_each(rt, &mut source, length)?;
+    if let Some(rounds) = rounds {
+        for _ in 0..number(rounds)? {
+            let length = source.length();
+            calls.make_each(rt, &mut source, length)?;
+        }
+        println!(rt; "{}", calls.made)?;
     }
-    println!(rt; "{}", calls.made)?;
     Ok(())
 }

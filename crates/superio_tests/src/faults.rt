@@ -1,5 +1,6 @@
 //! The faults of writers and readers, in each way that std can make one.
-use std::alloc::Global;
+use crate::objects::Log;
+use std::alloc::{AllocError, Global};
 use std::io;
 use std::io::ErrorKind;
 use std::test::Fail;
@@ -86,18 +87,45 @@ pub fn interruptions(alloc: Global) -> Result<Vec<io::Error>, Fail> {
     Ok(interruptions)
 }
 
-/// Whether nothing tells two results apart. Of two faults with a number that number says all, and of others what they
-/// print for debugging.
-pub fn is_same(
-    alloc: Global,
-    found: &io::Result<()>,
-    expected: &io::Result<()>,
-) -> Result<bool, Fail> {
-    let (Err(found), Err(expected)) = (found, expected) else {
-        return Ok(found.is_ok() && expected.is_ok());
-    };
-    Ok(match (found.raw_os_error(), expected.raw_os_error()) {
-        (None, None) => format!(in alloc; "{found:?}")? == format!(in alloc; "{expected:?}")?,
-        (found, expected) => found == expected,
-    })
+/// What a call returns, and how often it calls `write` and `flush` of its writer.
+#[derive(Drop)]
+pub struct Expected {
+    returned: io::Result<()>,
+    text: String,
+    calls: [u64; 2],
+}
+
+/// All that tells a result from others with its number: what a fault without one prints for debugging.
+fn text_of(alloc: Global, returned: &io::Result<()>) -> Result<String, AllocError> {
+    match returned {
+        Err(fault) if fault.raw_os_error().is_none() => format!(in alloc; "{fault:?}"),
+        _ => Ok(String::new(alloc)),
+    }
+}
+
+impl Expected {
+    pub fn new(
+        alloc: Global,
+        (returned, calls): (io::Result<()>, [u64; 2]),
+    ) -> Result<Expected, AllocError> {
+        Ok(Expected {
+            returned,
+            text: text_of(alloc, &returned)?,
+            calls,
+        })
+    }
+
+    /// Whether nothing tells a call from the expected one that returned this, and whose objects have this log.
+    pub fn is(&self, alloc: Global, log: &Log, found: &io::Result<()>) -> Result<bool, AllocError> {
+        let is_same = match (found, &self.returned) {
+            (Ok(()), Ok(())) => true,
+            (Err(found), Err(fault)) => found.raw_os_error() == fault.raw_os_error(),
+            _ => false,
+        };
+        Ok(
+            is_same
+                && text_of(alloc, found)? == self.text
+                && [log.writes.get(), log.flushes.get()] == self.calls,
+        )
+    }
 }

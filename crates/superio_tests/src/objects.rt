@@ -52,12 +52,12 @@ impl Writing {
         }
     }
 
-    /// Fails by this fault, or is interrupted by it 300 times, if that is its kind.
+    /// Fails by this fault, or is interrupted by it three times, if that is its kind.
     pub fn failing(fault: io::Error) -> Writing {
         let writing = Writing::takes();
         match fault.kind() {
             io::ErrorKind::Interrupted => Writing {
-                interruptions: 300,
+                interruptions: 3,
                 interruption: fault,
                 ..writing
             },

@@ -90,20 +90,24 @@ fn expect_written(rt: &impl Abort, alloc: Global, script: usize, writing: Writin
     );
 }
 
-/// A read fails after any part of a script, a write at once, or between two bytes of a reply and after interruptions,
-/// and then the flush, also of no reply.
+/// A write fails at once by each fault. By each without a number, a read fails after any part of a script, a write
+/// between two bytes of a reply and after interruptions, and the flush, also of no reply. `tools/checks/failing_io` has
+/// the numbers there.
 #[test]
 fn a_fault_of_any_kind_is_io(rt: HostRuntime) -> Result<(), Fail> {
     let alloc = rt.alloc();
     let interruptions = interruptions(alloc)?;
     for (place, fault) in plain_faults(alloc)?.iter().enumerate() {
+        let fails = Writing::failing(*fault);
+        expect_written(&rt, alloc, 0, fails);
+        if fault.raw_os_error().is_some() {
+            continue;
+        }
         let (script, _) = SCRIPTS[0];
         let read = &script[..place % (script.len() + 1)];
         let reads = 1 + u64::from(!read.is_empty());
         let end = (Err(ScriptFault::Io), [reads, 0, 0]);
         expect_run(&rt, alloc, read, Some(*fault), Writing::takes(), end);
-        let fails = Writing::failing(*fault);
-        expect_written(&rt, alloc, 0, fails);
         let later = Writing {
             room: [1, 2, 4, 5, 6, 7, 8, 10, 11][place % 9],
             interruptions: 1 + (place % 3) as u64,
@@ -115,10 +119,8 @@ fn a_fault_of_any_kind_is_io(rt: HostRuntime) -> Result<(), Fail> {
             flush: Some(*fault),
             ..Writing::takes()
         };
-        expect_written(&rt, alloc, 0, unflushed);
-        if fault.raw_os_error().is_none() {
-            expect_written(&rt, alloc, 1, unflushed);
-            expect_written(&rt, alloc, 2, unflushed);
+        for script in 0..SCRIPTS.len() {
+            expect_written(&rt, alloc, script, unflushed);
         }
     }
     for room in 0..12usize {
@@ -136,6 +138,7 @@ fn a_fault_of_any_kind_is_io(rt: HostRuntime) -> Result<(), Fail> {
         interruptions: 100_000,
         ..Writing::takes()
     };
-    expect_written(&rt, alloc, 0, interrupted);
+    let run = (Ok(()), [2, 100_003, 1]);
+    expect_run(&rt, alloc, SCRIPTS[0].0, None, interrupted, run);
     Ok(())
 }

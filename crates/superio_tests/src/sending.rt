@@ -1,7 +1,7 @@
 //! What a data write asks of the writer: one `write`, and one `flush` if that succeeded. Its fault is returned as it is,
 //! in whatever state the port is, and whichever call makes the write. No contract says how often the writer is called,
 //! and which fault it has. tools/checks/calls has one fault, over each number of held bytes and what is pending.
-use crate::faults::{faults, faults_of_drivers, interruptions, is_same, plain_faults};
+use crate::faults::{Expected, faults, faults_of_drivers, interruptions, plain_faults};
 use crate::objects::{Log, Object, Port, PortObjects, Then, Writing, by_std, port};
 use std::alloc::{AllocError, Global};
 use std::io;
@@ -48,16 +48,23 @@ fn losses(fault: io::Error, interruption: io::Error, interruptions: u64) -> [Wri
     ]
 }
 
-/// Whether a call that sends a byte to a writer that does this returned its fault, and called `write` and `flush` no
-/// more than it has to.
-fn is_right(alloc: Global, log: &Log, writing: Writing, found: &Sent) -> Result<bool, Fail> {
-    let found = match found {
-        Ok(()) => Ok(()),
-        Err(Error::IOError(fault)) => Err(*fault),
-        Err(_) => return Ok(false),
-    };
-    let (expected, calls) = by_std(writing, &[b"x"], true);
-    Ok(is_same(alloc, &found, &expected)? && [log.writes.get(), log.flushes.get()] == calls)
+/// What a call does that sends a byte to a writer which does this: it returns its fault, and calls `write` and `flush`
+/// no more than it has to.
+fn expected(alloc: Global, writing: Writing) -> Result<Expected, AllocError> {
+    Expected::new(alloc, by_std(writing, &[b"x"], true))
+}
+
+fn is_right(
+    alloc: Global,
+    log: &Log,
+    expected: &Expected,
+    found: &Sent,
+) -> Result<bool, AllocError> {
+    match found {
+        Ok(()) => expected.is(alloc, log, &Ok(())),
+        Err(Error::IOError(fault)) => expected.is(alloc, log, &Err(*fault)),
+        Err(_) => Ok(false),
+    }
 }
 
 // ---- calls that send a byte
@@ -201,19 +208,20 @@ fn a_fault_of_the_writer_is_returned_as_it_is(rt: HostRuntime) -> Result<(), Fai
     for fault in faults(rt.alloc())?.iter() {
         let log = Log::new();
         let mut machine = any_machine(rt.alloc(), &log, &mut numbers)?;
-        for way in [
-            Way::Write,
-            Way::Bus,
-            Way::PortOut,
-            Way::Forward,
-            Way::Console,
-            Way::NewPort,
-        ] {
-            let interruption = interruptions[(next(&mut numbers) % 8) as usize];
-            for writing in losses(*fault, interruption, next(&mut numbers) % 4) {
+        let interruption = interruptions[(next(&mut numbers) % 8) as usize];
+        for writing in losses(*fault, interruption, next(&mut numbers) % 4) {
+            let expected = expected(rt.alloc(), writing)?;
+            for way in [
+                Way::Write,
+                Way::Bus,
+                Way::PortOut,
+                Way::Forward,
+                Way::Console,
+                Way::NewPort,
+            ] {
                 log.start(writing);
                 let found = sent(rt.alloc(), &log, &mut machine, way, &mut numbers);
-                assert!(rt; is_right(rt.alloc(), &log, writing, &found)?, "{fault:?}");
+                assert!(rt; is_right(rt.alloc(), &log, &expected, &found)?, "{fault:?}");
                 go_on(&mut machine.bus.serial, &mut numbers);
                 go_on(&mut machine.console.serial, &mut numbers);
             }
@@ -252,8 +260,8 @@ fn a_run_returns_the_fault_of_each_writer(rt: HostRuntime) -> Result<(), Fail> {
             let is_as_expected = match done.as_slice() {
                 [_, _, _, before, _, _, _, _, after] => match (&before.reply, &after.reply) {
                     (Reply::Wrote(before), Reply::Wrote(after)) => {
-                        is_right(alloc, &first, first_loses, before)?
-                            && is_right(alloc, &second, second_loses, after)?
+                        is_right(alloc, &first, &expected(alloc, first_loses)?, before)?
+                            && is_right(alloc, &second, &expected(alloc, second_loses)?, after)?
                     }
                     _ => false,
                 },
@@ -278,30 +286,31 @@ fn no_byte_changes_the_fault_of_its_put(rt: HostRuntime) -> Result<(), Fail> {
             true => 0..=255,
             false => last..=last,
         };
-        for byte in bytes {
-            let writing = Writing::failing(*fault);
-            log.start(writing);
-            let found = serial.write(0, byte);
-            assert!(rt; is_right(alloc, &log, writing, &found)?, "{byte} {fault:?}");
-        }
-        let writing = Writing {
+        let unflushed = Writing {
             flush: Some(*fault),
             ..Writing::takes()
         };
-        log.start(writing);
-        let found = serial.write(0, last);
-        assert!(rt; is_right(alloc, &log, writing, &found)?, "{fault:?}");
+        for (writing, bytes) in [(Writing::failing(*fault), bytes), (unflushed, last..=last)] {
+            let expected = expected(alloc, writing)?;
+            for byte in bytes {
+                log.start(writing);
+                let found = serial.write(0, byte);
+                assert!(rt;
+                    is_right(alloc, &log, &expected, &found)?,
+                    "{byte} {fault:?}"
+                );
+            }
+        }
     }
     Ok(())
 }
 
 /// Whether an event returns the fault that a descriptor gives which does this, and calls it no more than it has to.
-fn is_right_event(alloc: Global, writing: Writing) -> Result<bool, Fail> {
+fn is_right_event(alloc: Global, writing: Writing) -> Result<bool, AllocError> {
     let log = Log::new();
     log.start(writing);
     let found = EventFd { file: Object(&log) }.trigger();
-    let (expected, calls) = by_std(writing, &[&[0; 8]], false);
-    Ok(is_same(alloc, &found, &expected)? && log.calls() == [0, 0, calls[0], 0])
+    Expected::new(alloc, by_std(writing, &[&[0; 8]], false))?.is(alloc, &log, &found)
 }
 
 /// Of its eight bytes some were taken before. After an interruption the others are written again.
@@ -359,7 +368,7 @@ fn a_drained_output_is_one_write_and_returns_its_fault(rt: HostRuntime) -> Resul
     let mut narrow = Output::restored(alloc, &[], 320, 1)?;
     for (place, fault) in faults(alloc)?.iter().enumerate() {
         let fails = Writing::failing(*fault);
-        for length in [0, 1, place * 13 % 5_000, 5_000] {
+        for length in [0, 1, place * 13 % 5_001] {
             let waiting = &bytes[..length];
             assert!(rt;
                 drains_twice(alloc, &mut wide, waiting, fails)?,
@@ -407,14 +416,14 @@ fn is_drained(alloc: Global, output: &mut Output, writing: Writing) -> Result<bo
     log.start(writing);
     other.start(writing);
     let waiting = output.waiting(alloc)?;
-    let expected = Object(&other).write(&waiting);
+    let by_write = Object(&other).write(&waiting);
+    let expected = Expected::new(alloc, (by_write.map(|_| ()), [1, 0]))?;
     let found = output.drain_into(&mut Object(&log));
-    let taken = expected.ok().unwrap_or(0);
+    let taken = by_write.ok().unwrap_or(0);
     Ok(
         found.ok().unwrap_or(0) == taken
-            && is_same(alloc, &found.map(|_| ()), &expected.map(|_| ()))?
-            && output.waiting(alloc)?.as_slice() == &waiting[taken..]
-            && log.calls() == [0, 0, 1, 0],
+            && expected.is(alloc, &log, &found.map(|_| ()))?
+            && output.waiting(alloc)?.as_slice() == &waiting[taken..],
     )
 }
 
@@ -426,36 +435,43 @@ fn the_writer_is_asked_once_for_each_byte(rt: HostRuntime) -> Result<(), Fail> {
         flush: Some(fault),
         ..takes
     };
-    for (writing, is_taken, flushes) in [
-        (takes, true, 100_000),
-        (Writing::failing(fault), false, 0),
-        (fails_to_flush, false, 100_000),
-    ] {
-        let log = Log::new();
-        log.start(writing);
-        let mut serial = port(rt.alloc(), &log)?;
-        for number in 0..100_000u32 {
-            assert!(rt;
-                serial.write(0, (number % 251) as u8).is_ok() == is_taken,
-                "{number}"
-            );
-        }
-        assert!(rt; [log.writes.get(), log.flushes.get()] == [100_000, flushes]);
+    let ways = [takes, Writing::failing(fault), fails_to_flush];
+    let log = Log::new();
+    let mut serial = port(rt.alloc(), &log)?;
+    for number in 0..100_000usize {
+        log.writing.set(ways[number % 3]);
+        let sent = serial.write(0, (number % 251) as u8);
+        assert!(rt; sent.is_ok() == (number % 3 == 0), "{number}");
     }
+    // Each third byte fails at once.
+    assert!(rt; [log.writes.get(), log.flushes.get()] == [100_000, 66_667]);
     Ok(())
 }
 
 #[test]
 fn an_interrupted_write_is_made_again_however_often(rt: HostRuntime) -> Result<(), Fail> {
+    let alloc = rt.alloc();
     let writing = Writing {
         interruptions: 100_000,
         ..Writing::takes()
     };
     let log = Log::new();
-    let mut serial = port(rt.alloc(), &log)?;
+    let mut serial = port(alloc, &log)?;
     log.start(writing);
-    let found = serial.write(0, b'x');
-    assert!(rt; is_right(rt.alloc(), &log, writing, &found)?);
-    assert!(rt; is_right_event(rt.alloc(), Writing { room: 3, ..writing })?);
+    assert!(rt; serial.write(0, b'x').is_ok());
+    assert!(rt; [log.writes.get(), log.flushes.get()] == [100_001, 1]);
+    log.start(Writing { room: 3, ..writing });
+    assert!(rt; EventFd { file: Object(&log) }.trigger().is_ok() && log.writes.get() == 100_002);
+    for (interruptions, interruption) in (300..).zip(interruptions(alloc)?.iter()) {
+        log.start(Writing {
+            interruptions,
+            interruption: *interruption,
+            ..writing
+        });
+        assert!(rt;
+            serial.write(0, b'x').is_ok() && log.writes.get() == interruptions + 1,
+            "{interruption:?}"
+        );
+    }
     Ok(())
 }

@@ -57,8 +57,14 @@ fn guests_get_all_input(rt: HostRuntime) -> Result<(), Fail> {
         let read = read_back(alloc, object, object, part)?;
         assert!(rt; read.as_slice() == &part[..size.min(64)]);
         assert!(rt; receive_all(alloc, object, object, part)?.as_slice() == part);
-        for bound in BOUNDS {
-            for arrivals in ARRIVALS {
+        for (place, bound) in BOUNDS.into_iter().enumerate() {
+            // The most bytes arrive in one way for each bound.
+            let ways = if size < 100_000 {
+                &ARRIVALS[..]
+            } else {
+                &ARRIVALS[place..=place]
+            };
+            for arrivals in ways.iter() {
                 let got = receive_all_by_interrupts(alloc, object, bound, part, arrivals)?;
                 assert!(rt; got.as_slice() == part, "{bound}: {size}");
                 let got = receive_all_in_pieces(alloc, bound, part, arrivals)?;

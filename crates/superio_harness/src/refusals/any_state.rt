@@ -1,11 +1,13 @@
 //! Calls that allocate memory, made after any calls in states of any registers, coherent or not, with lists of a length
 //! that is given.
+use super::Case;
 use super::any_lines::{any_line, any_script};
 use super::source::{Favourite, Source};
+use crate::calls::devices::port_state;
 use crate::calls::objects::{Log, Object};
-use crate::fields::port_state;
 use std::alloc::{AllocError, Global};
 use std::io;
+use std::io::ErrorKind;
 use superio_script::{Board, Counts, Line, LineFault, Output, ScriptFault, run_script};
 use vm_superio::run::{Call, Done, Reply};
 use vm_superio::serial::{Error, Objects, Port as PortOverOne, SerialPort, Three, WriterOut};
@@ -17,11 +19,6 @@ type PortObjects = Three<Line, Counts, WriterOut<Output>>;
 
 /// A port over one object.
 type OnePort = PortOverOne<PortObjects>;
-
-/// A port whose objects note their calls.
-type NotedPort<'a> = Serial<Object<'a>, Object<'a>, Object<'a>>;
-
-type NotedObjects<'a> = Three<Object<'a>, Object<'a>, WriterOut<Object<'a>>>;
 
 /// The calls.
 pub const CALLS: [&str; 23] = [
@@ -49,32 +46,6 @@ pub const CALLS: [&str; 23] = [
     "Board::line, a load",
     "run_script",
 ];
-
-/// What a call is made of.
-#[derive(Drop)]
-pub enum Prepared<'a> {
-    New(Line),
-    WithEvents(Line),
-    FromState(SerialState, Line),
-    State(Port),
-    Run(Port, Vec<Call<PortObjects>>),
-    RunOfRestores(NotedPort<'a>, Vec<Call<NotedObjects<'a>>>, &'a Log),
-    NewOne(PortObjects),
-    OneFromState(SerialState, PortObjects),
-    StateOfOne(OnePort),
-    RunOne(OnePort, Vec<Call<PortObjects>>),
-    Default,
-    Copy(SerialState),
-    FromBytes(Vec<u8>),
-    FromPort(SerialPort),
-    WrittenThenRead(SerialState),
-    ReadThenWritten(Vec<u8>),
-    ToPortAndBack(SerialState),
-    ToStateAndBack(SerialPort),
-    NewBoard(u64),
-    Board(Board, String),
-    Script(Vec<u8>),
-}
 
 /// What each register holds mostly, in the order of the byte form: in a new port, after a driver, or at an end.
 const REGISTERS: [[u8; 8]; 9] = [
@@ -302,149 +273,158 @@ pub fn any_mask(source: &mut Source) -> u64 {
     }
 }
 
-fn text(alloc: Global, text: &str) -> Result<String, AllocError> {
-    String::from_str(alloc, text)
+fn is_from_state_refused(alloc: Global, state: SerialState, line: Line) -> bool {
+    let made = Serial::from_state(alloc, &state, line, Counts::new(), Output::new());
+    matches!(made, Err(refused) if matches!(refused.error, Error::Memory))
 }
 
-/// A run of restores, at most 64, of a port that holds any bytes. If memory is refused for its records, it may call no
-/// object.
-fn any_restores<'a>(
-    alloc: Global,
-    log: &'a Log,
-    source: &mut Source,
-    length: usize,
-) -> Result<Prepared<'a>, AllocError> {
-    let object = Object(log);
+fn is_one_from_state_refused(alloc: Global, state: SerialState, objects: PortObjects) -> bool {
+    let made = OnePort::from_state(alloc, &state, objects);
+    matches!(made, Err(refused) if matches!(refused.error, Error::Memory))
+}
+
+/// Whether a call of a port, by its place in `CALLS`, returned that memory was refused. A new port fails only so.
+fn is_port_refused(rt: &HostRuntime, case: &Case, source: &mut Source) -> io::Result<bool> {
+    let alloc = rt.alloc();
+    Ok(match case.call {
+        0 => {
+            let line = Line::new(any_mask(source));
+            case.begin(rt)?;
+            Serial::new(alloc, line, Output::new()).is_err()
+        }
+        1 => {
+            let line = Line::new(any_mask(source));
+            case.begin(rt)?;
+            Serial::with_events(alloc, line, Counts::new(), Output::new()).is_err()
+        }
+        2 => {
+            let state = any_saved(alloc, source, case.length)?;
+            let line = Line::new(any_mask(source));
+            case.begin(rt)?;
+            is_from_state_refused(alloc, state, line)
+        }
+        3 => {
+            let port = any_port(alloc, source, case.length)?;
+            case.begin(rt)?;
+            port.state(alloc).is_err()
+        }
+        _ => {
+            let mut port = any_port(alloc, source, case.length)?;
+            let calls = any_calls(alloc, source, case.length)?;
+            case.begin(rt)?;
+            is_refused_run(&port.run(alloc, calls))
+        }
+    })
+}
+
+/// The same of a run of restores, at most 64, of a port that holds any bytes. If memory is refused for its records, it
+/// may call no object.
+fn is_restore_refused(rt: &HostRuntime, case: &Case, source: &mut Source) -> io::Result<bool> {
+    let (alloc, log) = (rt.alloc(), Log::new());
+    let object = Object(&log);
     let Ok(mut port) = Serial::with_events(alloc, object, object, object) else {
-        return Err(AllocError);
+        return Err(io::Error::from(ErrorKind::OutOfMemory));
     };
     let held = source.length();
     let _ = port.enqueue_raw_bytes(&any_state(alloc, source, held)?.in_buffer);
     let mut calls = Vec::new(alloc);
-    for _ in 0..length.min(64) {
+    for _ in 0..case.length.min(64) {
         calls.push(Call::Restore(Three::with_writer(object, object, object)))?;
     }
-    Ok(Prepared::RunOfRestores(port, calls, log))
+    case.begin(rt)?;
+    let run = port.run(alloc, calls);
+    Ok(is_refused_run(&run) && (run.is_ok() || log.take().is_empty()))
 }
 
-/// Prepares a call of a port by its place in `CALLS`.
-fn prepare_port<'a>(
-    alloc: Global,
-    call: usize,
-    log: &'a Log,
-    source: &mut Source,
-    length: usize,
-) -> Result<Prepared<'a>, AllocError> {
-    let line = Line::new(any_mask(source));
-    Ok(match call {
-        0 => Prepared::New(line),
-        1 => Prepared::WithEvents(line),
-        2 => Prepared::FromState(any_saved(alloc, source, length)?, line),
-        3 => Prepared::State(any_port(alloc, source, length)?),
-        4 => Prepared::Run(
-            any_port(alloc, source, length)?,
-            any_calls(alloc, source, length)?,
-        ),
-        5 => any_restores(alloc, log, source, length)?,
-        6 => Prepared::NewOne(any_objects(source)),
-        7 => Prepared::OneFromState(any_saved(alloc, source, length)?, any_objects(source)),
-        8 => Prepared::StateOfOne(any_one_port(alloc, source, length)?),
-        _ => Prepared::RunOne(
-            any_one_port(alloc, source, length)?,
-            any_calls(alloc, source, length)?,
-        ),
+/// The same of a port over one object.
+fn is_one_port_refused(rt: &HostRuntime, case: &Case, source: &mut Source) -> io::Result<bool> {
+    let alloc = rt.alloc();
+    Ok(match case.call {
+        6 => {
+            let objects = any_objects(source);
+            case.begin(rt)?;
+            OnePort::new(alloc, objects).is_err()
+        }
+        7 => {
+            let state = any_saved(alloc, source, case.length)?;
+            let objects = any_objects(source);
+            case.begin(rt)?;
+            is_one_from_state_refused(alloc, state, objects)
+        }
+        8 => {
+            let port = any_one_port(alloc, source, case.length)?;
+            case.begin(rt)?;
+            port.state(alloc).is_err()
+        }
+        _ => {
+            let mut port = any_one_port(alloc, source, case.length)?;
+            let calls = any_calls(alloc, source, case.length)?;
+            case.begin(rt)?;
+            is_refused_run(&port.run(alloc, calls))
+        }
     })
 }
 
-/// Prepares a call by its place in `CALLS`. `log` is for the objects that note their calls.
-pub fn prepare<'a>(
-    alloc: Global,
-    call: usize,
-    log: &'a Log,
-    source: &mut Source,
-    length: usize,
-) -> Result<Prepared<'a>, AllocError> {
-    Ok(match call {
-        0..=9 => prepare_port(alloc, call, log, source, length)?,
-        10 => Prepared::Default,
-        11 => Prepared::Copy(any_state(alloc, source, length)?),
-        12 => Prepared::FromBytes(any_bytes(alloc, source, length)?),
-        13 => Prepared::FromPort(any_value(alloc, source, length)?),
-        14 => Prepared::WrittenThenRead(any_saved(alloc, source, length)?),
-        15 => Prepared::ReadThenWritten(any_bytes(alloc, source, length)?),
-        16 => Prepared::ToPortAndBack(any_saved(alloc, source, length)?),
-        17 => Prepared::ToStateAndBack(any_value(alloc, source, length)?),
-        18 => Prepared::NewBoard(any_mask(source)),
-        19 => Prepared::Board(any_board(alloc, source, length)?, text(alloc, "sb")?),
-        20 => Prepared::Board(any_board(alloc, source, length)?, text(alloc, "ss")?),
-        21 => {
-            let line = any_load(alloc, source, length)?;
-            Prepared::Board(any_board(alloc, source, length)?, line)
-        }
-        _ => Prepared::Script(any_script(alloc, source, length)?),
+/// The same of a saved state, a value or a form.
+fn is_state_refused(rt: &HostRuntime, case: &Case, source: &mut Source) -> io::Result<bool> {
+    let alloc = rt.alloc();
+    let state = any_saved(alloc, source, case.length)?;
+    let port = any_value(alloc, source, case.length)?;
+    let bytes = any_bytes(alloc, source, case.length)?;
+    case.begin(rt)?;
+    Ok(match case.call {
+        12 => is_memory(&SerialState::from_bytes(alloc, &bytes)),
+        13 => SerialState::from_port(alloc, &port).is_err(),
+        14 => is_memory(&laws::saved::serial_written_then_read(alloc, &state)),
+        15 => is_memory(&laws::saved::serial_read_then_written(alloc, &bytes)),
+        16 => is_memory(&laws::saved::state_to_port_and_back(alloc, &state)),
+        _ => is_memory(&laws::saved::port_to_state_and_back(alloc, &port)),
     })
 }
 
-/// Whether a call returned that memory was refused.
-pub fn is_refused(alloc: Global, call: Prepared) -> bool {
-    match call {
-        Prepared::New(line) => {
-            let made = Serial::new(alloc, line, Output::new());
-            matches!(made, Err(refused) if matches!(refused.error, Error::Memory))
-        }
-        Prepared::WithEvents(line) => {
-            let made = Serial::with_events(alloc, line, Counts::new(), Output::new());
-            matches!(made, Err(refused) if matches!(refused.error, Error::Memory))
-        }
-        Prepared::FromState(state, line) => {
-            let made = Serial::from_state(alloc, &state, line, Counts::new(), Output::new());
-            matches!(made, Err(refused) if matches!(refused.error, Error::Memory))
-        }
-        Prepared::State(port) => port.state(alloc).is_err(),
-        Prepared::Run(mut port, calls) => is_refused_run(&port.run(alloc, calls)),
-        Prepared::RunOfRestores(mut port, calls, log) => {
-            let run = port.run(alloc, calls);
-            is_refused_run(&run) && (run.is_ok() || log.take().is_empty())
-        }
-        Prepared::NewOne(objects) => PortOverOne::new(alloc, objects).is_err(),
-        Prepared::OneFromState(state, objects) => {
-            let made = PortOverOne::from_state(alloc, &state, objects);
-            matches!(made, Err(refused) if matches!(refused.error, Error::Memory))
-        }
-        Prepared::StateOfOne(port) => port.state(alloc).is_err(),
-        Prepared::RunOne(mut port, calls) => is_refused_run(&port.run(alloc, calls)),
-        other => is_refused_elsewhere(alloc, other),
-    }
+/// The same of a board.
+fn is_board_refused(rt: &HostRuntime, case: &Case, source: &mut Source) -> io::Result<bool> {
+    let alloc = rt.alloc();
+    let line = match case.call {
+        19 => String::from_str(alloc, "sb")?,
+        20 => String::from_str(alloc, "ss")?,
+        _ => any_load(alloc, source, case.length)?,
+    };
+    let mut board = any_board(alloc, source, case.length)?;
+    case.begin(rt)?;
+    let made = board.line(alloc, line.as_bytes());
+    Ok(matches!(made, Err(LineFault::Memory)))
 }
 
-/// Whether a call that is not of a port returned that memory was refused.
-fn is_refused_elsewhere(alloc: Global, call: Prepared) -> bool {
-    match call {
-        Prepared::Default => !SerialState::default(alloc).is_coherent(),
-        Prepared::Copy(state) => state.clone(alloc).is_err(),
-        Prepared::FromBytes(bytes) => is_memory(&SerialState::from_bytes(alloc, &bytes)),
-        Prepared::FromPort(port) => SerialState::from_port(alloc, &port).is_err(),
-        Prepared::WrittenThenRead(state) => {
-            is_memory(&laws::saved::serial_written_then_read(alloc, &state))
+/// Makes a call by its place in `CALLS`, and returns whether it returned that memory was refused.
+pub fn is_refused(rt: &HostRuntime, case: &Case, source: &mut Source) -> io::Result<bool> {
+    let alloc = rt.alloc();
+    match case.call {
+        5 => is_restore_refused(rt, case, source),
+        0..=4 => is_port_refused(rt, case, source),
+        6..=9 => is_one_port_refused(rt, case, source),
+        10 => {
+            case.begin(rt)?;
+            Ok(!SerialState::default(alloc).is_coherent())
         }
-        Prepared::ReadThenWritten(bytes) => {
-            is_memory(&laws::saved::serial_read_then_written(alloc, &bytes))
+        11 => {
+            let state = any_state(alloc, source, case.length)?;
+            case.begin(rt)?;
+            Ok(state.clone(alloc).is_err())
         }
-        Prepared::ToPortAndBack(state) => {
-            is_memory(&laws::saved::state_to_port_and_back(alloc, &state))
+        12..=17 => is_state_refused(rt, case, source),
+        18 => {
+            let mask = any_mask(source);
+            case.begin(rt)?;
+            Ok(matches!(Board::new(alloc, mask), Err(ScriptFault::Memory)))
         }
-        Prepared::ToStateAndBack(port) => {
-            is_memory(&laws::saved::port_to_state_and_back(alloc, &port))
-        }
-        Prepared::NewBoard(mask) => matches!(Board::new(alloc, mask), Err(ScriptFault::Memory)),
-        Prepared::Board(mut board, line) => {
-            matches!(board.line(alloc, line.as_bytes()), Err(LineFault::Memory))
-        }
-        Prepared::Script(script) => {
+        19..=21 => is_board_refused(rt, case, source),
+        _ => {
+            let script = any_script(alloc, source, case.length)?;
+            case.begin(rt)?;
             let end = run_script(alloc, &mut script.as_slice(), &mut io::sink());
-            matches!(end, Err(ScriptFault::Memory))
+            Ok(matches!(end, Err(ScriptFault::Memory)))
         }
-        _ => false,
     }
 }
 

@@ -1,4 +1,6 @@
 //! Numbers that look random, the same ones for the same seed.
+use rand_xoshiro::SplitMix64;
+use rand_xoshiro::rand_core::{Rng, SeedableRng};
 
 /// Bytes that drivers write to registers, and some at the ends.
 const TYPICAL: [u8; 16] = [
@@ -23,10 +25,9 @@ const ENDS: [u64; 8] = [
     u64::MAX,
 ];
 
-/// A xorshift generator.
 #[derive(Drop)]
 pub struct Source {
-    state: u64,
+    numbers: SplitMix64,
 }
 
 /// A byte that is chosen more often, in `share` of 256 choices. All have the bits `always`.
@@ -41,17 +42,12 @@ impl Source {
     /// The numbers of a seed.
     pub fn new(seed: u64) -> Source {
         Source {
-            state: seed.wrapping_mul(0x9E37_79B9_7F4A_7C15) | 1,
+            numbers: SplitMix64::seed_from_u64(seed),
         }
     }
 
     pub fn number(&mut self) -> u64 {
-        let mut state = self.state;
-        state ^= state << 13;
-        state ^= state >> 7;
-        state ^= state << 17;
-        self.state = state;
-        state
+        self.numbers.next_u64()
     }
 
     /// The highest byte of a number, whose bits are the best.
