@@ -1,13 +1,20 @@
 -- The bytes that a serial port takes are the first of those that it is given.
-use Rattle.std.proofs.Common.{◌≡◌, ℕ, ◌-◌, ◌+◌, ◌≤◌, Bool, true, false, List, [], ◌++◌, None, length, take, drop, refl, sym, ap, ◌∙◌, append_assoc, arith, length-append}
-use Rattle.std.specs.Prelude.{if◌then◌else◌}
+use Rattle.std.proofs.Common.{◌≡◌, ℕ, ◌-◌, ◌+◌, ◌≤◌, Bool, true, false, List, [], ◌∷◌, ◌++◌, None, Err, length, take, drop, refl, sym, ap, ◌∙◌, append_assoc, arith, length-append}
+use Rattle.std.specs.Prelude.{if◌then◌else◌, IsTrue, ◌&&◌, ◌==◌, Some, is_some}
+use Rattle.std.specs.Bool.{beq}
+use Rattle.std.proofs.lemmas.Bool.{false≢true, eqb-true}
 use Rattle.std.proofs.lemmas.List.{take-append-drop, length-take, drop_min}
 use Rattle.circular_buffer.specs.Buffer.{keep_last}
 use Rattle.vm_superio.specs.declared.serial.errors.Error.{Error}
 use Rattle.vm_superio.specs.declared.serial.errors.Error.TheVariants.{Trigger, IOError, FullFifo, Memory}
+use Rattle.superio_core.specs.declared.trace.Asked.{Asked}
+use Rattle.superio_core.specs.declared.trace.Sent.{Sent}
 use Rattle.superio_core.specs.Serial.{State}
+use Rattle.superio_core.specs.Serial.Operations.{Other, Arrival, Enqueue, is_sent, count_if, ends_in_refusal}
 use Rattle.superio_core.specs.Serial.RegisterMap.{is_loopback}
-use Rattle.superio_core.specs.Serial.Step.Raising.{enqueued_bytes, receive_bytes}
+use Rattle.superio_core.specs.Serial.Step.Raising.{enqueued_bytes, receive_bytes, bytes_that_fit}
+use Rattle.superio_core.specs.Serial.Step.Admissible.{arrival_calls, kind_calls, step_calls, sends_byte, is_admissible}
+use Rattle.vm_superio.specs.Links.{Link, TriggerAnswer, answers_of}
 use Rattle.vm_superio.specs.Serial.{refusal_in_error}
 use Rattle.vm_superio.specs.Serial.Laws.OneCall.{ReceivedLaw}
 use Rattle.superio_examples.specs.Input.{room_in}
@@ -76,3 +83,33 @@ pub accepted-rest : (old : State) (bytes : List ℕ) → enqueued_bytes old byte
 accepted-rest old bytes =
     ap (λ rest. enqueued_bytes old bytes ++ rest) (sym (drop-accepted old bytes))
     ∙ taken-rest (is_loopback old.modem_control) (64 - length old.in_buffer) bytes
+
+-- an enqueue calls the trigger at most once
+called-once : (called : Bool) → count_if called ≤ 1
+called-once true = omega arith
+called-once false = omega arith
+
+arrival-once : (bytes : List ℕ) (s : State) → arrival_calls bytes s ≤ 1
+arrival-once [] s = omega arith
+arrival-once (byte ∷ bytes) s = called-once _
+
+enqueue-once : (loopback : Bool) (bytes : List ℕ) (s : State) → kind_calls (if loopback then Other else Arrival bytes) s ≤ 1
+enqueue-once true bytes s = omega arith
+enqueue-once false bytes s = arrival-once (bytes_that_fit s.in_buffer bytes) s
+
+pub and-first : (first second : Bool) → first && second ≡ true → first ≡ true
+and-first true second both = refl
+and-first false second both = both
+
+-- so a refusal is its only answer
+pub refused-once : {T E : Type 0} (link : Link T (TriggerAnswer E)) (s : State) (bytes : List ℕ) (asked : Asked) (sent : Sent)
+    (refusal : E) (old new : T) → IsTrue (is_admissible s (Enqueue bytes) asked sent) → is_some (Some refusal) ≡ ends_in_refusal asked
+    → link old (answers_of asked (Some refusal)) new → link old (Err refusal ∷ []) new
+refused-once link s bytes Asked.Nothing sent refusal old new is ends made = absurd (false≢true (sym ends))
+refused-once link s bytes Asked.Took sent refusal old new is ends made = absurd (false≢true (sym ends))
+refused-once link s bytes Asked.Refused sent refusal old new is ends made = made
+refused-once link s bytes Asked.TookTook sent refusal old new is ends made = absurd (false≢true (sym ends))
+refused-once link s bytes Asked.TookRefused sent refusal old new is ends made =
+    let calls = step_calls s (Enqueue bytes) in
+    let two = eqb-true calls 2 (and-first (calls == 2) (beq (is_sent sent) (sends_byte s (Enqueue bytes))) is) in
+    absurd (omega (arith, two, enqueue-once (is_loopback s.modem_control) bytes s))

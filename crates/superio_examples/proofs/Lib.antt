@@ -1,3 +1,4 @@
+pub mod BusLemmas
 pub mod ClaimLemmas
 pub mod InputLemmas
 pub mod InterruptLemmas

@@ -20,7 +20,7 @@ use Rattle.superio_examples.specs.declared.monitor.Answer.TheVariants as answer
 use Rattle.superio_examples.specs.declared.monitor.Event.{Event}
 use Rattle.superio_examples.specs.declared.monitor.Event.TheVariants.{PortRead, PortWrite, MemoryRead, MemoryWrite, Typed, Moment, Timer, Refused}
 use Rattle.superio_examples.specs.Monitor.{Machine, call_of, asks_reset, shown_at, after_call, typed_by, sent_at, act, noticed, is_open, takes_input, fed, after_event, answer_to, reply_to, after, replies_to, in_each, is_reset_answer, is_reset_reply, left_at, looped_at, KeepsInput, KeepsOut}
-use Rattle.superio_examples.proofs.InputLemmas.{accepted-rest}
+use Rattle.superio_examples.proofs.InputLemmas.{accepted-rest, and-first}
 use Rattle.superio_examples.proofs.InterruptLemmas.{received_held}
 
 -- ---- a list in two parts
@@ -125,10 +125,6 @@ call-in-order (Some op) s =
     ap (λ held. left_by (Some op) s ++ held) (call-held op s) ∙ one_read s op Asked.Nothing Sent.Nothing
 
 -- a reset is no call of the serial port
-and-first : (first second : Bool) → first && second ≡ true → first ≡ true
-and-first true second both = refl
-and-first false second both = both
-
 reset-call : (event : Event) → asks_reset event ≡ true → call_of event ≡ None
 reset-call (PortRead port) asked = absurd (false≢true asked)
 reset-call (PortWrite port value) asked =

@@ -1,13 +1,14 @@
 -- The room shows what went in, which is what the port's step accepts.
-use Rattle.vm_superio.specs.Links.{WriterCalls}
-use Rattle.std.proofs.Common.{◌≡◌, ℕ, ◌-◌, ◌≤◌, length, drop, arith, Option, None, Result, rules, refl, ap, ◌∙◌}
+use Rattle.vm_superio.specs.Links.{WriterCalls, answers_of}
+use Rattle.std.proofs.Common.{◌≡◌, ℕ, ◌-◌, ◌≤◌, length, drop, arith, Option, None, Result, rules, refl, ap, sym, subst, ◌∙◌}
 use Rattle.std.specs.List.{refill}
+use Rattle.std.specs.Prelude.{is_some}
 use Rattle.circular_buffer.specs.Buffer.{Buffer, buffer}
 use Rattle.vm_superio.specs.declared.serial.errors.Error.{Error}
 use Rattle.vm_superio.specs.Serial.Step.{IsEnqueueStep}
 use Rattle.vm_superio.specs.Serial.{refusal_in_result, refusal_in_error}
 use Rattle.superio_core.specs.Serial.Step.Raising.{enqueued_bytes, receive_bytes}
-use Rattle.superio_examples.proofs.InputLemmas.{room-taken, held-waiting, length-accepted, drop-accepted, keep-drop, refusal_in-other}
+use Rattle.superio_examples.proofs.InputLemmas.{refused-once, room-taken, held-waiting, length-accepted, drop-accepted, keep-drop, refusal_in-other}
 use Rattle.superio_examples.proofs.input.Input.feed.Given.{Over}
 use Rattle.superio_examples.proofs.input.Input.feed.Goals as goal
 use Rattle.superio_examples.proofs.input.Input.feed.Goals.{in-Ok, in-Err+in-Trigger, in-Err+in_default}
@@ -77,4 +78,23 @@ returns-clause-step g c =
       | in-Ok w ↦ rw w.result-is (forwards g c None (ap refusal_in_result w.in-Ok.is))
       | in-Err+in-Trigger w ↦ rw w.result-is (forwards g c _ (ap refusal_in_result w.in-Err.is ∙ ap refusal_in_error w.in-Trigger.is))
       | in-Err+in_default w ↦ rw w.result-is (forwards g c None (ap refusal_in_result w.in-Err.is ∙ refusal_in-other w.in-Err.error w.in_default.not-Trigger))
+    ]
+
+pub returns-clause-coherent : goal.returns-clause-coherent
+returns-clause-coherent g c = c.enqueue_raw_bytes-enqueued.ensures.coherent
+
+pub returns-clause-refused : goal.returns-clause-refused
+returns-clause-refused g c =
+    let old = c.args.serial.now in
+    let new = c.enqueue_raw_bytes-enqueued.new.self in
+    let made = c.enqueue_raw_bytes-enqueued.ensures.step in
+    elim c.match-enqueued.branch [
+      | in-Ok w ↦ rw w.result-is tt
+      | in-Err+in-Trigger w ↦
+          let found = ap refusal_in_result w.in-Err.is ∙ ap refusal_in_error w.in-Trigger.is in
+          rw w.result-is (refused-once g.T.Trigger.link old.state c.make_contiguous.result.now made.asked made.sent w.in-Trigger.refusal
+          old.trigger new.trigger made.step.admissible (sym (ap is_some found) ∙ made.step.refused)
+          (subst (λ (refusal : Option g.row.T-E.Denot). g.T.Trigger.link old.trigger (answers_of made.asked refusal) new.trigger)
+          found made.step.trigger))
+      | in-Err+in_default w ↦ rw w.result-is tt
     ]
