@@ -1,5 +1,5 @@
 //! First claims about the devices. Each states one sentence as a contract, and its proof is empty: the calls and their
-//! contracts are enough. Copy the one that is nearest to yours.
+//! contracts are enough. Copy the one that is nearest to yours. A plain `#[tactic(auto)]` is on those that open no bit.
 #![tactic(auto, unfolding(superio_core::specs::Bits::has_bits, superio_core::specs::Bits::only_bits, superio_core::specs::Bits::with_bits))]
 
 ghost use Rattle.std.specs.Prelude.{◌≡◌, ◌+◌, ◌-◌, ◌<◌, ◌^◌, [], ◌∷◌, ◌++◌, take, length, true, false, IsTrue, IfOk, IfErr, OnOk};
@@ -33,6 +33,7 @@ pub fn enqueued_is_read<T: Trigger, EV: SerialEvents, W: Write>(
 }
 
 /// An enqueued byte waits behind those held, whether or not the trigger refuses. Only FIFO, LSR and IIR change.
+#[tactic(auto)]
 pub fn enqueued_waits_last<T: Trigger, EV: SerialEvents, W: Write>(
     serial: &mut Serial<T, EV, W>,
     last: u8,
@@ -46,6 +47,7 @@ pub fn enqueued_waits_last<T: Trigger, EV: SerialEvents, W: Write>(
 }
 
 /// A read of the data register takes the oldest byte. Only FIFO, LSR and IIR change.
+#[tactic(auto)]
 pub fn read_takes_oldest<T: Trigger, EV: SerialEvents, W: Write>(
     serial: &mut Serial<T, EV, W>,
 ) -> u8
@@ -70,6 +72,7 @@ pub fn read_in_order<T: Trigger, EV: SerialEvents, W: Write>(
 }
 
 /// As many reads as bytes are held give these bytes, in order.
+#[tactic(auto)]
 pub fn read_all<T: Trigger, EV: SerialEvents, W: Write>(
     alloc: Global,
     serial: &mut Serial<T, EV, W>,
@@ -160,6 +163,7 @@ pub fn sent_is_appended<T: Trigger, EV: SerialEvents, W: Write>(
 }
 
 /// A `Vec` grows by the bytes that a guest sends, in order.
+#[tactic(auto)]
 pub fn vec_gets_both<T: Trigger, EV: SerialEvents>(
     serial: &mut Serial<T, EV, Vec<u8>>,
     first: u8,
@@ -333,6 +337,7 @@ pub fn setting_cannot_fail<T: Trigger<E = Infallible>, EV: SerialEvents, W: Writ
 // ---- saved ports
 
 /// A restored port gives a guest the same byte at any read.
+#[tactic(auto)]
 pub fn restored_reads_same<
     T: Trigger,
     EV: SerialEvents,
