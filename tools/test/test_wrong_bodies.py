@@ -1,5 +1,4 @@
 """Tests of what `tools/checks/wrong_bodies` says of edits, by the prover, over a small crate, and of its record."""
-import os
 import re
 import shutil
 import subprocess
@@ -9,7 +8,7 @@ from unittest import mock
 import tiny
 from edits import Edit, rounds_of
 from record import drawn, recorded, write_record
-from repository import TOOLS, FolderTest, program
+from repository import TOOLS, FolderTest
 from rooms import crates_of
 
 REFUSED = ("refused", "larger", "right", "{ second } else", "{ first } else")
@@ -78,15 +77,14 @@ class Recorded(FolderTest):
                 self.assertEqual((len(chosen), len(rounds_of(chosen))), (1 if outside else most, 1))
 
     def run_tool(self, *words):
-        """What the tool prints, how many edits each round has, and its status. An `rt` of the folder comes first."""
+        """What the tool prints, how many edits each round has, and its status."""
         ran = subprocess.run([TOOLS / "checks" / "wrong_bodies", *words, "--root", self.folder], capture_output=True,
-                             text=True, timeout=3600, env={**os.environ, "PATH": f"{self.folder}:{os.environ['PATH']}"})
+                             text=True, timeout=3600)
         return ran.stdout.splitlines(), re.findall(r"round \d+: (\d+) edits", ran.stderr), ran.returncode
 
     @unittest.skipUnless(shutil.which("rt"), "rt is not there")
     def test_the_tool_says_what_becomes_of_each_edit(self):
-        """A run that refuses all writes the row of their crate, and the next one tries one of them. For these a script
-        says what the prover said of the first round."""
+        """A run that refuses all writes the row of their crate, and the next one tries one of them."""
         # What is broken keeps the others of its round from being judged.
         for edits, sums, failed, is_recorded in (([it for it in EDITS if it != BROKEN], "2 passed, 2 failed", 1, False),
                                                  ([BROKEN], "0 passed, 1 failed", 1, False),
@@ -99,11 +97,5 @@ class Recorded(FolderTest):
             self.assertEqual((max(rounds), "tiny" in recorded(self.folder)), (str(min(len(edits), 3)), is_recorded))
             said = dict(re.match(r"tiny/(\w+): (.*)", line).groups() for line in lines)
             self.assertEqual([it for it in edits if not re.match(EDITS[it], said.get(it[0], ""))], [])
-            if REFUSED in edits and not is_recorded:
-                log = (self.folder / "out" / "wrong-bodies" / "tiny-1.log").read_text(encoding="utf-8")
-                (self.folder / "log").write_text(log.partition("\n\n")[2], encoding="utf-8")
-            else:
-                said_again = f"cat {self.folder}/log; exit 1"
-                program(self.folder / "rt", f'[ "$1" = version ] && exec {shutil.which("rt")} version\n{said_again}')
         counts[0] = "tried: 1 wrong bodies of tiny"
         self.assertEqual(self.run_tool(), ([*counts, "1 passed, 0 failed"], ["1"], 0))
