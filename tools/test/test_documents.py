@@ -144,8 +144,8 @@ FACTS = [
     (BODIES, "what a second monitor", "what a third monitor", f"{BODIES}: no row compares third in ",
      f"{BODIES}: 'a second monitor' stands there 0 times"),
     (README, "## Status\n", "## Status\n\nWe tried 10 guests.\n", f"{README}: no row compares 10 in "),
-    (README, "`I8042Device` | 1 to 4, ", "`I8042Device` | 1 to 4, of `I8042Device` | 1 to 4, ",
-     "README.md: '`I8042Device` | 1 to 4, ' stands there 2 times")]
+    (README, "`I8042Device` | 1 to 5, ", "`I8042Device` | 1 to 5, of `I8042Device` | 1 to 5, ",
+     "README.md: '`I8042Device` | 1 to 5, ' stands there 2 times")]
 NAMES_OF_VM_SUPERIO = [
     (DIFFERENCES, "`Debug for Rtc`, ", "`Rtc::read`, ", f"{DIFFERENCES}: Debug for Rtc is not in the row 'not here'",
      f"{DIFFERENCES}: Rtc::read is in the row 'not here', and is no difference"),
