@@ -24,7 +24,8 @@ BUILT = ROOT / "docs" / "try.html"
 # In the order in which each finds what it takes from those before it.
 MODULES = ["module.mjs", "registers.mjs", "superio.mjs", "page/board.mjs", "page/why.mjs", "page/boot.mjs",
            "page/page.mjs"]
-IMPORT = re.compile(r"^import [^;]+;\n|^export \{[^}]*\};\n", re.M)
+# What a browser does without: imports and exports of names, comments that have lines of their own, and empty lines.
+LEFT_OUT = re.compile(r"^(?:import [^;]+;|export \{[^}]*\};| *//.*| */\*\*[\s\S]*?\*/)?\n", re.M)
 
 
 def one_script():
@@ -33,7 +34,7 @@ def one_script():
     parts = []
     for name in MODULES:
         text = (PACKAGE / name).read_text(encoding="utf-8")
-        text = IMPORT.sub("", text).replace("export default ", "export const text = ")
+        text = LEFT_OUT.sub("", text).replace("export default ", "export const text = ")
         names = ", ".join(re.findall(r"^export (?:async )?(?:const|class|function) (\w+)", text, flags=re.M))
         body = re.sub(r"^export ", "", text, flags=re.M)
         parts.append(f"const {{ {names} }} = await (async () => {{\n{body}return {{ {names} }};\n}})();\n")
