@@ -3,6 +3,7 @@ import math
 import shutil
 import tempfile
 import unittest
+from multiprocessing.dummy import Pool as Threads
 from pathlib import Path
 from unittest import mock
 
@@ -97,23 +98,21 @@ class RandomCalls(unittest.TestCase):
         cls.comparison = cargo.Comparison(Path(folder.name))
 
     def test_a_shell_that_is_right_or_that_has_moved_is_not_counted_as_refused(self):
+        calls = self.comparison.cargo.folder / "some"
+        random_calls.draw(calls, 1000, 1)
         for old, new, wanted, says in ((
                 "self.events.out_byte()", "{ self.events.out_byte() }", (2, 1), "planted is not refused"),
                 ("no such text", "x", (0, 1), "")):
-            tally = tally_of(random_calls.check_wrong_shell, self.comparison, Bug("planted", SERIAL, old, new))
+            bug = Bug("planted", SERIAL, old, new)
+            tally = tally_of(random_calls.check_wrong_shell, self.comparison, bug, calls)
             self.assertEqual((tally.passed, tally.failed, says in tally.printed), (*wanted, True))
 
     def test_a_case_that_no_call_reaches_fails(self):
-        """The calls make no timeout any more."""
-        source = self.comparison.copy / "src" / "random.rs"
-        text = source.read_text(encoding="utf-8")
-        self.addCleanup(source.write_text, text, encoding="utf-8")
-        self.assertEqual(text.count('"si"'), 1)
-        source.write_text(text.replace('"si"', '"sf"'), encoding="utf-8")
         self.comparison.take(cargo.BINDINGS)
-        tally = tally_of(random_calls.check_calls, self.comparison, 400_000, 1)
-        self.assertEqual((tally.passed, tally.failed > 0), (1, True))
-        self.assertIn("2 cases too seldom", tally.printed)
+        with mock.patch.multiple(random_calls, calls_of=lambda _source: 100 * ["sr 05"], Pool=Threads):
+            tally = tally_of(random_calls.check_calls, self.comparison, 100_000, 1)
+        self.assertEqual((tally.passed > 0, tally.failed), (True, 1))
+        self.assertIn(f"cases that came too seldom: {random_calls.CASES[1].pattern}, ", tally.printed)
 
     def test_each_edit_is_tried_as_one_of_its_kind(self):
         with mock.patch.object(random_calls, "check_wrong_shell") as tries:

@@ -6,7 +6,7 @@ use ours::serial::timeout::CharacterTimeout;
 use ours::serial::{Error, SerialState};
 
 use crate::by_ours::devices::{Devices, Outcome, UNREAD, clock_of, text_of_clock};
-use crate::line::{Behaviour, Observed, bytes_of, number, text_of_bytes};
+use crate::line::{Behaviour, bytes_of, number, text_of_bytes};
 
 /// What a load says of these bytes.
 fn fault(error: SavedStateError) -> String {
@@ -24,32 +24,28 @@ fn fault(error: SavedStateError) -> String {
 
 impl Devices {
     /// Makes any call.
-    pub fn make_any(&mut self, call: &str) -> Observed {
-        let observed = self.make(call, Devices::carry_out_any);
-        Observed { is_armed: self.clock.is_armed(), ..observed }
+    pub fn make_any(&mut self, call: &str) -> Option<String> {
+        self.make(call, Devices::carry_out_any)
     }
 
-    fn carry_out_any(&mut self, words: &[&str]) -> Outcome {
-        Ok(match (words[0], words.len()) {
-            ("si", _) => return self.serial.character_timeout().map(|()| "ok".into()),
-            ("sp", _) => return self.serial.retry_interrupts().map(|()| "ok".into()).map_err(Error::Trigger),
-            ("sh", _) => format!("{:02x}", u8::from(self.serial.interrupt_line())),
-            ("sf", _) => format!("{:02x}", u8::from(self.serial.state().is_coherent())),
-            ("sb", _) => self.serial.state().to_bytes().map_or_else(fault, |bytes| text_of_bytes(&bytes)),
-            ("sl", 2) => self.load(&bytes_of(words[1]))?,
-            ("ch", _) => format!("{:02x}", u8::from(self.clock.line())),
-            ("cd", _) => self.clock.due(number(words[1])).map_or("never".into(), |seconds| format!("{seconds:08x}")),
-            ("cb", _) => text_of_bytes(&self.clock.snapshot().to_bytes()),
-            ("cs", _) if self.clock.is_armed() => self.take_snapshot(&self.clock.snapshot()),
-            ("cl", 7) => self.take_snapshot(&RtcSnapshot { state: clock_of(words), armed: true }),
-            ("cl", 2) => match RtcSnapshot::from_bytes(&bytes_of(words[1])) {
-                Ok(snapshot) => {
-                    self.take_snapshot(&snapshot);
-                    "ok".into()
-                }
-                Err(error) => fault(error),
-            },
-            ("cr" | "cw", _) if number(words[1]) % 2 == 1 => self.access_at(number(words[1]), words),
+    fn carry_out_any(&mut self, words: &[&str]) -> Option<Outcome> {
+        Some(match (words[0], words.len()) {
+            ("si", 1) => self.serial.character_timeout().map(|()| "ok".into()),
+            ("sp", 1) => self.serial.retry_interrupts().map(|()| "ok".into()).map_err(Error::Trigger),
+            ("sh", 1) => Ok(format!("{:02x}", u8::from(self.serial.interrupt_line()))),
+            ("sf", 1) => Ok(format!("{:02x}", u8::from(self.serial.state().is_coherent()))),
+            ("sb", 1) => Ok(self.serial.state().to_bytes().map_or_else(fault, |bytes| text_of_bytes(&bytes))),
+            ("sl", 2) => self.load(&bytes_of(words[1])),
+            ("ch", 1) => Ok(format!("{:02x}", u8::from(self.clock.line()))),
+            ("cd", 2) => Ok(self.clock.due(number(words[1])).map_or("never".into(), |due| format!("{due:08x}"))),
+            ("cb", 1) => Ok(text_of_bytes(&self.clock.snapshot().to_bytes())),
+            ("cs", 1) if self.clock.is_armed() => Ok(self.take_snapshot(&self.clock.snapshot())),
+            ("cl", 7) => Ok(self.take_snapshot(&RtcSnapshot { state: clock_of(words), armed: true })),
+            ("cl", 2) => Ok(RtcSnapshot::from_bytes(&bytes_of(words[1])).map_or_else(fault, |snapshot| {
+                self.take_snapshot(&snapshot);
+                "ok".into()
+            })),
+            ("cr" | "cw", _) if number(words[1]) % 2 == 1 => Ok(self.access_at(number(words[1]), words)),
             _ => return self.carry_out(words),
         })
     }
