@@ -20,7 +20,7 @@ SERIAL = "src/serial.rs"
 class Counts(FolderTest):
     def compare(self, found):
         """How many of these counts are over their limits, and the rows of the table."""
-        with mock.patch.object(counts, "counts", return_value=found), mock.patch.object(counts, "build_in_rust"):
+        with mock.patch.object(counts, "counts", return_value=found), mock.patch.object(counts, "build"):
             tally = tally_of(counts.compare, Path(), Path())
         return tally.failed, tally.result
 

@@ -1,4 +1,4 @@
-"""What tools/bench measures, and the program in Rust that makes the accesses."""
+"""What tools/bench measures, and the program that makes the accesses."""
 import os
 import re
 import subprocess
@@ -7,7 +7,7 @@ from typing import NamedTuple
 
 FOLDER = Path(__file__).resolve().parent
 ROOT = FOLDER.parent.parent
-TABLE = FOLDER / "accesses.txt"
+DEVICES = FOLDER / "devices"
 # Rattle's programs and libraries are made for such processors.
 PROCESSOR = "x86-64-v2"
 LIST_LENGTH = 600
@@ -41,17 +41,16 @@ def row_of(line):
                before + unit * units)
 
 
-def read_rows():
-    """The rows of the table. The first is what the loop costs, and is subtracted from the others."""
-    return [row_of(line) for line in TABLE.read_text(encoding="ascii").splitlines() if not line.startswith("#")]
+# The rows of the table. The first is what the loop costs, and is subtracted from the others.
+ROWS = [row_of(line) for line in (FOLDER / "accesses.txt").read_text(encoding="ascii").splitlines()
+        if not line.startswith("#")]
 
 
-def build_in_rust(crate, target):
-    """Builds the package `original` over the crate in a folder, or the registry's if it is `None`. Returns the
-    program."""
+def build(crate, target, feature=""):
+    """Builds the program over the crate in a folder, or the registry's if it is `None`."""
     patch = ["--offline", "--config", f'patch.crates-io.vm-superio.path="{crate}"'] if crate else []
-    environment = dict(os.environ, RUSTFLAGS=f"-C target-cpu={PROCESSOR}", CARGO_TARGET_DIR=str(target))
-    subprocess.run(["cargo", "build", "--release", "--quiet", "--manifest-path",
-                    FOLDER / "original/Cargo.toml", *patch],
-                   env=environment, check=True)
-    return target / "release" / "original"
+    flags = f"-C target-cpu={PROCESSOR} -L {ROOT / 'prebuilt' / 'x86_64-linux'}"
+    subprocess.run(["cargo", "build", "--release", "--quiet", "--manifest-path", DEVICES / "Cargo.toml",
+                    "--features", feature, *patch],
+                   env={**os.environ, "RUSTFLAGS": flags, "CARGO_TARGET_DIR": str(target)}, check=True)
+    return target / "release" / "devices"
