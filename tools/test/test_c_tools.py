@@ -31,7 +31,7 @@ DECLARATIONS = [
     (HEADER, "    uint32_t lr; ", "    uint16_t lr; ", "superio_rtc: the header has the struct"),
     (HEADER, "#define SUPERIO_SERIAL_FIFO_SIZE 64", "#define SUPERIO_SERIAL_FIFO_SIZE 65",
      "SUPERIO_SERIAL_FIFO_SIZE: the header has the constant 65, and crates/superio_c 64"),
-    ("bindings/rust/capi/src/clock.rs", "clock: &mut Clock, offset: u16, now", "clock: &mut Clock, offset: u8, now",
+    ("bindings/rust/capi/src/lib.rs", "clock: &mut Clock, offset: u16, now", "clock: &mut Clock, offset: u8, now",
      "superio_rtc_read: the header has the function"),
     ("bindings/rust/src/core/serial/effects.rs", "    pub sends: bool,\n", "",
      "superio_serial_write_effects: the header has"),
