@@ -40,31 +40,6 @@
 //! assert_eq!(serial.enqueue_raw_bytes(b"xyz").unwrap(), 3); // input for the guest
 //! assert_eq!(serial.read(0), b'x');
 //! ```
-//!
-//! The FIFO holds 64 bytes. What it has no room for waits, and is offered again:
-//!
-//! ```
-//! # use std::convert::Infallible;
-//! # use vm_superio::{Serial, Trigger};
-//! # struct Silent;
-//! # impl Trigger for Silent {
-//! #     type E = Infallible;
-//! #     fn trigger(&self) -> Result<(), Infallible> {
-//! #         Ok(())
-//! #     }
-//! # }
-//! let mut serial = Serial::new(Silent, std::io::sink());
-//! let paste: Vec<u8> = (0..1000).map(|number| number as u8).collect();
-//! let (mut waiting, mut read) = (&paste[..], Vec::new());
-//! while !waiting.is_empty() {
-//!     let taken = serial.enqueue_raw_bytes(waiting).unwrap();
-//!     waiting = &waiting[taken..];
-//!     while serial.read(5) & 1 != 0 {
-//!         read.push(serial.read(0)); // the guest saw data ready, and takes a byte
-//!     }
-//! }
-//! assert_eq!(read, paste);
-//! ```
 #![forbid(unsafe_code)]
 #![deny(missing_docs)]
 #![deny(missing_copy_implementations)]
