@@ -70,7 +70,7 @@ class Measurement:
         """Each cost without the loop's, and after those of ours their ratio to the Rust crate's."""
         costs = [median(costs) - self.row.length * median(of_loop) for costs, of_loop in zip(self.costs, loop.costs)]
         for ours, original in (costs[:2], costs[2:]):
-            ratio = f"{max(ours, 0) / original:.1f}" if original >= 0.5 else ""  # nothing if it is no more than the loop
+            ratio = f"{max(ours, 0) / original:.1f}" if original >= 0.5 else ""  # none if it is no more than the loop
             yield from (f"{ours:.1f}", f"{original:.1f}", ratio)
 
     def spreads(self):
@@ -82,8 +82,8 @@ class Measurement:
 def main():
     turns = int(sys.argv[1]) if len(sys.argv) > 1 else 15
     with tempfile.TemporaryDirectory() as name:
-        programs = [build(crate, Path(name) / feature / what, feature) for what, crate, feature in (
-            ("ours", BINDINGS, ""), ("crate", original(), ""), ("ours", BINDINGS, "c"), ("crate", original(), "behind"))]
+        programs = [build(crate, Path(name) / str(number), feature) for number, (crate, feature) in enumerate((
+            (BINDINGS, ""), (original(), ""), (BINDINGS, "c"), (original(), "behind")))]
         os.sched_setaffinity(0, {max(os.sched_getaffinity(0))})
         measurements = [Measurement(row, programs) for row in ROWS]
         for _ in range(turns):

@@ -122,15 +122,18 @@ class Project:
 
 
 class Comparison(Project):
-    """That of tools/compare, with features."""
+    """That of tools/compare: over bindings/rust, or over a vm-superio."""
 
-    def __init__(self, folder, features="", crates=STAND_INS):
-        super().__init__(COMPARISON, folder, crates)
-        self.features, self.program = features, folder / "target" / "release" / "compare"
+    def __init__(self, folder, original=None):
+        super().__init__(COMPARISON, folder, STAND_INS)
+        self.options, self.program = [], folder / "target" / "release" / "compare"
+        if original:
+            self.options = ["--no-default-features"]
+            self.take(original)
 
     def build(self, **environment):
         """Returns what Cargo ended with."""
-        return self.run("build", "--release", "--quiet", "--features", self.features, **environment)
+        return self.run("build", "--release", "--quiet", *self.options, **environment)
 
 
 def count_tests(tally, what, ran):

@@ -5,12 +5,12 @@ use std::mem;
 use std::panic::{AssertUnwindSafe, catch_unwind};
 use std::sync::Arc;
 
-use super::objects::Object;
-use super::superio::I8042Device;
-use super::superio::rtc_pl031::{Rtc, RtcState};
-use super::superio::serial::{Error, Serial, SerialState};
 use crate::line::{Behaviour, bytes_of, number, text_of_bytes};
 use crate::moment;
+use crate::objects::Object;
+use superio::I8042Device;
+use superio::rtc_pl031::{Rtc, RtcState};
+use superio::serial::{Error, Serial, SerialState};
 
 /// The text of a reply.
 pub type Outcome = Result<String, Error<io::Error>>;

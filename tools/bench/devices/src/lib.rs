@@ -1,6 +1,6 @@
 //! Devices whose output is dropped, and whose events nobody hears: those of the Rust crate vm-superio, with the feature
-//! `behind` the same behind a C function, and with `c` those of the C library. Each is a program, so that rustc sees few
-//! uses of a call.
+//! `behind` the same behind a C function, and with `c` those of the C library. Each is a program of its own, so that
+//! rustc sees few uses of a call.
 #[path = "../../../compare/src/moment.rs"]
 pub mod moment;
 
@@ -56,4 +56,3 @@ impl Access {
         }
     }
 }
-

@@ -2,8 +2,8 @@
 //!
 //!     devices ROUNDS PREPARED < LIST
 //!
-//! An access has three bytes: the kind, the offset and the value. The first PREPARED are made once, and the others ROUNDS
-//! times. Prints the sum of what these read.
+//! An access has three bytes: the kind, the offset and the value. The first PREPARED are made once, and the others
+//! ROUNDS times. Prints the sum of what these read.
 use std::env;
 use std::error::Error;
 use std::io::{self, Read};

@@ -1,5 +1,5 @@
-//! The devices of the Rust crate vm-superio, with output that is dropped and triggers that count: as they are, and behind C
-//! functions.
+//! The devices of the Rust crate vm-superio, with output that is dropped and triggers that count: as they are, and
+//! behind a C function.
 use std::cell::Cell;
 use std::convert::Infallible;
 use std::hint::black_box;
@@ -39,8 +39,8 @@ fn restore_port(port: &mut Port) -> Result<(), Error<Infallible>> {
     Ok(())
 }
 
-/// Saves the clock, and makes it again from what was saved. The state passes a point at which rustc knows nothing of it:
-/// otherwise it sees that all numbers stay as they are, and removes the save and the restore.
+/// Saves the clock, and makes it again from what was saved. The state passes a point at which rustc knows nothing of
+/// it: otherwise it sees that all numbers stay as they are, and removes the save and the restore.
 fn restore_clock(clock: &mut Clock) {
     *clock = Rtc::from_state(&black_box(clock.state()), rtc_pl031::NoEvents);
 }

@@ -1,11 +1,11 @@
 //! The calls that bindings/rust has beside those of the Rust crate.
-use ours::rtc_pl031::{Rtc, RtcSnapshot};
-use ours::saved::SavedStateError;
-use ours::serial::line::InterruptLine;
-use ours::serial::timeout::CharacterTimeout;
-use ours::serial::{Error, SerialState};
+use superio::rtc_pl031::{Rtc, RtcSnapshot};
+use superio::saved::SavedStateError;
+use superio::serial::line::InterruptLine;
+use superio::serial::timeout::CharacterTimeout;
+use superio::serial::{Error, SerialState};
 
-use crate::by_ours::devices::{Devices, Outcome, UNREAD, clock_of, text_of_clock};
+use crate::devices::{Devices, Outcome, UNREAD, clock_of, text_of_clock};
 use crate::line::{Behaviour, bytes_of, number, text_of_bytes};
 
 /// What a load says of these bytes.
@@ -24,11 +24,7 @@ fn fault(error: SavedStateError) -> String {
 
 impl Devices {
     /// Makes any call.
-    pub fn make_any(&mut self, call: &str) -> Option<String> {
-        self.make(call, Devices::carry_out_any)
-    }
-
-    fn carry_out_any(&mut self, words: &[&str]) -> Option<Outcome> {
+    pub fn carry_out_any(&mut self, words: &[&str]) -> Option<Outcome> {
         Some(match (words[0], words.len()) {
             ("si", 1) => self.serial.character_timeout().map(|()| "ok".into()),
             ("sp", 1) => self.serial.retry_interrupts().map(|()| "ok".into()).map_err(Error::Trigger),
