@@ -33,7 +33,7 @@ DECLARATIONS = [
      "SUPERIO_SERIAL_FIFO_SIZE: the header has the constant 65, and crates/superio_c 64"),
     ("bindings/rust/capi/src/lib.rs", "clock: &mut Clock, offset: u16, now", "clock: &mut Clock, offset: u8, now",
      "superio_rtc_read: the header has the function"),
-    ("bindings/rust/src/core/serial/effects.rs", "    pub sends: bool,\n", "",
+    ("bindings/rust/src/core/mod.rs", "    pub sends: bool,\n", "",
      "superio_serial_write_effects: the header has"),
     ("tools/c/tests/replay.c", "superio_i8042_read((uint8_t)number(1))", "0",
      "replay.c does not call ['superio_i8042_read']"),
