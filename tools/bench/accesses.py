@@ -11,15 +11,13 @@ DEVICES = FOLDER / "devices"
 # Rattle's programs and libraries are made for such processors.
 PROCESSOR = "x86-64-v2"
 LIST_LENGTH = 600
-ROW = re.compile(r"(?P<name>.+?)  +(?P<kind>\w+)  +(?P<count>\d+)  (?:\((?P<before>.*)\) )?(?P<repeated>.*)")
+ROW = re.compile(r"(?P<name>.+?)  +(?:\((?P<before>.*)\) )?(?P<repeated>.*)")
 
 
 class Row(NamedTuple):
-    """A name, the kind of limit, the count of the Rust crate, how many accesses come first, how many are repeated, how
-    often they stand in the list, and the list as bytes."""
+    """A name, how many accesses come first, how many are repeated, how often they stand in the list, and the list as
+    bytes."""
     name: str
-    kind: str
-    original: int
     prepared: int
     length: int
     units: int
@@ -37,8 +35,7 @@ def row_of(line):
     before, unit = bytes_of(found["before"] or ""), bytes_of(found["repeated"])
     length = len(unit) // 3
     units = max(1, LIST_LENGTH // length)
-    return Row(found["name"], found["kind"], int(found["count"]), len(before) // 3, length, units,
-               before + unit * units)
+    return Row(found["name"], len(before) // 3, length, units, before + unit * units)
 
 
 # The rows of the table. The first is what the loop costs, and is subtracted from the others.

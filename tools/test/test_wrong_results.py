@@ -388,9 +388,9 @@ class Failing(FolderTest):
                     mock.patch.object(rust_check, "toolchains", lambda: [Toolchain("/rustc", rust_check.OLDEST)]), \
                     mock.patch.dict("os.environ", {"VM_SUPERIO": ""}):
                 tally = tally_of(lambda it: it.carry_out("it", check, self.folder / check.__name__))
-            is_moved = check is rust_check.check_moved_original
+            has_none = check in (rust_check.check_moved_original, rust_check.check_comparison)
             self.assertEqual((tally.passed, tally.skipped > 0, tally.failed > 0),
-                             (check is rust_check.check_drop_in, is_moved, not is_moved), check.__name__)
+                             (check is rust_check.check_drop_in, has_none, not has_none), check.__name__)
 
     def test_the_echo(self):
         """Scripts that differ, and wrong echoes that differ in nothing or are not built."""
