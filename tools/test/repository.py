@@ -45,8 +45,8 @@ NOTHING_ELSE = {"PATH": ""}
 
 @cache
 def module_of(name):
-    """A tool without the ending `.py`, as a module. Its name is the path, so that no other module has it."""
-    loader = importlib.machinery.SourceFileLoader(name, str(TOOLS / name))
+    """A tool without the ending `.py`, as a module."""
+    loader = importlib.machinery.SourceFileLoader(Path(name).name, str(TOOLS / name))
     module = importlib.util.module_from_spec(importlib.util.spec_from_loader(loader.name, loader))
     with mock.patch.dict("sys.modules", {loader.name: module}):
         loader.exec_module(module)
