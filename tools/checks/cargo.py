@@ -81,8 +81,9 @@ def add_crate(place, source):
 
 
 def files_of_crate():
-    """The names of the files of the crate, without what Cargo makes and the crate for C."""
-    names = {path.relative_to(BINDINGS).as_posix() for path in BINDINGS.rglob("*") if path.is_file()}
+    """The names of the files of the crate, without what Cargo makes and the crate for C. Its licenses are a link."""
+    paths = [*BINDINGS.rglob("*"), *(BINDINGS / "LICENSES").iterdir()]
+    names = {path.relative_to(BINDINGS).as_posix() for path in paths if path.is_file()}
     return sorted(name for name in names if name != "Cargo.lock" and not name.startswith(("target/", "capi/")))
 
 
@@ -121,15 +122,18 @@ class Project:
 
 
 class Comparison(Project):
-    """That of tools/compare, with features."""
+    """That of tools/compare: over bindings/rust, or over a vm-superio."""
 
-    def __init__(self, folder, features="", crates=STAND_INS):
-        super().__init__(COMPARISON, folder, crates)
-        self.features, self.program = features, folder / "target" / "release" / "compare"
+    def __init__(self, folder, original=None):
+        super().__init__(COMPARISON, folder, STAND_INS)
+        self.options, self.program = [], folder / "target" / "release" / "compare"
+        if original:
+            self.options = ["--no-default-features"]
+            self.take(original)
 
     def build(self, **environment):
         """Returns what Cargo ended with."""
-        return self.run("build", "--release", "--quiet", "--features", self.features, **environment)
+        return self.run("build", "--release", "--quiet", *self.options, **environment)
 
 
 def count_tests(tally, what, ran):

@@ -149,7 +149,7 @@ NAMES_OF_VM_SUPERIO = [
     (DIFFERENCES, "`Debug for Rtc`, ", "`Rtc::read`, ", f"{DIFFERENCES}: Debug for Rtc is not in the row 'not here'",
      f"{DIFFERENCES}: Rtc::read is in the row 'not here', and is no difference"),
     (DIFFERENCES, "`Rtc::alarm_due`, ", "", f"{DIFFERENCES}: Rtc::alarm_due is not in the row 'new'"),
-    ("tools/compare/vm-superio-0.8.2.names", "Rtc::with_events\n", "",
+    ("tools/compare/vm-superio-0.8.2.names", " state with_events write:", " state write:",
      f"{DIFFERENCES}: Rtc::with_events is not in the row 'new'"),
     (I8042, "pub fn reset_evt(&self)", "pub fn lent(&self)",
      f"{DIFFERENCES}: I8042Device::reset_evt is not in the row 'not here'",

@@ -6,7 +6,7 @@ REGISTERS, SUPERIO = "bindings/js/registers.mjs", "bindings/js/superio.mjs"
 ICON = '<link rel="icon" href="{}">'
 # A file, a text of it, the one in its place, and what the check says.
 OF_JS = [
-    ("bindings/rust/capi/src/clock.rs", "const NEVER: u64 = u64::MAX;", "const NEVER: u64 = 0;",
+    ("bindings/rust/capi/src/lib.rs", "const NEVER: u64 = u64::MAX;", "const NEVER: u64 = 0;",
      "the module was built from other sources"),
     (REGISTERS, "", "[].toSorted();", "registers.mjs has .toSorted(, which Node 18 lacks"),
     (SUPERIO, "", "'i'.toLocaleUpperCase();", "superio.mjs has toLocale, which differs with the user's language"),

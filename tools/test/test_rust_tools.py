@@ -1,8 +1,8 @@
 """Tests of the limits and the floors of tools/bench/counts, tools/rust/random_calls and tools/rust/targets."""
-import math
 import shutil
 import tempfile
 import unittest
+from multiprocessing.dummy import Pool as Threads
 from pathlib import Path
 from unittest import mock
 
@@ -17,50 +17,41 @@ SERIAL = "src/serial.rs"
 
 
 class Counts(FolderTest):
-    def compare(self, found):
-        """How many of these counts are over their limits, and the rows of the table."""
-        with mock.patch.object(counts, "counts", return_value=found), mock.patch.object(counts, "build_in_rust"):
-            tally = tally_of(counts.compare, Path(), Path())
-        return tally.failed, tally.result
-
-    def compare_document(self, rows, document, version="1.2.3"):
-        """What passes, fails and is skipped of a document that has this text."""
+    def compare(self, found, document, version="1.2.3"):
+        """What passes, fails and is skipped of these counts beside a document that has this text."""
         (self.folder / "TEXT.md").write_text(document, encoding="utf-8")
         with mock.patch.object(counts, "DOCUMENT", self.folder / "TEXT.md"), \
                 mock.patch.object(counts.subprocess, "run", return_value=ended(0, f"rustc {version} (0123abcd)")):
-            tally = tally_of(counts.compare_document, rows)
+            tally = tally_of(counts.compare, found)
         return tally.passed, tally.failed, tally.skipped
 
-    def test_each_row_has_a_limit_of_its_own_but_one(self):
-        table = counts.ROWS[1:]
-        limits = [counts.LIMITS[row.kind](row.original) for row in table]
-        limits = [limit if limit != math.inf else 100 for limit in limits]
-        over = [self.compare([*limits[:number], limits[number] + 0.1, *limits[number + 1:]])[0]
-                for number in range(len(table))]
-        self.assertEqual((self.compare(limits)[0], over), (0, [row.kind != "free" for row in table]))
-        self.assertEqual([row.name for row in table if row.kind == "free"], ["RTCMR write"])
-        self.assertEqual([limit(10) for limit in counts.LIMITS.values()], [11, 12, 9, 12, math.inf])
-
-    def test_each_number_of_the_document_is_compared(self):
+    def test_each_count_is_compared_with_its_limit_and_with_the_document(self):
         names = [row.name for row in counts.ROWS[1:]]
-        rows = self.compare(list(range(10, 10 + len(names))))[1]
-        lines = [f"| {name} | {count} | {' | '.join(fixed)} |" for name, count, fixed in rows]
-        text = "\n".join(["rustc 1.2.3", *lines])
-        self.assertEqual(self.compare_document(rows, text), (len(rows), 0, 0))
-        name, count, (original, limit) = rows[0]
-        for planted in ((f"{name}s", count, original, limit), (name, count + 2, original, limit),
-                        (name, count, f"{original}0", limit), (name, count, original, f"{limit}0"),
-                        (name, count, original)):
-            printed = self.compare_document(rows, text.replace(lines[0], f"| {' | '.join(map(str, planted))} |"))
-            self.assertEqual(printed, (len(rows) - 1, 1, 0), planted)
-        # A document of another compiler is skipped.
-        self.assertEqual(self.compare_document([("x", 1, ["1", "2"])], "rustc 1.2.3", "1.2.4"), (0, 0, 1))
+        lines = [f"| {name} | 9 | 8 | 10 |" for name in names]
+        text, nines = "\n".join(["Counted with rustc 1.2.3.", *lines]), [9.0] * len(names)
+        self.assertEqual(self.compare(nines, text), (2 * len(names), 0, 0))
+        for number in range(len(names)):
+            others = nines[:number], nines[number + 1:]
+            for count, failed in ((10, 0), (10.1, 2), (7.9, 1)):
+                self.assertEqual(self.compare([*others[0], count, *others[1]], text)[1], failed)
+        for planted in (f"| {names[0]}s | 9 | 8 | 10 |", f"| {names[0]} | 11 | 8 | 10 |", f"| {names[0]} |  | 8 | 10 |"):
+            self.assertGreater(self.compare(nines, text.replace(lines[0], planted))[1], 0)
+        self.assertEqual(self.compare([99.0, *nines[1:]], text.replace(lines[0], f"| {names[0]} | 99 | 8 |  |"))[1], 0)
+        # The counts of another compiler are compared with the limits alone.
+        self.assertEqual(self.compare([8.0, *nines[1:]], text.replace("| 9 |", "| 1 |"), "1.2.4"), (len(names), 0, 1))
+
+    def test_the_document_has_a_limit_for_each_row_but_one(self):
+        table = counts.read_table()[1]
+        self.assertEqual([row.name for row in counts.ROWS[1:] if not table[row.name][2]], ["RTCMR write"])
+        for name in (row.name for row in counts.ROWS[1:] if row.name != "RTCMR write"):
+            crate, limit = map(int, table[name][1:])
+            self.assertIn(limit, (crate - 1, crate + 1, crate + 2, crate * 6 // 5), name)
 
     def test_rows_of_the_table_are_read(self):
         rows = {row.name: row for row in counts.ROWS}
         loopback, many = rows["loopback: THR write, RBR read"], rows["64 bytes in and out"]
-        self.assertEqual((loopback.kind, loopback.original, loopback.prepared, loopback.length), ("fewer", 66, 1, 2))
-        self.assertEqual((loopback.units, loopback.accesses[:12]), (300, b"w\x04\x10w\x00\x41r\x00\x00w\x00\x41"))
+        self.assertEqual((loopback.prepared, loopback.length, loopback.units), (1, 2, 300))
+        self.assertEqual(loopback.accesses[:12], b"w\x04\x10w\x00\x41r\x00\x00w\x00\x41")
         self.assertEqual((many.prepared, many.length, many.units), (0, 65, 9))
         self.assertEqual(many.accesses, 9 * (b"e\x00\x40" + 64 * b"r\x00\x00"))
 
@@ -97,23 +88,21 @@ class RandomCalls(unittest.TestCase):
         cls.comparison = cargo.Comparison(Path(folder.name))
 
     def test_a_shell_that_is_right_or_that_has_moved_is_not_counted_as_refused(self):
+        calls = self.comparison.cargo.folder / "some"
+        random_calls.draw(calls, 1000, 1)
         for old, new, wanted, says in ((
                 "self.events.out_byte()", "{ self.events.out_byte() }", (2, 1), "planted is not refused"),
                 ("no such text", "x", (0, 1), "")):
-            tally = tally_of(random_calls.check_wrong_shell, self.comparison, Bug("planted", SERIAL, old, new))
+            bug = Bug("planted", SERIAL, old, new)
+            tally = tally_of(random_calls.check_wrong_shell, self.comparison, bug, calls)
             self.assertEqual((tally.passed, tally.failed, says in tally.printed), (*wanted, True))
 
     def test_a_case_that_no_call_reaches_fails(self):
-        """The calls make no timeout any more."""
-        source = self.comparison.copy / "src" / "random.rs"
-        text = source.read_text(encoding="utf-8")
-        self.addCleanup(source.write_text, text, encoding="utf-8")
-        self.assertEqual(text.count('"si"'), 1)
-        source.write_text(text.replace('"si"', '"sf"'), encoding="utf-8")
         self.comparison.take(cargo.BINDINGS)
-        tally = tally_of(random_calls.check_calls, self.comparison, 400_000, 1)
-        self.assertEqual((tally.passed, tally.failed > 0), (1, True))
-        self.assertIn("2 cases too seldom", tally.printed)
+        with mock.patch.multiple(random_calls, calls_of=lambda _source: 100 * ["sr 05"], Pool=Threads):
+            tally = tally_of(random_calls.check_calls, self.comparison, 100_000, 1)
+        self.assertEqual((tally.passed > 0, tally.failed), (True, 1))
+        self.assertIn(f"cases that came too seldom: {random_calls.CASES[1].pattern}, ", tally.printed)
 
     def test_each_edit_is_tried_as_one_of_its_kind(self):
         with mock.patch.object(random_calls, "check_wrong_shell") as tries:

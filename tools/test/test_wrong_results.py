@@ -34,7 +34,7 @@ RIGHT, STATUS = "cat", "cat; exit 1"
 WRONG = ("sed 's/4$/5/'", "cat; echo", "sed '$d'", "cat; echo fault >&2", STATUS, "true")
 # A fault of the scratch register in each library, and the first call that each does otherwise then.
 SUBJECTS = [
-    ("bindings/rust/src/core/serial/steps.rs", "Register::Scr => self.scratch,", "Register::Scr => self.scratch ^ 1,"),
+    ("bindings/rust/src/core/mod.rs", "Register::Scr => self.scratch,", "Register::Scr => self.scratch ^ 1,"),
     ("bindings/python/superio/devices.py", "ReadEffects(done.byte, done",
      "ReadEffects(done.byte ^ 2 * (offset == 7), done"),
     ("tools/checks/oracle.py", "shown = self.register(name) if name else 0",
@@ -388,9 +388,9 @@ class Failing(FolderTest):
                     mock.patch.object(rust_check, "toolchains", lambda: [Toolchain("/rustc", rust_check.OLDEST)]), \
                     mock.patch.dict("os.environ", {"VM_SUPERIO": ""}):
                 tally = tally_of(lambda it: it.carry_out("it", check, self.folder / check.__name__))
-            is_moved = check is rust_check.check_moved_original
+            has_none = check in (rust_check.check_moved_original, rust_check.check_comparison)
             self.assertEqual((tally.passed, tally.skipped > 0, tally.failed > 0),
-                             (check is rust_check.check_drop_in, is_moved, not is_moved), check.__name__)
+                             (check is rust_check.check_drop_in, has_none, not has_none), check.__name__)
 
     def test_the_echo(self):
         """Scripts that differ, and wrong echoes that differ in nothing or are not built."""

@@ -2,7 +2,8 @@
 //!
 //! Their names, signatures and errors are those of the crate vm-superio 0.8.2, so a monitor changes one line of its
 //! `Cargo.toml`. What a device does at a call is in the module [`values`], whose code is proved. The rest of the crate
-//! gives the devices their triggers, writers and events objects, and is tested.
+//! gives the devices their triggers, writers and events objects, and is tested. [`Serial`] and [`Rtc`] show how a monitor
+//! uses them.
 //!
 //! Without the feature `std`, which is on by default, the crate has [`values`], [`Trigger`] and [`I8042Device`] alone,
 //! and needs neither std nor an allocator.
@@ -16,55 +17,6 @@
 //! [`Serial::retry_interrupts`], the [saved form](saved) of a state, [`SerialState::is_coherent`], the whole state of a
 //! clock ([`RtcSnapshot`](rtc_pl031::RtcSnapshot)), its accesses at a given moment, [`Rtc::line`] and [`Rtc::due`]. The
 //! feature `serde` derives `Serialize` and `Deserialize` for the states.
-//!
-//! # Example
-//!
-//! ```
-//! use std::convert::Infallible;
-//! use vm_superio::{Serial, Trigger};
-//!
-//! struct Silent;
-//!
-//! impl Trigger for Silent {
-//!     type E = Infallible;
-//!
-//!     fn trigger(&self) -> Result<(), Infallible> {
-//!         Ok(())
-//!     }
-//! }
-//!
-//! let mut serial = Serial::new(Silent, Vec::new());
-//! serial.write(0, b'A').unwrap(); // the guest sends a byte
-//! assert_eq!(serial.writer(), b"A");
-//!
-//! assert_eq!(serial.enqueue_raw_bytes(b"xyz").unwrap(), 3); // input for the guest
-//! assert_eq!(serial.read(0), b'x');
-//! ```
-//!
-//! The FIFO holds 64 bytes. What it has no room for waits, and is offered again:
-//!
-//! ```
-//! # use std::convert::Infallible;
-//! # use vm_superio::{Serial, Trigger};
-//! # struct Silent;
-//! # impl Trigger for Silent {
-//! #     type E = Infallible;
-//! #     fn trigger(&self) -> Result<(), Infallible> {
-//! #         Ok(())
-//! #     }
-//! # }
-//! let mut serial = Serial::new(Silent, std::io::sink());
-//! let paste: Vec<u8> = (0..1000).map(|number| number as u8).collect();
-//! let (mut waiting, mut read) = (&paste[..], Vec::new());
-//! while !waiting.is_empty() {
-//!     let taken = serial.enqueue_raw_bytes(waiting).unwrap();
-//!     waiting = &waiting[taken..];
-//!     while serial.read(5) & 1 != 0 {
-//!         read.push(serial.read(0)); // the guest saw data ready, and takes a byte
-//!     }
-//! }
-//! assert_eq!(read, paste);
-//! ```
 #![forbid(unsafe_code)]
 #![deny(missing_docs)]
 #![deny(missing_copy_implementations)]
@@ -79,31 +31,6 @@ pub mod saved;
 pub mod serial;
 
 /// # Examples
-///
-/// A port and a clock, and the effects that a monitor carries out.
-///
-/// ```
-/// use vm_superio::values::serial::{EnqueueEffects, ReadEffects, WriteEffects};
-/// use vm_superio::values::{is_reset_command, Clock, SerialPort};
-///
-/// let mut port = SerialPort::new();
-/// port.write(1, 0x01); // the guest enables the interrupt of received data
-/// let EnqueueEffects { taken, full, interrupts } = port.enqueue_raw_bytes(b"hi"); // the host types
-/// assert_eq!((taken, full, interrupts), (2, false, 1)); // so raise the interrupt once
-/// let ReadEffects { byte, buffer_read, in_buffer_empty } = port.read(0); // the guest reads
-/// assert_eq!((byte, buffer_read, in_buffer_empty), (b'h', true, false));
-/// let WriteEffects { sends, interrupts } = port.write(0, b'!'); // and sends a byte
-/// assert_eq!((sends, interrupts), (true, 0));
-/// assert_eq!((port.fifo_capacity(), port.interrupt_line()), (63, false)); // one byte is left, and nothing is pending
-/// assert_eq!((port.character_timeout(), port.interrupts_due(), port.interrupt_line()), (1, 1, true));
-/// assert!(port.is_coherent());
-///
-/// let mut clock = Clock::new();
-/// assert_eq!(clock.read(0x000, 1_000), Some(1_000)); // guest time is the host's
-/// assert!(clock.write(0x004, 1_060, 1_000)); // the guest sets an alarm
-/// assert_eq!((clock.alarm_due(1_010), clock.interrupt_line()), (Some(50), false));
-/// assert!(is_reset_command(4, 0xFE)); // the guest resets its machine
-/// ```
 ///
 /// Saved states, and why bytes are refused. A monitor may also keep the state of a clock alone.
 ///

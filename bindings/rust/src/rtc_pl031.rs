@@ -24,31 +24,7 @@ const RTCLR: u16 = 0x008;
 /// The offsets between the last register and the identification, at which the clock has nothing.
 const RESERVED: Range<u16> = 0x020..0xFE0;
 
-/// Receives a clock's invalid accesses. The clock calls it for nothing else.
-///
-/// # Example
-///
-/// ```
-/// use std::cell::Cell;
-/// use std::sync::Arc;
-/// use vm_superio::rtc_pl031::{Rtc, RtcEvents};
-///
-/// #[derive(Default)]
-/// struct Refusals(Cell<u32>);
-///
-/// impl RtcEvents for Refusals {
-///     fn invalid_read(&self) { self.0.set(self.0.get() + 1); }
-///     fn invalid_write(&self) { self.0.set(self.0.get() + 1); }
-/// }
-///
-/// let refusals = Arc::new(Refusals::default()); // an `Arc` of an events object is one too
-/// let mut clock = Rtc::with_events(Arc::clone(&refusals));
-/// let mut data = [7; 4];
-/// clock.read(0x01C, &mut data); // RTCICR is write-only
-/// assert_eq!(data, [7; 4]);
-/// clock.write(0x000, &data); // RTCDR is read-only
-/// assert_eq!(refusals.0.get(), 2);
-/// ```
+/// Receives a clock's invalid accesses. The clock calls it for nothing else. An `Arc` of an events object is one too.
 pub trait RtcEvents {
     /// The guest read an unreadable offset.
     fn invalid_read(&self);
@@ -58,15 +34,6 @@ pub trait RtcEvents {
 }
 
 /// An events object that ignores every event.
-///
-/// # Example
-///
-/// ```
-/// use vm_superio::rtc_pl031::{NoEvents, Rtc};
-///
-/// let clock = Rtc::with_events(NoEvents); // what `Rtc::new` makes
-/// assert!(!clock.line());
-/// ```
 #[derive(Debug, Clone, Copy)]
 pub struct NoEvents;
 
@@ -92,19 +59,6 @@ impl<EV: RtcEvents> RtcEvents for Arc<EV> {
 /// These five fields do not say whether an alarm is set, so a clock restored from them has none.
 /// [`RtcSnapshot`] has the whole state. `RtcState::try_from` makes the five fields of one, and refuses if that loses an
 /// alarm.
-///
-/// # Example
-///
-/// ```
-/// use vm_superio::rtc_pl031::{NoEvents, Rtc, RtcState};
-///
-/// let state = RtcState { offset: 60, ..RtcState::default() }; // a minute ahead of the host
-/// let mut clock = Rtc::from_state(&state, NoEvents);
-/// let mut data = [0; 4];
-/// clock.read_at(0x000, &mut data, 1_000);
-/// assert_eq!(u32::from_le_bytes(data), 1_060);
-/// assert_eq!(clock.state(), state);
-/// ```
 #[derive(Clone, Copy, Debug, Default, Eq, PartialEq)]
 #[cfg_attr(feature = "serde", derive(serde::Deserialize, serde::Serialize))]
 pub struct RtcState {
@@ -172,20 +126,6 @@ impl RtcSnapshot {
 }
 
 /// The five fields were asked of a clock with an alarm set, which they cannot hold.
-///
-/// # Example
-///
-/// ```
-/// use vm_superio::rtc_pl031::{AlarmIsSet, Rtc, RtcState};
-///
-/// let mut clock = Rtc::new();
-/// clock.write_at(0x004, &1_000u32.to_le_bytes(), 900); // an alarm in 100 seconds
-/// assert_eq!(RtcState::try_from(clock.snapshot()), Err(AlarmIsSet));
-///
-/// let mut data = [0; 4];
-/// clock.read_at(0x000, &mut data, 1_000); // the alarm comes
-/// assert_eq!(RtcState::try_from(clock.snapshot()), Ok(clock.state()));
-/// ```
 #[derive(Clone, Copy, Debug, Eq, PartialEq)]
 pub struct AlarmIsSet;
 

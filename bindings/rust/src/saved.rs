@@ -3,19 +3,6 @@
 //! [`SerialState`](crate::SerialState) and [`RtcSnapshot`](crate::rtc_pl031::RtcSnapshot) have `to_bytes` and
 //! `from_bytes`. docs/SAVED-STATES.md of the repository describes the form byte by byte. It has no checksum: the file
 //! or the stream around it has one.
-//!
-//! # Example
-//!
-//! ```
-//! use vm_superio::saved::SavedStateError;
-//! use vm_superio::SerialState;
-//!
-//! let mut bytes = SerialState::default().to_bytes().unwrap();
-//! bytes[5] = 9;
-//! let error = SerialState::from_bytes(&bytes).unwrap_err();
-//! assert_eq!(error, SavedStateError::UnknownVersion(9));
-//! assert_eq!(error.to_string(), "version 9 of saved states is not known");
-//! ```
 use std::error::Error as StdError;
 use std::fmt;
 

@@ -70,29 +70,18 @@ pub struct Serial<T: Trigger, EV: SerialEvents, W: Write> {
 
 impl<T: Trigger + fmt::Debug, EV: SerialEvents + fmt::Debug, W: Write + fmt::Debug> fmt::Debug for Serial<T, EV, W> {
     fn fmt(&self, f: &mut fmt::Formatter) -> fmt::Result {
-        let SerialState {
-            baud_divisor_low,
-            baud_divisor_high,
-            interrupt_enable,
-            interrupt_identification,
-            line_control,
-            line_status,
-            modem_control,
-            modem_status,
-            scratch,
-            in_buffer,
-        } = self.state();
+        let state = self.state();
         f.debug_struct("Serial")
-            .field("baud_divisor_low", &baud_divisor_low)
-            .field("baud_divisor_high", &baud_divisor_high)
-            .field("interrupt_enable", &interrupt_enable)
-            .field("interrupt_identification", &interrupt_identification)
-            .field("line_control", &line_control)
-            .field("line_status", &line_status)
-            .field("modem_control", &modem_control)
-            .field("modem_status", &modem_status)
-            .field("scratch", &scratch)
-            .field("in_buffer", &in_buffer)
+            .field("baud_divisor_low", &state.baud_divisor_low)
+            .field("baud_divisor_high", &state.baud_divisor_high)
+            .field("interrupt_enable", &state.interrupt_enable)
+            .field("interrupt_identification", &state.interrupt_identification)
+            .field("line_control", &state.line_control)
+            .field("line_status", &state.line_status)
+            .field("modem_control", &state.modem_control)
+            .field("modem_status", &state.modem_status)
+            .field("scratch", &state.scratch)
+            .field("in_buffer", &state.in_buffer)
             .field("interrupt_evt", &self.interrupt_evt)
             .field("events", &self.events)
             .field("out", &self.out)
@@ -101,29 +90,6 @@ impl<T: Trigger + fmt::Debug, EV: SerialEvents + fmt::Debug, W: Write + fmt::Deb
 }
 
 /// Why a call of a serial port failed.
-///
-/// # Example
-///
-/// ```
-/// use vm_superio::serial::Error;
-/// use vm_superio::{Serial, Trigger};
-///
-/// struct Gone;
-///
-/// impl Trigger for Gone {
-///     type E = &'static str;
-///
-///     fn trigger(&self) -> Result<(), &'static str> {
-///         Err("nobody listens")
-///     }
-/// }
-///
-/// let mut serial = Serial::new(Gone, Vec::new());
-/// serial.write(1, 0x01).unwrap(); // the guest enables the interrupt of received data
-/// let error = serial.enqueue_raw_bytes(&[7; 65]).unwrap_err();
-/// assert_eq!(error.to_string(), "Failed to trigger interrupt: nobody listens");
-/// assert!(matches!(serial.enqueue_raw_bytes(b"more"), Err(Error::FullFifo))); // 64 of the bytes were kept
-/// ```
 #[derive(Debug)]
 pub enum Error<E> {
     /// The trigger refused a call.

@@ -1,11 +1,10 @@
-//! What a monitor in Rust alone sees of the devices: their writers and objects, the host's time, long input, texts, conversions
-//! and threads. What any monitor sees is in the lines of tests/calls and tools/c/tests/shared.txt of the repository.
-use std::io::{self, ErrorKind, Write};
+//! What a monitor in Rust alone sees of the devices: their writers and objects, the host's time, long input, texts,
+//! conversions and what threads may do. What any monitor sees is in the lines of tests/calls and
+//! tools/c/tests/shared.txt of the repository.
+use std::io;
 use std::panic::{RefUnwindSafe, UnwindSafe};
 use std::sync::atomic::{AtomicU32, Ordering};
-use std::sync::Mutex;
-use std::thread;
-use std::time::{Duration, Instant, SystemTime, UNIX_EPOCH};
+use std::time::{SystemTime, UNIX_EPOCH};
 
 use vm_superio::rtc_pl031::{self, AlarmIsSet, RtcSnapshot};
 use vm_superio::saved::SavedStateError;
@@ -34,32 +33,6 @@ fn output_goes_to_the_writer_which_comes_back() {
     assert_eq!(serial.writer(), b"a-b");
     assert_eq!(serial.interrupt_evt().0.load(Ordering::SeqCst), 0);
     assert_eq!(serial.into_writer(), b"a-b");
-}
-
-/// A writer that is interrupted so many times.
-struct Interrupted(u32);
-
-impl Write for Interrupted {
-    fn write(&mut self, bytes: &[u8]) -> io::Result<usize> {
-        if self.0 > 0 {
-            self.0 -= 1;
-            return Err(ErrorKind::Interrupted.into());
-        }
-        Ok(bytes.len())
-    }
-
-    fn flush(&mut self) -> io::Result<()> {
-        Ok(())
-    }
-}
-
-#[test]
-fn a_write_that_is_interrupted_is_made_again() {
-    for times in [0, 1, 2, 100, 1000] {
-        let mut port = Serial::new(Line::default(), Interrupted(times));
-        port.write(0, b'x').unwrap();
-        assert_eq!(port.writer().0, 0);
-    }
 }
 
 #[test]
@@ -190,38 +163,4 @@ fn what_threads_may_do_with_its_objects_they_may_do_with_a_device() {
     goes_to_another_thread::<I8042Device<Line>>();
     goes_to_another_thread::<(SerialState, RtcState, RtcSnapshot, AlarmIsSet, SavedStateError)>();
     is_sent_and_shared::<Error<&'static str>>(); // an `io::Error` in it may not be used after a panic
-}
-
-#[test]
-fn threads_share_a_port_behind_a_lock() {
-    let input: Vec<u8> = (0..=255).collect();
-    let port = Mutex::new(Serial::new(Line::default(), Vec::new()));
-    // If a byte is lost, neither thread would end by itself.
-    let end = Instant::now() + Duration::from_secs(60);
-    thread::scope(|threads| {
-        threads.spawn(|| {
-            let mut rest = &input[..];
-            while !rest.is_empty() && Instant::now() < end {
-                let mut port = port.lock().unwrap();
-                let count = port.fifo_capacity().min(rest.len());
-                if count > 0 {
-                    assert_eq!(port.enqueue_raw_bytes(&rest[..count]).unwrap(), count);
-                    rest = &rest[count..];
-                }
-            }
-        });
-        // The guest sends each byte back.
-        threads.spawn(|| {
-            let mut count = 0;
-            while count < input.len() && Instant::now() < end {
-                let mut port = port.lock().unwrap();
-                if port.read(5) & 0x01 != 0 {
-                    let byte = port.read(0);
-                    port.write(0, byte).unwrap();
-                    count += 1;
-                }
-            }
-        });
-    });
-    assert_eq!(port.into_inner().unwrap().into_writer(), input);
 }

@@ -5,12 +5,12 @@ use std::mem;
 use std::panic::{AssertUnwindSafe, catch_unwind};
 use std::sync::Arc;
 
-use super::objects::Object;
-use super::superio::I8042Device;
-use super::superio::rtc_pl031::{Rtc, RtcState};
-use super::superio::serial::{Error, Serial, SerialState};
-use crate::line::{Behaviour, Observed, bytes_of, number, text_of_bytes};
+use crate::line::{Behaviour, bytes_of, number, text_of_bytes};
 use crate::moment;
+use crate::objects::Object;
+use superio::I8042Device;
+use superio::rtc_pl031::{Rtc, RtcState};
+use superio::serial::{Error, Serial, SerialState};
 
 /// The text of a reply.
 pub type Outcome = Result<String, Error<io::Error>>;
@@ -45,19 +45,23 @@ impl Devices {
         }
     }
 
-    /// Makes the call of a line in this way.
-    pub fn make(&mut self, call: &str, carry_out: impl FnOnce(&mut Devices, &[&str]) -> Outcome) -> Observed {
+    /// Makes the call of a line in this way. Returns its reply and the calls of objects, or `None` if there is no such
+    /// call.
+    pub fn make(
+        &mut self,
+        call: &str,
+        carry_out: impl FnOnce(&mut Devices, &[&str]) -> Option<Outcome>,
+    ) -> Option<String> {
         let mut words: Vec<&str> = call.split(' ').collect();
         self.object.prepare(Behaviour::taken_off(&mut words));
         let reply = match catch_unwind(AssertUnwindSafe(|| carry_out(self, &words))) {
-            Ok(Ok(reply)) => reply,
-            Ok(Err(error)) => self.name_of(&error).into(),
+            Ok(Some(Ok(reply))) => reply,
+            Ok(Some(Err(error))) => self.name_of(&error).into(),
+            Ok(None) => return None,
             Err(_) => "panics".into(),
         };
         self.object.prepare(Behaviour::default());
-        let RtcState { ris, offset, .. } = self.clock.state();
-        let held = 64 - self.serial.fifo_capacity();
-        Observed { reply, events: self.object.take_events(), held, ris, offset, is_armed: false }
+        Some(reply + &self.object.take_events())
     }
 
     /// The reply of a call that fails, if its error and what it prints are those that its object gave.
@@ -79,32 +83,32 @@ impl Devices {
     }
 
     /// Makes a call that both crates have.
-    pub fn carry_out(&mut self, words: &[&str]) -> Outcome {
+    pub fn carry_out(&mut self, words: &[&str]) -> Option<Outcome> {
         let byte = |place: usize| number(words[place]) as u8;
-        match words[0] {
-            "sr" => Ok(format!("{:02x}", self.serial.read(byte(1)))),
-            "sw" => self.serial.write(byte(1), byte(2)).map(|()| "ok".into()),
-            "sq" => self.serial.enqueue_raw_bytes(&bytes_of(words[1])).map(|count| format!("{count:02x}")),
-            "sc" => Ok(format!("{:02x}", self.serial.fifo_capacity())),
-            "ss" => self.restore(&self.serial.state()),
-            "sl" => self.restore(&port_of(&bytes_of(words[1]), bytes_of(words[2]))),
-            "cr" => {
+        Some(match (words[0], words.len()) {
+            ("sr", 2) => Ok(format!("{:02x}", self.serial.read(byte(1)))),
+            ("sw", 3) => self.serial.write(byte(1), byte(2)).map(|()| "ok".into()),
+            ("sq", 2) => self.serial.enqueue_raw_bytes(&bytes_of(words[1])).map(|count| format!("{count:02x}")),
+            ("sc", 1) => Ok(format!("{:02x}", self.serial.fifo_capacity())),
+            ("ss", 1) => self.restore(&self.serial.state()),
+            ("sl", 3) => self.restore(&port_of(&bytes_of(words[1]), bytes_of(words[2]))),
+            ("cr", 3) => {
                 moment::set(number(words[1]));
                 let mut bytes = UNREAD;
                 self.clock.read(number(words[2]) as u16, &mut bytes);
                 Ok(format!("{:08x}", u32::from_le_bytes(bytes)))
             }
-            "cw" => {
+            ("cw", 4) => {
                 moment::set(number(words[1]));
                 self.clock.write(number(words[2]) as u16, &(number(words[3]) as u32).to_le_bytes());
                 Ok("ok".into())
             }
-            "cs" => Ok(self.restore_clock(&self.clock.state())),
-            "cl" => Ok(self.restore_clock(&clock_of(words))),
-            "kr" => Ok(format!("{:02x}", self.controller.read(byte(1)))),
-            "kw" => self.controller.write(byte(1), byte(2)).map(|()| "ok".into()).map_err(Error::Trigger),
-            name => panic!("no call has the name {name}"),
-        }
+            ("cs", 1) => Ok(self.restore_clock(&self.clock.state())),
+            ("cl", 6) => Ok(self.restore_clock(&clock_of(words))),
+            ("kr", 2) => Ok(format!("{:02x}", self.controller.read(byte(1)))),
+            ("kw", 3) => self.controller.write(byte(1), byte(2)).map(|()| "ok".into()).map_err(Error::Trigger),
+            _ => return None,
+        })
     }
 
     /// A port of this state takes the place of the one that was there. That is taken apart, which calls no object.

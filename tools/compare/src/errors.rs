@@ -28,7 +28,8 @@ const TEXTS: [&str; 5] =
 /// How many numbers of the system are tried, and how many errors have each of these, and each kind in each way.
 const NUMBERS: u32 = LARGEST + 4;
 
-pub const ERRORS: u32 = 4 * (NUMBERS + OTHER_KINDS.len() as u32);
+/// tools/rust/random_calls loses each byte so often that each error comes.
+const ERRORS: u32 = 4 * (NUMBERS + OTHER_KINDS.len() as u32);
 
 /// The number of the error that `write_all` makes of a writer that takes nothing.
 pub const OF_WRITE_ALL: u32 = u32::MAX;

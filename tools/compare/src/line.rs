@@ -28,29 +28,6 @@ impl Behaviour {
         }
         behaviour
     }
-
-    /// A call in which the objects behave so.
-    pub fn added_to(self, mut call: String) -> String {
-        for (refuses, word) in self.refuses.into_iter().zip([" 1", " 2"]) {
-            call += if refuses { word } else { "" };
-        }
-        call.extend(self.writing.map(|sign| format!(" {sign}")));
-        call.extend(self.panics_after.map(|calls| format!(" p{calls}")));
-        call
-    }
-}
-
-/// What is seen of a call: its reply, what it asked of objects, and the states after it.
-#[derive(Clone, Debug, Default)]
-pub struct Observed {
-    pub reply: String,
-    pub events: String,
-    /// How many bytes the port holds.
-    pub held: usize,
-    /// The clock's raw status and offset, and whether an alarm is set.
-    pub ris: u32,
-    pub offset: i64,
-    pub is_armed: bool,
 }
 
 pub fn number(word: &str) -> u64 {

@@ -3,11 +3,11 @@ use std::cell::{Cell, RefCell};
 use std::io::{self, ErrorKind, Write};
 use std::rc::Rc;
 
-use super::superio::Trigger;
-use super::superio::rtc_pl031::RtcEvents;
-use super::superio::serial::SerialEvents;
 use crate::errors::{OF_WRITE_ALL, interruption, made, seen};
 use crate::line::Behaviour;
+use superio::Trigger;
+use superio::rtc_pl031::RtcEvents;
+use superio::serial::SerialEvents;
 
 /// What the objects of all devices share: how they are to behave, and what they were asked.
 #[derive(Debug, Default)]

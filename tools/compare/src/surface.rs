@@ -5,11 +5,11 @@ use std::fmt::Debug;
 use std::io::Write;
 use std::sync::Arc;
 
-use super::objects::Object;
-use super::superio::I8042Device;
-use super::superio::rtc_pl031::{self, Rtc, RtcEvents, RtcState};
-use super::superio::serial::{Error, NoEvents, Serial, SerialEvents, SerialState};
 use crate::moment;
+use crate::objects::Object;
+use superio::I8042Device;
+use superio::rtc_pl031::{self, Rtc, RtcEvents, RtcState};
+use superio::serial::{Error, NoEvents, Serial, SerialEvents, SerialState};
 
 /// A guest sends and reads, and the port is shown.
 fn drive<EV: SerialEvents + Debug, W: Write + Debug>(

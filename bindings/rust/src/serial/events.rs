@@ -54,23 +54,6 @@ pub trait SerialEvents {
 }
 
 /// An events object that ignores every event.
-///
-/// # Example
-///
-/// ```
-/// use vm_superio::serial::NoEvents;
-/// use vm_superio::{Serial, SerialState};
-/// # use vm_superio::Trigger;
-/// # struct Silent;
-/// # impl Trigger for Silent {
-/// #     type E = std::convert::Infallible;
-/// #     fn trigger(&self) -> Result<(), Self::E> { Ok(()) }
-/// # }
-///
-/// // A restore asks for an events object; `Serial::new` needs none.
-/// let serial = Serial::from_state(&SerialState::default(), Silent, NoEvents, Vec::new()).unwrap();
-/// assert_eq!(serial.fifo_capacity(), 64);
-/// ```
 #[derive(Debug, Clone, Copy)]
 pub struct NoEvents;
 

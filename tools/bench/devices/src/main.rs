@@ -1,14 +1,14 @@
 //! Makes a list of accesses of the devices again and again.
 //!
-//!     original ROUNDS PREPARED < LIST
+//!     devices ROUNDS PREPARED < LIST
 //!
-//! An access has three bytes: the kind, the offset and the value. The first PREPARED are made once, and the others ROUNDS
-//! times. Prints the sum of what these read.
+//! An access has three bytes: the kind, the offset and the value. The first PREPARED are made once, and the others
+//! ROUNDS times. Prints the sum of what these read.
 use std::env;
 use std::error::Error;
 use std::io::{self, Read};
 
-use original::{Access, Board, moment};
+use devices::{Access, Board, moment};
 
 /// Makes the accesses in order, and returns the sum of what they read.
 fn sum_of(board: &mut Board, list: &[Access]) -> u64 {
@@ -22,7 +22,7 @@ fn main() -> Result<(), Box<dyn Error>> {
     let mut bytes = Vec::new();
     io::stdin().read_to_end(&mut bytes)?;
     let list: Vec<Access> = bytes.chunks_exact(3).map(|it| Access::of(it[0], it[1], it[2])).collect();
-    moment::set(1_000);
+    moment::set(devices::NOW);
     let mut board = Board::default();
     let (preparation, list) = list.split_at(prepared.min(list.len()));
     sum_of(&mut board, preparation);

@@ -1,5 +1,5 @@
-//! The devices of the Rust crate vm-superio, with output that is dropped and triggers that count: as they are, and behind C
-//! functions.
+//! The devices of the Rust crate vm-superio, with output that is dropped and triggers that count: as they are, and
+//! behind a C function.
 use std::cell::Cell;
 use std::convert::Infallible;
 use std::hint::black_box;
@@ -9,49 +9,7 @@ use vm_superio::rtc_pl031;
 use vm_superio::serial::{Error, NoEvents, Serial};
 use vm_superio::{I8042Device, Rtc, Trigger};
 
-mod c;
-#[path = "../../../compare/src/moment.rs"]
-pub mod moment;
-
-/// The bytes that are enqueued.
-const INPUT: [u8; 64] = [0x61; 64];
-
-/// What stands for a refused access in the sum.
-const REFUSED: u64 = 1 << 32;
-
-#[derive(Clone, Copy)]
-pub enum Access {
-    /// What the loop itself costs.
-    Nothing,
-    SerialRead(u8),
-    SerialWrite(u8, u8),
-    /// As many bytes for the guest.
-    SerialEnqueue(u8),
-    /// The port is saved, and made again from what was saved.
-    SerialRestore,
-    ClockRead(u8),
-    ClockWrite(u8, u8),
-    ClockRestore,
-    ControllerRead(u8),
-    ControllerWrite(u8, u8),
-}
-
-impl Access {
-    pub fn of(kind: u8, offset: u8, value: u8) -> Access {
-        match kind {
-            b'r' => Access::SerialRead(offset),
-            b'w' => Access::SerialWrite(offset, value),
-            b'e' => Access::SerialEnqueue(value),
-            b's' => Access::SerialRestore,
-            b'R' => Access::ClockRead(offset),
-            b'W' => Access::ClockWrite(offset, value),
-            b'S' => Access::ClockRestore,
-            b'i' => Access::ControllerRead(offset),
-            b'o' => Access::ControllerWrite(offset, value),
-            _ => Access::Nothing,
-        }
-    }
-}
+use crate::{Access, INPUT, REFUSED};
 
 /// Counts its calls, and refuses none.
 #[derive(Default)]
@@ -68,17 +26,11 @@ impl Trigger for Counter {
 
 type Port = Serial<Counter, NoEvents, Sink>;
 type Clock = Rtc<rtc_pl031::NoEvents>;
-type Controller = I8042Device<Counter>;
 
-/// Devices whose output is dropped, and whose events nobody hears.
 pub struct Board {
     serial: Port,
     clock: Clock,
-    controller: Controller,
-}
-
-fn new_port() -> Port {
-    Serial::new(Counter::default(), sink())
+    controller: I8042Device<Counter>,
 }
 
 /// Saves the port, and makes it again from what was saved.
@@ -87,17 +39,15 @@ fn restore_port(port: &mut Port) -> Result<(), Error<Infallible>> {
     Ok(())
 }
 
-/// Saves the clock, and makes it again from what was saved. The state passes a point at which rustc knows nothing of it:
-/// otherwise it sees that all numbers stay as they are, and removes the save and the restore.
+/// Saves the clock, and makes it again from what was saved. The state passes a point at which rustc knows nothing of
+/// it: otherwise it sees that all numbers stay as they are, and removes the save and the restore.
 fn restore_clock(clock: &mut Clock) {
     *clock = Rtc::from_state(&black_box(clock.state()), rtc_pl031::NoEvents);
 }
 
 impl Board {
-    /// Makes an access, and returns what it read, or how many bytes it enqueued, or otherwise 0. A refused one is
-    /// [`REFUSED`].
     #[inline(always)]
-    pub fn make(&mut self, access: Access) -> u64 {
+    fn make_here(&mut self, access: Access) -> u64 {
         match access {
             Access::Nothing => 0,
             Access::SerialRead(offset) => u64::from(self.serial.read(offset)),
@@ -128,6 +78,26 @@ impl Board {
             Err(_) => REFUSED,
         }
     }
+
+    /// Makes an access, and returns what it read, or how many bytes it enqueued, or otherwise 0. A refused one is
+    /// [`REFUSED`].
+    #[inline(always)]
+    pub fn make(&mut self, access: Access) -> u64 {
+        if cfg!(not(feature = "behind")) {
+            self.make_here(access)
+        } else if let Access::Nothing = access {
+            0
+        } else {
+            make_behind(self, access)
+        }
+    }
+}
+
+/// Makes an access behind a C function. It is compiled in each program: rustc joins other calls where it is not there.
+#[unsafe(no_mangle)]
+#[allow(improper_ctypes_definitions)] // both sides are Rust's
+extern "C" fn make_behind(board: &mut Board, access: Access) -> u64 {
+    board.make_here(access)
 }
 
 fn wrote(is_done: bool) -> u64 {
@@ -136,6 +106,10 @@ fn wrote(is_done: bool) -> u64 {
 
 impl Default for Board {
     fn default() -> Board {
-        Board { serial: new_port(), clock: Rtc::new(), controller: I8042Device::new(Counter::default()) }
+        Board {
+            serial: Serial::new(Counter::default(), sink()),
+            clock: Rtc::new(),
+            controller: I8042Device::new(Counter::default()),
+        }
     }
 }
