@@ -16,7 +16,7 @@ from support import ENVIRONMENT, ROOT, TIMEOUT, FolderTest, ended, run
 
 import superio
 from superio import __main__ as main
-from superio.faults import FileFault, write_text
+from superio.files import FileFault, write_text
 from superio.library import FILE_NAME
 from superio.session import Session
 
@@ -56,6 +56,18 @@ RUNS = [
 ]
 
 
+class Pieces:
+    """A pipe from which lines come in these pieces."""
+
+    def __init__(self, pieces):
+        self.pieces = iter(pieces)
+
+    def readinto1(self, buffer):
+        piece = next(self.pieces, b"")
+        buffer[:len(piece)] = piece
+        return len(piece)
+
+
 class Runs(FolderTest):
     def test_runs(self):
         for arguments, script, expected in RUNS:
@@ -74,7 +86,7 @@ class Runs(FolderTest):
             _, expected, _ = run(script=script)
             for cut in range(len(script)):
                 pieces = filter(None, (script[:cut], script[cut:]))
-                out, source = io.StringIO(), mock.Mock(read1=mock.Mock(side_effect=[*pieces, b""]))
+                out, source = io.StringIO(), Pieces(pieces)
                 main._run_file(Session(out), "<stdin>", source)
                 self.assertEqual(expected, out.getvalue(), script[:cut])
 

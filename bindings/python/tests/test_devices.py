@@ -56,7 +56,7 @@ class Registers(unittest.TestCase):
             self.assertFalse(clock.write(name, value, 1 << 40).invalid_write)
             self.assertEqual(value, clock.read(name, 1 << 40).value)
         self.assertEqual(RtcState(lr=0x12345678, mr=0x9ABCDEF0, imsc=1, offset=0x12345678, armed=True), clock.state)
-        self.assertRegex(repr(clock), r"^<Rtc LR=0x12345678 MR=0x9abcdef0 IMSC=0x00000001\(ALARM\) RIS=0x00000000 "
+        self.assertRegex(repr(clock), r"^<Rtc MR=0x9abcdef0 LR=0x12345678 IMSC=0x00000001\(ALARM\) RIS=0x00000000 "
                                       r"([A-Z]+=0x0{8} )*offset=305419896 armed=True>$")
         self.assertEqual("311004000df005b1", bytes(clock.read(f"ID{index}", 0).value for index in range(8)).hex())
 
@@ -224,7 +224,7 @@ class Copies(unittest.TestCase):
                           "a saved state of an unknown version", "a saved state of the wrong length",
                           "more than 64 received bytes", "an alarm that is neither set nor clear"],
                          [*map(str, refusals)])
-        errors = [AlarmIsSetError(), LibraryError("a"), RegisterError("a"), ScriptError("a"), *refusals]
+        errors = [AlarmIsSetError("a"), LibraryError("a"), RegisterError("a"), ScriptError("a"), *refusals]
         public = {kind for kind in vars(superio).values() if isinstance(kind, type) and issubclass(kind, Exception)}
         self.assertEqual(public, set(map(type, errors)))
         for error in errors:

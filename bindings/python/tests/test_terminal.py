@@ -7,7 +7,7 @@ from unittest import mock
 from support import ENVIRONMENT, FolderTest
 from terminal import Terminal
 
-from superio.shell import completions
+from superio.session import Session
 
 PROMPT = "superio> "
 UP = "\x1b[A"
@@ -221,7 +221,7 @@ class Completions(FolderTest):
                 ("kr ", "", []),
                 ("read LSR ", "", [])]:
             with self.subTest(before + text):
-                self.assertEqual(expected, completions(before, text))
+                self.assertEqual(expected, Session(None).completions(before, text))
 
     def test_files(self):
         for name in ("b", "a[1]", "a1"):
@@ -231,4 +231,4 @@ class Completions(FolderTest):
             for text, names in (("", ["a1", "a[1]", "b", "c/"]), ("a[", ["a[1]"]), ("c", ["c/"]), ("?", [])):
                 for start, command in [(start, command) for start in (self.folder, "~")
                                        for command in ("save ", "load ", "source ", "trace on ")]:
-                    self.assertEqual([f"{start}/{name}" for name in names], completions(command, f"{start}/{text}"))
+                    self.assertEqual([f"{start}/{name}" for name in names], Session(None).completions(command, f"{start}/{text}"))

@@ -5,9 +5,8 @@ import xml.etree.ElementTree
 
 from support import ROOT, FolderTest, run
 
-from superio.faults import BadLine
+from superio.files import BadLine
 from superio.recording import entries_of, picture, replay
-from superio.session import Style
 from superio.view import Viewer, table
 
 RECORDING = ROOT / "examples" / "linux-boot" / "boot.recording.xz"
@@ -97,7 +96,7 @@ class Stepping(FolderTest):
 
     def begin(self, trace):
         self.out = io.StringIO()
-        self.viewer = Viewer(steps_of(trace), "trace", self.out, Style(False))
+        self.viewer = Viewer(steps_of(trace), "trace", self.out)
 
     def said(self, line):
         self.out.seek(0)

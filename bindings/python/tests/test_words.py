@@ -9,8 +9,8 @@ from unittest import mock
 from support import PACKAGE, ROOT, FolderTest, run
 
 from superio import Command, Rtc, ScriptError, Serial
-from superio.commands import HELP
-from superio.faults import BadLine, FileFault, Leave
+from superio.files import BadLine, FileFault
+from superio.prompt import Leave
 from superio.registers import CLOCK, SERIAL
 from superio.session import Session
 from superio.tell import quoted
@@ -76,13 +76,13 @@ FAULTS = {
     "no escape is called \\q": [r'type "\q"'],
     "1 to 128 bytes": ["type " + "x" * 129, 'type ""'],
     "1 to 128 bytes have two digits each": ["sq 4"],
-    "the form is: clock read": ["clock", "clock read", "clock set DR 1"],
+    "the form is: clock read|write REGISTER [VALUE] [MOMENT]": ["clock", "clock read", "clock set DR 1"],
     "noon is no moment": ["clock read DR noon"],
     "is no number of seconds: it has 64 bits": [f"clock read DR now+{1 << 64}"],
     "is no moment: it has 64 bits": [f"clock read DR now+{(1 << 64) - NOW}"],
     "is no number of seconds": ["clock read DR now+" + "9" * 5000],
     "guest time has 32 bits": ["alarm +4294967295", f"alarm +{(1 << 32) - NOW}"],
-    "the form is: i8042 read": ["i8042 read"],
+    "the form is: i8042 read|write OFFSET [VALUE]": ["i8042 read"],
     "room takes no arguments": ["room 5"],
     "timeout takes no arguments": ["timeout 5"],
     "it goes on after its last field": ["si 5"],
@@ -328,9 +328,9 @@ class Words(SessionTest):
             self.assertIn(f"  {name}", listed)
             self.assertTrue(self.said(f"help {name}"))
         for command, letter in (("read", "r"), ("write", "w")):
-            named = re.findall(r"\b[A-Z]{3}\b", HELP[command].more.partition(", or an offset")[0])
+            named = re.findall(r"\b[A-Z]{3}\b", self.session.help[command].more.partition(", or an offset")[0])
             self.assertEqual(sorted(name for name, one in SERIAL.items() if letter in one.access), sorted(named))
-        named = re.findall(r"\b[A-Z]{2,4}\b", HELP["clock"].more.partition("ID0")[0].partition("REGISTER is")[2])
+        named = re.findall(r"\b[A-Z]{2,4}\b", self.session.help["clock"].more.partition("ID0")[0].partition("REGISTER is")[2])
         self.assertEqual([name for name in CLOCK if not name.startswith("ID")], named)
 
 
@@ -395,7 +395,7 @@ class Files(SessionTest):
         self.assertRaises(Leave, self.said, f"source {self.path}")
         self.path.write_text("room 5\n")
         for name in [self.path, self.folder / "none", self.folder] * 11:
-            self.assertRaises((ScriptError, FileFault), self.said, f"source {name}")
+            self.assertRaises((ValueError, FileFault), self.said, f"source {name}")
         self.path.write_text("room\n")
         self.assertEqual(self.said("room"), self.said(f"source {self.path}"))
 
