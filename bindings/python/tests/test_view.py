@@ -66,12 +66,6 @@ class Recordings(unittest.TestCase):
                 steps_of(trace)
             self.assertIn(reason, str(caught.exception))
 
-    def test_the_number_of_a_bad_row(self):
-        for number in [*range(1, 300), *range(990, 1110), 10001]:
-            with self.assertRaises(BadLine) as caught:
-                list(replay("trace", [b"#\n"] * (number - 1) + [b"kr\n"]))
-            self.assertIn(f"trace:{number}: ", str(caught.exception))
-
     def test_a_reply_that_differs(self):
         steps = steps_of(TRACE)
         self.assertEqual([11], [number for number, step in enumerate(steps, 1) if step.differs])

@@ -4,12 +4,13 @@ import io
 import os
 import re
 import signal
+import unittest
 from unittest import mock
 
 from support import PACKAGE, ROOT, FolderTest, run
 
 from superio import Command, Rtc, ScriptError, Serial
-from superio.files import BadLine, FileFault
+from superio.files import FileFault
 from superio.prompt import Leave
 from superio.registers import CLOCK, SERIAL
 from superio.session import Session
@@ -282,13 +283,6 @@ class Words(SessionTest):
                          self.said("clock read DR", "trace"))
         self.assertEqual("  DR   0x00000000  1970-01-01 00:00:00", self.said("regs clock")[1])
 
-    def test_the_number_of_a_bad_line(self):
-        for number in [*range(1, 300), *range(990, 1110), 10001, 65537]:
-            with self.assertRaises(BadLine) as caught:
-                self.session.run_lines("file", [b"#\n"] * (number - 1) + [b"kr\n", b"kr 04\n"])
-            self.assertEqual((number, f'file:{number}: "kr": an offset is missing'),
-                             (caught.exception.number, str(caught.exception)))
-
     def test_a_load(self):
         """It asks for what is pending, each time anew. If that is refused, the port stays."""
         self.said("sw 01 01", "sq 61")
@@ -405,45 +399,24 @@ class Files(SessionTest):
         self.assertTrue(self.path.exists())
 
 
-DOCUMENTS = [PACKAGE / "README.md", ROOT / "README.md", *sorted((ROOT / "docs").glob("*.md"))]
-
-
-class Documents(SessionTest):
-    """The lines at a prompt that documents show, and the calls in Python."""
+class Documents(unittest.TestCase):
+    """What documents show at the viewer's prompt and at that of Python. `tools/checks/paste` types into the shell."""
 
     def blocks_with(self, text):
-        found = [block for path in DOCUMENTS for block in
-                 re.findall(r"^```\w*\n(.*?)^```$", path.read_text(encoding="utf-8"), re.MULTILINE | re.DOTALL)
-                 if block.startswith(text)]
+        found = [block for path in [PACKAGE / "README.md", *sorted((ROOT / "docs").glob("*.md"))] for block in
+                 re.findall(rf"^```\w*\n({text}.*?)^```$", path.read_text(encoding="utf-8"), re.MULTILINE | re.DOTALL)]
         self.assertTrue(found)
         return found
 
-    def dialogues(self, prompt):
-        """The lines after the prompts of each block, and the rows that follow them."""
-        for block in self.blocks_with(prompt):
-            rows = block.splitlines()
-            yield [row[len(prompt):] for row in rows if row.startswith(prompt)], \
-                [row for row in rows if not row.startswith(prompt)]
-
-    def test_sessions(self):
-        for lines, expected in self.dialogues("superio> "):
-            self.begin()
-            for line in lines:
-                try:
-                    self.session.carry_out(line.encode())
-                except ValueError as error:
-                    self.session.say(str(error))
-            self.assertEqual(expected, self.said())
-
     def test_stepping(self):
-        for lines, expected in self.dialogues("view> "):
-            recording = ROOT / "examples" / "linux-boot" / "boot.recording.xz"
-            status, output, _ = run("view", recording, script="\n".join(lines).encode())
+        recording = ROOT / "examples" / "linux-boot" / "boot.recording.xz"
+        for rows in map(str.splitlines, self.blocks_with("view> ")):
+            lines = "\n".join(row[len("view> "):] for row in rows if row.startswith("view> "))
+            status, output, _ = run("view", recording, script=lines.encode())
+            expected = [row for row in rows if not row.startswith("view> ")]
             self.assertEqual((0, expected), (status, output.splitlines()[-len(expected):]))
 
     def test_calls_in_python(self):
         for block in self.blocks_with(">>> "):
-            test = doctest.DocTestParser().get_doctest(block, {}, "block", None, 0)
-            said = []
-            failed = doctest.DocTestRunner(verbose=False).run(test, out=said.append).failed
-            self.assertEqual(0, failed, "".join(said))
+            test, said = doctest.DocTestParser().get_doctest(block, {}, "block", None, 0), []
+            self.assertEqual(0, doctest.DocTestRunner().run(test, out=said.append).failed, said)
