@@ -15,7 +15,6 @@ from unittest import mock
 from support import ENVIRONMENT, ROOT, TIMEOUT, FolderTest, ended, run
 
 import superio
-from superio import __main__ as main
 from superio.files import FileFault, write_text
 from superio.library import FILE_NAME
 from superio.session import Session
@@ -42,6 +41,9 @@ RUNS = [
     ([], b"sr 05\ndiff\n", (0, "60\nsr 05\n  nothing changed\n", "")),
     ([], b"foo\n", (1, "", '<stdin>:1: "foo": no command is called foo: help lists them\n')),
     ([], b"kr 04\nload /nowhere/at/all\nkr 04\n", (2, "00\n", '<stdin>:2: "load /nowhere/at/all": ' + NOWHERE)),
+    ([], b"kr 04\ntrace on /nowhere/at/all\n",
+     (1, "00\n", '<stdin>:2: "trace on /nowhere/at/all": trace on FILE has to come before every call here\n')),
+    ([], b"kr 04\ntrace\n", (1, "00\n", '<stdin>:2: "trace": the form is: trace [on [FILE]|off]\n')),
     (["--strict"], b"kr 04\r\n", (1, "", '<stdin>:1: "kr 04\\x0d": it ends with a carriage return\n')),
     (["--strict"], b"kr 04\n\n", (1, "00\n", '<stdin>:2: "": a line begins with a name\n')),
     (["--strict"], b"kr 04\nread LSR\n", (1, "00\n", '<stdin>:2: "read LSR": no line has this name\n')),
@@ -56,18 +58,6 @@ RUNS = [
 ]
 
 
-class Pieces:
-    """A pipe from which lines come in these pieces."""
-
-    def __init__(self, pieces):
-        self.pieces = iter(pieces)
-
-    def readinto1(self, buffer):
-        piece = next(self.pieces, b"")
-        buffer[:len(piece)] = piece
-        return len(piece)
-
-
 class Runs(FolderTest):
     def test_runs(self):
         for arguments, script, expected in RUNS:
@@ -80,15 +70,6 @@ class Runs(FolderTest):
         self.assertEqual(expected, run(EXAMPLE))
         self.assertEqual(expected, run("-", script=EXAMPLE.read_bytes()))
         self.assertEqual(expected, run("--strict", EXAMPLE))
-
-    def test_lines_that_come_in_pieces(self):
-        for script in (b"read LSR", b"read LSR\n", b"\nread LSR\n\n", b"kr 04\nread LSR"):
-            _, expected, _ = run(script=script)
-            for cut in range(len(script)):
-                pieces = filter(None, (script[:cut], script[cut:]))
-                out, source = io.StringIO(), Pieces(pieces)
-                main._run_file(Session(out), "<stdin>", source)
-                self.assertEqual(expected, out.getvalue(), script[:cut])
 
     def test_the_program_at_the_top_needs_no_installation(self):
         """Also through a link. Without a library for the machine it says where it looked, and what to do."""
@@ -153,11 +134,6 @@ class Runs(FolderTest):
         self.assertEqual(0, run(script=session.encode())[0])
         self.assertEqual("sw 01 01\nsq 6869\nsr 00\ncr 0000000000000005 0000\n", self.path.read_text())
         self.assertEqual((0, "ok\n02\n68\n00000005\n", ""), run("--strict", self.path))
-
-    def test_a_trace_file_in_a_pipe_comes_before_every_call(self):
-        status, output, errors = run(script=b"kr 04\ntrace on new\n", cwd=self.folder)
-        said = '<stdin>:2: "trace on new": trace on FILE has to come before every call here\n'
-        self.assertEqual((1, "00\n", said, []), (status, output, errors, list(self.folder.iterdir())))
 
 
 class FullDisk(FolderTest):

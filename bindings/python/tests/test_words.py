@@ -362,13 +362,6 @@ class Files(SessionTest):
             self.said("kr 04")
         self.assertEqual(["00", "00"], self.said("kr 04"))
 
-    def test_lines_are_kept_only_for_a_shell(self):
-        self.begin(keeps_lines=False)
-        self.said("kr 04")
-        self.assertEqual([], self.session.lines)
-        for line in ("trace", f"trace on {self.path}"):
-            self.assertRaises(ScriptError, self.said, line)
-
     def test_loads_are_calls(self):
         self.said("write SCR 7", f"save {self.path}", "reset", f"load {self.path}")
         self.assertEqual(self.path.read_text().splitlines(), self.said("trace"))
