@@ -4,6 +4,7 @@ import io
 import os
 import signal
 import sys
+from contextlib import nullcontext
 from typing import IO, Any, List, NoReturn
 
 from . import __version__
@@ -98,16 +99,10 @@ def _batch(path: str, is_strict: bool) -> int:
     """Carries out a file, or standard input, without prompts."""
     session = Session(sys.stdout, is_strict=is_strict)
     try:
-        if path == "-":
-            return _run_file(session, "<stdin>", sys.stdin.buffer)
-        with open(path, "rb") as file:
-            return _run_file(session, path, file)
+        with nullcontext(sys.stdin.buffer) if path == "-" else open(path, "rb") as file:
+            return _run_file(session, "<stdin>" if path == "-" else path, file)
     except Leave:
         return OK
-    except BadLine as error:
-        sys.stdout.flush()
-        _complain(error)
-        return FAULT if error.is_fault else BAD_LINE
     finally:
         sys.stdout.flush()
 
@@ -124,11 +119,7 @@ def _view(arguments: List[str]) -> int:
     load()
     from .view import view
     options = _viewer_parser().parse_args(arguments)
-    try:
-        view(options.trace, options.table, options.svg, has_colours(sys.stdout, not options.no_color))
-    except (BadLine, ScriptError) as error:
-        _complain(error)
-        return BAD_LINE
+    view(options.trace, options.table, options.svg, has_colours(sys.stdout, not options.no_color))
     return OK
 
 
@@ -185,6 +176,9 @@ def _run(arguments: List[str]) -> int:
         _complain(f"python3 -m superio: {place}{error.strerror}")
         os.dup2(os.open(os.devnull, os.O_WRONLY), sys.stdout.fileno())  # where Python's own flush at the end goes
         return FAULT
+    except (BadLine, ScriptError) as error:
+        _complain(error)
+        return FAULT if getattr(error, "is_fault", False) else BAD_LINE
     except MemoryError:
         _complain("out of memory")
         return NO_MEMORY

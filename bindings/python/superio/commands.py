@@ -6,6 +6,8 @@ from .script import LINES, MASK
 
 _CLOCK_NAMES = ", ".join(name for name in CLOCK if not name.startswith("ID"))
 
+_OF_MASK = "Only before every other call. The line refuses call k, from 0, if bit k of the mask is set."
+
 
 class Help(NamedTuple):
     """What `help` says of a command, and what each of its fields can be, for a shell to complete it."""
@@ -70,9 +72,8 @@ GROUPS: Dict[str, Tuple[Help, ...]] = {
         Help("quit", "ends, as exit and Ctrl-D do"),
     ),
     "Lines of a script, with hexadecimal fields": tuple(
-        Help(" ".join([name, *(field.form for field in fields)]), about,
-             "Only before every other call. The line refuses call k, from 0, if bit k of the mask is set."
-             if name == MASK else "", tuple(field.kind for field in fields)) for name, (about, fields) in LINES.items()),
+        Help(" ".join([name, *(field.form for field in fields)]), about, _OF_MASK if name == MASK else "",
+             tuple(field.kind for field in fields)) for name, (about, fields) in LINES.items()),
 }
 
 VIEWING: Dict[str, Tuple[Help, ...]] = {

@@ -170,8 +170,8 @@ def _axis(count: int, base: int) -> List[str]:
 
 
 def picture(steps: Sequence[Step], title: str) -> str:
-    """The picture of steps, at least one, as a text in SVG: a lane for each condition and for the FIFO, and one for whatever else
-    the steps have. From left to right are the calls, several in a column if they are many."""
+    """The picture of steps, at least one, as a text in SVG: a lane for each condition and for the FIFO, and one for
+    whatever else the steps have. From left to right are the calls, several in a column if they are many."""
     columns = min(len(steps), _WIDTH)
     lanes = _drawn(steps, columns)
     base = _TOP + len(lanes) * (_HEIGHT + _GAP)

@@ -200,32 +200,30 @@ class FullDisk(FolderTest):
         self.assertEqual((0, ["sl", "cl", "po"]), (status, [line[:2] for line in output.splitlines()]))
 
 
-def seconds(*arguments, script=b""):
-    """The processor seconds of Python, in the best of three runs, so that a busy machine is no reason to fail."""
-    times = []
-    for _ in range(3):
-        before = resource.getrusage(resource.RUSAGE_CHILDREN)
-        subprocess.run([sys.executable, *arguments], input=script, stdout=subprocess.DEVNULL, env=ENVIRONMENT,
-                       timeout=TIMEOUT, check=True)
-        after = resource.getrusage(resource.RUSAGE_CHILDREN)
-        times.append(after.ru_utime + after.ru_stime - before.ru_utime - before.ru_stime)
-    return min(times)
-
-
 class Speed(unittest.TestCase):
     def test_a_line_of_a_pipe_takes_little_more_than_its_call(self):
         """Against calls of a device in a loop. A line took some 30 calls when each was decoded, and takes about 6."""
-        script = b"sw 01 01\n" + b"sq 61\nsr 02\nsr 00\nsr 05\n" * 5000
-        loop = "from superio import Serial\nport = Serial()\nfor _ in range(20001): port.read(5)"
+        lines = [b"sw 01 01", *[b"sq 61", b"sr 02", b"sr 00", b"sr 05"] * 5000]
 
         def calls_of_a_line():
-            plain = seconds("-c", "from superio import Serial")
-            return (seconds("-m", "superio", script=script) - plain) / (seconds("-c", loop) - plain)
+            session, port, begun = Session(io.StringIO()), Serial(), time.process_time()
+            session.run_lines("lines", lines)
+            ended = time.process_time()
+            for _ in lines:
+                port.read(5)
+            return (ended - begun) / (time.process_time() - ended)
 
         self.assertTrue(any(calls_of_a_line() < 15 for _ in range(5)))
 
     def test_it_starts_quickly(self):
-        self.assertLess(seconds("-m", "superio") - seconds("-c", "pass"), 0.2)
+        """By processor seconds, in the best of three runs, so that a busy machine is no reason to fail."""
+        def seconds(*arguments):
+            before = os.times()
+            subprocess.run([sys.executable, *arguments], input=b"", env=ENVIRONMENT, timeout=TIMEOUT, check=True)
+            return sum(os.times()[2:4]) - sum(before[2:4])
+
+        self.assertLess(*(min(seconds(*arguments) for _ in range(3)) - more
+                          for arguments, more in ((["-m", "superio"], 0.2), (["-c", "pass"], 0))))
 
 
 def listening(command):

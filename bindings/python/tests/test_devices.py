@@ -93,7 +93,7 @@ BYTE, WORD, MOMENT = (f"an int from 0 to {most}" for most in ("255", r"2\*\*32 -
 OFFSET, CLOCK_OFFSET = (f"an int from 0 to {most}, or the name of a register," for most in (255, 65535))
 BYTES, SIGNED = "a bytes-like object", r"an int from -2\*\*63 to 2\*\*63 - 1"
 
-# Calls with a wrong argument: the argument, how it is shown, empty for a long one, and what is wanted. `Types` has those of other types.
+# Calls with a wrong argument: which it is, how it is shown, empty if it is long, and what is wanted. `Types` has more.
 REFUSED = [
     (lambda: Serial().enqueue([65]), "data", "[65], of type list", BYTES),
     (lambda: Serial().write(7, 256), "value", "256, of type int", BYTE),

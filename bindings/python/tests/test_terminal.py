@@ -223,4 +223,5 @@ class Completions(FolderTest):
             for text, names in (("", ["a1", "a[1]", "b", "c/"]), ("a[", ["a[1]"]), ("c", ["c/"]), ("?", [])):
                 for start, command in [(start, command) for start in (self.folder, "~")
                                        for command in ("save ", "load ", "source ", "trace on ")]:
-                    self.assertEqual([f"{start}/{name}" for name in names], Session(None).completions(command, f"{start}/{text}"))
+                    self.assertEqual([f"{start}/{name}" for name in names],
+                                     Session(None).completions(command, f"{start}/{text}"))

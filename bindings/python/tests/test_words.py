@@ -146,67 +146,69 @@ DIALOGUES = [
 NEITHER = "is not pending: no call has raised it. IER does not enable it"
 NEXT_THRE = "The next byte that goes out raises it, or a write to IER."
 ENDS_RDA, ENDS_THRE = "A read of IIR or of RBR acknowledges it.", "A read of IIR acknowledges it."
+NO_THRE = f"THRE {NEITHER}."
 
 
-def raised(call, then, answer="took"):
-    return f"is pending: call {call}, raised it, and the line {answer} the interrupt. {then}"
+def raised(name, call, then, answer="took"):
+    return f"{name} is pending: call {call}, raised it, and the line {answer} the interrupt. {then}"
 
 
-# Lines, and what is said then of RDA and of THRE, `None` where it does not matter.
-WHY = [
-    ([], f"{NEITHER}.", f"{NEITHER}."),
-    (["sq 61"], f"{NEITHER}, and 1 byte is held.", None),
-    (["sw 01 01", "sq 61"], raised("2, sq 61", ENDS_RDA), None),
-    (["sw 01 01", "sq 6162", "sr 02"], "is not pending: call 3, sr 02, acknowledged it. 2 bytes are held: a timeout, "
-     "the next byte or a write to IER raises it.", None),
-    (["sw 01 01", "sq 6162", "sr 02", "si"], raised("4, si", ENDS_RDA), None),
-    (["refuse 2", "sw 01 01", "sq 6162", "sr 02", "si"], raised("5, si", ENDS_RDA, "refused"), None),
-    (["sw 01 01", "sq 61", "sd"], "is not pending: call 3, sd, acknowledged it. The next byte raises it.", None),
-    (["refuse 1", "sw 01 01", "sq 61", "sw 01 00"], raised("3, sq 61", "IER does not enable it now.", "refused"), None),
-    (["refuse 1", "sw 01 01", "sq 61", "ss"], raised("4, ss", ENDS_RDA), None),
-    (["refuse 2", "sq 61", "sw 01 03"], raised("3, sw 01 03", ENDS_RDA), raised("3, sw 01 03", ENDS_THRE, "refused")),
-    (["sw 01 01", "sq " + "61" * 20], raised("2, sq 6161616161616161616..", ENDS_RDA), None),
-    (["sw 01 02"], None, raised("1, sw 01 02", ENDS_THRE)),
-    (["sw 01 02", "sr 02"], None, f"is not pending: call 2, sr 02, acknowledged it. {NEXT_THRE}"),
-    (["type hi", "write IER RDA|THRE", "read IIR", "reset"], f"{NEITHER}.", f"{NEITHER}."),
-]
-
-DIFFS = [
-    (["sq 6869", "sr 00"], ["FIFO 2 -> 1 byte"]),
-    (["cw 0000000000000064 0004 00000069", "cr 0000000000000069 0014"],
-     ["RIS 0x00000000 -> 0x00000001  ALARM", "alarm over"]),
-    (["cw 0000000000000069 0008 00000064"], ["LR 0x00000000 -> 0x00000064", "clock offset 0 -> -5 s"]),
-    (["sw 01 02"], ["IER 0x00 -> 0x02  THRE", "IIR 0xc1 -> 0xc2  THRE", "interrupt taken"]),
-    (["sq 6869"], ["LSR 0x60 -> 0x61  DR THRE TEMT", "FIFO 0 -> 2 bytes"]),
-    (["sw 00 41"], ["output 0 -> 1 byte"]),
-    (["sr 05"], ["nothing changed"]),
-    (["sw 01 01", "sq 6162", "sr 02", "si"], ["IIR 0xc1 -> 0xc4  RDA", "interrupt taken"]),
-    (["si"], ["nothing changed"]),
-    (["cw 0000000000000064 0004 00000069"], ["MR 0x00000000 -> 0x00000069", "alarm set"]),
-    (["cw 0000000000000064 0008 00000069"], ["LR 0x00000000 -> 0x00000069", "clock offset 0 -> 5 s"]),
-    (["refuse 1", "sq 61", "sw 01 03"], ["IER 0x00 -> 0x03  RDA THRE", "IIR 0xc1 -> 0xc4  RDA", "interrupt refused"]),
-]
-
-
-# Lines, what `regs` is asked for after them, and the rows below its heading.
-REGS = [
-    (["write IER RDA|THRE", 'type "hi"'], "serial",
-     ["IER  0x03  RDA THRE", "IIR  0xc6  RDA THRE", "LCR  0x03  8N1", "MCR  0x08  OUT2", "LSR  0x61  DR THRE TEMT",
-      "MSR  0xb0  CTS DSR DCD", "SCR  0x00", "divisor 12, FIFO 2 of 64", '"hi"', "pending: RDA, THRE",
-      "line called 2 times, 0 bytes out"]),
-    (["sw 03 80", "sw 00 34", "sw 01 12", "sw 03 1a", "sw 04 10", "sw 07 5a", "sw 04 03", "sw 00 41"], "serial",
-     ["IER  0x00", "IIR  0xc1  none", "LCR  0x1a  7E1", "MCR  0x03  DTR RTS", "LSR  0x60  THRE TEMT",
-      "MSR  0xb0  CTS DSR DCD", "SCR  0x5a", "divisor 4660, FIFO 0 of 64", "pending: nothing",
-      "line called 0 times, 1 byte out"]),
-    (["clock write LR 100", "clock write IMSC 1", "alarm +5"], "clock",
-     ["DR   0x00000064  1970-01-01 00:01:40", "MR   0x00000069", "LR   0x00000064", "IMSC 0x00000001  ALARM",
-      "RIS  0x00000000", "alarm due in 5 s", "interrupt line down"]),
-    (["clock write LR 100", "clock write IMSC 1", "alarm +5", "clock read MIS +5"], "clock",
-     ["DR   0x00000064  1970-01-01 00:01:40", "MR   0x00000069", "LR   0x00000064", "IMSC 0x00000001  ALARM",
-      "RIS  0x00000001  ALARM", "no alarm is set", "interrupt line up"]),
-    (["clock write LR 100", "clock write MR 95 now-10"], "clock",
-     ["DR   0x00000064  1970-01-01 00:01:40", "MR   0x0000005f", "LR   0x00000064", "IMSC 0x00000000",
-      "RIS  0x00000000", "alarm due now", "interrupt line down"]),
+# Lines, the last of which asks, and what is said to it.
+ASKED = [
+    (["why"], [f"RDA {NEITHER}.", NO_THRE]),
+    (["sq 61", "why"], [f"RDA {NEITHER}, and 1 byte is held.", NO_THRE]),
+    (["sw 01 01", "sq 61", "why"], [raised("RDA", "2, sq 61", ENDS_RDA), NO_THRE]),
+    (["sw 01 01", "sq 6162", "sr 02", "why"], ["RDA is not pending: call 3, sr 02, acknowledged it. 2 bytes are held: "
+                                              "a timeout, the next byte or a write to IER raises it.", NO_THRE]),
+    (["sw 01 01", "sq 6162", "sr 02", "si", "why"], [raised("RDA", "4, si", ENDS_RDA), NO_THRE]),
+    (["refuse 2", "sw 01 01", "sq 6162", "sr 02", "si", "why"], [raised("RDA", "5, si", ENDS_RDA, "refused"), NO_THRE]),
+    (["sw 01 01", "sq 61", "sd", "why"], ["RDA is not pending: call 3, sd, acknowledged it. The next byte raises it.",
+                                         NO_THRE]),
+    (["refuse 1", "sw 01 01", "sq 61", "sw 01 00", "why"],
+     [raised("RDA", "3, sq 61", "IER does not enable it now.", "refused"), NO_THRE]),
+    (["refuse 1", "sw 01 01", "sq 61", "ss", "why"], [raised("RDA", "4, ss", ENDS_RDA), NO_THRE]),
+    (["refuse 2", "sq 61", "sw 01 03", "why"],
+     [raised("RDA", "3, sw 01 03", ENDS_RDA), raised("THRE", "3, sw 01 03", ENDS_THRE, "refused")]),
+    (["sw 01 01", "sq " + "61" * 20, "why"], [raised("RDA", "2, sq 6161616161616161616..", ENDS_RDA), NO_THRE]),
+    (["sw 01 02", "why"], [f"RDA {NEITHER}.", raised("THRE", "1, sw 01 02", ENDS_THRE)]),
+    (["sw 01 02", "sr 02", "why"], [f"RDA {NEITHER}.", "THRE is not pending: call 2, sr 02, acknowledged it. "
+                                    + NEXT_THRE]),
+    (["type hi", "write IER RDA|THRE", "read IIR", "reset", "why"], [f"RDA {NEITHER}.", NO_THRE]),
+    (["sq 6869", "sr 00", "diff"], ["sr 00", "  FIFO 2 -> 1 byte"]),
+    (["cw 0000000000000064 0004 00000069", "cr 0000000000000069 0014", "diff"],
+     ["cr 0000000000000069 0014", "  RIS 0x00000000 -> 0x00000001  ALARM", "  alarm over"]),
+    (["cw 0000000000000069 0008 00000064", "diff"],
+     ["cw 0000000000000069 0008 00000064", "  LR 0x00000000 -> 0x00000064", "  clock offset 0 -> -5 s"]),
+    (["sw 01 02", "diff"], ["sw 01 02", "  IER 0x00 -> 0x02  THRE", "  IIR 0xc1 -> 0xc2  THRE", "  interrupt taken"]),
+    (["sq 6869", "diff"], ["sq 6869", "  LSR 0x60 -> 0x61  DR THRE TEMT", "  FIFO 0 -> 2 bytes"]),
+    (["sw 00 41", "diff"], ["sw 00 41", "  output 0 -> 1 byte"]),
+    (["si", "diff"], ["si", "  nothing changed"]),
+    (["sw 01 01", "sq 6162", "sr 02", "si", "diff"], ["si", "  IIR 0xc1 -> 0xc4  RDA", "  interrupt taken"]),
+    (["cw 0000000000000064 0004 00000069", "diff"],
+     ["cw 0000000000000064 0004 00000069", "  MR 0x00000000 -> 0x00000069", "  alarm set"]),
+    (["cw 0000000000000064 0008 00000069", "diff"],
+     ["cw 0000000000000064 0008 00000069", "  LR 0x00000000 -> 0x00000069", "  clock offset 0 -> 5 s"]),
+    (["refuse 1", "sq 61", "sw 01 03", "diff"],
+     ["sw 01 03", "  IER 0x00 -> 0x03  RDA THRE", "  IIR 0xc1 -> 0xc4  RDA", "  interrupt refused"]),
+    (["write IER RDA|THRE", 'type "hi"', "regs serial"],
+     ["serial port", "  IER  0x03  RDA THRE", "  IIR  0xc6  RDA THRE", "  LCR  0x03  8N1", "  MCR  0x08  OUT2",
+      "  LSR  0x61  DR THRE TEMT", "  MSR  0xb0  CTS DSR DCD", "  SCR  0x00", "  divisor 12, FIFO 2 of 64", '  "hi"',
+      "  pending: RDA, THRE", "  line called 2 times, 0 bytes out"]),
+    (["sw 03 80", "sw 00 34", "sw 01 12", "sw 03 1a", "sw 04 10", "sw 07 5a", "sw 04 03", "sw 00 41", "regs serial"],
+     ["serial port", "  IER  0x00", "  IIR  0xc1  none", "  LCR  0x1a  7E1", "  MCR  0x03  DTR RTS",
+      "  LSR  0x60  THRE TEMT", "  MSR  0xb0  CTS DSR DCD", "  SCR  0x5a", "  divisor 4660, FIFO 0 of 64",
+      "  pending: nothing", "  line called 0 times, 1 byte out"]),
+    *(([*lines, "regs clock"],
+       ["clock, in UTC", "  DR   0x00000064  1970-01-01 00:01:40", *(f"  {row}" for row in rows)]) for lines, rows in (
+          (["clock write LR 100", "clock write IMSC 1", "alarm +5"],
+           ["MR   0x00000069", "LR   0x00000064", "IMSC 0x00000001  ALARM", "RIS  0x00000000", "alarm due in 5 s",
+            "interrupt line down"]),
+          (["clock write LR 100", "clock write IMSC 1", "alarm +5", "clock read MIS +5"],
+           ["MR   0x00000069", "LR   0x00000064", "IMSC 0x00000001  ALARM", "RIS  0x00000001  ALARM", "no alarm is set",
+            "interrupt line up"]),
+          (["clock write LR 100", "clock write MR 95 now-10"],
+           ["MR   0x0000005f", "LR   0x00000064", "IMSC 0x00000000", "RIS  0x00000000", "alarm due now",
+            "interrupt line down"]))),
 ]
 
 
@@ -258,23 +260,12 @@ class Words(SessionTest):
             with self.subTest(lines):
                 self.assertEqual(replies, self.afresh([], *lines))
 
-    def test_why(self):
-        for lines, *sentences in WHY:
-            for name, sentence, said in zip(("RDA", "THRE"), sentences, self.afresh(lines, "why")):
-                self.assertIn(sentence and f"{name} {sentence}", (said, None), lines)
-
-    def test_diff(self):
-        for lines, rows in DIFFS:
-            self.assertEqual([lines[-1], *("  " + row for row in rows)], self.afresh(lines, "diff"), lines)
-
-    def test_regs(self):
-        headings = {"serial": "serial port", "clock": "clock, in UTC"}
-        for lines, device, rows in REGS:
-            wanted = [headings[device], *("  " + row for row in rows)]
+    def test_what_is_asked(self):
+        for (*lines, asked), rows in ASKED:
             # A register of the clock that no line changed need not be in the rows.
-            said = [row for row in self.afresh(lines, f"regs {device}")
-                    if row in wanted or not re.fullmatch("  [A-Z]+ +0x0{8}", row)]
-            self.assertEqual(wanted, said, lines)
+            said = [row for row in self.afresh(lines, asked)
+                    if row in rows or not re.fullmatch("  [A-Z]+ +0x0{8}", row)]
+            self.assertEqual(rows, said, lines)
         self.assertEqual(self.said("regs serial") + self.said("regs clock"), self.said("regs"))
 
     def test_a_host_before_1970_has_the_moment_0(self):
@@ -287,7 +278,7 @@ class Words(SessionTest):
         """It asks for what is pending, each time anew. If that is refused, the port stays."""
         self.said("sw 01 01", "sq 61")
         saved = self.session.board.serial.to_bytes()
-        for lines, times, expected in ((["sr 07"], 2, f"RDA {raised(f'3, sl {saved.hex()}'[:25] + '..', ENDS_RDA)}"),
+        for lines, times, expected in ((["sr 07"], 2, raised("RDA", f"3, sl {saved.hex()}"[:25] + "..", ENDS_RDA)),
                                        (["refuse 1", "sw 07 5a"], 1, f"RDA {NEITHER}.")):
             self.afresh(lines)
             for _ in range(times):
@@ -324,7 +315,7 @@ class Words(SessionTest):
         for command, letter in (("read", "r"), ("write", "w")):
             named = re.findall(r"\b[A-Z]{3}\b", self.session.help[command].more.partition(", or an offset")[0])
             self.assertEqual(sorted(name for name, one in SERIAL.items() if letter in one.access), sorted(named))
-        named = re.findall(r"\b[A-Z]{2,4}\b", self.session.help["clock"].more.partition("ID0")[0].partition("REGISTER is")[2])
+        named = self.session.help["clock"].more.partition(", ID0")[0].partition("REGISTER is ")[2].split(", ")
         self.assertEqual([name for name in CLOCK if not name.startswith("ID")], named)
 
 
