@@ -2,7 +2,7 @@
 from ctypes import c_int64, c_uint8, c_uint32, c_uint64, sizeof
 from dataclasses import dataclass, field, fields
 from functools import lru_cache
-from typing import Any, Dict, List, Mapping, NamedTuple, Optional, Sequence, Tuple
+from typing import Any, Dict, List, Mapping, NamedTuple, Optional, Tuple, Type, TypeVar
 
 from .arguments import byte_string, number
 
@@ -140,17 +140,8 @@ def bit_names(register: Register, value: int) -> List[str]:
     return names
 
 
-# The fields of a clock in vm-superio, in its order.
-_FIVE = ("lr", "offset", "mr", "imsc", "ris")
-
-
 class AlarmIsSetError(ValueError):
     """vm-superio's state of a clock was asked of one with an alarm set, which its five fields cannot hold."""
-
-
-def _check_names(named: Mapping[str, Any], wanted: Sequence[str]) -> None:
-    if set(named) != set(wanted):
-        raise ValueError(f"the fields are {', '.join(map(str, named))}: {', '.join(wanted)} are wanted")
 
 
 def _kept(kind: Any, default: Any = 0) -> Any:
@@ -158,8 +149,11 @@ def _kept(kind: Any, default: Any = 0) -> Any:
     return field(default=default, metadata={"kind": kind})
 
 
+_State = TypeVar("_State", bound="State")
+
+
 class State:
-    """The state of a device, whose fields are checked."""
+    """The state of a device, whose fields are checked, and its form in vm-superio."""
 
     def __post_init__(self) -> None:
         for name, kind in self.kinds().items():
@@ -172,6 +166,32 @@ class State:
     def kinds(cls) -> Dict[str, Any]:
         """The fields that the struct of superio.h has under the same names, each with its kind there."""
         return {one.name: one.metadata["kind"] for one in fields(cls) if one.metadata}
+
+    @classmethod
+    def _moved(cls) -> List[str]:
+        """The fields that vm-superio has, in its order: ten of a port, five of a clock."""
+        return [one.name for one in fields(cls)]
+
+    def to_vm_superio(self) -> Dict[str, Any]:
+        """The fields as serde's JSON has them. `json.dumps` makes the text.
+
+        Raises `AlarmIsSetError` of a clock with an alarm set. `dataclasses.replace(state, armed=False)` gives it up.
+        """
+        if getattr(self, "armed", False):
+            raise AlarmIsSetError("an alarm is set, and the five fields of vm-superio's RtcState cannot hold it")
+        values = {name: getattr(self, name) for name in self._moved()}
+        return {name: list(value) if isinstance(value, bytes) else value for name, value in values.items()}
+
+    @classmethod
+    def from_vm_superio(cls: Type[_State], named: Mapping[str, Any]) -> _State:
+        """The state of these fields, as `json.loads` reads them. A clock has no alarm set then.
+
+        Raises `ValueError` if the names are others or a value is out of range, and `TypeError` if one is no number.
+        """
+        wanted = cls._moved()
+        if set(named) != set(wanted):
+            raise ValueError(f"the fields are {', '.join(map(str, named))}: {', '.join(wanted)} are wanted")
+        return cls(**{name: bytes(list(value)) if name == "in_buffer" else value for name, value in named.items()})
 
 
 @dataclass(frozen=True)
@@ -198,19 +218,6 @@ class SerialState(State):
         if len(self.in_buffer) > FIFO_SIZE:
             raise ValueError(f"in_buffer has {len(self.in_buffer)} bytes, and a port holds at most {FIFO_SIZE}")
 
-    def to_vm_superio(self) -> Dict[str, Any]:
-        """The ten fields as serde's JSON has them. `json.dumps` makes the text."""
-        return {**vars(self), "in_buffer": list(self.in_buffer)}
-
-    @classmethod
-    def from_vm_superio(cls, named: Mapping[str, Any]) -> "SerialState":
-        """The state of ten fields, as `json.loads` reads them.
-
-        Raises `ValueError` if the names are others or a value is out of range, and `TypeError` if one is no number.
-        """
-        _check_names(named, [field.name for field in fields(cls)])
-        return cls(**{**named, "in_buffer": bytes(list(named["in_buffer"]))})
-
 
 FIELDS = dict(zip(("DLL", "DLM", "IER", "IIR", "LCR", "LSR", "MCR", "MSR", "SCR"), SerialState.kinds()))
 """The registers that a serial port keeps, in the order of its saved state, each with its field there."""
@@ -227,23 +234,9 @@ class RtcState(State):
     offset: int = _kept(c_int64)  # how far guest time is ahead of the host's, in seconds
     armed: bool = _kept(c_uint64, False)  # whether an alarm is set
 
-    def to_vm_superio(self) -> Dict[str, Any]:
-        """The five fields as serde's JSON has them, which know no alarm. `json.dumps` makes the text.
-
-        Raises `AlarmIsSetError` if an alarm is set. `dataclasses.replace(state, armed=False)` gives it up.
-        """
-        if self.armed:
-            raise AlarmIsSetError("an alarm is set, and the five fields of vm-superio's RtcState cannot hold it")
-        return {name: getattr(self, name) for name in _FIVE}
-
     @classmethod
-    def from_vm_superio(cls, named: Mapping[str, Any]) -> "RtcState":
-        """The state of five fields, as `json.loads` reads them, with no alarm set.
-
-        Raises `ValueError` if the names are others or a value is out of range, and `TypeError` if one is no number.
-        """
-        _check_names(named, _FIVE)
-        return cls(**named)
+    def _moved(cls) -> List[str]:
+        return ["lr", "offset", "mr", "imsc", "ris"]
 
 
 CLOCK_KEPT = tuple(name for name in CLOCK if name.lower() in RtcState.kinds())

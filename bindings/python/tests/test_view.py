@@ -137,9 +137,15 @@ class Stepping(FolderTest):
             self.assertRaises(BadLine, steps_of, row)
 
     def test_files(self):
-        for command in ("table", "svg"):
-            self.said(f"{command} {self.folder / command}")
-            self.assertGreater((self.folder / command).stat().st_size, 500)
+        """The same by the command line, and by commands."""
+        names = "table", "svg"
+        both = [option for name in names for option in (f"--{name}", self.folder / f"{name} of both")]
+        self.assertEqual((0, "", ""), run("view", "-", *both, script=TRACE))
+        for name in names:
+            self.said(f"{name} {self.folder / name}")
+            self.assertEqual((0, "", ""), run("view", "-", f"--{name}", self.folder / "alone", script=TRACE))
+            texts = {(self.folder / path).read_text().replace(">trace<", ">-<") for path in (name, f"{name} of both", "alone")}
+            self.assertEqual(1, len(texts))
         self.assertIn("No such file", self.said(f"svg {self.folder}/none/x"))
 
 
@@ -185,19 +191,15 @@ class Pictures(FolderTest):
 
 
 class CommandLine(FolderTest):
-    def test_table_of_the_recorded_boot(self):
-        status, output, errors = run("view", RECORDING, "--table")
-        self.assertEqual((0, ""), (status, errors))
-        rows = output.splitlines()
-        self.assertEqual(42839 + 66, len(rows))
-        self.assertNotIn("recorded:", output)
-        self.assertEqual("  26491  sw 01 0f                  ok        IER 0x00 -> 0x0f  RDA THRE RLS MS, "
-                         "IIR 0xc1 -> 0xc2  THRE, interrupt taken", next(row for row in rows if "  26491  " in row))
-
-    def test_the_recording_with_input(self):
-        status, output, errors = run("view", WITH_INPUT, "--table")
-        self.assertEqual((0, ""), (status, errors))
-        self.assertNotIn("recorded:", output)
+    def test_tables_of_the_recordings(self):
+        for recording, rows, row in (
+                (RECORDING, 42839 + 66, "  26491  sw 01 0f                  ok        IER 0x00 -> 0x0f  RDA THRE RLS MS, "
+                                        "IIR 0xc1 -> 0xc2  THRE, interrupt taken\n"),
+                (WITH_INPUT, None, "  sq 756e616d65202d73720a   0a        ")):
+            status, output, errors = run("view", recording, "--table")
+            self.assertEqual((0, rows or output.count("\n"), ""), (status, output.count("\n"), errors))
+            self.assertNotIn("recorded:", output)
+            self.assertIn(row, output)
         _, output, _ = run("view", WITH_INPUT, script=b"next input\nnext timeout\nnext reset\n")
         for row in ("none with another reply than recorded", ": sq 756e616d65202d73720a  0a\n",
                     "  FIFO 0 -> 10 bytes\n", ": si  ok\n", ": kw 04 fe  reset\n"):
@@ -217,10 +219,3 @@ class CommandLine(FolderTest):
         self.assertIn("11 calls in 2 pieces, 1 with another reply than recorded", output)
         self.assertIn("call 8 of 11, piece 1: sw 00 41  ok", output)
         self.assertNotIn("\x1b", output)
-
-    def test_a_table_and_a_picture(self):
-        both, alone = ([self.folder / f"{kind}{name}" for name in ("table", "svg")] for kind in ("both-", ""))
-        self.assertEqual((0, "", ""), run("view", "-", "--table", both[0], "--svg", both[1], script=TRACE))
-        for option, path in zip(("--table", "--svg"), alone):
-            self.assertEqual((0, "", ""), run("view", "-", option, path, script=TRACE))
-        self.assertEqual(*([path.read_text() for path in paths] for paths in (both, alone)))
