@@ -108,8 +108,8 @@ def _batch(path: str, is_strict: bool) -> int:
 
 
 def _interactive(is_wanted: bool) -> int:
-    session = Session(sys.stdout, has_colours(sys.stdout, is_wanted), sys.stderr, has_colours(sys.stderr, is_wanted),
-                      keeps_lines=True)
+    session = Session(sys.stdout, keeps_lines=True, is_coloured=has_colours(sys.stdout, is_wanted), errors=sys.stderr,
+                      errors_are_coloured=has_colours(sys.stderr, is_wanted))
     use_history()
     session.run_prompt()
     return OK

@@ -4,7 +4,7 @@ import shlex
 import signal
 import time
 from contextlib import suppress
-from typing import IO, Callable, Iterable, List, Optional, Tuple
+from typing import IO, Any, Callable, Iterable, List, Optional, Tuple
 
 from .board import Board, Call
 from .commands import GROUPS
@@ -44,10 +44,9 @@ class Session(Prompt):
 
     groups, prompt, intro = GROUPS, "superio> ", INTRO
 
-    def __init__(self, out: "IO[str]", is_coloured: bool = False, errors: "Optional[IO[str]]" = None,
-                 errors_are_coloured: bool = False, keeps_lines: bool = False, is_strict: bool = False,
-                 host_time: Callable[[], float] = time.time) -> None:
-        super().__init__(out, is_coloured, errors, errors_are_coloured)
+    def __init__(self, out: "IO[str]", keeps_lines: bool = False, is_strict: bool = False,
+                 host_time: Callable[[], float] = time.time, **marks: Any) -> None:
+        super().__init__(out, **marks)
         self.is_strict = is_strict
         self.keeps_lines = keeps_lines
         self._depth = 0

@@ -39,24 +39,10 @@ class Registers(unittest.TestCase):
         for value, name in FORMATS.items():
             self.assertEqual([name], registers.bit_names(registers.SERIAL["LCR"], value), hex(value))
 
-    def test_each_field_of_a_port_is_read_in_its_register(self):
-        state = SerialState(1, 2, 3, 4, 5, 6, 7, 8, 9, b"\x0a")
-        port = Serial.from_state(state)
-        self.assertEqual(state, port.state)
-        names = ("IER", "LCR", "LSR", "MCR", "MSR", "SCR", "IIR", "RBR")
-        self.assertEqual([3, 5, 6, 7, 8, 9, 0xC4, 10], [port.read(name).byte for name in names])
-        port.write("LCR", 0x80)
-        self.assertEqual([1, 2], [port.read("DLL").byte, port.read("DLM").byte])
-
-    def test_each_register_of_a_clock(self):
-        clock = Rtc()
-        for name, value in (("LR", 0x12345678), ("MR", 0x9ABCDEF0), ("IMSC", 1)):
-            self.assertFalse(clock.write(name, value, 1 << 40).invalid_write)
-            self.assertEqual(value, clock.read(name, 1 << 40).value)
-        self.assertEqual(RtcState(lr=0x12345678, mr=0x9ABCDEF0, imsc=1, offset=0x12345678, armed=True), clock.state)
-        self.assertRegex(repr(clock), r"^<Rtc MR=0x9abcdef0 LR=0x12345678 IMSC=0x00000001\(ALARM\) RIS=0x00000000 "
-                                      r"([A-Z]+=0x0{8} )*offset=305419896 armed=True>$")
-        self.assertEqual("311004000df005b1", bytes(clock.read(f"ID{index}", 0).value for index in range(8)).hex())
+    def test_a_clock_shows_its_state(self):
+        clock = Rtc.from_state(RtcState(lr=0x12345678, mr=0x9ABCDEF0, imsc=1, offset=-5, armed=True))
+        self.assertEqual("<Rtc MR=0x9abcdef0 LR=0x12345678 IMSC=0x00000001(ALARM) RIS=0x00000000 offset=-5 armed=True>",
+                         repr(clock))
 
     def test_names_reach_their_register_alone(self):
         port = Serial()
@@ -79,13 +65,8 @@ class Registers(unittest.TestCase):
             said = f"no register is called {name}: there are {' '.join(names)}$"
             self.assertRaisesRegex(RegisterError, said, call, name)
 
-    def test_the_line_of_a_port_and_its_coherence(self):
-        port, levels = Serial(), []
-        for value in (0x02, 0x00, 0x02):
-            levels.append((port.write("IER", value).interrupts, port.interrupt_line()))
-        port.read("IIR")
-        self.assertEqual([(1, True), (0, False), (0, True), False], [*levels, port.interrupt_line()])
-        self.assertTrue(port.is_coherent())
+    def test_coherence(self):
+        self.assertTrue(Serial().is_coherent())
         self.assertFalse(Serial.from_state(SerialState(interrupt_identification=0x04)).is_coherent())
 
 
