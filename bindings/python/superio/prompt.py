@@ -6,9 +6,8 @@ import os
 import signal
 from contextlib import suppress
 from pathlib import Path
-from typing import IO, Dict, List, Optional, Tuple
+from typing import IO, Dict, List, NamedTuple, Optional, Tuple
 
-from .commands import Help
 from .files import FileFault, replaced
 from .registers import CLOCK, SERIAL
 from .script import ScriptError, shown
@@ -21,6 +20,20 @@ _HISTORY_LENGTH = 1000
 
 STRONG, QUIET, ERROR = 1, 2, 31
 """How texts can be marked, as the codes of a terminal."""
+
+
+class Help(NamedTuple):
+    """What `help` says of a command, and what each of its fields can be, for a shell to complete it."""
+
+    usage: str
+    about: str
+    more: str = ""
+    fields: Tuple[str, ...] = ()
+    means: str = ""  # the line of a script that the words mean, or the command's own name if it has several
+
+    @property
+    def name(self) -> str:
+        return self.usage.partition(" ")[0]
 
 
 class Leave(Exception):

@@ -7,9 +7,8 @@ from contextlib import contextmanager
 from itertools import groupby
 from typing import IO, Callable, Dict, Iterator, Optional, Sequence
 
-from .commands import VIEWING
 from .files import FileFault, opened, write_text
-from .prompt import ERROR, STRONG, Prompt
+from .prompt import ERROR, STRONG, Help, Prompt
 from .recording import Step, picture, replay
 from .registers import CLOCK, SERIAL
 from .script import ScriptError, shown, text_of
@@ -59,7 +58,20 @@ def wanted_of(word: str) -> Callable[[Step], bool]:
 class Viewer(Prompt):
     """Steps through the calls of a trace."""
 
-    groups = VIEWING
+    groups = {"Commands": (
+        Help("next [N|WHAT]", "N calls forwards, or to the next WHAT: thre, rda, interrupt, refused, sent, input, "
+             "timeout, reset, change, difference, or an access of a register, as LSR"),
+        Help("back [N|WHAT]", "as next, backwards"),
+        Help("goto N", "to call N, counted from 1"),
+        Help("first", "to the first call"),
+        Help("last", "to the last call"),
+        Help("list", "the calls around this one"),
+        Help("regs", "every register after this call"),
+        Help("table [FILE]", "all calls, to a pager or a file"),
+        Help("svg FILE", "a picture of the whole, to a file"),
+        Help("help [NAME]", "this list, or more about one command"),
+        Help("quit", "ends, as exit and Ctrl-D do"),
+    )}
 
     def __init__(self, steps: Sequence[Step], name: str, out: IO[str], is_coloured: bool = False) -> None:
         super().__init__(out, is_coloured, errors_are_coloured=is_coloured)
