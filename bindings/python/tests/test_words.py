@@ -9,7 +9,7 @@ from unittest import mock
 
 from support import PACKAGE, ROOT, FolderTest, run
 
-from superio import Command, Rtc, ScriptError, Serial
+from superio import Command, Rtc, Serial
 from superio.files import FileFault
 from superio.prompt import Leave
 from superio.registers import CLOCK, SERIAL
