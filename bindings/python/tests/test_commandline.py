@@ -222,8 +222,8 @@ class Speed(unittest.TestCase):
             subprocess.run([sys.executable, *arguments], input=b"", env=ENVIRONMENT, timeout=TIMEOUT, check=True)
             return sum(os.times()[2:4]) - sum(before[2:4])
 
-        self.assertLess(*(min(seconds(*arguments) for _ in range(3)) - more
-                          for arguments, more in ((["-m", "superio"], 0.2), (["-c", "pass"], 0))))
+        shell, plain = (min(seconds(*it) for _ in range(3)) for it in (["-m", "superio"], ["-c", "pass"]))
+        self.assertLess(shell - plain, 0.2)
 
 
 def listening(command):
