@@ -19,6 +19,16 @@ _THRE = bits_by_name(SERIAL["IIR"])["THRE"]  # the bit of IIR by which it is pen
 _DATA_READY = bits_by_name(SERIAL["LSR"])["DR"]
 
 
+def without_thre(port: Serial) -> Serial:
+    """A port after a write to IER whose first interrupt of two was refused.
+
+    The library leaves both conditions pending, so that a caller can ask again. vm-superio, as the program `superio`,
+    ends the write at the refusal, before it raises THRE.
+    """
+    state = port.state
+    return Serial.from_state(replace(state, interrupt_identification=state.interrupt_identification & ~_THRE))
+
+
 class Counts(NamedTuple):
     """How often each event of the serial port was reported."""
 
@@ -131,18 +141,8 @@ class Board:
             self._send(value)
         is_taken = self._ask(done.interrupts)
         if done.interrupts == 2 and not self._answers[0]:
-            self._take_back_thre()
+            self.serial = without_thre(self.serial)
         return "trigger" if not is_taken else "io" if self._is_lost else "ok"
-
-    def _take_back_thre(self) -> None:
-        """Makes THRE not pending after a write to IER whose first interrupt of two was refused.
-
-        The library leaves both conditions pending. vm-superio, as the program `superio`, ends the write at the refusal,
-        before it raises THRE.
-        """
-        state = self.serial.state
-        rda_alone = state.interrupt_identification & ~_THRE
-        self.serial = Serial.from_state(replace(state, interrupt_identification=rda_alone))
 
     def _send(self, value: int) -> None:
         self._is_lost = len(self.output) == OUTPUT_SIZE
