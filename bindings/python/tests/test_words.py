@@ -18,6 +18,7 @@ from superio.tell import quoted
 from superio.words import characters
 
 NOW = 0x6553F100
+SAVED = f"sl {Serial().to_bytes().hex()}\ncl {Rtc().to_bytes().hex()}\n"
 
 # The line of a script, and the lines that mean it.
 MEANINGS = {
@@ -306,6 +307,23 @@ class Words(SessionTest):
         self.assertEqual([name for name in CLOCK if not name.startswith("ID")], named)
 
 
+# Lines, what is said of them, and what is in a file then. `{}` stands for the name of the file, which is there.
+OLD, BEGUN = "an old file\n", "the calls since the last reset go to {}"
+TRACES = [
+    (["trace on", "read LSR", "sr 07", "trace off", "sr 07", "trace"],
+     ["trace is on", "sr 05", "LSR = 0x60  THRE TEMT", "sr 07", "00", "trace is off", "00", "sr 05", "sr 07", "sr 07"],
+     OLD),
+    (["read SCR", "reset", "read LSR", "trace on {}"],
+     ["SCR = 0x00", "a fresh board", "LSR = 0x60  THRE TEMT", BEGUN], "sr 05\n"),
+    (["kr 04", "trace on {}", "sr 02"], ["00", BEGUN, "c1"], "kr 04\nsr 02\n"),
+    (["trace on {}", "sr 02", "trace off", "kr 04"], [BEGUN, "c1", "trace is off, and {} is complete", "00"], "sr 02\n"),
+    (["trace on {}", "kr 04", "reset", "sr 07", "trace", "trace off"],
+     [BEGUN, "00", "a fresh board", "00", "sr 07", "trace is off"], "kr 04\n"),
+    (["save {}", "reset", "load {}", "trace"],
+     ["port and clock saved to {}", "a fresh board", "ok", "ok", *SAVED.splitlines()], SAVED),
+]
+
+
 class Files(SessionTest):
     """The files of `trace`, `save`, `load` and `source`."""
 
@@ -313,36 +331,18 @@ class Files(SessionTest):
         super().setUp()
         self.path = self.folder / "file"
 
-    def test_trace_shows_each_line(self):
-        self.assertEqual(["trace is on", "sr 05", "LSR = 0x60  THRE TEMT", "sr 07", "00"],
-                         self.said("trace on", "read LSR", "sr 07"))
-        self.assertEqual(["trace is off", "00"], self.said("trace off", "sr 07"))
-        self.assertEqual(["sr 05", "sr 07", "sr 07"], self.said("trace"))
-
-    def test_a_trace_file_has_the_calls_since_the_last_reset(self):
-        self.path.write_text("an old file\n")
-        self.said("read SCR", "reset", "read LSR")
-        self.assertEqual([f"the calls since the last reset go to {self.path}"], self.said(f"trace on {self.path}"))
-        self.assertEqual("sr 05\n", self.path.read_text())
-        self.said("read IIR")
-        self.assertEqual("sr 05\nsr 02\n", self.path.read_text())
-        self.assertEqual([f"trace is off, and {self.path} is complete", "00"], self.said("trace off", "kr 04"))
-        self.assertEqual("sr 05\nsr 02\n", self.path.read_text())
-
-    def test_a_reset_ends_a_trace(self):
-        self.said(f"trace on {self.path}", "read LSR", "reset", "read SCR")
-        self.assertEqual("sr 05\n", self.path.read_text())
-        self.assertEqual(["sr 07", "trace is off"], self.said("trace", "trace off"))
+    def test_traces(self):
+        for lines, said, text in TRACES:
+            self.path.write_text(OLD)
+            self.assertEqual([row.format(self.path) for row in said],
+                             self.afresh([], *(line.format(self.path) for line in lines)))
+            self.assertEqual(text, self.path.read_text())
 
     def test_a_full_disk_ends_a_trace_and_no_more(self):
         self.said("trace on /dev/full")
         with self.assertRaisesRegex(FileFault, "/dev/full: No space left on device"):
             self.said("kr 04")
         self.assertEqual(["00", "00"], self.said("kr 04"))
-
-    def test_loads_are_calls(self):
-        self.said("write SCR 7", f"save {self.path}", "reset", f"load {self.path}")
-        self.assertEqual(self.path.read_text().splitlines(), self.said("trace"))
 
     def test_nothing_is_loaded_of_a_file_that_is_half_good(self):
         port, clock = Serial().to_bytes().hex(), Rtc().to_bytes().hex()
