@@ -14,10 +14,7 @@ def _refusal(name: str, value: Any, wanted: str) -> str:
 
 
 def number(name: str, value: Any, bits: int, is_signed: bool = False, instead: str = "") -> int:
-    """A number of so many bits. `instead` is what may stand in its place, as the message adds it.
-
-    Raises `TypeError` if it is no whole number, and `ValueError` if it is out of range.
-    """
+    """A number of so many bits. `instead` is what may stand in its place, as the message of the errors adds it."""
     try:
         whole = int(index(value))  # a Boolean is its own index
         if not (whole + (1 << bits - 1) if is_signed else whole) >> bits:
@@ -31,10 +28,7 @@ def number(name: str, value: Any, bits: int, is_signed: bool = False, instead: s
 
 
 def byte_string(name: str, value: Any) -> bytes:
-    """The bytes of `bytes`, a `bytearray` or another object that has its contents in memory.
-
-    Raises `TypeError` for any other, among them the numbers, from which `bytes` would make as many zeros.
-    """
+    """The bytes of an object that has its contents in memory, and not of a number, of which `bytes` makes zeros."""
     if isinstance(value, bytes):
         return value
     try:

@@ -34,10 +34,9 @@ def opened(path: str) -> Iterator["IO[bytes]"]:
 
 @contextmanager
 def replaced(path: str) -> Iterator[str]:
-    """Yields the name of a file to write in the place of `path`. It takes that place once it is whole and on the disk.
-    After a fault, such as a full disk, the file that was there is as it was.
+    """Yields the name of a file to write in the place of `path`, which it takes once it is whole and on the disk.
 
-    What is no plain file, such as a terminal or a pipe, is written itself. Raises `FileFault` if something fails.
+    After a `FileFault`, such as of a full disk, what was there is as it was. A terminal or a pipe is written itself.
     """
     try:
         if os.path.exists(path) and not os.path.isfile(path):

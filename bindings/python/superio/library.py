@@ -79,10 +79,7 @@ class Library:
     """
 
     def __init__(self, path: str) -> None:
-        """Loads the library at `path`, or the one that the system finds under that name.
-
-        Raises `LibraryError` if it cannot be loaded, or has another binary interface.
-        """
+        """Loads the library at `path`, or the one that the system finds under that name, if it has this interface."""
         self.path = path
         try:
             self._file = ctypes.PyDLL(path)
@@ -112,8 +109,7 @@ def candidates() -> Iterator[Tuple[str, Path]]:
 
 
 def open_library() -> Library:
-    """Loads the library that `SUPERIO_LIBRARY` names, or the first that is found: in the package, in the repository's
-    `prebuilt`, or among the system's libraries.
+    """Loads the library that `SUPERIO_LIBRARY` names, or the first that is found: one of `candidates` or the system's.
 
     Raises `LibraryError` if there is none, or if the first one found cannot be used.
     """

@@ -82,11 +82,7 @@ class Prompt(cmd.Cmd):
         self.say(self.marked(STRONG, rows[0]), *rows[1:])
 
     def carry_out(self, line: bytes) -> None:
-        """Carries out a line, without its LF.
-
-        Raises `ScriptError` or `RegisterError`, which say why, if it is none; `FileFault` if a file that it names
-        cannot be used; and `Leave` if it ends the session.
-        """
+        """Carries out a line, without its LF. A `ValueError` or `FileFault` says why not; `Leave` ends the session."""
         name, _, rest = line.decode("utf-8", "surrogateescape").strip().partition(" ")
         if name not in self.help:
             raise ScriptError(f"no command is called {shown(name)}: help lists them")

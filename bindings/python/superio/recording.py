@@ -48,10 +48,7 @@ class Step(NamedTuple):
 
 
 def entries_of(row: str) -> List[Entry]:
-    """The script lines that a row stands for, each with its recorded reply, `None` if it has none.
-
-    Raises `ScriptError` if a text in it is no JSON string of ASCII.
-    """
+    """The script lines that a row stands for, each with its recorded reply, `None` if it has none."""
     text = _TEXT.fullmatch(row)
     if text:
         kind, data = text[1], _data_of(text[2])
@@ -73,10 +70,7 @@ def _data_of(text: str) -> bytes:
 
 
 def replay(name: str, rows: Iterable[bytes]) -> Iterator[Step]:
-    """Makes the calls of a recording again, each piece on a fresh board.
-
-    Raises `BadLine` at a row that stands for no lines of a script.
-    """
+    """Makes the calls of a recording again, each piece on a fresh board. `BadLine` names a row that stands for none."""
     board, piece, is_new = Board(), 0, True
     for number, row in enumerate(rows, 1):
         text = row.decode("utf-8", "replace").strip()
@@ -130,8 +124,7 @@ _IF_ANY = (
 
 
 def _drawn(steps: Sequence[Step], columns: int) -> List[Tuple[_Lane, List[float]]]:
-    """The lanes of the conditions and of the FIFO, and those of the others in which there is something, each with its
-    heights in as many columns."""
+    """The lanes that are always there, and those in which there is something, each with its heights by columns."""
     groups = [steps[len(steps) * place // columns:len(steps) * (place + 1) // columns] for place in range(columns)]
     found = [(lane, [lane.height([lane.value(step) for step in group]) for group in groups])
              for lane in _ALWAYS + _IF_ANY]

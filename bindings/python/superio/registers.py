@@ -84,11 +84,7 @@ def _named(registers: Dict[str, Register], name: str, plain: str) -> Register:
 
 
 def serial_offset(name: str, line_control: int, is_write: bool) -> int:
-    """The offset of the serial port's register of this name.
-
-    Raises `RegisterError` if there is none, or if an access there would reach another register: because DLAB of the
-    given line control puts that one at the offset, or because only the other of reads and writes reaches this one.
-    """
+    """The offset of the serial port's register of this name, if such an access reaches it and no other register."""
     register = _named(SERIAL, name, name.upper())
     is_latched = bool(line_control & DLAB)
     if register.latched not in (None, is_latched):
@@ -103,10 +99,7 @@ def serial_offset(name: str, line_control: int, is_write: bool) -> int:
 
 
 def clock_offset(name: str) -> int:
-    """The offset of the clock's register of this name, which may begin with RTC.
-
-    Raises `RegisterError` if there is none.
-    """
+    """The offset of the clock's register of this name, which may begin with RTC."""
     plain = name.upper()
     return _named(CLOCK, name, plain[3:] if plain.startswith("RTC") else plain).offset
 

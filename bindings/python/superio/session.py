@@ -176,10 +176,7 @@ class Session(Prompt):
         return call
 
     def run_lines(self, name: str, lines: Iterable[bytes]) -> None:
-        """Carries out the lines of a file of this name.
-
-        Raises `BadLine` at the first that is not carried out, and `Leave` if one ends the session.
-        """
+        """Carries out the lines of a file of this name. `BadLine` names the first that is not carried out."""
         for number, line in enumerate(lines, 1):
             line = line[:-1] if line.endswith(b"\n") else line
             try:

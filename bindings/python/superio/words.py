@@ -23,10 +23,7 @@ class UsageError(ScriptError):
 
 
 def characters(text: str) -> bytes:
-    """The bytes of a text as it is typed. In quotes it may have the escapes \\n, \\r, \\t, \\0, \\e and \\x41.
-
-    Raises `ScriptError` if a quote or an escape is not whole.
-    """
+    """The bytes of a text as it is typed. In quotes it may have the escapes \\n, \\r, \\t, \\0, \\e and \\x41."""
     data = text.strip().encode("utf-8", "surrogateescape")
     if data[:1] not in (b"'", b'"'):
         return data
@@ -45,10 +42,7 @@ def _unescaped(match: "re.Match[bytes]") -> bytes:
 
 
 def _integer(text: str, what: str, bits: int, base: int = 0) -> int:
-    """A number as people type it: decimal, or with 0x or 0b before it, if `base` is 0, and hexadecimal if it is 16.
-
-    Raises `ScriptError` if it is none, or is too large.
-    """
+    """A number as people type it: decimal, or with 0x or 0b before it, if `base` is 0, and hexadecimal if it is 16."""
     try:
         number = int(text, 10 if base == 0 and text.isdigit() else base)
     except ValueError:
@@ -66,10 +60,7 @@ class Speaker:
         self._time = time
 
     def command(self, name: str, rest: str) -> Command:
-        """The command of words: `name` is that of the line of a script that they mean, or `type` or `alarm`.
-
-        Raises `UsageError`, `ScriptError` or `RegisterError`, which say why, if they mean none.
-        """
+        """The command of words: `name` is that of the line of a script that they mean, or the first of the words."""
         words = _WORD.findall(rest)
         if name == "type":
             return Command("sq", (self._bytes(rest),))
@@ -85,10 +76,7 @@ class Speaker:
         return self._filled(name, words, 0)
 
     def line(self, name: str, text: str) -> Command:
-        """The command of a script's line whose fields need not be written out, as `sr LSR`, `sw 3 0x83`, `cr now DR`.
-
-        Raises `ScriptError` or `RegisterError`, which say why, if it is none.
-        """
+        """The command of a script's line, whose fields need not be written out: `sr LSR`, `sw 3 0x83`, `cr now DR`."""
         rest = text[len(name):].strip()
         texts, fields = rest.split(), FORMS[name]
         if name == "sq" and rest[:1] in ("'", '"'):
