@@ -16,26 +16,15 @@ import zipfile
 from pathlib import Path
 from typing import Any, Dict, Optional
 
+from superio import __version__ as VERSION
+from superio.library import FILE_NAME as LIBRARY
+
 HERE = Path(__file__).resolve().parent
 PACKAGE = HERE / "superio"
 # The repository, or the folder of the sources alone.
 ROOT = HERE if (HERE / "LICENSE").is_file() else HERE.parents[1]
+LICENSES = ["LICENSE", *(f"LICENSES/{path.name}" for path in sorted((ROOT / "LICENSES").iterdir()))]
 
-WHEEL = """\
-Wheel-Version: 1.0
-Generator: build_wheel
-Root-Is-Purelib: false
-"""
-
-
-def _stated(name: str, form: str) -> str:
-    """What a file of the package says in a line of this form."""
-    found = re.search(form, (PACKAGE / name).read_text(encoding="utf-8"), re.MULTILINE)
-    assert found
-    return found[1]
-
-
-VERSION = _stated("__init__.py", r'^__version__ = "(.+)"$')
 METADATA = f"""\
 Metadata-Version: 2.1
 Name: superio
@@ -44,8 +33,12 @@ Summary: A 16550 serial port, a PL031 clock and an i8042 reset controller for vi
 License: Apache-2.0 OR BSD-3-Clause
 Requires-Python: >=3.8
 """
-LIBRARY = f"libsuperio.so.{_stated('library.py', r'^ABI = ([0-9]+)$')}"
-LICENSES = ["LICENSE", *(f"LICENSES/{path.name}" for path in sorted((ROOT / "LICENSES").iterdir()))]
+
+WHEEL = """\
+Wheel-Version: 1.0
+Generator: build_wheel
+Root-Is-Purelib: false
+"""
 
 
 def _library() -> Path:
@@ -55,15 +48,6 @@ def _library() -> Path:
     if not path.is_file():
         raise RuntimeError(f"{path} is not there: set SUPERIO_LIBRARY to the path of {LIBRARY}")
     return path
-
-
-def _record(files: Dict[str, bytes], name: str) -> bytes:
-    """The list of a wheel's files with their sums, which goes into the wheel under a name."""
-    lines = []
-    for file, data in files.items():
-        digest = base64.urlsafe_b64encode(hashlib.sha256(data).digest()).rstrip(b"=").decode()
-        lines.append(f"{file},sha256={digest},{len(data)}\n")
-    return "".join([*lines, f"{name},,\n"]).encode()
 
 
 def build_wheel(wheel_directory: str, config_settings: Optional[Dict[str, Any]] = None,
@@ -77,7 +61,10 @@ def build_wheel(wheel_directory: str, config_settings: Optional[Dict[str, Any]] 
     files.update((f"{folder}/licenses/{path}", (ROOT / path).read_bytes()) for path in LICENSES)
     files[f"{folder}/METADATA"] = METADATA.encode()
     files[f"{folder}/WHEEL"] = f"{WHEEL}Tag: {tag}\n".encode()
-    files[f"{folder}/RECORD"] = _record(files, f"{folder}/RECORD")
+    sums = {file: base64.urlsafe_b64encode(hashlib.sha256(data).digest()).decode().rstrip("=")
+            for file, data in files.items()}
+    rows = [f"{file},sha256={sums[file]},{len(data)}\n" for file, data in files.items()]
+    files[f"{folder}/RECORD"] = "".join([*rows, f"{folder}/RECORD,,\n"]).encode()
     with zipfile.ZipFile(Path(wheel_directory) / name, "w", zipfile.ZIP_DEFLATED) as wheel:
         for file, data in files.items():
             wheel.writestr(zipfile.ZipInfo(file), data)

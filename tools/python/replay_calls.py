@@ -4,8 +4,7 @@ from expected import Monitor
 from oracle import REGISTERS
 
 from superio import I8042, Rtc, RtcState, Serial, SerialState
-
-THRE = 0x02  # the bit of IIR by which THRE is pending
+from superio.board import without_thre
 
 
 class Port(oracle.Port):
@@ -28,13 +27,10 @@ class Port(oracle.Port):
         return self.device.interrupts_due()
 
     def raises(self, *_):
-        """Calls the line as often as the newest call says. vm-superio ends a write to IER at the refusal of its first
-        interrupt, before THRE is raised. The library leaves both conditions pending, so that a caller can ask again."""
+        """Calls the line as often as the newest call says."""
         did = self.line_calls(self.interrupts)
         if did == ["R"] and self.interrupts == 2:
-            registers = bytearray(self.state())
-            registers[REGISTERS.index("IIR")] &= ~THRE
-            self.device = Serial.from_state(SerialState(*registers, in_buffer=self.held()))
+            self.device = without_thre(self.device)
         return {}, did
 
     def asks(self, reply, interrupts):

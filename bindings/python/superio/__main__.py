@@ -1,15 +1,18 @@
 """The command line of `python3 -m superio`: the shell, a file of lines, or the viewer of a trace."""
 import argparse
+import io
 import os
 import signal
 import sys
-from typing import IO, Iterator, List, NoReturn, Optional
+from contextlib import nullcontext
+from typing import IO, Any, List, NoReturn
 
 from . import __version__
-from .faults import BadLine, FileFault, Leave
+from .files import BadLine, FileFault
 from .library import LibraryError, load
+from .prompt import Leave, has_colours, use_history
 from .script import MAXIMUM, ScriptError, lines_of
-from .session import Session, Style
+from .session import Session
 
 _PIECE = 65_536
 
@@ -65,28 +68,24 @@ def _complain(text: object) -> None:
     print(text, file=sys.stderr, flush=True)
 
 
-def _lines_as_they_come(out: "IO[str]", file: "IO[bytes]") -> Iterator[bytes]:
-    """The lines of a file, perhaps of a pipe. Before it waits for more of them, the replies to those before go out."""
-    begun: List[bytes] = []
-    while True:
-        piece = file.read1(_PIECE)  # type: ignore[attr-defined]
-        *lines, rest = piece.split(b"\n")
-        if lines:
-            yield b"".join([*begun, lines[0]])
-            yield from lines[1:]
-            begun = []
-        begun.append(rest)
-        out.flush()
-        if not piece:
-            break
-    if any(begun):
-        yield b"".join(begun)
+class _Pipe(io.RawIOBase):
+    """A file, perhaps a pipe. Before it waits for more lines, the replies to those before go out."""
+
+    def __init__(self, file: "IO[bytes]", out: "IO[str]") -> None:
+        self._file, self._out = file, out
+
+    def readable(self) -> bool:
+        return True
+
+    def readinto(self, buffer: Any) -> int:
+        self._out.flush()
+        return self._file.readinto1(buffer)  # type: ignore[attr-defined]
 
 
 def _run_file(session: Session, name: str, file: "IO[bytes]") -> int:
     """Carries out the lines of a file, or of a script as a whole if the session is strict."""
     if not session.is_strict:
-        session.run_lines(name, _lines_as_they_come(session.out, file))
+        session.run_lines(name, io.BufferedReader(_Pipe(file, session.out), _PIECE))
         return OK
     script = file.read(MAXIMUM + 1)
     if len(script) > MAXIMUM:
@@ -96,36 +95,23 @@ def _run_file(session: Session, name: str, file: "IO[bytes]") -> int:
     return OK
 
 
-def _batch(path: Optional[str], is_strict: bool) -> int:
+def _batch(path: str, is_strict: bool) -> int:
     """Carries out a file, or standard input, without prompts."""
-    name = "<stdin>" if path in (None, "-") else str(path)
     session = Session(sys.stdout, is_strict=is_strict)
     try:
-        if name == "<stdin>":
-            return _run_file(session, name, sys.stdin.buffer)
-        with open(name, "rb") as file:
-            return _run_file(session, name, file)
+        with nullcontext(sys.stdin.buffer) if path == "-" else open(path, "rb") as file:
+            return _run_file(session, "<stdin>" if path == "-" else path, file)
     except Leave:
         return OK
-    except BadLine as error:
-        sys.stdout.flush()
-        _complain(error)
-        return FAULT if _is_fault(error) else BAD_LINE
     finally:
         sys.stdout.flush()
 
 
-def _is_fault(error: Optional[BaseException]) -> bool:
-    """Whether a file fault is beneath an error, perhaps of a file that another one sources."""
-    return error is not None and (isinstance(error, FileFault) or _is_fault(error.__cause__))
-
-
-def _interactive(has_colours: bool) -> int:
-    from .shell import Shell, run_prompt
-    if signal.getsignal(signal.SIGINT) is _interrupt_once:
-        signal.signal(signal.SIGINT, signal.default_int_handler)  # at a prompt, each one drops a line
-    session = Session(sys.stdout, Style.of(sys.stdout, has_colours), keeps_lines=True)
-    run_prompt(Shell(session, sys.stderr, Style.of(sys.stderr, has_colours)))
+def _interactive(is_wanted: bool) -> int:
+    session = Session(sys.stdout, keeps_lines=True, is_coloured=has_colours(sys.stdout, is_wanted), errors=sys.stderr,
+                      errors_are_coloured=has_colours(sys.stderr, is_wanted))
+    use_history()
+    session.run_prompt()
     return OK
 
 
@@ -133,11 +119,7 @@ def _view(arguments: List[str]) -> int:
     load()
     from .view import view
     options = _viewer_parser().parse_args(arguments)
-    try:
-        view(options.trace, options.table, options.svg, not options.no_color)
-    except (BadLine, ScriptError) as error:
-        _complain(error)
-        return BAD_LINE
+    view(options.trace, options.table, options.svg, has_colours(sys.stdout, not options.no_color))
     return OK
 
 
@@ -182,7 +164,7 @@ def _run(arguments: List[str]) -> int:
         if sys.stdin is None and options.file in (None, "-"):
             return _closed("input")
         if options.file is not None or not sys.stdin.isatty():
-            return _batch(options.file, options.strict)
+            return _batch(options.file or "-", options.strict)
         if options.strict:
             parser.error("--strict is for a file or a pipe")
         return _interactive(not options.no_color)
@@ -194,6 +176,9 @@ def _run(arguments: List[str]) -> int:
         _complain(f"python3 -m superio: {place}{error.strerror}")
         os.dup2(os.open(os.devnull, os.O_WRONLY), sys.stdout.fileno())  # where Python's own flush at the end goes
         return FAULT
+    except (BadLine, ScriptError) as error:
+        _complain(error)
+        return FAULT if getattr(error, "is_fault", False) else BAD_LINE
     except MemoryError:
         _complain("out of memory")
         return NO_MEMORY

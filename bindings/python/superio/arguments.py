@@ -14,30 +14,21 @@ def _refusal(name: str, value: Any, wanted: str) -> str:
 
 
 def number(name: str, value: Any, bits: int, is_signed: bool = False, instead: str = "") -> int:
-    """A number of so many bits. `instead` is what may stand in its place, as the message adds it.
-
-    Raises `TypeError` if it is no whole number, and `ValueError` if it is out of range.
-    """
+    """A number of so many bits. `instead` is what may stand in its place, as the message of the errors adds it."""
     try:
         whole = int(index(value))  # a Boolean is its own index
+        if not (whole + (1 << bits - 1) if is_signed else whole) >> bits:
+            return whole
+        kind = ValueError
     except TypeError:
-        raise TypeError(_refusal(name, value, _numbers(bits, is_signed) + instead)) from None
-    if (whole + (1 << bits - 1) if is_signed else whole) >> bits:
-        raise ValueError(_refusal(name, value, _numbers(bits, is_signed) + instead))
-    return whole
-
-
-def _numbers(bits: int, is_signed: bool) -> str:
-    if is_signed:
-        return f"an int from -2**{bits - 1} to 2**{bits - 1} - 1"
-    return f"an int from 0 to {(1 << bits) - 1 if bits <= 16 else f'2**{bits} - 1'}"
+        kind = TypeError
+    most = str((1 << bits) - 1) if bits <= 16 else f"2**{bits} - 1"
+    span = f"from -2**{bits - 1} to 2**{bits - 1} - 1" if is_signed else f"from 0 to {most}"
+    raise kind(_refusal(name, value, f"an int {span}{instead}"))
 
 
 def byte_string(name: str, value: Any) -> bytes:
-    """The bytes of `bytes`, a `bytearray` or another object that has its contents in memory.
-
-    Raises `TypeError` for any other, among them the numbers, from which `bytes` would make as many zeros.
-    """
+    """The bytes of an object that has its contents in memory, and not of a number, of which `bytes` makes zeros."""
     if isinstance(value, bytes):
         return value
     try:

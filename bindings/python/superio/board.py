@@ -3,21 +3,30 @@
 It replies to each line as the program `superio` does.
 """
 from dataclasses import replace
-from typing import Callable, Dict, List, NamedTuple, Optional, Tuple, Union
+from typing import Any, Callable, Dict, List, NamedTuple, Optional, Tuple, Union
 
 from .arguments import check_kind
 from .devices import I8042, Rtc, Serial, clock_state, serial_state
-from .registers import DLAB, SERIAL, RtcState, SerialState, bits_by_name
-from .saved import SavedStateError, script_words
+from .registers import (DLAB, SERIAL, Register, RtcState, SerialState, bits_by_name, clock_register,
+                        serial_register)
+from .saved import LoadStatus, SavedStateError
 from .script import Command
 
 OUTPUT_SIZE = 256
 """How many bytes the board's output takes. Each byte after them is lost."""
 
-_THRE = bits_by_name(SERIAL["IIR"])["THRE"]
-"""The bit of IIR by which THRE is pending."""
-
+_THRE = bits_by_name(SERIAL["IIR"])["THRE"]  # the bit of IIR by which it is pending
 _DATA_READY = bits_by_name(SERIAL["LSR"])["DR"]
+
+
+def without_thre(port: Serial) -> Serial:
+    """A port after a write to IER whose first interrupt of two was refused.
+
+    The library leaves both conditions pending, so that a caller can ask again. vm-superio, as the program `superio`,
+    ends the write at the refusal, before it raises THRE.
+    """
+    state = port.state
+    return Serial.from_state(replace(state, interrupt_identification=state.interrupt_identification & ~_THRE))
 
 
 class Counts(NamedTuple):
@@ -57,6 +66,14 @@ class Call(NamedTuple):
     after: Snapshot
     answers: Tuple[bool, ...]  # what the interrupt line answered: whether it took each call
     is_lost: bool              # whether the line wrote a byte for which the output had no room
+
+    @property
+    def register(self) -> Optional[Register]:
+        """The register that the line reads or writes, `None` if it reaches none."""
+        name, values = self.command
+        if name in ("sr", "sw"):
+            return serial_register(values[0], self.before.serial.line_control, name == "sw")
+        return clock_register(values[1]) if name in ("cr", "cw") else None
 
 
 class Board:
@@ -124,18 +141,8 @@ class Board:
             self._send(value)
         is_taken = self._ask(done.interrupts)
         if done.interrupts == 2 and not self._answers[0]:
-            self._take_back_thre()
+            self.serial = without_thre(self.serial)
         return "trigger" if not is_taken else "io" if self._is_lost else "ok"
-
-    def _take_back_thre(self) -> None:
-        """Makes THRE not pending after a write to IER whose first interrupt of two was refused.
-
-        The library leaves both conditions pending. vm-superio, as the program `superio`, ends the write at the refusal,
-        before it raises THRE.
-        """
-        state = self.serial.state
-        rda_alone = state.interrupt_identification & ~_THRE
-        self.serial = Serial.from_state(replace(state, interrupt_identification=rda_alone))
 
     def _send(self, value: int) -> None:
         self._is_lost = len(self.output) == OUTPUT_SIZE
@@ -170,22 +177,22 @@ class Board:
         self.calls = calls
         return "trigger"
 
-    def _load(self, data: bytes = b"") -> str:
-        try:
-            return self._replace_port(Serial.from_bytes(data))
-        except SavedStateError as error:
-            return script_words(error.status, data)
-
-    def _clock_load(self, data: bytes = b"") -> str:
-        try:
-            self.clock = Rtc.from_bytes(data)
-        except SavedStateError as error:
-            return script_words(error.status, data)
+    def _replace_clock(self, clock: Rtc) -> str:
+        self.clock = clock
         return "ok"
 
     def _clock_read(self, now: int, offset: int) -> str:
         done = self.clock.read(offset, now)
         return "invalid" if done.invalid_read else f"{done.value:08x}"
+
+
+def _loaded(data: bytes, kind: Any, replace_device: Callable[[Any], str]) -> str:
+    """Puts the device of a saved state in the place of another. Replies why not if the bytes are none."""
+    try:
+        return replace_device(kind.from_bytes(data))
+    except SavedStateError as error:
+        words = error.status.name.lower().replace("_", " ")
+        return f"{words} {data[5]:02x}" if error.status is LoadStatus.UNKNOWN_VERSION else words
 
 
 _REPLIES: Dict[str, Callable[..., Optional[str]]] = {
@@ -198,14 +205,14 @@ _REPLIES: Dict[str, Callable[..., Optional[str]]] = {
     "sd": Board._drain,
     "ss": lambda board: board._replace_port(Serial.from_state(board.serial.state)),
     "sb": lambda board: board.serial.to_bytes().hex(),
-    "sl": Board._load,
+    "sl": lambda board, data=b"": _loaded(data, Serial, board._replace_port),
     "so": lambda board: board.output.hex(),
     "st": lambda board: f"{board.calls:016x}",
     "se": lambda board: " ".join(f"{count:016x}" for count in board.counts),
     "cr": Board._clock_read,
     "cw": lambda board, now, offset, value: "invalid" if board.clock.write(offset, value, now).invalid_write else "ok",
     "cb": lambda board: board.clock.to_bytes().hex(),
-    "cl": Board._clock_load,
+    "cl": lambda board, data=b"": _loaded(data, Rtc, board._replace_clock),
     "kr": lambda board, offset: f"{board.controller.read(offset):02x}",
     "kw": lambda board, offset, value: "reset" if board.controller.write(offset, value).resets else "ok",
 }

@@ -7,17 +7,16 @@ changes.
 from functools import lru_cache
 from typing import NamedTuple, Optional, Union
 
-from .arguments import byte_string, check_kind, number
+from .arguments import byte_string, number
 from .library import RTC_SAVED_SIZE, SERIAL_SAVED_MAX, RtcStruct, SerialStruct, load
-from .registers import (CLOCK, FIELDS, FIFO_SIZE, SERIAL, Register, RtcState, SerialState, bit_names, clock_offset,
-                        serial_offset)
+from .registers import (CLOCK, CLOCK_KEPT, FIELDS, FIFO_SIZE, SERIAL, Register, RtcState, SerialState, bit_names,
+                        clock_offset, serial_offset)
 from .saved import Saved
 
 _NEVER = 2 ** 64 - 1
 _STATES = 1024
 _HEAD, _LENGTH, _RING = SerialStruct.head.offset, SerialStruct.len.offset, SerialStruct.bytes.offset
-_CLOCK_FIELDS = tuple(name for name, *_ in RtcStruct._fields_)
-_CLOCK_REGISTERS = tuple(name for name in map(str.upper, _CLOCK_FIELDS) if name in CLOCK)
+_OR_NAME = ", or the name of a register,"
 
 
 class ReadEffects(NamedTuple):
@@ -152,13 +151,10 @@ class Serial(Saved):
     @classmethod
     def from_state(cls, state: SerialState) -> "Serial":
         """A port of this state. Afterwards ask for the interrupt as often as `interrupts_due` says."""
-        check_kind("state", state, SerialState)
         port = cls()
-        device = port._struct
-        for name in FIELDS.values():
-            setattr(device, name, getattr(state, name))
-        device.head, device.len = 0, len(state.in_buffer)
-        device.bytes[:] = state.in_buffer.ljust(FIFO_SIZE, b"\0")
+        port._set(state, SerialState)
+        port._struct.head, port._struct.len = 0, len(state.in_buffer)
+        port._struct.bytes[:] = state.in_buffer.ljust(FIFO_SIZE, b"\0")
         return port
 
     def __repr__(self) -> str:
@@ -170,7 +166,7 @@ class Serial(Saved):
     def _offset(self, offset: Union[int, str], is_write: bool) -> int:
         if isinstance(offset, str):
             return serial_offset(offset, self._struct.line_control, is_write)
-        return number("offset", offset, 8, instead=", or the name of a register,")
+        return number("offset", offset, 8, instead=_OR_NAME)
 
 
 class Rtc(Saved):
@@ -223,16 +219,13 @@ class Rtc(Saved):
     @classmethod
     def from_state(cls, state: RtcState) -> "Rtc":
         """A clock of this state."""
-        check_kind("state", state, RtcState)
         clock = cls()
-        device = clock._struct
-        for name in _CLOCK_FIELDS:
-            setattr(device, name, getattr(state, name))
+        clock._set(state, RtcState)
         return clock
 
     def __repr__(self) -> str:
         state = self.state
-        shown = [_decoded(CLOCK[name], getattr(state, name.lower()), 10) for name in _CLOCK_REGISTERS]
+        shown = [_decoded(CLOCK[name], getattr(state, name.lower()), 10) for name in CLOCK_KEPT]
         return f"<Rtc {' '.join(shown)} offset={state.offset} armed={state.armed}>"
 
 
@@ -250,7 +243,7 @@ def serial_state(raw: bytes) -> SerialState:
 def clock_state(raw: bytes) -> RtcState:
     """The state that a struct has."""
     device = RtcStruct.from_buffer_copy(raw)
-    return RtcState(**{name: getattr(device, name) for name in _CLOCK_FIELDS})
+    return RtcState(**{name: getattr(device, name) for name in RtcState.kinds()})
 
 
 class I8042:
@@ -277,9 +270,7 @@ class I8042:
 
 
 def _clock_offset(offset: Union[int, str]) -> int:
-    if isinstance(offset, str):
-        return clock_offset(offset)
-    return number("offset", offset, 16, instead=", or the name of a register,")
+    return clock_offset(offset) if isinstance(offset, str) else number("offset", offset, 16, instead=_OR_NAME)
 
 
 def _decoded(register: Register, value: int, width: int = 4) -> str:

@@ -2,12 +2,11 @@
 import ctypes
 import os
 from ctypes import POINTER, Structure, c_bool, c_char_p, c_size_t, c_uint8, c_uint16, c_uint32, c_uint64
-from dataclasses import fields
 from functools import lru_cache
 from pathlib import Path
 from typing import Any, Iterator, Tuple
 
-from .registers import FIELDS, FIFO_SIZE, RtcState
+from .registers import FIFO_SIZE, RtcState, SerialState
 
 ABI = 3
 """The binary interface of superio.h that this package is written for."""
@@ -25,9 +24,8 @@ def _struct(name: str, **fields: Any) -> Any:
     return type(name, (Structure,), {"_fields_": list(fields.items())})
 
 
-SerialStruct = _struct("superio_serial", **dict.fromkeys(FIELDS.values(), c_uint8), head=c_uint8, len=c_uint8,
-                       bytes=c_uint8 * FIFO_SIZE)
-RtcStruct = _struct("superio_rtc", **{field.name: field.metadata["kind"] for field in fields(RtcState)})
+SerialStruct = _struct("superio_serial", **SerialState.kinds(), head=c_uint8, len=c_uint8, bytes=c_uint8 * FIFO_SIZE)
+RtcStruct = _struct("superio_rtc", **RtcState.kinds())
 RTC_SAVED_SIZE = 8 + RtcStruct.armed.offset + 1
 """The length of the saved state of a clock: a header, the fields of the struct, and one byte for the alarm."""
 
@@ -81,18 +79,14 @@ class Library:
     """
 
     def __init__(self, path: str) -> None:
-        """Loads the library at `path`, or the one that the system finds under that name.
-
-        Raises `LibraryError` if it cannot be loaded, or has another binary interface.
-        """
+        """Loads the library at `path`, or the one that the system finds under that name, if it has this interface."""
         self.path = path
         try:
             self._file = ctypes.PyDLL(path)
         except OSError as error:
             raise LibraryError(f"{path} cannot be loaded: {error}") from None
         for name, (result, parameters) in PROTOTYPES.items():
-            function = getattr(self._file, name, None)
-            if function:
+            if function := getattr(self._file, name, None):
                 function.restype, function.argtypes = result, parameters
                 setattr(self, name, function)
         found = self.superio_abi()
@@ -115,17 +109,13 @@ def candidates() -> Iterator[Tuple[str, Path]]:
 
 
 def open_library() -> Library:
-    """Loads the library that `SUPERIO_LIBRARY` names, or the first that is found: in the package, in the repository's
-    `prebuilt`, or among the system's libraries.
+    """Loads the library that `SUPERIO_LIBRARY` names, or the first that is found: one of `candidates` or the system's.
 
     Raises `LibraryError` if there is none, or if the first one found cannot be used.
     """
-    named = os.environ.get(VARIABLE)
+    named = os.environ.get(VARIABLE) or next((str(path) for _, path in candidates() if path.is_file()), "")
     if named:
         return Library(named)
-    for _, path in candidates():
-        if path.is_file():
-            return Library(str(path))
     try:
         ctypes.PyDLL(FILE_NAME)
     except OSError:
@@ -135,7 +125,5 @@ def open_library() -> Library:
     return Library(FILE_NAME)
 
 
-@lru_cache(maxsize=None)
-def load() -> Library:
-    """The library that all devices share. It is looked for and checked at the first call."""
-    return open_library()
+load = lru_cache(maxsize=None)(open_library)
+"""The library that all devices share. It is looked for and checked at the first call."""

@@ -12,13 +12,13 @@ from itertools import groupby
 from typing import Callable, Iterable, Iterator, List, NamedTuple, Optional, Sequence, Tuple
 
 from .board import Board, Call
-from .faults import BadLine
+from .files import BadLine
 from .registers import FIFO_SIZE
 from .script import ScriptError, parse
-from .tell import CONDITIONS
+from .tell import pending
 
 _TEXT = re.compile(r'(polled|sent|received|so|sq) +(".*")(?: {2,}(\S+))?')
-_REPEATED = re.compile(r"(\d+) (.+)", re.DOTALL)
+_ROW = re.compile(r"(?:(\d+) )?(.+?)(?: {2,}(.*))?", re.DOTALL)
 
 EMPTY = "(empty)"
 """How a recording shows a reply without a character."""
@@ -48,24 +48,18 @@ class Step(NamedTuple):
 
 
 def entries_of(row: str) -> List[Entry]:
-    """The script lines that a row stands for, each with its recorded reply, `None` if it has none.
-
-    Raises `ScriptError` if a text in it is no JSON string of ASCII.
-    """
+    """The script lines that a row stands for, each with its recorded reply, `None` if it has none."""
     text = _TEXT.fullmatch(row)
     if text:
         kind, data = text[1], _data_of(text[2])
-        if kind == "so":
-            return [("so", data.hex())]
-        if kind == "sq":
-            return [(f"sq {data.hex()}", text[3])]
+        if kind in ("so", "sq"):
+            return [("so", data.hex()) if kind == "so" else (f"sq {data.hex()}", text[3])]
         if kind == "received":
             return [entry for byte in data for entry in [("sr 05", "61"), ("sr 00", f"{byte:02x}")]]
         polls: List[Entry] = [("sr 05", "60")] if kind == "polled" else []
         return [entry for byte in data for entry in [*polls, (f"sw 00 {byte:02x}", "ok")]]
-    repeated = _REPEATED.fullmatch(row)
-    line, *reply = re.split(" {2,}", repeated[2] if repeated else row, maxsplit=1)
-    return [(line, ("" if reply[0] == EMPTY else reply[0]) if reply else None)] * int(repeated[1] if repeated else 1)
+    count, line, reply = _ROW.fullmatch(row).groups()
+    return [(line, "" if reply == EMPTY else reply)] * int(count or 1)
 
 
 def _data_of(text: str) -> bytes:
@@ -76,10 +70,7 @@ def _data_of(text: str) -> bytes:
 
 
 def replay(name: str, rows: Iterable[bytes]) -> Iterator[Step]:
-    """Makes the calls of a recording again, each piece on a fresh board.
-
-    Raises `BadLine` at a row that stands for no lines of a script.
-    """
+    """Makes the calls of a recording again, each piece on a fresh board. `BadLine` names a row that stands for none."""
     board, piece, is_new = Board(), 0, True
     for number, row in enumerate(rows, 1):
         text = row.decode("utf-8", "replace").strip()
@@ -94,51 +85,50 @@ def replay(name: str, rows: Iterable[bytes]) -> Iterator[Step]:
                 command = parse(line.encode("utf-8", "replace"), is_first=board.number == 0)
                 yield Step(piece, board.run(command), recorded)
         except ValueError as error:  # among them a number of more digits than Python converts
-            raise BadLine(name, number, row.rstrip(b"\r\n"), str(error)) from error
+            raise BadLine(name, number, row.rstrip(b"\r\n"), error) from error
 
 
 _LEFT, _RIGHT, _TOP, _WIDTH, _HEIGHT, _GAP = 140, 20, 46, 800, 34, 14
 _LEAST = 5.0
-_BLUE, _ORANGE, _GREEN, _RED, _GREY = "#0b6fb8", "#c25e00", "#2e7d32", "#c62828", "#667788"
 
 
 class _Lane(NamedTuple):
-    """A row of the picture: how high its bar is at each column, from 0 to 1."""
+    """A row of the picture: how high its bar is at each column, from 0 to 1, by the values of the column's steps."""
 
     name: str
     about: str
     colour: str
-    heights: List[float]
+    height: Callable[[List[float]], float]
+    value: Callable[[Step], float]
 
 
-def _columns(steps: Sequence[Step]) -> List[Sequence[Step]]:
-    """The steps in as many groups as the picture has columns, or one for each step if they are fewer."""
-    count = min(len(steps), _WIDTH)
-    return [steps[len(steps) * place // count:len(steps) * (place + 1) // count] for place in range(count)]
+def _share(values: List[float]) -> float:
+    return sum(values) / len(values)
 
 
-def _lanes(columns: List[Sequence[Step]]) -> List[_Lane]:
-    """The lanes of the conditions and of the FIFO, and those of the others in which there is something."""
-    def share(holds: Callable[[Step], bool]) -> List[float]:
-        return [sum(map(holds, column)) / len(column) for column in columns]
+_SHARES, _CALLS = "share of the calls", "calls of the line"
+_BLUE, _ORANGE, _GREEN, _RED, _GREY = "#0b6fb8", "#c25e00", "#2e7d32", "#c62828", "#667788"
+_ALWAYS = (
+    _Lane("RDA pending", _SHARES, _BLUE, _share, lambda step: "RDA" in pending(step.call.after.serial)),
+    _Lane("THRE pending", _SHARES, _ORANGE, _share, lambda step: "THRE" in pending(step.call.after.serial)),
+    _Lane("FIFO", f"bytes held, up to {FIFO_SIZE}", _GREEN, max,
+          lambda step: len(step.call.after.serial.in_buffer) / FIFO_SIZE),
+)
+_IF_ANY = (
+    _Lane("interrupts", _CALLS, _BLUE, max, lambda step: any(step.call.answers)),
+    _Lane("refused", _CALLS, _RED, max, lambda step: step.is_refused),
+    _Lane("output", _SHARES, _GREY, _share, lambda step: step.has_sent),
+    _Lane("clock", _SHARES, _GREY, _share, lambda step: step.call.command.name[0] == "c"),
+    _Lane("controller", _SHARES, _GREY, _share, lambda step: step.call.command.name[0] == "k"),
+)
 
-    def some(holds: Callable[[Step], bool]) -> List[float]:
-        return [float(any(map(holds, column))) for column in columns]
 
-    held = [max(len(step.call.after.serial.in_buffer) for step in column) for column in columns]
-    shares = "share of the calls"
-    return [
-        *(_Lane(f"{name} pending", shares, colour,
-                share(lambda step, bit=bit: bool(step.call.after.serial.interrupt_identification & bit)))
-          for (name, bit), colour in zip(CONDITIONS.items(), (_BLUE, _ORANGE))),
-        _Lane("FIFO", f"bytes held, up to {FIFO_SIZE}", _GREEN, [count / FIFO_SIZE for count in held]),
-        *(lane for lane in (
-            _Lane("interrupts", "calls of the line", _BLUE, some(lambda step: any(step.call.answers))),
-            _Lane("refused", "calls of the line", _RED, some(lambda step: step.is_refused)),
-            _Lane("output", shares, _GREY, share(lambda step: step.has_sent)),
-            _Lane("clock", shares, _GREY, share(lambda step: step.call.command.name[0] == "c")),
-            _Lane("controller", shares, _GREY, share(lambda step: step.call.command.name[0] == "k")),
-        ) if any(lane.heights))]
+def _drawn(steps: Sequence[Step], columns: int) -> List[Tuple[_Lane, List[float]]]:
+    """The lanes that are always there, and those in which there is something, each with its heights by columns."""
+    groups = [steps[len(steps) * place // columns:len(steps) * (place + 1) // columns] for place in range(columns)]
+    found = [(lane, [lane.height([lane.value(step) for step in group]) for group in groups])
+             for lane in _ALWAYS + _IF_ANY]
+    return [(lane, heights) for lane, heights in found if lane in _ALWAYS or any(heights)]
 
 
 def _bars(heights: List[float], base: int, width: float) -> str:
@@ -153,9 +143,7 @@ def _bars(heights: List[float], base: int, width: float) -> str:
     return "".join(parts)
 
 
-def _lane(lane: _Lane, number: int, width: float) -> List[str]:
-    base = _TOP + number * (_HEIGHT + _GAP) + _HEIGHT
-    bars = _bars(lane.heights, base, width)
+def _rows(lane: _Lane, bars: str, base: int) -> List[str]:
     return [f'<text x="{_LEFT - 10}" y="{base - 18}" text-anchor="end">{escape(lane.name)}</text>',
             f'<text x="{_LEFT - 10}" y="{base - 5}" text-anchor="end" class="s">{escape(lane.about)}</text>',
             f'<path d="M{_LEFT} {base}.5h{_WIDTH}" stroke="#c8d0d8"/>',
@@ -175,10 +163,10 @@ def _axis(count: int, base: int) -> List[str]:
 
 
 def picture(steps: Sequence[Step], title: str) -> str:
-    """The picture of some steps as a text in SVG: a lane for each condition and for the FIFO, and one for whatever else
-    the steps have. From left to right are the calls, several in a column if they are many."""
-    columns = _columns(steps)
-    lanes = _lanes(columns) if columns else []
+    """The picture of steps, at least one, as a text in SVG: a lane for each condition and for the FIFO, and one for
+    whatever else the steps have. From left to right are the calls, several in a column if they are many."""
+    columns = min(len(steps), _WIDTH)
+    lanes = _drawn(steps, columns)
     base = _TOP + len(lanes) * (_HEIGHT + _GAP)
     total = _LEFT + _WIDTH + _RIGHT
     calls = f"{len(steps):,} calls"
@@ -189,7 +177,8 @@ def picture(steps: Sequence[Step], title: str) -> str:
              f'<rect width="{total}" height="{base + 30}" fill="#fff"/>',
              f'<text x="{_LEFT}" y="24" font-size="15">{escape(title)}</text>',
              f'<text x="{_LEFT + _WIDTH}" y="24" text-anchor="end" class="s">{calls}, from left to right</text>']
-    for number, lane in enumerate(lanes):
-        parts.extend(_lane(lane, number, _WIDTH / len(columns)))
+    for number, (lane, heights) in enumerate(lanes):
+        place = _TOP + number * (_HEIGHT + _GAP) + _HEIGHT
+        parts.extend(_rows(lane, _bars(heights, place, _WIDTH / columns), place))
     parts.extend(_axis(len(steps), base))
     return "\n".join([*parts, "</svg>", ""])

@@ -1,7 +1,8 @@
 """The registers of the serial port and of the clock, by names, offsets and bits, and the states that they make."""
-from ctypes import c_int64, c_uint32, c_uint64, sizeof
+from ctypes import c_int64, c_uint8, c_uint32, c_uint64, sizeof
 from dataclasses import dataclass, field, fields
-from typing import Any, Dict, List, Mapping, NamedTuple, Optional, Sequence, Tuple
+from functools import lru_cache
+from typing import Any, Dict, List, Mapping, NamedTuple, Optional, Tuple, Type, TypeVar
 
 from .arguments import byte_string, number
 
@@ -76,12 +77,6 @@ CLOCK: Dict[str, Register] = {register.name: register for register in (
 )}
 """The registers of the clock by name, each without the `RTC` that the data sheet begins it with."""
 
-FIELDS = {"DLL": "baud_divisor_low", "DLM": "baud_divisor_high", "IER": "interrupt_enable",
-          "IIR": "interrupt_identification", "LCR": "line_control", "LSR": "line_status", "MCR": "modem_control",
-          "MSR": "modem_status", "SCR": "scratch"}
-"""The registers that a serial port keeps, in the order of its saved state, each with its field there."""
-
-
 def _named(registers: Dict[str, Register], name: str, plain: str) -> Register:
     if plain not in registers:
         raise RegisterError(f"no register is called {ascii(name)[1:-1]}: there are {' '.join(registers)}")
@@ -89,11 +84,7 @@ def _named(registers: Dict[str, Register], name: str, plain: str) -> Register:
 
 
 def serial_offset(name: str, line_control: int, is_write: bool) -> int:
-    """The offset of the serial port's register of this name.
-
-    Raises `RegisterError` if there is none, or if an access there would reach another register: because DLAB of the
-    given line control puts that one at the offset, or because only the other of reads and writes reaches this one.
-    """
+    """The offset of the serial port's register of this name, if such an access reaches it and no other register."""
     register = _named(SERIAL, name, name.upper())
     is_latched = bool(line_control & DLAB)
     if register.latched not in (None, is_latched):
@@ -108,10 +99,7 @@ def serial_offset(name: str, line_control: int, is_write: bool) -> int:
 
 
 def clock_offset(name: str) -> int:
-    """The offset of the clock's register of this name, which may begin with RTC.
-
-    Raises `RegisterError` if there is none.
-    """
+    """The offset of the clock's register of this name, which may begin with RTC."""
     plain = name.upper()
     return _named(CLOCK, name, plain[3:] if plain.startswith("RTC") else plain).offset
 
@@ -129,83 +117,24 @@ def clock_register(offset: int) -> Optional[Register]:
                  if register.offset == (offset & ~3 if register.offset >= 0xFE0 else offset)), None)
 
 
-def _line_format(value: int) -> str:
-    """The character format of a line control, as `8N1`."""
-    parity = "OEMS"[value >> 4 & 3] if value & 0x08 else "N"
-    return f"{5 + (value & 3)}{parity}{2 if value & 0x04 else 1}"
-
-
 def bits_by_name(register: Register) -> Dict[str, int]:
     """The bits of a register by their names."""
     return {name: bit for bit, name in register.bits}
 
 
 def bit_names(register: Register, value: int) -> List[str]:
-    """The names of the bits that are set in a register's value. LCR begins with the character format."""
+    """The names of the bits that are set in a register's value. LCR begins with the character format, as `8N1`."""
     names = [name for bit, name in register.bits if value & bit]
     if register.name == "LCR":
-        names.insert(0, _line_format(value))
+        parity = "OEMS"[value >> 4 & 3] if value & 0x08 else "N"
+        names.insert(0, f"{5 + (value & 3)}{parity}{2 if value & 0x04 else 1}")
     if register.name == "IIR" and not names and value & 0x01:
         names = ["none"]
     return names
 
 
-# The fields of a clock in vm-superio, in its order.
-_FIVE = ("lr", "offset", "mr", "imsc", "ris")
-
-
 class AlarmIsSetError(ValueError):
     """vm-superio's state of a clock was asked of one with an alarm set, which its five fields cannot hold."""
-
-    def __init__(self) -> None:
-        super().__init__("an alarm is set, and the five fields of vm-superio's RtcState cannot hold it")
-
-    def __reduce__(self) -> Tuple[Any, ...]:
-        return type(self), ()
-
-
-def _check_names(named: Mapping[str, Any], wanted: Sequence[str]) -> None:
-    if set(named) != set(wanted):
-        raise ValueError(f"the fields are {', '.join(map(str, named))}: {', '.join(wanted)} are wanted")
-
-
-@dataclass(frozen=True)
-class SerialState:
-    """The state of a serial port: nine registers, and the bytes that it received and the guest has not read.
-
-    The defaults are those of a new port. `dataclasses.replace` makes another state of one.
-    """
-
-    baud_divisor_low: int = 0x0C
-    baud_divisor_high: int = 0x00
-    interrupt_enable: int = 0x00
-    interrupt_identification: int = 0x01
-    line_control: int = 0x03
-    line_status: int = 0x60
-    modem_control: int = 0x08
-    modem_status: int = 0xB0
-    scratch: int = 0x00
-    in_buffer: bytes = b""  # the received bytes, oldest first: at most 64
-
-    def __post_init__(self) -> None:
-        for field in fields(self)[:9]:
-            object.__setattr__(self, field.name, number(field.name, getattr(self, field.name), 8))
-        object.__setattr__(self, "in_buffer", byte_string("in_buffer", self.in_buffer))
-        if len(self.in_buffer) > FIFO_SIZE:
-            raise ValueError(f"in_buffer has {len(self.in_buffer)} bytes, and a port holds at most {FIFO_SIZE}")
-
-    def to_vm_superio(self) -> Dict[str, Any]:
-        """The ten fields as serde's JSON has them. `json.dumps` makes the text."""
-        return {**vars(self), "in_buffer": list(self.in_buffer)}
-
-    @classmethod
-    def from_vm_superio(cls, named: Mapping[str, Any]) -> "SerialState":
-        """The state of ten fields, as `json.loads` reads them.
-
-        Raises `ValueError` if the names are others or a value is out of range, and `TypeError` if one is no number.
-        """
-        _check_names(named, [field.name for field in fields(cls)])
-        return cls(**{**named, "in_buffer": bytes(list(named["in_buffer"]))})
 
 
 def _kept(kind: Any, default: Any = 0) -> Any:
@@ -213,8 +142,82 @@ def _kept(kind: Any, default: Any = 0) -> Any:
     return field(default=default, metadata={"kind": kind})
 
 
+_State = TypeVar("_State", bound="State")
+
+
+class State:
+    """The state of a device, whose fields are checked, and its form in vm-superio."""
+
+    def __post_init__(self) -> None:
+        for name, kind in self.kinds().items():
+            value = getattr(self, name)
+            checked = bool(value) if name == "armed" else number(name, value, 8 * sizeof(kind), kind is c_int64)
+            object.__setattr__(self, name, checked)
+
+    @classmethod
+    @lru_cache(maxsize=None)
+    def kinds(cls) -> Dict[str, Any]:
+        """The fields that the struct of superio.h has under the same names, each with its kind there."""
+        return {one.name: one.metadata["kind"] for one in fields(cls) if one.metadata}
+
+    @classmethod
+    def _moved(cls) -> List[str]:
+        """The fields that vm-superio has, in its order: ten of a port, five of a clock."""
+        return [one.name for one in fields(cls)]
+
+    def to_vm_superio(self) -> Dict[str, Any]:
+        """The fields as serde's JSON has them. `json.dumps` makes the text.
+
+        Raises `AlarmIsSetError` of a clock with an alarm set. `dataclasses.replace(state, armed=False)` gives it up.
+        """
+        if getattr(self, "armed", False):
+            raise AlarmIsSetError("an alarm is set, and the five fields of vm-superio's RtcState cannot hold it")
+        values = {name: getattr(self, name) for name in self._moved()}
+        return {name: list(value) if isinstance(value, bytes) else value for name, value in values.items()}
+
+    @classmethod
+    def from_vm_superio(cls: Type[_State], named: Mapping[str, Any]) -> _State:
+        """The state of these fields, as `json.loads` reads them. A clock has no alarm set then.
+
+        Raises `ValueError` if the names are others or a value is out of range, and `TypeError` if one is no number.
+        """
+        wanted = cls._moved()
+        if set(named) != set(wanted):
+            raise ValueError(f"the fields are {', '.join(map(str, named))}: {', '.join(wanted)} are wanted")
+        return cls(**{name: bytes(list(value)) if name == "in_buffer" else value for name, value in named.items()})
+
+
 @dataclass(frozen=True)
-class RtcState:
+class SerialState(State):
+    """The state of a serial port: nine registers, and the bytes that it received and the guest has not read.
+
+    The defaults are those of a new port. `dataclasses.replace` makes another state of one.
+    """
+
+    baud_divisor_low: int = _kept(c_uint8, 0x0C)
+    baud_divisor_high: int = _kept(c_uint8, 0x00)
+    interrupt_enable: int = _kept(c_uint8, 0x00)
+    interrupt_identification: int = _kept(c_uint8, 0x01)
+    line_control: int = _kept(c_uint8, 0x03)
+    line_status: int = _kept(c_uint8, 0x60)
+    modem_control: int = _kept(c_uint8, 0x08)
+    modem_status: int = _kept(c_uint8, 0xB0)
+    scratch: int = _kept(c_uint8, 0x00)
+    in_buffer: bytes = b""  # the received bytes, oldest first: at most 64
+
+    def __post_init__(self) -> None:
+        super().__post_init__()
+        object.__setattr__(self, "in_buffer", byte_string("in_buffer", self.in_buffer))
+        if len(self.in_buffer) > FIFO_SIZE:
+            raise ValueError(f"in_buffer has {len(self.in_buffer)} bytes, and a port holds at most {FIFO_SIZE}")
+
+
+FIELDS = dict(zip(("DLL", "DLM", "IER", "IIR", "LCR", "LSR", "MCR", "MSR", "SCR"), SerialState.kinds()))
+"""The registers that a serial port keeps, in the order of its saved state, each with its field there."""
+
+
+@dataclass(frozen=True)
+class RtcState(State):
     """The state of a clock. The defaults are those of a new one."""
 
     lr: int = _kept(c_uint32)     # the value that was loaded last, or 0
@@ -224,26 +227,10 @@ class RtcState:
     offset: int = _kept(c_int64)  # how far guest time is ahead of the host's, in seconds
     armed: bool = _kept(c_uint64, False)  # whether an alarm is set
 
-    def __post_init__(self) -> None:
-        for one in fields(self):
-            value, kind = getattr(self, one.name), one.metadata["kind"]
-            checked = bool(value) if one.type is bool else number(one.name, value, 8 * sizeof(kind), kind is c_int64)
-            object.__setattr__(self, one.name, checked)
-
-    def to_vm_superio(self) -> Dict[str, Any]:
-        """The five fields as serde's JSON has them, which know no alarm. `json.dumps` makes the text.
-
-        Raises `AlarmIsSetError` if an alarm is set. `dataclasses.replace(state, armed=False)` gives it up.
-        """
-        if self.armed:
-            raise AlarmIsSetError
-        return {name: getattr(self, name) for name in _FIVE}
-
     @classmethod
-    def from_vm_superio(cls, named: Mapping[str, Any]) -> "RtcState":
-        """The state of five fields, as `json.loads` reads them, with no alarm set.
+    def _moved(cls) -> List[str]:
+        return ["lr", "offset", "mr", "imsc", "ris"]
 
-        Raises `ValueError` if the names are others or a value is out of range, and `TypeError` if one is no number.
-        """
-        _check_names(named, _FIVE)
-        return cls(**named)
+
+CLOCK_KEPT = tuple(name for name in CLOCK if name.lower() in RtcState.kinds())
+"""The registers of the clock that are fields of its state."""

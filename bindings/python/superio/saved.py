@@ -1,12 +1,14 @@
 """The states of the devices as the bytes of a saved state."""
 from ctypes import byref, c_uint8
 from enum import IntEnum
-from typing import Any, Callable, Iterator, Tuple, Type, TypeVar
+from typing import Any, Callable, Tuple, Type, TypeVar
 
-from .arguments import byte_string
+from .arguments import byte_string, check_kind
 from .library import load
+from .registers import State
 
 _Device = TypeVar("_Device", bound="Saved")
+
 
 class LoadStatus(IntEnum):
     """`enum superio_load`: why bytes are no saved state. They are checked in this order."""
@@ -21,10 +23,9 @@ class LoadStatus(IntEnum):
     INVALID_ARMED = 7
 
 
-_REASONS = dict(zip(list(LoadStatus)[1:], (
-    "too short for a saved state", "not a saved state", "the saved state of another device",
-    "a saved state of an unknown version", "a saved state of the wrong length", "more than 64 received bytes",
-    "an alarm that is neither set nor clear")))
+_REASONS = ("", "too short for a saved state", "not a saved state", "the saved state of another device",
+            "a saved state of an unknown version", "a saved state of the wrong length", "more than 64 received bytes",
+            "an alarm that is neither set nor clear")
 
 
 class SavedStateError(ValueError):
@@ -82,22 +83,17 @@ class Saved:
         if status is not LoadStatus.OK:
             raise SavedStateError(status)
 
-    def __reduce__(self) -> Tuple[Any, ...]:
+    def _set(self, state: State, kind: Type[State]) -> None:
+        """Takes the fields of a state, which has to be of this class."""
+        check_kind("state", state, kind)
+        for name in kind.kinds():
+            setattr(self._struct, name, getattr(state, name))
+
+    def __reduce_ex__(self, protocol: Any) -> Tuple[Any, ...]:
         """Attributes of a subclass go along, in the form that `copy` and `pickle` set them from."""
-        kinds = type(self).__mro__[:type(self).__mro__.index(Saved)]
-        slots = {slot: getattr(self, slot) for kind in kinds for slot in _slots_of(kind) if hasattr(self, slot)}
-        named = getattr(self, "__dict__", None)
-        return _restored, (type(self), self.to_bytes()), (named, slots) if slots else named
-
-
-def _slots_of(kind: type) -> Iterator[str]:
-    """The slots that a class adds, by the names of their attributes."""
-    slots = vars(kind).get("__slots__", ())
-    for slot in [slots] if isinstance(slots, str) else slots:
-        if not slot.startswith("__"):
-            yield slot
-        elif not slot.endswith("__"):
-            yield f"_{kind.__name__.lstrip('_')}{slot}"
+        named, slots = super().__reduce_ex__(2)[2]
+        own = {name: value for name, value in slots.items() if name not in Saved.__slots__}
+        return _restored, (type(self), self.to_bytes()), (named, own) if own else named
 
 
 def _restored(kind: Type[Saved], data: bytes) -> Saved:
@@ -106,9 +102,3 @@ def _restored(kind: Type[Saved], data: bytes) -> Saved:
     Saved.__init__(device)
     device._load(data)
     return device
-
-
-def script_words(status: LoadStatus, data: bytes) -> str:
-    """The name of the status in words, as a script replies it for these bytes."""
-    words = status.name.lower().replace("_", " ")
-    return f"{words} {data[5]:02x}" if status is LoadStatus.UNKNOWN_VERSION else words

@@ -4,14 +4,14 @@
 """
 import re
 from functools import lru_cache
-from typing import Dict, NamedTuple, Optional, Tuple, Union
+from typing import Dict, NamedTuple, Tuple, Union
 
 from .arguments import byte_string
 
 MAXIMUM = 65_536
 """A script has at most this many bytes."""
 
-_DIGITS = re.compile(rb"[0-9A-Fa-f]*")
+_DIGITS = re.compile(rb"[0-9A-Fa-f]+")
 _MANY_BYTES = 128
 _LINES = 4096
 
@@ -35,68 +35,54 @@ def shown(text: str, most: int = 24) -> str:
 
 
 class Field(NamedTuple):
-    """A field of a line: its name, the article of that, and how many digits it has, 0 for bytes of two digits each."""
+    """A field of a line."""
 
     name: str
-    article: str
-    digits: int
+    form: str       # as `help` shows it
+    digits: int     # how many it has, 0 for bytes of two digits each
+    kind: str = ""  # what it can be in a shell beside digits: a register or bits of one, or a moment
+
+    def __str__(self) -> str:
+        return f"{'an' if self.name.startswith('o') else 'a'} {self.name}"
 
 
-OFFSET = Field("offset", "an", 2)
-VALUE = Field("value", "a", 2)
-MOMENT = Field("moment", "a", 16)
-CLOCK_OFFSET = Field("offset of the clock", "an", 4)
-CLOCK_VALUE = Field("value of the clock", "a", 8)
-MASK_FIELD = Field("mask", "a", 16)
-BYTES = Field("bytes", "the", 0)
+OFFSET, VALUE = Field("offset", "OO", 2), Field("value", "VV", 2)
+SERIAL_OFFSET, SERIAL_VALUE = OFFSET._replace(kind="serial"), VALUE._replace(kind="bits")
+MOMENT = Field("moment", "MOMENT", 16, "now")
+CLOCK_OFFSET = Field("offset of the clock", "OOOO", 4, "clock")
+CLOCK_VALUE = Field("value of the clock", "VVVVVVVV", 8, "bits")
+BYTES = Field("bytes", "HH..", 0)
 
 _NUMBERS = {2: "two", 4: "four", 8: "eight", 16: "sixteen"}
 
 MASK = "refuse"
 """The name of the line that a script can only begin with."""
 
-FORMS: Dict[str, Tuple[Field, ...]] = {
-    MASK: (MASK_FIELD,),
-    "sr": (OFFSET,), "sw": (OFFSET, VALUE), "sq": (BYTES,),
-    "si": (), "sc": (), "sd": (), "ss": (), "sb": (), "sl": (BYTES,), "so": (), "st": (), "se": (),
-    "cr": (MOMENT, CLOCK_OFFSET), "cw": (MOMENT, CLOCK_OFFSET, CLOCK_VALUE), "cb": (), "cl": (BYTES,),
-    "kr": (OFFSET,), "kw": (OFFSET, VALUE),
+LINES: Dict[str, Tuple[str, Tuple[Field, ...]]] = {
+    "sr": ("the guest reads at offset OO", (SERIAL_OFFSET,)),
+    "sw": ("the guest writes VV at offset OO", (SERIAL_OFFSET, SERIAL_VALUE)),
+    "sq": ("1 to 128 bytes arrive; sq alone: none", (BYTES,)),
+    "si": ("the line is idle: raises RDA again if bytes wait", ()),
+    "sc": ("how many more bytes fit", ()),
+    "sd": ("the guest's driver reads what is held", ()),
+    "ss": ("saves the port and restores it", ()),
+    "sb": ("the port's saved state", ()),
+    "sl": ("loads the port from a saved state", (BYTES,)),
+    "so": ("the bytes that the port wrote", ()),
+    "st": ("how often the interrupt line was called", ()),
+    "se": ("reads of RBR, bytes out, lost, reads that left none", ()),
+    "cr": ("the guest reads the clock at offset OOOO", (MOMENT, CLOCK_OFFSET)),
+    "cw": ("the guest writes the clock", (MOMENT, CLOCK_OFFSET, CLOCK_VALUE)),
+    "cb": ("the clock's saved state", ()),
+    "cl": ("loads the clock from a saved state", (BYTES,)),
+    "kr": ("the guest reads the controller", (OFFSET,)),
+    "kw": ("the guest writes the controller; kw 04 fe resets", (OFFSET, VALUE)),
+    MASK: ("the calls that the interrupt line refuses", (Field("mask", "MASK", 16),)),
 }
-"""The fields of each line, by its name. Bytes may be left out."""
+"""What `help` says of each line, and its fields, by its name."""
 
-
-class Help(NamedTuple):
-    """What `help` says of a command, and what each of its fields can be, for the shell to complete it."""
-
-    usage: str
-    about: str
-    more: str = ""
-    fields: Tuple[str, ...] = ()
-
-
-LINES: Dict[str, Help] = {
-    "sr": Help("sr OO", "the guest reads at offset OO", "", ("serial",)),
-    "sw": Help("sw OO VV", "the guest writes VV at offset OO", "", ("serial", "bits")),
-    "sq": Help("sq HH..", "1 to 128 bytes arrive; sq alone: none"),
-    "si": Help("si", "the line is idle: raises RDA again if bytes wait"),
-    "sc": Help("sc", "how many more bytes fit"),
-    "sd": Help("sd", "the guest's driver reads what is held"),
-    "ss": Help("ss", "saves the port and restores it"),
-    "sb": Help("sb", "the port's saved state"),
-    "sl": Help("sl HH..", "loads the port from a saved state"),
-    "so": Help("so", "the bytes that the port wrote"),
-    "st": Help("st", "how often the interrupt line was called"),
-    "se": Help("se", "reads of RBR, bytes out, lost, reads that left none"),
-    "cr": Help("cr MOMENT OOOO", "the guest reads the clock at offset OOOO", "", ("now", "clock")),
-    "cw": Help("cw MOMENT OOOO VVVVVVVV", "the guest writes the clock", "", ("now", "clock")),
-    "cb": Help("cb", "the clock's saved state"),
-    "cl": Help("cl HH..", "loads the clock from a saved state"),
-    "kr": Help("kr OO", "the guest reads the controller"),
-    "kw": Help("kw OO VV", "the guest writes the controller; kw 04 fe resets"),
-    "refuse": Help("refuse MASK", "the calls that the interrupt line refuses",
-                   "Only before every other call. The line refuses call k, from 0, if bit k of the mask is set."),
-}
-"""What the shell says of each line."""
+FORMS = {name: fields for name, (_, fields) in LINES.items()}
+"""The fields of each line. Bytes may be left out."""
 
 
 class Command(NamedTuple):
@@ -106,39 +92,20 @@ class Command(NamedTuple):
     values: Tuple[Value, ...] = ()
 
 
-def _value(field: Field, text: bytes) -> Optional[Value]:
-    """The value of a field's text, `None` if it has not the field's digits."""
-    if not _DIGITS.fullmatch(text):
-        return None
-    if field.digits:
-        return int(text, 16) if len(text) == field.digits else None
-    is_whole = len(text) % 2 == 0 and 2 <= len(text) <= 2 * _MANY_BYTES
-    return bytes.fromhex(text.decode("ascii")) if is_whole else None
-
-
-def _malformed(field: Field) -> str:
-    if not field.digits:
-        return f"1 to {_MANY_BYTES} bytes have two digits each"
-    return f"{field.article} {field.name} has {_NUMBERS[field.digits]} digits"
-
-
 def missing(field: Field) -> str:
     """Why a line without this field has no form."""
-    return f"{field.article} {field.name} is missing"
+    return f"{field} is missing"
 
 
-def _values(fields: Tuple[Field, ...], texts: Tuple[bytes, ...]) -> Tuple[Value, ...]:
-    values = []
-    for place, field in enumerate(fields):
-        if place == len(texts):
-            raise ScriptError(missing(field))
-        value = _value(field, texts[place])
-        if value is None:
-            raise ScriptError(_malformed(field) if texts[place] else _SPACES)
-        values.append(value)
-    if len(texts) > len(fields):
-        raise ScriptError(TOO_MANY if texts[len(fields)] else _SPACES)
-    return tuple(values)
+def _value(field: Field, text: bytes) -> Value:
+    """The value of a field's text. Raises `ScriptError` if it has not the field's digits."""
+    if not text:
+        raise ScriptError(_SPACES)
+    is_whole = len(text) == field.digits if field.digits else len(text) % 2 == 0 and len(text) <= 2 * _MANY_BYTES
+    if not is_whole or not _DIGITS.fullmatch(text):
+        raise ScriptError(f"{field} has {_NUMBERS[field.digits]} digits" if field.digits else
+                          f"1 to {_MANY_BYTES} bytes have two digits each")
+    return int(text, 16) if field.digits else bytes.fromhex(text.decode("ascii"))
 
 
 def parse(line: bytes, is_first: bool = False) -> Command:
@@ -152,29 +119,26 @@ def parse(line: bytes, is_first: bool = False) -> Command:
 @lru_cache(maxsize=_LINES)
 def _parse(line: bytes, is_first: bool) -> Command:
     """The same. A script has most of its lines many times."""
-    name, *texts = line.split(b" ")
-    known = name.decode("ascii", "replace")
-    try:
-        if known not in FORMS:
-            raise ScriptError("no line has this name" if name else "a line begins with a name")
-        fields = FORMS[known]
-        if not texts and fields == (BYTES,):
-            fields = ()
-        command = Command(known, _values(fields, tuple(texts)))
-        if known == MASK and not is_first:
-            raise ScriptError("a mask comes before every other line")
-        return command
-    except ScriptError:
-        if line.endswith(b"\r"):
-            raise ScriptError("it ends with a carriage return") from None
-        raise
+    if line.endswith(b"\r"):
+        raise ScriptError("it ends with a carriage return")
+    word, *texts = line.split(b" ")
+    name = word.decode("ascii", "replace")
+    if name not in FORMS:
+        raise ScriptError("no line has this name" if name else "a line begins with a name")
+    fields = FORMS[name] if texts or FORMS[name] != (BYTES,) else ()
+    values = tuple(map(_value, fields, texts))
+    if len(texts) < len(fields):
+        raise ScriptError(missing(fields[len(texts)]))
+    if len(texts) > len(fields):
+        raise ScriptError(TOO_MANY if texts[len(fields)] else _SPACES)
+    if name == MASK and not is_first:
+        raise ScriptError("a mask comes before every other line")
+    return Command(name, values)
 
 
 def lines_of(script: bytes) -> Tuple[bytes, ...]:
     """The lines of a script. The last one may lack its LF."""
-    if not script:
-        return ()
-    return tuple(script[:-1].split(b"\n") if script.endswith(b"\n") else script.split(b"\n"))
+    return tuple(script[:-1 if script.endswith(b"\n") else None].split(b"\n")) if script else ()
 
 
 def text_of(command: Command) -> str:

@@ -1,102 +1,132 @@
-"""A session: a board, what a line can make of it, the lines of its calls, and the colours of what it says."""
+"""A session: a board, what a line can make of it, and the lines of its calls."""
 import os
+import shlex
 import signal
 import time
-from contextlib import contextmanager, nullcontext, suppress
-from typing import IO, Callable, ContextManager, Iterable, Iterator, List, Optional, Tuple
+from contextlib import suppress
+from typing import IO, Any, Callable, Dict, Iterable, List, Optional, Tuple
 
 from .board import Board, Call
-from .commands import HELP, VERBS
-from .faults import BadLine, FileFault, replaced
-from .script import FORMS, Command, ScriptError, parse, shown, text_of
-from .tell import Story, told
-from .words import Speaker
+from .devices import Rtc, Serial
+from .files import BadLine, FileFault, opened, replaced, write_text
+from .prompt import QUIET, Help, Prompt
+from .registers import CLOCK
+from .script import FORMS, LINES, MASK, Command, ScriptError, parse, text_of
+from .tell import Story, changes, clock_registers, registers, told
+from .words import Speaker, UsageError
+
+_DEEPEST = 10
+
+INTRO = """\
+A serial port, a clock and a reset controller, as a guest sees them.
+Try:  write IER RDA    the guest asks for interrupts
+      type "hi"        input arrives
+      read IIR         the guest asks why
+      read RBR         and reads a byte
+help lists all commands, Tab completes, Ctrl-D ends."""
 
 
-class Style:
-    """Marks texts with colours, or leaves them as they are."""
+_CLOCK_NAMES = ", ".join(name for name in CLOCK if not name.startswith("ID"))
 
-    def __init__(self, is_coloured: bool) -> None:
-        self.is_coloured = is_coloured
+_OF_MASK = "Only before every other call. The line refuses call k, from 0, if bit k of the mask is set."
 
-    @classmethod
-    def of(cls, stream: "IO[str]", is_wanted: bool) -> "Style":
-        """Colours, if they are wanted, the stream is a terminal that shows them, and NO_COLOR is not set."""
-        return cls(is_wanted and stream.isatty()
-                   and not os.environ.get("NO_COLOR") and os.environ.get("TERM") != "dumb")
+_GROUPS: Dict[str, Tuple[Help, ...]] = {
+    "Serial port": (
+        Help("read REGISTER", "the guest reads: read LSR, read 5",
+             "REGISTER is RBR, IER, IIR, LCR, MCR, LSR, MSR, SCR, DLL or DLM, or an offset from 0 to 255.",
+             ("serial",), "sr"),
+        Help("write REGISTER VALUE", "the guest writes: write IER RDA|THRE",
+             "REGISTER is THR, IER, FCR, LCR, MCR, LSR, MSR, SCR, DLL or DLM, or an offset. VALUE is 65, "
+             "0x41, 'A', or names of bits as RDA|THRE.", ("serial", "bits"), "sw"),
+        Help('type "TEXT"', "bytes arrive for the guest",
+             r"""1 to 128 bytes. In quotes \n, \r, \t, \0, \e, \\, \" and \x41 are single bytes.""", (), "type"),
+        Help("timeout", "raises RDA again if bytes wait without it",
+             "Bytes wait if IER enables RDA, and a read of IIR or RBR has ended it and left them. A monitor makes this "
+             "call after each guest read of IIR that answers none, and once in each turn of its event loop.", (), "si"),
+        Help("drain", "the guest's driver reads what is held", means="sd"),
+        Help("output", "what the guest sent", means="so"),
+        Help("room", "how many more bytes fit", means="sc"),
+        Help("calls", "how often the interrupt line was called", means="st"),
+        Help("events", "reads of RBR, bytes out and lost", means="se"),
+        Help("restore", "saves the port and restores it",
+             "The restored port asks again for each interrupt that is pending and enabled.", (), "ss"),
+    ),
+    "Clock and reset controller": (
+        Help("clock read|write REGISTER [VALUE] [MOMENT]", "clock read DR now, clock write IMSC 1",
+             f"REGISTER is {_CLOCK_NAMES}, ID0 to ID7, or an offset. MOMENT is now, now+5, or seconds since 1970; it "
+             "is now if left out.", ("read write", "clock"), "clock"),
+        Help("alarm +SECONDS", "sets the clock's match register",
+             "alarm 0x6553f100 sets it to that guest time. The line goes up if IMSC is 1.", ("+",), "alarm"),
+        Help("i8042 read|write OFFSET [VALUE]", "i8042 write 4 0xfe resets the machine", "", ("read write",), "i8042"),
+    ),
+    "What happened": (
+        Help("regs [serial|clock]", "every register, the FIFO and what is pending", "", ("serial clock",)),
+        Help("why", "why each interrupt is pending, or is not"),
+        Help("diff", "what the last call changed"),
+        Help("trace [on [FILE]|off]", "every call as a script line",
+             "trace on shows each call's line. trace on FILE writes all since the last reset to a file, a script for "
+             "the program superio. trace alone lists them.", ("on off", "file")),
+    ),
+    "Session": (
+        Help("save FILE", "saves port and clock", "The file has the two script lines that load them, sl and cl.",
+             ("file",)),
+        Help("load FILE", "loads what save wrote",
+             "The port goes on over the board's own line and output. If the line refuses an interrupt that is due, the "
+             "port stays as it was.", ("file",)),
+        Help("reset", "a fresh board, as after a reset of the machine"),
+        Help("source FILE", "carries out the lines of a file", "", ("file",)),
+        Help("help [NAME]", "this list, or more about one command", "", ("command",)),
+        Help("quit", "ends, as exit and Ctrl-D do"),
+    ),
+    "Lines of a script, with hexadecimal fields": tuple(
+        Help(" ".join([name, *(field.form for field in fields)]), about, _OF_MASK if name == MASK else "",
+             tuple(field.kind for field in fields)) for name, (about, fields) in LINES.items()),
+}
 
-    def _marked(self, code: str, text: str) -> str:
-        return f"\x1b[{code}m{text}\x1b[0m" if self.is_coloured and text else text
 
-    def error(self, text: str) -> str:
-        return self._marked("31", text)
-
-    def quiet(self, text: str) -> str:
-        return self._marked("2", text)
-
-    def strong(self, text: str) -> str:
-        return self._marked("1", text)
-
-
-@contextmanager
-def _undisturbed() -> Iterator[None]:
-    """Keeps Ctrl-C back, so that it finds a board whose call is whole."""
-    before = signal.pthread_sigmask(signal.SIG_BLOCK, {signal.SIGINT})
+def _path(rest: str) -> str:
+    """The one file that a command names."""
     try:
-        yield
-    finally:
-        signal.pthread_sigmask(signal.SIG_SETMASK, before)
+        (word,) = shlex.split(rest)
+    except ValueError:
+        raise UsageError from None
+    return os.path.expanduser(word)
 
 
-class Session:
+class Session(Prompt):
     """Carries out lines on a board, and writes the replies to a stream.
 
     `keeps_lines` says whether the lines of all calls are kept, for `trace`. `is_strict` takes nothing but what the
     program `superio` takes.
     """
 
-    def __init__(self, out: IO[str], style: Style = Style(False), keeps_lines: bool = False, is_strict: bool = False,
-                 host_time: Callable[[], float] = time.time) -> None:
-        self.out = out
-        self.style = style
+    groups, prompt, intro = _GROUPS, "superio> ", INTRO
+
+    def __init__(self, out: "IO[str]", keeps_lines: bool = False, is_strict: bool = False,
+                 host_time: Callable[[], float] = time.time, **marks: Any) -> None:
+        super().__init__(out, **marks)
         self.is_strict = is_strict
-        self.depth = 0
         self.keeps_lines = keeps_lines
-        self.shows_calls = False
+        self._depth = 0
+        self._shows_calls = False
         self._trace: Optional[Tuple[IO[str], str]] = None  # a file to which the lines of calls go, and its name
-        # Only a shell goes on after Ctrl-C. The protection costs more than a call of the board.
-        self._undisturbed: Callable[[], ContextManager[None]] = _undisturbed if keeps_lines else nullcontext
         self._host_time = host_time
         self.renew()
 
     def renew(self) -> None:
         """Puts a fresh board in the place of this one."""
         self.board = Board()
-        self.speaker = Speaker(self.board, self.now)
-        self.story = Story()
+        self._speaker = Speaker(self.board, self._now)
+        self._story = Story()
         self.last: Optional[Call] = None
         self.lines: List[str] = []
-        self.end_trace()
+        self._end_trace()
 
-    def now(self) -> int:
+    def _now(self) -> int:
         """The host's time, in seconds since 1970, or 0 if its clock is before that."""
         return max(0, int(self._host_time()))
 
-    def say(self, *lines: str) -> None:
-        """Writes lines."""
-        for line in lines:
-            self.out.write(line + "\n")
-
-    def show(self, rows: List[str]) -> None:
-        """Writes a heading and the rows below it."""
-        self.say(self.style.strong(rows[0]), *rows[1:])
-
     def carry_out(self, line: bytes) -> None:
-        """Carries out a line, without its LF.
-
-        Raises `ScriptError` or `RegisterError`, which say why, if it is none; `FileFault` if a file that it names
-        cannot be used; and `Leave` if it ends the session.
-        """
         try:
             command = parse(line, is_first=self.board.number == 0)
         except ScriptError:
@@ -106,49 +136,134 @@ class Session:
             self.run(command, is_short=True)
             return
         text = line.decode("utf-8", "surrogateescape").strip()
-        name, _, rest = text.partition(" ")
-        if not text or text.startswith("#"):
-            return
-        if name not in HELP:
-            raise ScriptError(f"no command is called {shown(name)}: help lists them")
-        if rest.strip() and HELP[name].usage == name and name not in FORMS:
-            raise ScriptError(f"{name} takes no arguments")
-        if name in VERBS:
-            VERBS[name](self, rest.strip())
+        name = text.partition(" ")[0]
+        if name in FORMS:
+            self.run(self._speaker.line(name, text), is_short=True)
+        elif text and not text.startswith("#"):
+            super().carry_out(line)
+
+    def perform(self, name: str, rest: str) -> None:
+        if self.help[name].means:
+            self.run(self._speaker.command(self.help[name].means, rest), is_short=False)
         else:
-            self.run(self.speaker.command(text), is_short=name in FORMS)
+            super().perform(name, rest)
 
     def run(self, command: Command, is_short: bool) -> None:
         """Carries out a command, and writes what it replied: what a script prints if `is_short`, otherwise in words."""
-        with self._undisturbed():
-            call = self.last = self.board.run(command)
-            self.story.note(call)
-            if self.keeps_lines:
+        if self.keeps_lines:
+            # Only a shell goes on after Ctrl-C, and has to find a board whose call is whole. This costs more than one.
+            before = signal.pthread_sigmask(signal.SIG_BLOCK, {signal.SIGINT})
+            try:
+                call = self._make(command)
                 self.lines.append(text_of(command))
-        if self.shows_calls:
-            self.say(self.style.quiet(text_of(command)))
+            finally:
+                signal.pthread_sigmask(signal.SIG_SETMASK, before)
+        else:
+            call = self._make(command)
+        if self._shows_calls:
+            self.say(self.marked(QUIET, text_of(command)))
         if call.reply is not None:
             self.say(call.reply if is_short else told(call))
         if self._trace:
             try:
                 print(text_of(command), file=self._trace[0], flush=True)
             except OSError as error:
-                raise FileFault(str(self.end_trace()), error) from None
+                raise FileFault(str(self._end_trace()), error) from None
 
-    def has_all_lines(self) -> bool:
-        """Whether `lines` has those of all calls since the last reset."""
-        return self.board.number == len(self.lines)
+    def _make(self, command: Command) -> Call:
+        call = self.last = self.board.run(command)
+        self._story.note(call)
+        return call
 
-    def begin_trace(self, path: str) -> None:
+    def run_lines(self, name: str, lines: Iterable[bytes]) -> None:
+        """Carries out the lines of a file of this name. `BadLine` names the first that is not carried out."""
+        for number, line in enumerate(lines, 1):
+            line = line[:-1] if line.endswith(b"\n") else line
+            try:
+                self.carry_out(line)
+            except (ValueError, FileFault) as error:
+                raise BadLine(name, number, line, error) from error
+
+    def do_regs(self, rest: str) -> None:
+        if rest not in ("", "serial", "clock"):
+            raise UsageError
+        if rest != "clock":
+            self.show(registers(self.board.snapshot()))
+        if rest != "serial":
+            self.show(clock_registers(self.board.clock.state, self._now()))
+
+    def do_why(self, _: str) -> None:
+        self.say(*self._story.lines(self.board))
+
+    def do_diff(self, _: str) -> None:
+        if self.last is None:
+            raise ScriptError("no call was made yet")
+        rows = changes(self.last) or ["nothing changed"]
+        self.show([text_of(self.last.command), *("  " + row for row in rows)])
+
+    def do_save(self, rest: str) -> None:
+        path = _path(rest)
+        write_text(path, f"sl {self.board.serial.to_bytes().hex()}\ncl {self.board.clock.to_bytes().hex()}\n")
+        self.say(f"port and clock saved to {path}")
+
+    def do_load(self, rest: str) -> None:
+        path = _path(rest)
+        with opened(path) as file:
+            data = file.read(4096)
+        try:
+            (first, port), (second, clock) = (line.decode("ascii").split() for line in data.splitlines())
+            forms = bytes.fromhex(port), bytes.fromhex(clock)
+        except ValueError:
+            first = second = ""
+        if (first, second) != ("sl", "cl"):
+            raise ScriptError(f"{path} is no file that save wrote")
+        for name, device, form in zip((first, second), (Serial, Rtc), forms):
+            device.from_bytes(form)
+        for name, form in zip((first, second), forms):
+            self.run(Command(name, (form,)), is_short=True)
+
+    def do_reset(self, _: str) -> None:
+        self.renew()
+        self.say("a fresh board")
+
+    def do_source(self, rest: str) -> None:
+        path = _path(rest)
+        if self._depth == _DEEPEST:
+            raise ScriptError(f"files that source each other go at most {_DEEPEST} deep")
+        self._depth += 1
+        try:
+            with opened(path) as file:
+                self.run_lines(path, file)
+        finally:
+            self._depth -= 1
+
+    def do_trace(self, rest: str) -> None:
+        name, _, path = rest.partition(" ")
+        has_all_lines = self.board.number == len(self.lines)
+        if rest in ("on", "off"):
+            self._shows_calls = rest == "on"
+            ended = None if self._shows_calls else self._end_trace()
+            self.say(f"trace is {rest}" + (f", and {ended} is complete" if ended else ""))
+        elif name == "on":
+            if not has_all_lines:
+                raise ScriptError("trace on FILE has to come before every call here")
+            self._begin_trace(_path(path))
+        elif not rest and has_all_lines:
+            self.say(*self.lines)
+        else:
+            raise UsageError
+
+    def _begin_trace(self, path: str) -> None:
         """Writes `lines`, and from now on the line of each further call, into a file."""
-        self.end_trace()
+        self._end_trace()
         with replaced(path) as name:
             file = open(name, "w", encoding="ascii")
             file.writelines(line + "\n" for line in self.lines)
             file.flush()
         self._trace = file, path
+        self.say(f"the calls since the last reset go to {path}")
 
-    def end_trace(self) -> Optional[str]:
+    def _end_trace(self) -> Optional[str]:
         """Closes that file. Returns its name, or `None` if there is none."""
         if self._trace is None:
             return None
@@ -156,15 +271,3 @@ class Session:
         with suppress(OSError):  # of a line that could not be written, which was said
             file.close()
         return path
-
-    def run_lines(self, name: str, lines: Iterable[bytes]) -> None:
-        """Carries out the lines of a file of this name.
-
-        Raises `BadLine` at the first that is not carried out, and `Leave` if one ends the session.
-        """
-        for number, line in enumerate(lines, 1):
-            line = line[:-1] if line.endswith(b"\n") else line
-            try:
-                self.carry_out(line)
-            except (ValueError, FileFault) as error:
-                raise BadLine(name, number, line, str(error)) from error

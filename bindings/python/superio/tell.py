@@ -1,14 +1,14 @@
 """What a call did, what a board is, and why an interrupt is pending or not, in words."""
 from copy import copy
 from datetime import datetime, timedelta
-from typing import Dict, List, NamedTuple, Optional
+from typing import Dict, List, Optional, Tuple
 
 from .board import OUTPUT_SIZE, Board, Call, Snapshot
 from .devices import Rtc, Serial
 from .library import SerialStruct
-from .registers import (CLOCK, FIELDS, FIFO_BITS, FIFO_SIZE, LOOPBACK, SERIAL, Register, RtcState, SerialState,
-                        bit_names, bits_by_name, clock_register, serial_register)
-from .script import Command, text_of
+from .registers import (CLOCK, CLOCK_KEPT, FIELDS, FIFO_BITS, FIFO_SIZE, LOOPBACK, SERIAL, Register, RtcState,
+                        SerialState, bit_names, bits_by_name)
+from .script import text_of
 
 CONDITIONS = bits_by_name(SERIAL["IIR"])
 """The interrupt conditions, each with its bit of IIR."""
@@ -16,9 +16,9 @@ CONDITIONS = bits_by_name(SERIAL["IIR"])
 ENABLES = bits_by_name(SERIAL["IER"])
 """The bit of IER that enables each condition."""
 
-# The registers in the order in which a call changes them, and those of the clock that are fields of its state.
+# The registers in the order in which a call changes them, and the width of each as it is shown.
 _CHANGED = ("IER", "LCR", "MCR", "LSR", "MSR", "SCR", "DLL", "DLM", "IIR")
-_KEPT = tuple(name for name in CLOCK if hasattr(RtcState, name.lower()))
+_COMPARED = [*((SERIAL[name], 4) for name in _CHANGED), *((CLOCK[name], 10) for name in CLOCK_KEPT)]
 _IIR = SerialStruct.interrupt_identification.offset
 
 _ACKNOWLEDGED_BY = {"RDA": "A read of IIR or of RBR acknowledges it.", "THRE": "A read of IIR acknowledges it."}
@@ -36,9 +36,9 @@ def quoted(data: bytes, most: int = FIFO_SIZE) -> str:
     return f'"{shown}"' + (".." if len(data) > most else "")
 
 
-def _decoded(register: Optional[Register], value: int, width: int = 4) -> str:
+def _decoded(register: Register, value: int, width: int = 4) -> str:
     """A value in as many characters, and the names of the register's bits in it."""
-    names = " ".join(bit_names(register, value)) if register else ""
+    names = " ".join(bit_names(register, value))
     return f"{value:#0{width}x}" + (f"  {names}" if names else "")
 
 
@@ -67,26 +67,27 @@ def told(call: Call) -> str:
     return tell(call) if tell else call.reply or ""
 
 
-def _serial_read(call: Call) -> str:
-    (offset,) = call.command.values
-    register = serial_register(offset, call.before.serial.line_control, False)
-    value = int(call.reply or "0", 16)
-    text = f"{register.name if register else f'offset {offset:#04x}'} = {_decoded(register, value)}"
+def _read(call: Call) -> str:
+    """What a read of port or clock found."""
+    register, value = call.register, int(call.reply or "0", 16)
+    note = " ".join(bit_names(register, value)) if register else ""
     if register and register.name == "RBR":
-        return f"{text}  {quoted(bytes([value]))}" if call.before.serial.in_buffer else f"{text}  no byte was held"
-    return text
+        note = quoted(bytes([value])) if call.before.serial.in_buffer else "no byte was held"
+    if register and register.name == "DR":
+        note = f"{date_of(value)} UTC"
+    name = register.name if register else f"offset {call.command.values[0]:#04x}"
+    return f"{name} = 0x{call.reply}  {note}".rstrip()
 
 
 def _serial_write(call: Call) -> str:
-    offset, value = call.command.values
-    register = serial_register(offset, call.before.serial.line_control, True)
+    sent = quoted(bytes(call.command.values[1:]))
     text = "ok"
-    if register is None or register.name in ("FCR", "LSR", "MSR"):
+    if call.register is None or call.register.name in ("FCR", "LSR", "MSR"):
         text = "ignored"
     elif call.is_lost:
-        text = f"{quoted(bytes([value]))} lost: the output is full, with {OUTPUT_SIZE} bytes"
+        text = f"{sent} lost: the output is full, with {OUTPUT_SIZE} bytes"
     elif call.after.sent > call.before.sent:
-        text = f"sent {quoted(bytes([value]))}"
+        text = f"sent {sent}"
     return text + _interrupts(call)
 
 
@@ -118,25 +119,17 @@ def date_of(seconds: int) -> str:
     return f"{datetime(1970, 1, 1) + timedelta(seconds=seconds):%Y-%m-%d %H:%M:%S}"
 
 
-def _clock_read(call: Call) -> str:
-    _, offset = call.command.values
-    register = clock_register(offset)
+def _clock_access(call: Call) -> str:
+    _, offset, *value = call.command.values
     if call.reply == "invalid":
-        return f"invalid: nothing can be read at {offset:#06x}" + (f", {register.name}" if register else "")
-    value = int(call.reply or "0", 16)
-    text = f"{register.name if register else f'offset {offset:#06x}'} = {_decoded(register, value, 10)}"
-    return f"{text}  {date_of(value)} UTC" if offset == 0 else text
-
-
-def _clock_write(call: Call) -> str:
-    _, offset, value = call.command.values
-    register = clock_register(offset)
-    if call.reply == "invalid":
-        return f"invalid: nothing can be written at {offset:#06x}" + (f", {register.name}" if register else "")
+        place = f"{offset:#06x}" + (f", {call.register.name}" if call.register else "")
+        return f"invalid: nothing can be {'written' if value else 'read'} at {place}"
+    if not value:
+        return _read(call)
     if offset != CLOCK["MR"].offset:
         return "ok"
     if call.after.clock.armed:
-        return f"alarm set for guest time {value:#010x}  {date_of(value)} UTC"
+        return f"alarm set for guest time {value[0]:#010x}  {date_of(value[0])} UTC"
     return "ok: guest time is there, so the alarm is up" if call.after.clock.ris & 1 else "ok: that time is past"
 
 
@@ -151,12 +144,12 @@ def _events(call: Call) -> str:
 
 
 _TELLERS = {
-    "sr": _serial_read, "sw": _serial_write, "sq": _enqueue, "si": _character_timeout, "sd": _text_output,
+    "sr": _read, "sw": _serial_write, "sq": _enqueue, "si": _character_timeout, "sd": _text_output,
     "so": _text_output,
     "sc": lambda call: f"room for {plural(int(call.reply or '0', 16), 'byte')}",
     "st": lambda call: f"the interrupt line was called {plural(int(call.reply or '0', 16), 'time')}",
     "ss": lambda call: ("restored" if call.reply == "ok" else "not restored") + _interrupts(call),
-    "se": _events, "cr": _clock_read, "cw": _clock_write,
+    "se": _events, "cr": _clock_access, "cw": _clock_access,
     "kr": lambda call: f"0x{call.reply}", "kw": lambda call: call.reply or "",
 }
 
@@ -186,7 +179,7 @@ def clock_registers(state: RtcState, now: Optional[int] = None) -> List[str]:
     if now is not None:
         guest_time = copy(clock).read("DR", now).value
         rows.append(f"  DR   {guest_time:#010x}  {date_of(guest_time)}")
-    rows.extend(_row(CLOCK[name], getattr(state, name.lower()), 10) for name in _KEPT)
+    rows.extend(_row(CLOCK[name], getattr(state, name.lower()), 10) for name in CLOCK_KEPT)
     rows.append(f"  {_alarm(clock, now)}")
     rows.append(f"  interrupt line {'up' if clock.line() else 'down'}")
     return rows
@@ -199,15 +192,18 @@ def _alarm(clock: Rtc, now: Optional[int]) -> str:
     return "alarm set" if due is None else f"alarm due in {due} s" if due else "alarm due now"
 
 
+def _values(board: Snapshot) -> List[int]:
+    """The values of `_COMPARED`."""
+    serial, clock = board.serial, board.clock
+    return [*(getattr(serial, FIELDS[name]) | (FIFO_BITS if name == "IIR" else 0) for name in _CHANGED),
+            *(getattr(clock, name.lower()) for name in CLOCK_KEPT)]
+
+
 def changes(call: Call) -> List[str]:
     """What a call changed, a row for each register, the FIFO, the output and the line; empty if nothing."""
     before, after = call.before, call.after
-    values = [(SERIAL[name], 4, *(getattr(state, FIELDS[name]) | (FIFO_BITS if name == "IIR" else 0)
-                                  for state in (before.serial, after.serial))) for name in _CHANGED]
-    values += [(CLOCK[name], 10, *(getattr(state, name.lower()) for state in (before.clock, after.clock)))
-               for name in _KEPT]
     rows = [f"{register.name} {old:#0{width}x} -> {_decoded(register, new, width)}"
-            for register, width, old, new in values if old != new]
+            for (register, width), old, new in zip(_COMPARED, _values(before), _values(after)) if old != new]
     if before.serial.in_buffer != after.serial.in_buffer:
         rows.append(f"FIFO {len(before.serial.in_buffer)} -> {plural(len(after.serial.in_buffer), 'byte')}")
     if before.sent != after.sent:
@@ -219,27 +215,20 @@ def changes(call: Call) -> List[str]:
     return rows + [f"interrupt {'taken' if taken else 'refused'}" for taken in call.answers]
 
 
-class _Turn(NamedTuple):
-    """A call that turned a condition on or off."""
-
-    number: int
-    command: Command
-    is_taken: Optional[bool] = None  # what the interrupt line answered; `None` if it was not called
-
-    def __str__(self) -> str:
-        line = text_of(self.command)
-        return f"call {self.number}, {line if len(line) <= 24 else line[:22] + '..'}"
+def _turn(call: Call) -> str:
+    line = text_of(call.command)
+    return f"call {call.number}, {line if len(line) <= 24 else line[:22] + '..'}"
 
 
 class Story:
     """Remembers, for each condition, the call that raised it last and the one that acknowledged it last."""
 
     def __init__(self) -> None:
-        self._raised: Dict[str, _Turn] = {}
-        self._acknowledged: Dict[str, _Turn] = {}
+        self._raised: Dict[str, Tuple[Call, Optional[bool]]] = {}  # with what the interrupt line answered, if called
+        self._acknowledged: Dict[str, Call] = {}
 
     def note(self, call: Call) -> None:
-        """Remembers what a call raised and acknowledged. Calls are noted in their order."""
+        """Remembers what a call raised and acknowledged. Calls are noted in their order, from a fresh board on."""
         if call.before.port[_IIR] == call.after.port[_IIR] and not call.answers:
             return
         before, after = pending(call.before.serial), pending(call.after.serial)
@@ -247,45 +236,32 @@ class Story:
         for name in CONDITIONS:
             asked = name in after and (name not in before or call.command.name in ("ss", "sl"))
             if asked and (name not in before or answers):
-                self._raised[name] = _Turn(call.number, call.command, answers.pop(0) if answers else None)
+                self._raised[name] = call, answers.pop(0) if answers else None
             elif name in before and name not in after:
-                self._acknowledged[name] = _Turn(call.number, call.command)
+                self._acknowledged[name] = call
 
     def lines(self, board: Board) -> List[str]:
         """A sentence or two about each condition."""
-        return [self._about(name, board) for name in CONDITIONS]
+        return [self._about(name, board.serial.state) for name in CONDITIONS]
 
-    def _about(self, name: str, board: Board) -> str:
-        state = board.serial.state
+    def _about(self, name: str, state: SerialState) -> str:
         is_enabled = bool(state.interrupt_enable & ENABLES[name])
         if name in pending(state):
-            return f"{name} is pending: {self._why_pending(name, is_enabled)}"
-        return f"{name} is not pending: {self._why_not(name, is_enabled, len(state.in_buffer))}"
-
-    def _why_pending(self, name: str, is_enabled: bool) -> str:
-        raise_ = self._raised.get(name)
-        if raise_ is None:
-            return "it was when the board was loaded."
-        answer = {True: ", and the line took the interrupt", False: ", and the line refused the interrupt", None: ""}
-        reason = f"{raise_}, raised it{answer[raise_.is_taken]}"
-        if not is_enabled:
-            return f"{reason}. IER does not enable it now."
-        return f"{reason}. {_ACKNOWLEDGED_BY[name]}"
-
-    def _why_not(self, name: str, is_enabled: bool, held: int) -> str:
-        acknowledged = self._acknowledged.get(name)
-        reason = f"{acknowledged}, acknowledged it" if acknowledged else "no call has raised it"
-        if name == "RDA":
-            return f"{reason}. {self._next_rda(is_enabled, held)}"
-        if not is_enabled:
-            return f"{reason}. IER does not enable it."
-        return f"{reason}. The next byte that goes out raises it, or a write to IER."
+            call, answer = self._raised[name]
+            answered = "" if answer is None else f", and the line {'took' if answer else 'refused'} the interrupt"
+            then = _ACKNOWLEDGED_BY[name] if is_enabled else "IER does not enable it now."
+            return f"{name} is pending: {_turn(call)}, raised it{answered}. {then}"
+        ended = self._acknowledged.get(name)
+        reason = f"{_turn(ended)}, acknowledged it" if ended else "no call has raised it"
+        return f"{name} is not pending: {reason}. {self._next(name, is_enabled, len(state.in_buffer))}"
 
     @staticmethod
-    def _next_rda(is_enabled: bool, held: int) -> str:
-        bytes_held = f"{plural(held, 'byte')} {'is' if held == 1 else 'are'} held"
+    def _next(name: str, is_enabled: bool, held: int) -> str:
+        """What raises a condition that is not pending."""
+        bytes_held = f"{plural(held, 'byte')} {'is' if held == 1 else 'are'} held" if held and name == "RDA" else ""
         if not is_enabled:
-            return "IER does not enable it" + (f", and {bytes_held}." if held else ".")
-        if not held:
-            return "The next byte raises it."
-        return f"{bytes_held}: a timeout, the next byte or a write to IER raises it."
+            return "IER does not enable it" + (f", and {bytes_held}." if bytes_held else ".")
+        if name == "THRE":
+            return "The next byte that goes out raises it, or a write to IER."
+        return f"{bytes_held}: a timeout, the next byte or a write to IER raises it." if held else \
+            "The next byte raises it."

@@ -10,8 +10,8 @@ import termios
 import time
 
 TIMEOUT = 60
-# Of what a program shows at most so much is kept, and searched, until the text comes that is waited for.
-_KEPT = 1_000_000
+# Of what a program shows at most so much is searched for the text that is waited for.
+_KEPT = 100_000
 _CONTROL = re.compile(r"\x1b\[\??[0-9;]*[a-zA-Z]|\x07")
 
 
@@ -25,8 +25,7 @@ class Terminal:
             signal.signal(signal.SIGINT, signal.SIG_DFL)
             os.execve(command[0], command, environment)
         fcntl.ioctl(self._end, termios.TIOCSWINSZ, struct.pack("HHHH", 24, columns, 0, 0))
-        self.raw = ""
-        self.log = ""
+        self.raw = self.log = ""
 
     def type(self, text):
         os.write(self._end, text.encode())
@@ -37,32 +36,22 @@ class Terminal:
         Raises `AssertionError` if the text does not come in time."""
         deadline = time.monotonic() + seconds
         while text not in self.shown():
-            if not self._read(deadline):
+            if not self._takes(deadline):
                 raise AssertionError(f"{text!r} does not come after {self.shown()[-1000:]!r}")
-        head, found, rest = self.shown().partition(text)
-        self.raw = rest
+        head, found, self.raw = self.shown().partition(text)
         return head + found
 
-    def _read(self, deadline):
-        """Takes what the terminal shows next, and returns whether it showed anything before the deadline."""
-        took = False
-        wait = deadline - time.monotonic()
-        while wait > 0 and select.select([self._end], [], [], wait)[0] and self._take():
-            took = True
-            # What is there already is taken at once, up to a part of what is kept.
-            wait = 0.01 if len(self.raw) < _KEPT // 4 else 0
-        self.raw = self.raw[-_KEPT:]
-        return took
-
-    def _take(self):
-        """The next piece that the program shows, empty once it has closed the terminal."""
+    def _takes(self, deadline):
+        """Takes what the terminal shows next. Returns whether it showed something before the deadline."""
+        if not select.select([self._end], [], [], max(0, deadline - time.monotonic()))[0]:
+            return False
         try:
             piece = os.read(self._end, 4096).decode(errors="replace")
-        except OSError:
-            return ""
-        self.raw += piece
+        except OSError:  # the program has closed the terminal
+            return False
+        self.raw = (self.raw + piece)[-_KEPT:]
         self.log += piece
-        return piece
+        return piece != ""
 
     def shown(self):
         return _CONTROL.sub("", self.raw).replace("\r\n", "\n")
@@ -70,7 +59,7 @@ class Terminal:
     def status(self):
         """The exit status, once the program has ended and the terminal shows no more. One that goes on is killed."""
         deadline = time.monotonic() + TIMEOUT
-        while self._read(deadline):
+        while self._takes(deadline):
             pass
         if time.monotonic() >= deadline:
             os.kill(self._pid, signal.SIGKILL)

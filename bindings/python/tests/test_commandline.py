@@ -10,13 +10,14 @@ import sys
 import threading
 import time
 import unittest
+from contextlib import contextmanager
 from unittest import mock
 
 from support import ENVIRONMENT, ROOT, TIMEOUT, FolderTest, ended, run
 
 import superio
-from superio import __main__ as main
-from superio.faults import FileFault, write_text
+from superio import Rtc, RtcState, Serial, SerialState
+from superio.files import FileFault, write_text
 from superio.library import FILE_NAME
 from superio.session import Session
 
@@ -42,6 +43,9 @@ RUNS = [
     ([], b"sr 05\ndiff\n", (0, "60\nsr 05\n  nothing changed\n", "")),
     ([], b"foo\n", (1, "", '<stdin>:1: "foo": no command is called foo: help lists them\n')),
     ([], b"kr 04\nload /nowhere/at/all\nkr 04\n", (2, "00\n", '<stdin>:2: "load /nowhere/at/all": ' + NOWHERE)),
+    ([], b"kr 04\ntrace on /nowhere/at/all\n",
+     (1, "00\n", '<stdin>:2: "trace on /nowhere/at/all": trace on FILE has to come before every call here\n')),
+    ([], b"kr 04\ntrace\n", (1, "00\n", '<stdin>:2: "trace": the form is: trace [on [FILE]|off]\n')),
     (["--strict"], b"kr 04\r\n", (1, "", '<stdin>:1: "kr 04\\x0d": it ends with a carriage return\n')),
     (["--strict"], b"kr 04\n\n", (1, "00\n", '<stdin>:2: "": a line begins with a name\n')),
     (["--strict"], b"kr 04\nread LSR\n", (1, "00\n", '<stdin>:2: "read LSR": no line has this name\n')),
@@ -56,27 +60,58 @@ RUNS = [
 ]
 
 
+HELD = "hi".ljust(64, "*")  # the longest form of a port
+PORT = SerialState(scratch=7, line_status=0x61, in_buffer=HELD.encode())
+SL, CL = (f"{name} {device.to_bytes().hex()}\n" for name, device in (
+    ("sl", Serial.from_state(PORT)), ("cl", Rtc.from_state(RtcState(lr=100, offset=-900)))))
+NOT_SAVED = ("", "kr 04\n", "sl 00\ncl zz\n", "sl\ncl\n", "\udcff", CL + SL, f"{SL[:-1]} more\n{CL}", SL + CL + CL)
+LOADED = "read SCR\nsd\ncr 00000000000003ef 0000\n"
+SOURCES = {str(number): f"source {number - 1}\n" if number else "write SCR 7\nread SCR\n" for number in range(12)}
+TRACED = "write IER RDA\ntype hi\nread RBR\nclock read DR 5\ntrace off\nread LSR\n"
+
+# Files that are there and standard input; the status, the output, a part of the errors, and the files that are new.
+FILES = [
+    ({}, f"write SCR 7\ntype {HELD}\nclock write LR 100 1000\nsave 'a file'\n",
+     (0, "ok\n64 bytes received; no interrupt: IER does not enable RDA\nok\nport and clock saved to a file\n"), "",
+     {"a file": SL + CL}),
+    ({"it": SL + CL}, f"load it\n{LOADED}", (0, f"ok\nok\nSCR = 0x07\n{HELD.encode().hex()}\n0000006b\n"), "", {}),
+    *(({"it": wrong}, "load it\n", (1, ""), "it is no file that save wrote\n", {}) for wrong in NOT_SAVED),
+    # Files follow each other, and go ten deep. What a line of one says is said with both places.
+    (SOURCES, "source 0\n" * 12, (0, "ok\nSCR = 0x07\n" * 12), "", {}),
+    (SOURCES, "source 9\n", (0, "ok\nSCR = 0x07\n"), "", {}),
+    (SOURCES, "source 10\n", (1, ""), "files that source each other go at most 10 deep", {}),
+    ({"it": "kr 04\nkr 4 4\n"}, "source it\n", (1, "00\n"), 'it:2: "kr 4 4": it goes on after its last field\n', {}),
+    ({"it": "load /nowhere/at/all\n"}, "source it\n", (2, ""), NOWHERE, {}),
+    ({}, f"trace on new\n{TRACED}", (0, None), "", {"new": "sw 01 01\nsq 6869\nsr 00\ncr 0000000000000005 0000\n"}),
+]
+
+
 class Runs(FolderTest):
     def test_runs(self):
         for arguments, script, expected in RUNS:
             with self.subTest((arguments, script[:50])):
                 self.assertEqual(expected, run(*arguments, script=script))
 
+    def contents(self):
+        return {path.name: path.read_bytes().decode(errors="surrogateescape") for path in self.folder.iterdir()}
+
+    def test_files(self):
+        for before, script, (status, output), said, new in FILES:
+            for path in self.folder.iterdir():
+                path.unlink()
+            for name, text in before.items():
+                (self.folder / name).write_bytes(text.encode(errors="surrogateescape"))
+            with self.subTest(script, before=before):
+                done = run(script=script.encode(), cwd=self.folder)
+                self.assertEqual((status, done[1] if output is None else output), done[:2])
+                self.assertTrue(said in done[2] if said else not done[2], done[2])
+                self.assertEqual({**before, **new}, self.contents())
+
     def test_file_pipe_and_dash_are_the_same(self):
         expected = run(script=EXAMPLE.read_bytes())
         self.assertEqual((0, 15, ""), (expected[0], expected[1].count("\n"), expected[2]))
-        self.assertEqual(expected, run(EXAMPLE))
-        self.assertEqual(expected, run("-", script=EXAMPLE.read_bytes()))
-        self.assertEqual(expected, run("--strict", EXAMPLE))
-
-    def test_lines_that_come_in_pieces(self):
-        for script in (b"read LSR", b"read LSR\n", b"\nread LSR\n\n", b"kr 04\nread LSR"):
-            _, expected, _ = run(script=script)
-            for cut in range(len(script)):
-                pieces = filter(None, (script[:cut], script[cut:]))
-                out, source = io.StringIO(), mock.Mock(read1=mock.Mock(side_effect=[*pieces, b""]))
-                main._run_file(Session(out), "<stdin>", source)
-                self.assertEqual(expected, out.getvalue(), script[:cut])
+        for arguments, script in (([EXAMPLE], b""), (["-"], EXAMPLE.read_bytes()), (["--strict", EXAMPLE], b"")):
+            self.assertEqual(expected, run(*arguments, script=script))
 
     def test_the_program_at_the_top_needs_no_installation(self):
         """Also through a link. Without a library for the machine it says where it looked, and what to do."""
@@ -93,59 +128,11 @@ class Runs(FolderTest):
         self.assertRegex(errors, rf"^python3 -m superio: {name} was not found .*top/prebuilt/\w+-linux/{name}.*: "
                                  r"set SUPERIO_LIBRARY to its path\n$")
 
-    def test_replies_come_before_the_message(self):
-        together = {"capture_output": False, "stdout": subprocess.PIPE, "stderr": subprocess.STDOUT}
-        _, output, _ = run(script=b"kr 04\nkr 4 4\n", **together)
-        self.assertEqual(("00", 2), (output.splitlines()[0], output.count("\n")))
-
-    def test_save_and_load(self):
-        held = f"{'hi':*<64}"  # the longest form
-        saving = f"write SCR 7\ntype {held}\nclock write LR 100 1000\nsave '{self.path}'\n"
-        self.assertEqual(0, run(script=saving.encode())[0])
-        port, clock = self.path.read_text().splitlines()
-        self.assertEqual(["sl 53494f53", "cl 53494f53"], [port[:11], clock[:11]])
-        loading = f"load '{self.path}'\n".encode()
-        replies = f"ok\nok\nSCR = 0x07\n{held.encode().hex()}\n0000006b\n"
-        self.assertEqual((0, replies, ""), run(script=loading + b"read SCR\nsd\ncr 00000000000003ef 0000\n"))
-        for wrong in (b"", b"kr 04\n", b"sl 00\ncl zz\n", b"sl\ncl\n", b"\xff", f"{clock}\n{port}\n".encode(),
-                      f"{port} more\n{clock}\n".encode(), f"{port}\n{clock}\n{clock}\n".encode()):
-            self.path.write_bytes(wrong)
-            status, _, errors = run(script=loading)
-            self.assertEqual((1, True), (status, "is no file that save wrote" in errors), wrong)
-
     def test_a_name_that_the_output_cannot_have_is_escaped(self):
         for name, said, encoding in ((b"\xff", "\\udcff", "utf-8"), ("\xe9".encode(), "\\xe9", "ascii")):
             environment = {**ENVIRONMENT, "PYTHONIOENCODING": encoding}
             done = run(script=b"save " + name + b"\n", cwd=self.folder, env=environment)
             self.assertEqual((0, f"port and clock saved to {said}\n", ""), done)
-
-    def test_source(self):
-        """Files follow each other, and go ten deep. What a line of one says is said with both places."""
-        for number in range(12):
-            text = f"source '{self.folder / str(number - 1)}'\n" if number else "write SCR 7\nread SCR\n"
-            (self.folder / str(number)).write_text(text)
-        told = "ok\nSCR = 0x07\n"
-        self.assertEqual((0, told * 12, ""), run(script=f"source '{self.folder / '0'}'\n".encode() * 12))
-        self.assertEqual((0, told, ""), run(script=f"source '{self.folder / '9'}'\n".encode()))
-        status, _, errors = run(script=f"source '{self.folder / '10'}'\n".encode())
-        self.assertEqual((1, True), (status, "at most 10 deep" in errors))
-        for text, expected, said in (("kr 04\nkr 4 4\n", (1, "00\n"), ':2: "kr 4 4": it goes on after its last field'),
-                                     ("load /nowhere/at/all\n", (2, ""), NOWHERE)):
-            self.path.write_text(text)
-            *done, errors = run(script=f"source '{self.path}'\n".encode())
-            self.assertEqual(expected, tuple(done))
-            self.assertIn(said, errors)
-
-    def test_trace_file_is_a_script(self):
-        session = f"trace on '{self.path}'\nwrite IER RDA\ntype hi\nread RBR\nclock read DR 5\ntrace off\nread LSR\n"
-        self.assertEqual(0, run(script=session.encode())[0])
-        self.assertEqual("sw 01 01\nsq 6869\nsr 00\ncr 0000000000000005 0000\n", self.path.read_text())
-        self.assertEqual((0, "ok\n02\n68\n00000005\n", ""), run("--strict", self.path))
-
-    def test_a_trace_file_in_a_pipe_comes_before_every_call(self):
-        status, output, errors = run(script=b"kr 04\ntrace on new\n", cwd=self.folder)
-        said = '<stdin>:2: "trace on new": trace on FILE has to come before every call here\n'
-        self.assertEqual((1, "00\n", said, []), (status, output, errors, list(self.folder.iterdir())))
 
 
 class FullDisk(FolderTest):
@@ -158,45 +145,37 @@ class FullDisk(FolderTest):
         super().setUp()
         self.path = self.folder / "file"
 
-    def run_limited(self, *arguments, script=b"", limit=LIMIT):
-        return run(*arguments, script=script,
-                   preexec_fn=lambda: resource.setrlimit(resource.RLIMIT_FSIZE, (limit, limit)))
+    @contextmanager
+    def limited(self):
+        """The same for this process, which a fault leaves with no file that was not there."""
+        self.path.write_text("what was there\n")
+        self.path.chmod(0o640)
+        before = resource.getrlimit(resource.RLIMIT_FSIZE)
+        resource.setrlimit(resource.RLIMIT_FSIZE, (self.LIMIT, before[1]))
+        try:
+            yield
+        finally:
+            resource.setrlimit(resource.RLIMIT_FSIZE, before)
+        self.assertEqual("what was there\n", self.path.read_text())
+        self.assertEqual([self.path], list(self.folder.iterdir()))
 
     def test_the_file_that_was_there_stays(self):
         saving = f"save {self.path}\n".encode()
         for arguments, script in ((["-"], saving), (["-"], b"sr 05\n" + saving),
                                   (["view", "-", "--svg", self.path], self.TRACE),
                                   (["view", "-", "--table", self.path], self.TRACE)):
-            with self.subTest(arguments):
-                self.path.write_text("what was there\n")
-                self.path.chmod(0o640)
-                status, _, errors = self.run_limited(*arguments, script=script)
+            with self.subTest(arguments), self.limited():
+                status, _, errors = run(*arguments, script=script)
                 self.assertEqual((2, True), (status, f"{self.path}: File too large" in errors), errors)
                 self.assertNotIn("Traceback", errors)
-                self.assertEqual("what was there\n", self.path.read_text())
-                self.assertEqual([self.path], list(self.folder.iterdir()))
 
     def test_a_trace_that_cannot_begin(self):
         """The shell keeps the calls, so it has to write them when `trace on FILE` comes."""
         session = Session(io.StringIO(), keeps_lines=True)
         for line in (b"kr 04", b"kr 04"):
             session.carry_out(line)
-        self.path.write_text("what was there\n")
-        before = resource.getrlimit(resource.RLIMIT_FSIZE)
-        resource.setrlimit(resource.RLIMIT_FSIZE, (self.LIMIT, before[1]))
-        try:
-            with self.assertRaisesRegex(FileFault, "File too large"):
-                session.carry_out(f"trace on {self.path}".encode())
-        finally:
-            resource.setrlimit(resource.RLIMIT_FSIZE, before)
-        self.assertEqual("what was there\n", self.path.read_text())
-        self.assertEqual([self.path], list(self.folder.iterdir()))
-
-    def test_a_new_file_is_whole_or_not_there(self):
-        saving = f"save {self.path}\n".encode()
-        self.assertEqual((2, []), (self.run_limited(script=saving)[0], list(self.folder.iterdir())))
-        self.assertEqual(0, self.run_limited(script=saving, limit=10_000)[0])
-        self.assertEqual(2, self.path.read_text().count("\n"))
+        with self.limited(), self.assertRaisesRegex(FileFault, "File too large"):
+            session.carry_out(f"trace on {self.path}".encode())
 
     def test_a_file_keeps_its_mode_and_a_link_its_target(self):
         link, new = self.folder / "link", self.folder / "new"
@@ -221,32 +200,30 @@ class FullDisk(FolderTest):
         self.assertEqual((0, ["sl", "cl", "po"]), (status, [line[:2] for line in output.splitlines()]))
 
 
-def seconds(*arguments, script=b""):
-    """The processor seconds of Python, in the best of three runs, so that a busy machine is no reason to fail."""
-    times = []
-    for _ in range(3):
-        before = resource.getrusage(resource.RUSAGE_CHILDREN)
-        subprocess.run([sys.executable, *arguments], input=script, stdout=subprocess.DEVNULL, env=ENVIRONMENT,
-                       timeout=TIMEOUT, check=True)
-        after = resource.getrusage(resource.RUSAGE_CHILDREN)
-        times.append(after.ru_utime + after.ru_stime - before.ru_utime - before.ru_stime)
-    return min(times)
-
-
 class Speed(unittest.TestCase):
     def test_a_line_of_a_pipe_takes_little_more_than_its_call(self):
         """Against calls of a device in a loop. A line took some 30 calls when each was decoded, and takes about 6."""
-        script = b"sw 01 01\n" + b"sq 61\nsr 02\nsr 00\nsr 05\n" * 5000
-        loop = "from superio import Serial\nport = Serial()\nfor _ in range(20001): port.read(5)"
+        lines = [b"sw 01 01", *[b"sq 61", b"sr 02", b"sr 00", b"sr 05"] * 5000]
 
         def calls_of_a_line():
-            plain = seconds("-c", "from superio import Serial")
-            return (seconds("-m", "superio", script=script) - plain) / (seconds("-c", loop) - plain)
+            session, port, begun = Session(io.StringIO()), Serial(), time.process_time()
+            session.run_lines("lines", lines)
+            ended = time.process_time()
+            for _ in lines:
+                port.read(5)
+            return (ended - begun) / (time.process_time() - ended)
 
         self.assertTrue(any(calls_of_a_line() < 15 for _ in range(5)))
 
     def test_it_starts_quickly(self):
-        self.assertLess(seconds("-m", "superio") - seconds("-c", "pass"), 0.2)
+        """By processor seconds, in the best of three runs, so that a busy machine is no reason to fail."""
+        def seconds(*arguments):
+            before = os.times()
+            subprocess.run([sys.executable, *arguments], input=b"", env=ENVIRONMENT, timeout=TIMEOUT, check=True)
+            return sum(os.times()[2:4]) - sum(before[2:4])
+
+        shell, plain = (min(seconds(*it) for _ in range(3)) for it in (["-m", "superio"], ["-c", "pass"]))
+        self.assertLess(shell - plain, 0.2)
 
 
 def listening(command):
@@ -301,6 +278,7 @@ COMMANDS = [
     *((f"{SUPERIO} {closed}", (2, "", f"python3 -m superio: standard {what} is closed\n"))
       for closed, what in (("<&-", "input"), ("- <&-", "input"), (">&-", "output"))),
     (f"{SUPERIO} {EXAMPLE} <&-", None),
+    (f"(echo 'kr 04'; cat) | {SUPERIO} 2>&1", (1, '00\n<stdin>:2: "kr": an offset is missing\n', "")),
     # No message comes among the replies, neither to a closed standard error nor elsewhere.
     *((f"{SUPERIO} {arguments} 2>&-", (status, "", "")) for arguments, status in (
         ("", 1), ("--strict", 1), ("view -", 1), ("--unknown", 5), ("view --unknown", 5), ("/nowhere", 2),
@@ -328,22 +306,15 @@ class Streams(unittest.TestCase):
                 "with mock.patch.object(main, 'load', side_effect=MemoryError): sys.exit(main.main([]))")
         self.assertEqual((3, "", "out of memory\n"), ended([sys.executable, "-c", code]))
 
-
-class Arguments(unittest.TestCase):
-    def test_help(self):
+    def test_help_and_wrong_arguments(self):
         status, output, _ = run("--help")
-        self.assertEqual(0, status)
-        for word in ("FILE", "--strict", "--no-color", "exit status", "view"):
-            self.assertIn(word, output)
-
-    def test_wrong_arguments(self):
+        self.assertEqual((0, []), (status, [word for word in ("FILE", "--strict", "--no-color", "exit status", "view")
+                                            if word not in output]))
         for arguments in (["--unknown"], ["a", "b"], ["view"], ["view", "--unknown", "a"]):
             status, output, errors = run(*arguments)
-            self.assertEqual((5, ""), (status, output), errors)
-            self.assertIn("usage:", errors)
+            self.assertEqual((5, "", True), (status, output, "usage:" in errors), errors)
 
     def test_without_the_library(self):
-        status, output, errors = run(env={**ENVIRONMENT, "SUPERIO_LIBRARY": "/nowhere/lib.so"})
-        self.assertEqual((2, ""), (status, output))
-        self.assertTrue(errors.startswith("python3 -m superio: /nowhere/lib.so cannot be loaded"), errors)
-        self.assertEqual(1, errors.count("\n"))
+        done = run(env={**ENVIRONMENT, "SUPERIO_LIBRARY": "/nowhere/lib.so"})
+        self.assertEqual((2, ""), done[:2])
+        self.assertRegex(done[2], r"\Apython3 -m superio: /nowhere/lib.so cannot be loaded.*\n\Z")

@@ -70,8 +70,7 @@ class Sources(unittest.TestCase):
     def test_standard_library_alone(self):
         names = [(place, name) for place, node in self.nodes(ast.Import, ast.ImportFrom) for name in (
             [alias.name for alias in node.names] if isinstance(node, ast.Import) else [node.module] * (not node.level))]
-        self.assertEqual([], [it for it in names if not it[0].startswith("superio:")
-                              and it[1].split(".")[0] not in sys.stdlib_module_names])
+        self.assertEqual([], [it for it in names if it[1].split(".")[0] not in {"superio", *sys.stdlib_module_names}])
 
     def test_functions_are_typed_and_short_and_modules_documented(self):
         functions = self.nodes(ast.FunctionDef)
@@ -107,16 +106,14 @@ class Wheel(FolderTest):
         with zipfile.ZipFile(self.folder / name) as wheel:
             files = {name: wheel.read(name) for name in wheel.namelist()}
         info = re.sub(r"-py3-.*", ".dist-info", name)
-        rows = dict(line.split(",", 1) for line in files[f"{info}/RECORD"].decode().splitlines())
-        digests = {name: base64.urlsafe_b64encode(hashlib.sha256(data).digest()).decode().rstrip("=")
-                   for name, data in files.items()}
-        self.assertEqual({name: "," if name.endswith("/RECORD") else f"sha256={digest},{len(files[name])}"
-                          for name, digest in digests.items()}, rows)
         licenses = ("LICENSE", "LICENSES/Apache-2.0.txt", "LICENSES/BSD-3-Clause.txt")
         package = (*(path.name for path in SOURCES), "py.typed", library.FILE_NAME)
-        self.assertEqual({*(f"superio/{name}" for name in package),
-                          *(f"{info}/{name}" for name in ("METADATA", "WHEEL", "RECORD")),
-                          *(f"{info}/licenses/{name}" for name in licenses)}, set(files))
+        self.assertEqual([*(f"superio/{name}" for name in package), *(f"{info}/licenses/{name}" for name in licenses),
+                          *(f"{info}/{name}" for name in ("METADATA", "WHEEL", "RECORD"))], [*files])
+        record = files.pop(f"{info}/RECORD").decode()
+        sums = [base64.urlsafe_b64encode(hashlib.sha256(data).digest()).decode().rstrip("=") for data in files.values()]
+        rows = [f"{name},sha256={digest},{len(files[name])}" for name, digest in zip(files, sums)]
+        self.assertEqual([*rows, f"{info}/RECORD,,"], record.splitlines())
         self.assertIn("\nRequires-Python: >=3.8\n", files[f"{info}/METADATA"].decode())
 
     def test_a_wheel_of_the_sources_is_that_of_the_repository(self):

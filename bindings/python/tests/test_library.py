@@ -2,16 +2,12 @@
 import ctypes
 import os
 import re
-import shutil
-import subprocess
-import tempfile
 import unittest
-from pathlib import Path
 from unittest import mock
 
 from support import ROOT
 
-from header import HEADER, read_header
+from header import read_header
 
 import superio
 from superio import LibraryError, LoadStatus, library, registers
@@ -52,19 +48,6 @@ class Layout(unittest.TestCase):
             expected = TYPES[declared.returned], [parameter_of(parameter) for parameter in declared.parameters]
             self.assertEqual(expected, library.PROTOTYPES[name], name)
             self.assertEqual(expected, (function.restype, function.argtypes), name)
-
-    @unittest.skipUnless(shutil.which("cc"), "no C compiler is there")
-    def test_offsets_are_those_of_the_compiler(self):
-        asked = [(f"sizeof({name})", ctypes.sizeof(struct)) for name, struct in library.STRUCTS.items()]
-        asked += [(f"offsetof({name}, {field})", getattr(struct, field).offset)
-                  for name, struct in library.STRUCTS.items() for field, _ in struct._fields_]
-        prints = "".join(f'printf("%zu\\n", {expression});' for expression, _ in asked)
-        source = f'#include <stdio.h>\n#include "{HEADER}"\nint main(void) {{ {prints} return 0; }}\n'
-        with tempfile.TemporaryDirectory() as folder:
-            program = str(Path(folder) / "layout")
-            subprocess.run(["cc", "-xc", "-", "-o", program], input=source.encode(), check=True)
-            printed = subprocess.run([program], capture_output=True, check=True).stdout.split()
-        self.assertEqual([expected for _, expected in asked], [int(line) for line in printed])
 
     def test_constants_are_those_of_the_header(self):
         changes = (ROOT / "CHANGELOG.md").read_text(encoding="utf-8")

@@ -15,30 +15,13 @@ from chance import seed_of
 from program import run_all
 from script_tests import scripts_of
 
-from superio import Board, Command, ScriptError, parse
+from superio import Board, ScriptError, parse
 from superio.script import FORMS, MAXIMUM, lines_of, text_of
 
 PROGRAM = Path(os.environ.get("SUPERIO_PROGRAM", ROOT / "crates" / "superio" / "out" / "superio"))
 EXAMPLES = sorted((ROOT / "examples").glob("*.script"))
 SCRIPTS = [test for path in sorted((ROOT / "tests").glob("*.txt")) for test in scripts_of(path)]
 BROKEN = 2_000
-
-GOOD = [
-    (b"sr 05", Command("sr", (5,))),
-    (b"sw 00 fF", Command("sw", (0, 255))),
-    (b"sq", Command("sq")),
-    (b"sq 48aB", Command("sq", (b"\x48\xab",))),
-    (b"sq " + b"00" * 128, Command("sq", (bytes(128),))),
-    (b"sl", Command("sl")),
-    (b"sl 53aB", Command("sl", (b"\x53\xab",))),
-    (b"cl", Command("cl")),
-    (b"cl " + b"00" * 128, Command("cl", (bytes(128),))),
-    *[(name.encode(), Command(name)) for name, fields in FORMS.items() if not fields],
-    (b"cr 00000000000003e8 0fe0", Command("cr", (1000, 0xFE0))),
-    (b"cw fFfFfFfFfFfFfFfF 0008 00000064", Command("cw", (2 ** 64 - 1, 8, 100))),
-    (b"kr 04", Command("kr", (4,))),
-    (b"kw 04 fe", Command("kw", (4, 0xFE))),
-]
 
 # Why lines have no form.
 BAD = {
@@ -65,12 +48,13 @@ BAD = {
 
 
 class Lines(unittest.TestCase):
-    def test_commands_and_their_text(self):
-        for line, command in GOOD:
-            self.assertEqual(command, parse(line))
-            self.assertEqual(line.decode().lower(), text_of(command))
-        self.assertEqual(set(FORMS) - {"refuse"}, {command.name for _, command in GOOD})
-        self.assertEqual(Command("refuse", (2,)), parse(b"refuse 0000000000000002", is_first=True))
+    def test_the_text_of_a_command_is_its_line(self):
+        """Of each good line of tests/, among them each form. What the replies to these are shows that values are."""
+        lines = {line for test in SCRIPTS if test.expected[0] == 0 for line in lines_of(test.script)}
+        commands = {line: parse(line, is_first=True) for line in lines}
+        self.assertEqual({line: line.decode().lower() for line in lines},
+                         {line: text_of(command) for line, command in commands.items()})
+        self.assertEqual(set(FORMS), {command.name for command in commands.values()})
 
     def test_reasons(self):
         for reason, lines in BAD.items():
@@ -78,10 +62,6 @@ class Lines(unittest.TestCase):
                 with self.subTest(line), self.assertRaises(ScriptError) as caught:
                     parse(line)
                 self.assertEqual(reason, str(caught.exception))
-
-    def test_lines(self):
-        for script, lines in ((b"", ()), (b"\n", (b"",)), (b"a", (b"a",)), (b"a\n", (b"a",)), (b"a\n\n", (b"a", b""))):
-            self.assertEqual(lines, lines_of(script))
 
 
 def run_board(script):

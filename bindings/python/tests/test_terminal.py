@@ -7,7 +7,7 @@ from unittest import mock
 from support import ENVIRONMENT, FolderTest
 from terminal import Terminal
 
-from superio.shell import completions
+from superio.session import Session
 
 PROMPT = "superio> "
 UP = "\x1b[A"
@@ -29,59 +29,51 @@ class ShellTest(FolderTest):
         """The same, by a command of sh."""
         command = form.format(f"exec {sys.executable} -m superio")
         self.terminal = Terminal(["/bin/sh", "-c", command], {**ENVIRONMENT, **variables})
-        self.terminal.read_until(PROMPT)
+        return self.terminal.read_until(PROMPT)
 
     def answer(self, text, prompt=PROMPT):
         """What is shown between a typed line, which the terminal echoes, and the next prompt."""
         self.terminal.type(text + "\r")
         return self.terminal.read_until(prompt)[:-len(prompt)].partition("\n")[2]
 
+    def interrupt(self):
+        time.sleep(0.5)  # until the prompt that was shown waits for a key
+        self.terminal.type(CTRL_C)
+
     def end(self, text=CTRL_D, status=0):
         self.terminal.type(text)
         self.assertEqual(status, self.terminal.status())
 
 
+# What is typed and said, each in a session of its own, and how that ends.
+SESSIONS = [
+    ([("write IER RDA", "ok\n"), ('type "hi"', "2 bytes received; interrupt for RDA\n"),
+      ("read IIR", "IIR = 0xc4  RDA\n"), ("read RBR", 'RBR = 0x68  "h"\n')], CTRL_D),
+    ([("foo", NO_FOO), ("refuse", "a mask is missing\n"), ("", ""), ("sr 05", "60\n")], "quit\r"),
+    ([("write SCR 7", "ok\n"), ("read SCR", "SCR = 0x07\n"), (UP + UP + "1", "ok\n"),  # write SCR 71
+      ("ead SCR" + HOME + "r", "SCR = 0x47\n"), ("read LR" + LEFT + "S", "LSR = 0x60  THRE TEMT\n"),
+      ("trace", "sw 07 07\nsr 07\nsw 07 47\nsr 07\nsr 05\n")], "exit\r"),
+    ([("rea\tLS\t", "LSR = 0x60  THRE TEMT\n"), ("wri\tie\tRD\t|TH\t", "ok; interrupt for THRE\n"),
+      ("read ier", "IER = 0x03  RDA THRE\n"), ("source ses\t", "00\n")], CTRL_D),
+]
+
+
 class Typing(ShellTest):
-    def test_greeting_leads_to_a_read_interrupt_and_a_received_byte(self):
-        greeting = self.start()
-        tries = [line[6:].split("  ")[0] for line in greeting.splitlines() if line.startswith(("Try:", "      "))]
-        self.assertEqual(["write IER RDA", 'type "hi"', "read IIR", "read RBR"], tries)
-        self.assertEqual(["ok\n", "2 bytes received; interrupt for RDA\n", "IIR = 0xc4  RDA\n", 'RBR = 0x68  "h"\n'],
-                         [self.answer(line) for line in tries])
-        self.end()
-
-    def test_fault_keeps_the_session_and_the_status(self):
-        self.start()
-        self.assertEqual([NO_FOO, "a mask is missing\n", "", "60\n"],
-                         [self.answer(line) for line in ("foo", "refuse", "", "sr 05")])
-        self.end("quit\r")
-
-    def test_arrows(self):
-        self.start()
-        self.answer("write SCR 7")
-        self.assertEqual("SCR = 0x07\n", self.answer("read SCR"))
-        self.assertEqual("ok\n", self.answer(UP + UP + "1"))  # write SCR 71
-        self.assertEqual("SCR = 0x47\n", self.answer("ead SCR" + HOME + "r"))
-        self.assertEqual("LSR = 0x60  THRE TEMT\n", self.answer("read LR" + LEFT + "S"))
-        self.assertEqual("sw 07 07\nsr 07\nsw 07 47\nsr 07\nsr 05\n", self.answer("trace"))
-        self.end("exit\r")
-
-    def test_completion(self):
+    def test_sessions(self):
         (self.folder / "session-one").write_text("kr 04\n")
-        self.start()
-        for typed, said in (("rea\tLS\t", "LSR = 0x60  THRE TEMT\n"),
-                            ("wri\tie\tRD\t|TH\t", "ok; interrupt for THRE\n"),
-                            ("read ier", "IER = 0x03  RDA THRE\n"), (f"source {self.folder}/ses\t", "00\n")):
-            self.assertEqual(said, self.answer(typed))
-        self.end()
+        for typed, end in SESSIONS:
+            greeting = self.start_by(f"cd {self.folder}; {{}}")
+            self.assertEqual(typed, [(line, self.answer(line)) for line, _ in typed])
+            self.end(end)
+        tries = [line[6:].split("  ")[0] for line in greeting.splitlines() if line.startswith(("Try:", "      "))]
+        self.assertEqual([line for line, _ in SESSIONS[0][0]], tries)
 
     def test_ctrl_c_drops_the_line_and_keeps_the_board(self):
         self.start()
         self.answer("write SCR 7")
         self.terminal.type("write SCR 9")
         self.terminal.read_until("9")
-        time.sleep(0.5)  # the prompt waits for a key again
-        self.terminal.type(CTRL_C)
+        self.interrupt()
         self.assertEqual("^C\n" + PROMPT, self.terminal.read_until(PROMPT)[-len("^C\n" + PROMPT):])
         self.assertEqual(1, self.terminal.log.count("Try:"))
         self.assertEqual("SCR = 0x07\n", self.answer("read SCR"))
@@ -176,7 +168,7 @@ class History(ShellTest):
         path = str(self.path)
         self.assertEqual({"a file": "write SCR 7\n"}, self.kept("write SCR 7", SUPERIO_HISTORY=path))
         self.start(SUPERIO_HISTORY=path)
-        self.terminal.type(CTRL_C)
+        self.interrupt()
         self.terminal.read_until(PROMPT)
         self.assertEqual("ok\n", self.answer(UP))
         self.end()
@@ -199,7 +191,7 @@ class Viewing(ShellTest):
         self.assertIn("4 calls in 1 piece", self.start("view", self.path, prompt="view> "))
         for line, place in (("", 2), (UP + "next", 3), ("back", 2), ("back thre", 1), ("last", 4)):
             self.assertIn(f"call {place} of 4", self.answer(line, "view> "))
-        self.terminal.type(CTRL_C)
+        self.interrupt()
         self.terminal.read_until("view> ")
         self.end()
 
@@ -221,7 +213,7 @@ class Completions(FolderTest):
                 ("kr ", "", []),
                 ("read LSR ", "", [])]:
             with self.subTest(before + text):
-                self.assertEqual(expected, completions(before, text))
+                self.assertEqual(expected, Session(None).completions(before, text))
 
     def test_files(self):
         for name in ("b", "a[1]", "a1"):
@@ -231,4 +223,5 @@ class Completions(FolderTest):
             for text, names in (("", ["a1", "a[1]", "b", "c/"]), ("a[", ["a[1]"]), ("c", ["c/"]), ("?", [])):
                 for start, command in [(start, command) for start in (self.folder, "~")
                                        for command in ("save ", "load ", "source ", "trace on ")]:
-                    self.assertEqual([f"{start}/{name}" for name in names], completions(command, f"{start}/{text}"))
+                    self.assertEqual([f"{start}/{name}" for name in names],
+                                     Session(None).completions(command, f"{start}/{text}"))

@@ -5,9 +5,8 @@ import xml.etree.ElementTree
 
 from support import ROOT, FolderTest, run
 
-from superio.faults import BadLine
+from superio.files import BadLine
 from superio.recording import entries_of, picture, replay
-from superio.session import Style
 from superio.view import Viewer, table
 
 RECORDING = ROOT / "examples" / "linux-boot" / "boot.recording.xz"
@@ -67,12 +66,6 @@ class Recordings(unittest.TestCase):
                 steps_of(trace)
             self.assertIn(reason, str(caught.exception))
 
-    def test_the_number_of_a_bad_row(self):
-        for number in [*range(1, 300), *range(990, 1110), 10001]:
-            with self.assertRaises(BadLine) as caught:
-                list(replay("trace", [b"#\n"] * (number - 1) + [b"kr\n"]))
-            self.assertIn(f"trace:{number}: ", str(caught.exception))
-
     def test_a_reply_that_differs(self):
         steps = steps_of(TRACE)
         self.assertEqual([11], [number for number, step in enumerate(steps, 1) if step.differs])
@@ -97,7 +90,7 @@ class Stepping(FolderTest):
 
     def begin(self, trace):
         self.out = io.StringIO()
-        self.viewer = Viewer(steps_of(trace), "trace", self.out, Style(False))
+        self.viewer = Viewer(steps_of(trace), "trace", self.out)
 
     def said(self, line):
         self.out.seek(0)
@@ -144,9 +137,15 @@ class Stepping(FolderTest):
             self.assertRaises(BadLine, steps_of, row)
 
     def test_files(self):
-        for command in ("table", "svg"):
-            self.said(f"{command} {self.folder / command}")
-            self.assertGreater((self.folder / command).stat().st_size, 500)
+        """The same by the command line, and by commands."""
+        names = "table", "svg"
+        both = [option for name in names for option in (f"--{name}", self.folder / f"{name} of both")]
+        self.assertEqual((0, "", ""), run("view", "-", *both, script=TRACE))
+        for name in names:
+            self.said(f"{name} {self.folder / name}")
+            self.assertEqual((0, "", ""), run("view", "-", f"--{name}", self.folder / "alone", script=TRACE))
+            texts = [(self.folder / path).read_text() for path in (name, f"{name} of both", "alone")]
+            self.assertEqual(1, len({text.replace(">trace<", ">-<") for text in texts}))
         self.assertIn("No such file", self.said(f"svg {self.folder}/none/x"))
 
 
@@ -192,19 +191,15 @@ class Pictures(FolderTest):
 
 
 class CommandLine(FolderTest):
-    def test_table_of_the_recorded_boot(self):
-        status, output, errors = run("view", RECORDING, "--table")
-        self.assertEqual((0, ""), (status, errors))
-        rows = output.splitlines()
-        self.assertEqual(42839 + 66, len(rows))
-        self.assertNotIn("recorded:", output)
-        self.assertEqual("  26491  sw 01 0f                  ok        IER 0x00 -> 0x0f  RDA THRE RLS MS, "
-                         "IIR 0xc1 -> 0xc2  THRE, interrupt taken", next(row for row in rows if "  26491  " in row))
-
-    def test_the_recording_with_input(self):
-        status, output, errors = run("view", WITH_INPUT, "--table")
-        self.assertEqual((0, ""), (status, errors))
-        self.assertNotIn("recorded:", output)
+    def test_tables_of_the_recordings(self):
+        for recording, rows, row in (
+                (RECORDING, 42839 + 66, "  26491  sw 01 0f                  ok        IER 0x00 -> 0x0f  RDA THRE RLS "
+                                        "MS, IIR 0xc1 -> 0xc2  THRE, interrupt taken\n"),
+                (WITH_INPUT, None, "  sq 756e616d65202d73720a   0a        ")):
+            status, output, errors = run("view", recording, "--table")
+            self.assertEqual((0, rows or output.count("\n"), ""), (status, output.count("\n"), errors))
+            self.assertNotIn("recorded:", output)
+            self.assertIn(row, output)
         _, output, _ = run("view", WITH_INPUT, script=b"next input\nnext timeout\nnext reset\n")
         for row in ("none with another reply than recorded", ": sq 756e616d65202d73720a  0a\n",
                     "  FIFO 0 -> 10 bytes\n", ": si  ok\n", ": kw 04 fe  reset\n"):
@@ -224,10 +219,3 @@ class CommandLine(FolderTest):
         self.assertIn("11 calls in 2 pieces, 1 with another reply than recorded", output)
         self.assertIn("call 8 of 11, piece 1: sw 00 41  ok", output)
         self.assertNotIn("\x1b", output)
-
-    def test_a_table_and_a_picture(self):
-        both, alone = ([self.folder / f"{kind}{name}" for name in ("table", "svg")] for kind in ("both-", ""))
-        self.assertEqual((0, "", ""), run("view", "-", "--table", both[0], "--svg", both[1], script=TRACE))
-        for option, path in zip(("--table", "--svg"), alone):
-            self.assertEqual((0, "", ""), run("view", "-", option, path, script=TRACE))
-        self.assertEqual(*([path.read_text() for path in paths] for paths in (both, alone)))

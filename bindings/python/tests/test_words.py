@@ -4,19 +4,21 @@ import io
 import os
 import re
 import signal
+import unittest
 from unittest import mock
 
 from support import PACKAGE, ROOT, FolderTest, run
 
-from superio import Command, Rtc, ScriptError, Serial
-from superio.commands import HELP
-from superio.faults import BadLine, FileFault, Leave
+from superio import Command, Rtc, Serial
+from superio.files import FileFault
+from superio.prompt import Leave
 from superio.registers import CLOCK, SERIAL
 from superio.session import Session
 from superio.tell import quoted
 from superio.words import characters
 
 NOW = 0x6553F100
+SAVED = f"sl {Serial().to_bytes().hex()}\ncl {Rtc().to_bytes().hex()}\n"
 
 # The line of a script, and the lines that mean it.
 MEANINGS = {
@@ -76,13 +78,13 @@ FAULTS = {
     "no escape is called \\q": [r'type "\q"'],
     "1 to 128 bytes": ["type " + "x" * 129, 'type ""'],
     "1 to 128 bytes have two digits each": ["sq 4"],
-    "the form is: clock read": ["clock", "clock read", "clock set DR 1"],
+    "the form is: clock read|write REGISTER [VALUE] [MOMENT]": ["clock", "clock read", "clock set DR 1"],
     "noon is no moment": ["clock read DR noon"],
     "is no number of seconds: it has 64 bits": [f"clock read DR now+{1 << 64}"],
     "is no moment: it has 64 bits": [f"clock read DR now+{(1 << 64) - NOW}"],
     "is no number of seconds": ["clock read DR now+" + "9" * 5000],
     "guest time has 32 bits": ["alarm +4294967295", f"alarm +{(1 << 32) - NOW}"],
-    "the form is: i8042 read": ["i8042 read"],
+    "the form is: i8042 read|write OFFSET [VALUE]": ["i8042 read"],
     "room takes no arguments": ["room 5"],
     "timeout takes no arguments": ["timeout 5"],
     "it goes on after its last field": ["si 5"],
@@ -108,8 +110,6 @@ DIALOGUES = [
       "RBR = 0x00  no byte was held"]),
     (['type "hi"', "write IER RDA|THRE", "write IER RDA|THRE"],
      ["2 bytes received; no interrupt: IER does not enable RDA", "ok; interrupt for RDA, THRE", "ok"]),
-    (["write IER RDA", "type a", "type b"],
-     ["ok", "1 byte received; interrupt for RDA", "1 byte received; no interrupt: RDA is pending already"]),
     (["refuse 1", "write IER RDA", "type a", "restore"],
      ["ok", "1 byte received; interrupt for RDA refused", "restored; interrupt for RDA"]),
     (["timeout", "type a", "timeout", "write IER RDA", "timeout", "read IIR", "timeout", "type b", "read RBR",
@@ -119,13 +119,9 @@ DIALOGUES = [
       "1 byte held; no interrupt: RDA is pending already", "IIR = 0xc4  RDA", "1 byte held; interrupt for RDA",
       "1 byte received; no interrupt: RDA is pending already", 'RBR = 0x61  "a"', "1 byte held; interrupt for RDA",
       "the interrupt line was called 3 times"]),
-    (["refuse 2", "write IER RDA", "type a", "read IIR", "timeout", "timeout", "restore"],
-     ["ok", "1 byte received; interrupt for RDA", "IIR = 0xc4  RDA", "1 byte held; interrupt for RDA refused",
-      "1 byte held; no interrupt: RDA is pending already", "restored; interrupt for RDA"]),
-    (["write IER RDA|THRE", "type a", "read IIR", "write THR 'A'", "write LCR DLAB", "write MCR LOOP", "timeout",
-      "read IIR"],
-     ["ok; interrupt for THRE", "1 byte received; interrupt for RDA", "IIR = 0xc6  RDA THRE",
-      'sent "A"; interrupt for THRE', "ok", "ok", "1 byte held; interrupt for RDA", "IIR = 0xc6  RDA THRE"]),
+    (["refuse 2", "write IER RDA|THRE", "type a", "read IIR", "write THR 'A'", "timeout", "read IIR"],
+     ["ok; interrupt for THRE", "1 byte received; interrupt for RDA refused", "IIR = 0xc6  RDA THRE",
+      'sent "A"; interrupt for THRE', "1 byte held; interrupt for RDA", "IIR = 0xc6  RDA THRE"]),
     (["type " + "x" * 60, "type 12345", "type 6", "write MCR LOOP", "type 7", "room"],
      ["60 bytes received; no interrupt: IER does not enable RDA", "4 of 5 bytes received: the FIFO is full",
       "0 of 1 byte received: the FIFO is full", "ok", "0 of 1 byte received: the port is in loopback",
@@ -145,67 +141,62 @@ DIALOGUES = [
 NEITHER = "is not pending: no call has raised it. IER does not enable it"
 NEXT_THRE = "The next byte that goes out raises it, or a write to IER."
 ENDS_RDA, ENDS_THRE = "A read of IIR or of RBR acknowledges it.", "A read of IIR acknowledges it."
+NO_THRE = f"THRE {NEITHER}."
 
 
-def raised(call, then, answer="took"):
-    return f"is pending: call {call}, raised it, and the line {answer} the interrupt. {then}"
+def raised(name, call, then, answer="took"):
+    return f"{name} is pending: call {call}, raised it, and the line {answer} the interrupt. {then}"
 
 
-# Lines, and what is said then of RDA and of THRE, `None` where it does not matter.
-WHY = [
-    ([], f"{NEITHER}.", f"{NEITHER}."),
-    (["sq 61"], f"{NEITHER}, and 1 byte is held.", None),
-    (["sw 01 01", "sq 61"], raised("2, sq 61", ENDS_RDA), None),
-    (["sw 01 01", "sq 6162", "sr 02"], "is not pending: call 3, sr 02, acknowledged it. 2 bytes are held: a timeout, "
-     "the next byte or a write to IER raises it.", None),
-    (["sw 01 01", "sq 6162", "sr 02", "si"], raised("4, si", ENDS_RDA), None),
-    (["refuse 2", "sw 01 01", "sq 6162", "sr 02", "si"], raised("5, si", ENDS_RDA, "refused"), None),
-    (["sw 01 01", "sq 61", "sd"], "is not pending: call 3, sd, acknowledged it. The next byte raises it.", None),
-    (["refuse 1", "sw 01 01", "sq 61", "sw 01 00"], raised("3, sq 61", "IER does not enable it now.", "refused"), None),
-    (["refuse 1", "sw 01 01", "sq 61", "ss"], raised("4, ss", ENDS_RDA), None),
-    (["refuse 2", "sq 61", "sw 01 03"], raised("3, sw 01 03", ENDS_RDA), raised("3, sw 01 03", ENDS_THRE, "refused")),
-    (["sw 01 01", "sq " + "61" * 20], raised("2, sq 6161616161616161616..", ENDS_RDA), None),
-    (["sw 01 02"], None, raised("1, sw 01 02", ENDS_THRE)),
-    (["sw 01 02", "sr 02"], None, f"is not pending: call 2, sr 02, acknowledged it. {NEXT_THRE}"),
-    (["type hi", "write IER RDA|THRE", "read IIR", "reset"], f"{NEITHER}.", f"{NEITHER}."),
-]
-
-DIFFS = [
-    (["sq 6869", "sr 00"], ["FIFO 2 -> 1 byte"]),
-    (["cw 0000000000000064 0004 00000069", "cr 0000000000000069 0014"],
-     ["RIS 0x00000000 -> 0x00000001  ALARM", "alarm over"]),
-    (["cw 0000000000000069 0008 00000064"], ["LR 0x00000000 -> 0x00000064", "clock offset 0 -> -5 s"]),
-    (["sw 01 02"], ["IER 0x00 -> 0x02  THRE", "IIR 0xc1 -> 0xc2  THRE", "interrupt taken"]),
-    (["sq 6869"], ["LSR 0x60 -> 0x61  DR THRE TEMT", "FIFO 0 -> 2 bytes"]),
-    (["sw 00 41"], ["output 0 -> 1 byte"]),
-    (["sr 05"], ["nothing changed"]),
-    (["sw 01 01", "sq 6162", "sr 02", "si"], ["IIR 0xc1 -> 0xc4  RDA", "interrupt taken"]),
-    (["si"], ["nothing changed"]),
-    (["cw 0000000000000064 0004 00000069"], ["MR 0x00000000 -> 0x00000069", "alarm set"]),
-    (["cw 0000000000000064 0008 00000069"], ["LR 0x00000000 -> 0x00000069", "clock offset 0 -> 5 s"]),
-    (["refuse 1", "sq 61", "sw 01 03"], ["IER 0x00 -> 0x03  RDA THRE", "IIR 0xc1 -> 0xc4  RDA", "interrupt refused"]),
-]
-
-
-# Lines, what `regs` is asked for after them, and the rows below its heading.
-REGS = [
-    (["write IER RDA|THRE", 'type "hi"'], "serial",
-     ["IER  0x03  RDA THRE", "IIR  0xc6  RDA THRE", "LCR  0x03  8N1", "MCR  0x08  OUT2", "LSR  0x61  DR THRE TEMT",
-      "MSR  0xb0  CTS DSR DCD", "SCR  0x00", "divisor 12, FIFO 2 of 64", '"hi"', "pending: RDA, THRE",
-      "line called 2 times, 0 bytes out"]),
-    (["sw 03 80", "sw 00 34", "sw 01 12", "sw 03 1a", "sw 04 10", "sw 07 5a", "sw 04 03", "sw 00 41"], "serial",
-     ["IER  0x00", "IIR  0xc1  none", "LCR  0x1a  7E1", "MCR  0x03  DTR RTS", "LSR  0x60  THRE TEMT",
-      "MSR  0xb0  CTS DSR DCD", "SCR  0x5a", "divisor 4660, FIFO 0 of 64", "pending: nothing",
-      "line called 0 times, 1 byte out"]),
-    (["clock write LR 100", "clock write IMSC 1", "alarm +5"], "clock",
-     ["DR   0x00000064  1970-01-01 00:01:40", "MR   0x00000069", "LR   0x00000064", "IMSC 0x00000001  ALARM",
-      "RIS  0x00000000", "alarm due in 5 s", "interrupt line down"]),
-    (["clock write LR 100", "clock write IMSC 1", "alarm +5", "clock read MIS +5"], "clock",
-     ["DR   0x00000064  1970-01-01 00:01:40", "MR   0x00000069", "LR   0x00000064", "IMSC 0x00000001  ALARM",
-      "RIS  0x00000001  ALARM", "no alarm is set", "interrupt line up"]),
-    (["clock write LR 100", "clock write MR 95 now-10"], "clock",
-     ["DR   0x00000064  1970-01-01 00:01:40", "MR   0x0000005f", "LR   0x00000064", "IMSC 0x00000000",
-      "RIS  0x00000000", "alarm due now", "interrupt line down"]),
+# Lines, the last of which asks, and what is said to it.
+ASKED = [
+    (["sq 61", "why"], [f"RDA {NEITHER}, and 1 byte is held.", NO_THRE]),
+    (["sw 01 01", "sq 6162", "sr 02", "why"], ["RDA is not pending: call 3, sr 02, acknowledged it. 2 bytes are held: "
+                                              "a timeout, the next byte or a write to IER raises it.", NO_THRE]),
+    (["sw 01 01", "sq 6162", "sr 02", "si", "why"], [raised("RDA", "4, si", ENDS_RDA), NO_THRE]),
+    (["sw 01 01", "sq 61", "sd", "why"], ["RDA is not pending: call 3, sd, acknowledged it. The next byte raises it.",
+                                         NO_THRE]),
+    (["refuse 1", "sw 01 01", "sq 61", "sw 01 00", "why"],
+     [raised("RDA", "3, sq 61", "IER does not enable it now.", "refused"), NO_THRE]),
+    (["refuse 1", "sw 01 01", "sq 61", "ss", "why"], [raised("RDA", "4, ss", ENDS_RDA), NO_THRE]),
+    (["refuse 2", "sq 61", "sw 01 03", "why"],
+     [raised("RDA", "3, sw 01 03", ENDS_RDA), raised("THRE", "3, sw 01 03", ENDS_THRE, "refused")]),
+    (["sw 01 01", "sq " + "61" * 20, "why"], [raised("RDA", "2, sq 6161616161616161616..", ENDS_RDA), NO_THRE]),
+    (["sw 01 02", "why"], [f"RDA {NEITHER}.", raised("THRE", "1, sw 01 02", ENDS_THRE)]),
+    (["sw 01 02", "sr 02", "why"], [f"RDA {NEITHER}.", "THRE is not pending: call 2, sr 02, acknowledged it. "
+                                    + NEXT_THRE]),
+    (["type hi", "write IER RDA|THRE", "read IIR", "reset", "why"], [f"RDA {NEITHER}.", NO_THRE]),
+    (["cw 0000000000000064 0004 00000069", "cr 0000000000000069 0014", "diff"],
+     ["cr 0000000000000069 0014", "  RIS 0x00000000 -> 0x00000001  ALARM", "  alarm over"]),
+    (["cw 0000000000000069 0008 00000064", "diff"],
+     ["cw 0000000000000069 0008 00000064", "  LR 0x00000000 -> 0x00000064", "  clock offset 0 -> -5 s"]),
+    (["sw 01 02", "diff"], ["sw 01 02", "  IER 0x00 -> 0x02  THRE", "  IIR 0xc1 -> 0xc2  THRE", "  interrupt taken"]),
+    (["sq 68", "diff"], ["sq 68", "  LSR 0x60 -> 0x61  DR THRE TEMT", "  FIFO 0 -> 1 byte"]),
+    (["sw 00 41", "diff"], ["sw 00 41", "  output 0 -> 1 byte"]),
+    (["si", "diff"], ["si", "  nothing changed"]),
+    (["cw 0000000000000064 0004 00000069", "diff"],
+     ["cw 0000000000000064 0004 00000069", "  MR 0x00000000 -> 0x00000069", "  alarm set"]),
+    (["refuse 1", "sq 61", "sw 01 03", "diff"],
+     ["sw 01 03", "  IER 0x00 -> 0x03  RDA THRE", "  IIR 0xc1 -> 0xc4  RDA", "  interrupt refused"]),
+    (["write IER RDA|THRE", 'type "hi"', "regs serial"],
+     ["serial port", "  IER  0x03  RDA THRE", "  IIR  0xc6  RDA THRE", "  LCR  0x03  8N1", "  MCR  0x08  OUT2",
+      "  LSR  0x61  DR THRE TEMT", "  MSR  0xb0  CTS DSR DCD", "  SCR  0x00", "  divisor 12, FIFO 2 of 64", '  "hi"',
+      "  pending: RDA, THRE", "  line called 2 times, 0 bytes out"]),
+    (["sw 03 80", "sw 00 34", "sw 01 12", "sw 03 1a", "sw 04 10", "sw 07 5a", "sw 04 03", "sw 00 41", "regs serial"],
+     ["serial port", "  IER  0x00", "  IIR  0xc1  none", "  LCR  0x1a  7E1", "  MCR  0x03  DTR RTS",
+      "  LSR  0x60  THRE TEMT", "  MSR  0xb0  CTS DSR DCD", "  SCR  0x5a", "  divisor 4660, FIFO 0 of 64",
+      "  pending: nothing", "  line called 0 times, 1 byte out"]),
+    *(([*lines, "regs clock"],
+       ["clock, in UTC", "  DR   0x00000064  1970-01-01 00:01:40", *(f"  {row}" for row in rows)]) for lines, rows in (
+          (["clock write LR 100", "clock write IMSC 1", "alarm +5"],
+           ["MR   0x00000069", "LR   0x00000064", "IMSC 0x00000001  ALARM", "RIS  0x00000000", "alarm due in 5 s",
+            "interrupt line down"]),
+          (["clock write LR 100", "clock write IMSC 1", "alarm +5", "clock read MIS +5"],
+           ["MR   0x00000069", "LR   0x00000064", "IMSC 0x00000001  ALARM", "RIS  0x00000001  ALARM", "no alarm is set",
+            "interrupt line up"]),
+          (["clock write LR 100", "clock write MR 95 now-10"],
+           ["MR   0x0000005f", "LR   0x00000064", "IMSC 0x00000000", "RIS  0x00000000", "alarm due now",
+            "interrupt line down"]))),
 ]
 
 
@@ -257,23 +248,12 @@ class Words(SessionTest):
             with self.subTest(lines):
                 self.assertEqual(replies, self.afresh([], *lines))
 
-    def test_why(self):
-        for lines, *sentences in WHY:
-            for name, sentence, said in zip(("RDA", "THRE"), sentences, self.afresh(lines, "why")):
-                self.assertIn(sentence and f"{name} {sentence}", (said, None), lines)
-
-    def test_diff(self):
-        for lines, rows in DIFFS:
-            self.assertEqual([lines[-1], *("  " + row for row in rows)], self.afresh(lines, "diff"), lines)
-
-    def test_regs(self):
-        headings = {"serial": "serial port", "clock": "clock, in UTC"}
-        for lines, device, rows in REGS:
-            wanted = [headings[device], *("  " + row for row in rows)]
+    def test_what_is_asked(self):
+        for (*lines, asked), rows in ASKED:
             # A register of the clock that no line changed need not be in the rows.
-            said = [row for row in self.afresh(lines, f"regs {device}")
-                    if row in wanted or not re.fullmatch("  [A-Z]+ +0x0{8}", row)]
-            self.assertEqual(wanted, said, lines)
+            said = [row for row in self.afresh(lines, asked)
+                    if row in rows or not re.fullmatch("  [A-Z]+ +0x0{8}", row)]
+            self.assertEqual(rows, said, lines)
         self.assertEqual(self.said("regs serial") + self.said("regs clock"), self.said("regs"))
 
     def test_a_host_before_1970_has_the_moment_0(self):
@@ -282,18 +262,11 @@ class Words(SessionTest):
                          self.said("clock read DR", "trace"))
         self.assertEqual("  DR   0x00000000  1970-01-01 00:00:00", self.said("regs clock")[1])
 
-    def test_the_number_of_a_bad_line(self):
-        for number in [*range(1, 300), *range(990, 1110), 10001, 65537]:
-            with self.assertRaises(BadLine) as caught:
-                self.session.run_lines("file", [b"#\n"] * (number - 1) + [b"kr\n", b"kr 04\n"])
-            self.assertEqual((number, f'file:{number}: "kr": an offset is missing'),
-                             (caught.exception.number, str(caught.exception)))
-
     def test_a_load(self):
         """It asks for what is pending, each time anew. If that is refused, the port stays."""
         self.said("sw 01 01", "sq 61")
         saved = self.session.board.serial.to_bytes()
-        for lines, times, expected in ((["sr 07"], 2, f"RDA {raised(f'3, sl {saved.hex()}'[:25] + '..', ENDS_RDA)}"),
+        for lines, times, expected in ((["sr 07"], 2, raised("RDA", f"3, sl {saved.hex()}"[:25] + "..", ENDS_RDA)),
                                        (["refuse 1", "sw 07 5a"], 1, f"RDA {NEITHER}.")):
             self.afresh(lines)
             for _ in range(times):
@@ -328,10 +301,28 @@ class Words(SessionTest):
             self.assertIn(f"  {name}", listed)
             self.assertTrue(self.said(f"help {name}"))
         for command, letter in (("read", "r"), ("write", "w")):
-            named = re.findall(r"\b[A-Z]{3}\b", HELP[command].more.partition(", or an offset")[0])
+            named = re.findall(r"\b[A-Z]{3}\b", self.session.help[command].more.partition(", or an offset")[0])
             self.assertEqual(sorted(name for name, one in SERIAL.items() if letter in one.access), sorted(named))
-        named = re.findall(r"\b[A-Z]{2,4}\b", HELP["clock"].more.partition("ID0")[0].partition("REGISTER is")[2])
+        named = self.session.help["clock"].more.partition(", ID0")[0].partition("REGISTER is ")[2].split(", ")
         self.assertEqual([name for name in CLOCK if not name.startswith("ID")], named)
+
+
+# Lines, what is said of them, and what is in a file then. `{}` stands for the name of the file, which is there.
+OLD, BEGUN = "an old file\n", "the calls since the last reset go to {}"
+TRACES = [
+    (["trace on", "read LSR", "sr 07", "trace off", "sr 07", "trace"],
+     ["trace is on", "sr 05", "LSR = 0x60  THRE TEMT", "sr 07", "00", "trace is off", "00", "sr 05", "sr 07", "sr 07"],
+     OLD),
+    (["read SCR", "reset", "read LSR", "trace on {}"],
+     ["SCR = 0x00", "a fresh board", "LSR = 0x60  THRE TEMT", BEGUN], "sr 05\n"),
+    (["kr 04", "trace on {}", "sr 02"], ["00", BEGUN, "c1"], "kr 04\nsr 02\n"),
+    (["trace on {}", "sr 02", "trace off", "kr 04"],
+     [BEGUN, "c1", "trace is off, and {} is complete", "00"], "sr 02\n"),
+    (["trace on {}", "kr 04", "reset", "sr 07", "trace", "trace off"],
+     [BEGUN, "00", "a fresh board", "00", "sr 07", "trace is off"], "kr 04\n"),
+    (["save {}", "reset", "load {}", "trace"],
+     ["port and clock saved to {}", "a fresh board", "ok", "ok", *SAVED.splitlines()], SAVED),
+]
 
 
 class Files(SessionTest):
@@ -341,43 +332,18 @@ class Files(SessionTest):
         super().setUp()
         self.path = self.folder / "file"
 
-    def test_trace_shows_each_line(self):
-        self.assertEqual(["trace is on", "sr 05", "LSR = 0x60  THRE TEMT", "sr 07", "00"],
-                         self.said("trace on", "read LSR", "sr 07"))
-        self.assertEqual(["trace is off", "00"], self.said("trace off", "sr 07"))
-        self.assertEqual(["sr 05", "sr 07", "sr 07"], self.said("trace"))
-
-    def test_a_trace_file_has_the_calls_since_the_last_reset(self):
-        self.path.write_text("an old file\n")
-        self.said("read SCR", "reset", "read LSR")
-        self.assertEqual([f"the calls since the last reset go to {self.path}"], self.said(f"trace on {self.path}"))
-        self.assertEqual("sr 05\n", self.path.read_text())
-        self.said("read IIR")
-        self.assertEqual("sr 05\nsr 02\n", self.path.read_text())
-        self.assertEqual([f"trace is off, and {self.path} is complete", "00"], self.said("trace off", "kr 04"))
-        self.assertEqual("sr 05\nsr 02\n", self.path.read_text())
-
-    def test_a_reset_ends_a_trace(self):
-        self.said(f"trace on {self.path}", "read LSR", "reset", "read SCR")
-        self.assertEqual("sr 05\n", self.path.read_text())
-        self.assertEqual(["sr 07", "trace is off"], self.said("trace", "trace off"))
+    def test_traces(self):
+        for lines, said, text in TRACES:
+            self.path.write_text(OLD)
+            self.assertEqual([row.format(self.path) for row in said],
+                             self.afresh([], *(line.format(self.path) for line in lines)))
+            self.assertEqual(text, self.path.read_text())
 
     def test_a_full_disk_ends_a_trace_and_no_more(self):
         self.said("trace on /dev/full")
         with self.assertRaisesRegex(FileFault, "/dev/full: No space left on device"):
             self.said("kr 04")
         self.assertEqual(["00", "00"], self.said("kr 04"))
-
-    def test_lines_are_kept_only_for_a_shell(self):
-        self.begin(keeps_lines=False)
-        self.said("kr 04")
-        self.assertEqual([], self.session.lines)
-        for line in ("trace", f"trace on {self.path}"):
-            self.assertRaises(ScriptError, self.said, line)
-
-    def test_loads_are_calls(self):
-        self.said("write SCR 7", f"save {self.path}", "reset", f"load {self.path}")
-        self.assertEqual(self.path.read_text().splitlines(), self.said("trace"))
 
     def test_nothing_is_loaded_of_a_file_that_is_half_good(self):
         port, clock = Serial().to_bytes().hex(), Rtc().to_bytes().hex()
@@ -395,7 +361,7 @@ class Files(SessionTest):
         self.assertRaises(Leave, self.said, f"source {self.path}")
         self.path.write_text("room 5\n")
         for name in [self.path, self.folder / "none", self.folder] * 11:
-            self.assertRaises((ScriptError, FileFault), self.said, f"source {name}")
+            self.assertRaises((ValueError, FileFault), self.said, f"source {name}")
         self.path.write_text("room\n")
         self.assertEqual(self.said("room"), self.said(f"source {self.path}"))
 
@@ -405,45 +371,24 @@ class Files(SessionTest):
         self.assertTrue(self.path.exists())
 
 
-DOCUMENTS = [PACKAGE / "README.md", ROOT / "README.md", *sorted((ROOT / "docs").glob("*.md"))]
-
-
-class Documents(SessionTest):
-    """The lines at a prompt that documents show, and the calls in Python."""
+class Documents(unittest.TestCase):
+    """What documents show at the viewer's prompt and at that of Python. `tools/checks/paste` types into the shell."""
 
     def blocks_with(self, text):
-        found = [block for path in DOCUMENTS for block in
-                 re.findall(r"^```\w*\n(.*?)^```$", path.read_text(encoding="utf-8"), re.MULTILINE | re.DOTALL)
-                 if block.startswith(text)]
+        found = [block for path in [PACKAGE / "README.md", *sorted((ROOT / "docs").glob("*.md"))] for block in
+                 re.findall(rf"^```\w*\n({text}.*?)^```$", path.read_text(encoding="utf-8"), re.MULTILINE | re.DOTALL)]
         self.assertTrue(found)
         return found
 
-    def dialogues(self, prompt):
-        """The lines after the prompts of each block, and the rows that follow them."""
-        for block in self.blocks_with(prompt):
-            rows = block.splitlines()
-            yield [row[len(prompt):] for row in rows if row.startswith(prompt)], \
-                [row for row in rows if not row.startswith(prompt)]
-
-    def test_sessions(self):
-        for lines, expected in self.dialogues("superio> "):
-            self.begin()
-            for line in lines:
-                try:
-                    self.session.carry_out(line.encode())
-                except ValueError as error:
-                    self.session.say(str(error))
-            self.assertEqual(expected, self.said())
-
     def test_stepping(self):
-        for lines, expected in self.dialogues("view> "):
-            recording = ROOT / "examples" / "linux-boot" / "boot.recording.xz"
-            status, output, _ = run("view", recording, script="\n".join(lines).encode())
+        recording = ROOT / "examples" / "linux-boot" / "boot.recording.xz"
+        for rows in map(str.splitlines, self.blocks_with("view> ")):
+            lines = "\n".join(row[len("view> "):] for row in rows if row.startswith("view> "))
+            status, output, _ = run("view", recording, script=lines.encode())
+            expected = [row for row in rows if not row.startswith("view> ")]
             self.assertEqual((0, expected), (status, output.splitlines()[-len(expected):]))
 
     def test_calls_in_python(self):
         for block in self.blocks_with(">>> "):
-            test = doctest.DocTestParser().get_doctest(block, {}, "block", None, 0)
-            said = []
-            failed = doctest.DocTestRunner(verbose=False).run(test, out=said.append).failed
-            self.assertEqual(0, failed, "".join(said))
+            test, said = doctest.DocTestParser().get_doctest(block, {}, "block", None, 0), []
+            self.assertEqual(0, doctest.DocTestRunner().run(test, out=said.append).failed, said)

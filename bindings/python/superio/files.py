@@ -6,10 +6,6 @@ from typing import IO, Iterator
 from .script import shown
 
 
-class Leave(Exception):
-    """The session ends."""
-
-
 class FileFault(Exception):
     """A file cannot be opened, read or written. The message has its name and the reason."""
 
@@ -17,12 +13,13 @@ class FileFault(Exception):
         super().__init__(f"{path}: {getattr(error, 'strerror', None) or error}")
 
 
-class BadLine(Exception):
+class BadLine(ValueError):
     """A line of a file was not carried out. The message says which line, and why."""
 
-    def __init__(self, name: str, number: int, line: bytes, reason: str) -> None:
+    def __init__(self, name: str, number: int, line: bytes, reason: Exception) -> None:
         super().__init__(f'{name}:{number}: "{shown(line.decode("utf-8", "surrogateescape"), 60)}": {reason}')
         self.number = number
+        self.is_fault = isinstance(reason, FileFault) or getattr(reason, "is_fault", False)
 
 
 @contextmanager
@@ -37,10 +34,9 @@ def opened(path: str) -> Iterator["IO[bytes]"]:
 
 @contextmanager
 def replaced(path: str) -> Iterator[str]:
-    """Yields the name of a file to write in the place of `path`. It takes that place once it is whole and on the disk.
-    After a fault, such as a full disk, the file that was there is as it was.
+    """Yields the name of a file to write in the place of `path`, which it takes once it is whole and on the disk.
 
-    What is no plain file, such as a terminal or a pipe, is written itself. Raises `FileFault` if something fails.
+    After a `FileFault`, such as of a full disk, what was there is as it was. A terminal or a pipe is written itself.
     """
     try:
         if os.path.exists(path) and not os.path.isfile(path):

@@ -1,0 +1,192 @@
+"""Commands by their names, and lines of them at a prompt, with editing, completion, Ctrl-C and a history."""
+import atexit
+import cmd
+import glob
+import os
+import signal
+from contextlib import suppress
+from pathlib import Path
+from typing import IO, Dict, List, NamedTuple, Optional, Tuple
+
+from .files import FileFault, replaced
+from .registers import CLOCK, SERIAL
+from .script import ScriptError, shown
+from .words import UsageError
+
+HISTORY_VARIABLE = "SUPERIO_HISTORY"
+"""The environment variable that can name the history's file. Empty: there is none."""
+
+_HISTORY_LENGTH = 1000
+
+STRONG, QUIET, ERROR = 1, 2, 31
+"""How texts can be marked, as the codes of a terminal."""
+
+
+class Help(NamedTuple):
+    """What `help` says of a command, and what each of its fields can be, for a shell to complete it."""
+
+    usage: str
+    about: str
+    more: str = ""
+    fields: Tuple[str, ...] = ()
+    means: str = ""  # the line of a script that the words mean, or the command's own name if it has several
+
+    @property
+    def name(self) -> str:
+        return self.usage.partition(" ")[0]
+
+
+class Leave(Exception):
+    """The session ends."""
+
+
+def has_colours(stream: "IO[str]", is_wanted: bool) -> bool:
+    """Whether they are wanted, the stream is a terminal that shows them, and NO_COLOR is not set."""
+    return (is_wanted and stream.isatty() and not os.environ.get("NO_COLOR") and os.environ.get("TERM") != "dumb")
+
+
+def _files(text: str) -> List[str]:
+    """The files whose names begin so."""
+    found = glob.glob(glob.escape(os.path.expanduser(text)) + "*")
+    home = os.path.expanduser("~")
+    names = [path + "/" if os.path.isdir(path) else path for path in found]
+    return sorted("~" + path[len(home):] if text.startswith("~") and path.startswith(home) else path for path in names)
+
+
+class Prompt(cmd.Cmd):
+    """Carries out commands, of which each has a method `do_NAME`, and lines of them at a prompt."""
+
+    groups: Dict[str, Tuple[Help, ...]] = {}
+
+    def __init__(self, out: "IO[str]", is_coloured: bool = False, errors: "Optional[IO[str]]" = None,
+                 errors_are_coloured: bool = False) -> None:
+        super().__init__(stdout=out)
+        self.out = out
+        self.is_coloured = is_coloured
+        self._errors = errors or out
+        self._errors_are_coloured = errors_are_coloured
+        self.help = {entry.name: entry for group in self.groups.values() for entry in group}
+        self.help["exit"] = self.help["quit"]
+
+    def say(self, *lines: str) -> None:
+        """Writes lines."""
+        for line in lines:
+            self.out.write(line + "\n")
+
+    def marked(self, code: int, text: str) -> str:
+        """A text with a colour or another mark, if there are any."""
+        return f"\x1b[{code}m{text}\x1b[0m" if self.is_coloured and text else text
+
+    def show(self, rows: List[str]) -> None:
+        """Writes a heading and the rows below it."""
+        self.say(self.marked(STRONG, rows[0]), *rows[1:])
+
+    def carry_out(self, line: bytes) -> None:
+        """Carries out a line, without its LF. A `ValueError` or `FileFault` says why not; `Leave` ends the session."""
+        name, _, rest = line.decode("utf-8", "surrogateescape").strip().partition(" ")
+        if name not in self.help:
+            raise ScriptError(f"no command is called {shown(name)}: help lists them")
+        usage = self.help[name].usage
+        if rest and " " not in usage:
+            raise ScriptError(f"{name} takes no arguments")
+        try:
+            self.perform(name, rest.strip())
+        except UsageError:
+            raise ScriptError(f"the form is: {usage}") from None
+
+    def perform(self, name: str, rest: str) -> None:
+        """Carries out a command with the rest of its line."""
+        getattr(self, f"do_{name}")(rest)
+
+    def do_help(self, rest: str) -> None:
+        if rest and rest not in self.help:
+            raise ScriptError(f"no command is called {shown(rest)}: help lists them")
+        if rest:
+            entry = self.help[rest]
+            self.say(entry.usage, f"{entry.about}.", *filter(None, [entry.more]))
+            return
+        for title, group in self.groups.items():
+            self.show([title, *(f"  {entry.usage:<19} {entry.about}" if len(entry.usage) < 20 else
+                                f"  {entry.usage}\n{'':22}{entry.about}" for entry in group)])
+        self.say("help NAME says more. Ctrl-C drops a line, Ctrl-D ends.")
+
+    def do_quit(self, _: str) -> None:
+        raise Leave
+
+    do_exit = do_quit
+
+    def completions(self, before: str, text: str) -> List[str]:
+        """What `text` can be completed to, after what precedes it on the line."""
+        words = before.split()
+        fields = self.help[words[0]].fields if words and words[0] in self.help else ()
+        field = fields[len(words) - 1] if 0 < len(words) <= len(fields) else "" if words else "command"
+        if field == "file":
+            return _files(text)
+        if field == "command":
+            return sorted(name + " " * (not words) for name in self.help if name.startswith(text))
+        if field in ("serial", "clock"):
+            names = SERIAL if field == "serial" else CLOCK
+            return [name + " " for name in names if name.startswith(text.upper())]
+        if field == "bits":
+            begun, bar, last = text.rpartition("|")
+            register = {**CLOCK, **SERIAL}.get(words[-1].upper())
+            return [begun + bar + name for _, name in (register.bits if register else ())
+                    if name.startswith(last.upper())]
+        return [word for word in field.split() if word.startswith(text)]
+
+    def completenames(self, text: str, *ignored: object) -> List[str]:
+        return self.completions("", text)
+
+    def completedefault(self, *ignored: object) -> List[str]:
+        text, line, begin, _ = ignored
+        return self.completions(str(line)[:int(str(begin))], str(text))
+
+    def onecmd(self, line: str) -> bool:
+        """Carries out a line, or says why not. Returns whether the session ends."""
+        if line == "EOF":
+            self.say(*[""] * bool(self.prompt))
+            return True
+        try:
+            self.carry_out(line.encode("utf-8", "surrogateescape"))
+        except Leave:
+            return True
+        except (ValueError, FileFault) as error:
+            said = f"\x1b[{ERROR}m{error}\x1b[0m" if self._errors_are_coloured else str(error)
+            print(said, file=self._errors, flush=True)
+        return False
+
+    def run_prompt(self) -> None:
+        """Reads and carries out lines up to the end. Ctrl-C drops a line."""
+        if callable(signal.getsignal(signal.SIGINT)):
+            signal.signal(signal.SIGINT, signal.default_int_handler)
+        is_interrupted = False
+        while True:
+            try:
+                if is_interrupted:
+                    self.intro = ""
+                    self.out.write("^C\n")
+                self.cmdloop()
+                return
+            except KeyboardInterrupt:
+                is_interrupted = True
+
+
+def use_history() -> None:
+    """Reads the history's file, and writes it at the end of the program. Without a file there is no earlier history."""
+    try:
+        import readline
+    except ImportError:  # a Python without it reads lines all the same
+        return
+    readline.set_completer_delims(" \t\n")
+    named = os.environ.get(HISTORY_VARIABLE)
+    path = str(Path.home() / ".superio_history") if named is None else named
+    if not path:
+        return
+    with suppress(OSError):
+        readline.read_history_file(path)
+    readline.set_history_length(_HISTORY_LENGTH)
+
+    def write_history() -> None:
+        with suppress(FileFault), replaced(path) as name:
+            readline.write_history_file(name)
+    atexit.register(write_history)
