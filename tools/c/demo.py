@@ -100,7 +100,7 @@ CASES_OF_LEVEL = [
     ("the line moves without being asked for", ["w 3f9 2", "w 3f9 0", "w 3f9 2"], ["level 1", "level 0", "level 1"], 0),
 ]
 # How far the number of another interface is from the header's, and what the monitor says over its library.
-OTHERS, SAYS = (1, -1, 256), "the comparison of header and library failed\n"
+OTHERS, SAYS = (1, -1, 256, 65536), "the comparison of header and library failed\n"
 # Up to where the monitor is turned, for wrong ones; how many turns are tried; and those that mean the same as before:
 # bounds beyond which nothing is, casts that drop what is turned, and another access of the clock, which finds the alarm.
 END, TURNS = "    struct machine machine = {", 60

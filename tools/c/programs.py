@@ -17,11 +17,6 @@ PASTES = [("paste", [], "1000 bytes in 16 pieces, in order\n"),
           ("paste", [TESTS / "scant.c", "-Wl,--wrap=superio_serial_enqueue"], "1000 bytes in 45 pieces, in order\n")]
 CALLS = 250_000
 SANITIZERS = ["-g", "-O1", "-fsanitize=address,undefined", "-fno-sanitize-recover=all"]
-# A library whose number is another by DIFFERENCE.
-OTHER_ABI = """#include <superio.h>
-uint32_t superio_abi(void) { return (uint32_t)(SUPERIO_ABI + DIFFERENCE); }
-int main(void) { return SUPERIO_ABI_MATCHES() == (DIFFERENCE == 0) ? 0 : 1; }
-"""
 # The header, which may be read twice, and leaves none of the names that it uses for itself.
 ALONE = "#include <superio.h>\n#include <superio.h>\n" + "".join(
     f"#ifdef SUPERIO_{name}\n#error SUPERIO_{name}\n#endif\n"
@@ -106,18 +101,6 @@ def check_random_calls(tally, machine, folder):
             replay(tally, tally.kind, folder / "random", machine, calls, CALLS, CALLS)
 
 
-def check_other_abi(tally, machine, folder):
-    """Counts whether a program notices a library of another binary interface."""
-    source, program = folder / "other_abi.c", folder / "other_abi"
-    source.write_text(OTHER_ABI, encoding="ascii")
-    for compiler in machine.compilers:
-        for difference in (0, 1, -1, 256, 65536):
-            if machine.can(tally, compiler, "a library of another binary interface"):
-                build = compiler.command([source], [*machine.options, f"-DDIFFERENCE={difference}", "-o", program])
-                if tally.run(f"a library of interface {difference:+} is built", build):
-                    tally.run(f"a library of interface {difference:+}", [*machine.runner, program])
-
-
 def check_demos(tally, machine, folder):
     """Counts whether a paste, which is more than the FIFO holds, reaches the guest whole; and whether the demo builds by
     its Makefile, and prints what it should."""
@@ -136,10 +119,10 @@ def check_demos(tally, machine, folder):
                           (DEMO / "expected").read_text(encoding="utf-8"), cwd=place)
 
 
-# What is checked on each machine, with its kind. All but the header and the number are for a library from source too.
-CHECKS = {check_header: "checks of header", check_calls: "checks of calls", check_other_abi: "checks of other abi",
-          check_random_calls: "random calls", check_demos: "checks of demos"}
-OF_SOURCE = {check: kind for check, kind in CHECKS.items() if check not in (check_header, check_other_abi)}
+# What is checked on each machine, with its kind. All but the header is for a library from source too.
+CHECKS = {check_header: "checks of header", check_calls: "checks of calls", check_random_calls: "random calls",
+          check_demos: "checks of demos"}
+OF_SOURCE = {check: kind for check, kind in CHECKS.items() if check is not check_header}
 
 
 def check_machine(tally, machine, folder, checks=None):

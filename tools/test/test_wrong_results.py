@@ -322,7 +322,7 @@ def failing(command, **options):
     return ended(0 if {"fetch", "--version"} & {*command} else 101)
 
 
-OF_C = programs.check_calls, programs.check_other_abi, programs.check_random_calls, programs.check_demos
+OF_C = programs.check_calls, programs.check_random_calls, programs.check_demos
 
 
 @mock.patch("subprocess.run", failing)
