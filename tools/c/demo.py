@@ -8,9 +8,9 @@ import subprocess
 from concurrent.futures import ThreadPoolExecutor
 from itertools import islice
 
-from chance import seed_of
 from header import other_library, read_header
 from libraries import DEMO, ROOT, TESTS
+from chance import seed_of  # which `libraries` lets it find
 from turns import turned
 from twin import COM1, Level, Monitor, different_scripts, random_cases, shown
 
