@@ -102,7 +102,7 @@ CASES_OF_LEVEL = [
 # How far the number of another interface is from the header's, and what the monitor says over its library.
 OTHERS, SAYS = (1, -1, 256, 65536), "the comparison of header and library failed\n"
 # Up to where the monitor is turned, for wrong ones; how many turns are tried; and those that mean the same as before:
-# bounds beyond which nothing is, casts that drop what is turned, and another access of the clock, which finds the alarm.
+# bounds beyond which nothing is, casts that drop what is turned, and another access of the clock that finds the alarm.
 END, TURNS = "    struct machine machine = {", 60
 SAME = {
     "char input[129];     /* what has not gone to the guest yet */",

@@ -75,8 +75,8 @@ def layout_assertions():
         places, size = layout(fields, header.constants)
         lines.append(f"_Static_assert(sizeof({struct}) == {size}, \"size of {struct}\");")
         for (_, field, _), (place, count) in zip(fields, places):
-            for found, wanted in ((f"offsetof({struct}, {field})", place), (f"sizeof((({struct} *)0)->{field})", count)):
-                lines.append(f"_Static_assert({found} == {wanted}, \"{struct}.{field}\");")
+            found = f"offsetof({struct}, {field}) == {place} && sizeof((({struct} *)0)->{field}) == {count}"
+            lines.append(f"_Static_assert({found}, \"{struct}.{field}\");")
     return "\n".join([*lines, ""])
 
 

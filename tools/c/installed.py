@@ -105,7 +105,8 @@ def check_declarations(tally):
 def check_versions(tally):
     """Counts whether the header has the right versions: numbers, and a text."""
     found, version = read_header().constants, (ROOT / "VERSION").read_text(encoding="ascii").strip()
-    abi = re.findall(r"^const ABI: u32 = (\d+);", (ROOT / SOURCE_FOLDERS[0] / "lib.rt").read_text(encoding="utf-8"), re.M)
+    source = (ROOT / SOURCE_FOLDERS[0] / "lib.rt").read_text(encoding="utf-8")
+    abi = re.findall(r"^const ABI: u32 = (\d+);", source, re.M)
     tally.check([str(found["SUPERIO_ABI"])] == abi, f"SUPERIO_ABI is not {abi}, the library's")
     parts = [str(found[f"SUPERIO_VERSION_{part}"]) for part in ("MAJOR", "MINOR", "PATCH")]
     tally.check(parts == version.split("."), f"the header's numbers are not {version}")

@@ -315,7 +315,8 @@ class Script:
             self.add("n", self.random.choice(EDGES))
             self.add("m", 0x004, self.random.choice(EDGES))
         near = (self.monitor.now + self.random.randrange(-3, 20)) % 2**32
-        beside = {offset: near for offset in (0x000, 0x006, 0x014, 0x104, 0xFFC, 0x1000, 0x1004, -4, -1, 0x10004, 1 << 32 | 4)}
+        near_writes = 0x000, 0x006, 0x014, 0x104, 0xFFC, 0x1000, 0x1004, -4, -1, 0x10004, 1 << 32 | 4
+        beside = dict.fromkeys(near_writes, near)
         writes = {0x004: near, 0x008: near, 0x00C: near & 1, 0x010: 1, 0x01C: near & 3}
         chosen = self.random.choice((writes, {0x004: near, 0x010: 1}, {0x004: 0xFFFFFFFF, 0x010: 0}, beside, {}))
         for offset in self.random.sample(sorted(chosen), min(1, len(chosen))):

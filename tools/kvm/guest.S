@@ -1,6 +1,6 @@
-# A guest in real mode, for the tests of the monitor. It prints 'ready', and then echoes what is typed, by interrupts and
-# as Linux's 8250 driver does: it reads IIR, then bytes for as long as LSR shows data ready, but at most 256, and then IIR
-# again, until that says that nothing is pending. These bytes are commands:
+# A guest in real mode, for the tests of the monitor. It prints 'ready', and then echoes what is typed, by interrupts
+# and as Linux's 8250 driver does: it reads IIR, then bytes for as long as LSR shows data ready, but at most 256, and
+# then IIR again, until that says that nothing is pending. These bytes are commands:
 #
 #     Ctrl-D  resets the machine
 #     Ctrl-T  prints 'waiting', and reads no more until an alarm two seconds later, at which it prints 'alarm'

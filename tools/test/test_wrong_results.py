@@ -292,7 +292,7 @@ class Runs(FolderTest):
         """It has to end itself, and to say why."""
         said = demo.SAYS
         for module, monitor, status, right in (
-                (demo, lambda: demo.over_others(machines()[0].compilers[0], demo.DEMO / "monitor.c", self.folder), 1, said),
+                (demo, lambda: demo.over_others(machines()[0].compilers[0], demo.SOURCE, self.folder), 1, said),
                 (without_kvm, without_kvm.Build(self.folder).over_others, 1, "another interface")):
             for got, errors in ((status, right), (0, right), (-6, ""), (status, "it")):
                 ran = mock.Mock(returncode=got, stdout="", stderr=errors)
