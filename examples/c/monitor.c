@@ -17,6 +17,7 @@ struct machine {
     char input[128];     /* what has not gone to the guest yet */
     bool feeds_early;    /* input need not wait until the guest is ready: one that polls never says so */
     bool is_ready;       /* the guest has enabled the interrupt of received data, and no other test of its port */
+    bool has_level;      /* the interrupt line is a level, and takes no edges */
     bool line_is_down;   /* the interrupt line takes nothing now */
     bool was_refused;    /* the event loop is to ask for interrupts again */
     bool is_interrupted; /* the guest's handler is to run */
@@ -30,15 +31,25 @@ static void check(bool is_good, const char *what) {
     exit(1);
 }
 
-/* Raises the interrupt of the serial port once. A monitor writes to an eventfd here. */
+/* An edge: raises the interrupt of the serial port once. A monitor writes to an eventfd that KVM_IRQFD knows. */
 static bool raise_interrupt(struct machine *machine) {
     puts(machine->line_is_down ? "interrupt refused" : "interrupt");
     machine->is_interrupted |= !machine->line_is_down;
     return !machine->line_is_down;
 }
 
-/* Raises the interrupt as often as a call says, up to a refusal. Then a monitor sets a timer for the next turn. */
+/* A level: it is what the port says. A monitor calls KVM_IRQ_LINE with it. */
+static void set_level(struct machine *machine) {
+    machine->is_interrupted = superio_serial_interrupt_line(&machine->serial);
+}
+
+/* After each call of the port, reads among them: as many edges as it asks for, up to a refusal, or the level. After a
+ * refusal a monitor sets a timer for the next turn. */
 static void interrupt(struct machine *machine, unsigned times) {
+    if (machine->has_level) {
+        set_level(machine);
+        return;
+    }
     while (times > 0 && raise_interrupt(machine))
         times--;
     machine->was_refused |= times > 0;
@@ -111,11 +122,11 @@ static uint8_t port_read(struct machine *machine, uint16_t port) {
     if (port < COM1 || port >= COM1 + SUPERIO_SERIAL_PORTS)
         return 0xFF;
     superio_serial_read_effects done = superio_serial_read(&machine->serial, (uint8_t)(port - COM1));
+    /* If nothing is pending, bytes that are left have to interrupt again. */
+    bool finds_none = port == COM1 + 2 && done.byte & 0x01;
+    interrupt(machine, finds_none ? superio_serial_character_timeout(&machine->serial) : 0);
     if (done.in_buffer_empty)
         feed(machine);
-    /* Nothing is pending: bytes that are left have to interrupt again. */
-    if (port == COM1 + 2 && done.byte & 0x01)
-        interrupt(machine, superio_serial_character_timeout(&machine->serial));
     return done.byte;
 }
 
@@ -140,8 +151,9 @@ static struct machine migrate(const struct machine *machine) {
     uint8_t serial[SUPERIO_SERIAL_SAVED_MAX], clock[SUPERIO_RTC_SAVED_SIZE];
     size_t count = superio_serial_save(&machine->serial, serial);
     superio_rtc_save(&machine->clock, clock);
-    struct machine other = {
-        .now = machine->now, .is_ready = machine->is_ready, .feeds_early = machine->feeds_early};
+    struct machine other = {.now = machine->now, .has_level = machine->has_level};
+    other.is_ready = machine->is_ready;
+    other.feeds_early = machine->feeds_early;
     strcpy(other.input, machine->input);
     check(superio_serial_load(&other.serial, serial, count) == SUPERIO_LOAD_OK, "loading the serial port");
     check(superio_rtc_load(&other.clock, clock, sizeof clock) == SUPERIO_LOAD_OK, "loading the clock");
@@ -204,5 +216,12 @@ int main(void) {
     printf("ports 0x61 and 0x400 read %02x and %02x, and the controller %02x\n", port_read(&other, 0x61),
            port_read(&other, COM1 + SUPERIO_SERIAL_PORTS), port_read(&other, 0x64));
     port_write(&other, SUPERIO_I8042_COMMAND_PORT, 0xFE);
+
+    static const uint8_t MASKS[] = {0x02, 0x00, 0x02}; /* the last one asks for no interrupt */
+    other.has_level = true;
+    for (int i = 0; i < 3; i++) {
+        port_write(&other, COM1 + 1, MASKS[i]);
+        printf("IER %02x: level %d\n", MASKS[i], other.is_interrupted);
+    }
     return 0;
 }

@@ -2,7 +2,6 @@
 #include "monitor.h"
 
 #include <asm/bootparam.h>
-#include <elf.h>
 
 /* Where a PC loads a boot sector, where conventional memory ends, and where memory goes on. */
 enum { FLAT_START = 0x7C00, LOW_END = 0x9FC00, HIGH_START = 0x100000 };
@@ -65,21 +64,10 @@ static void start_long_mode(uint64_t entry) {
     set_start(&system, (struct kvm_regs){.rip = entry, .rsi = PARAMETERS});
 }
 
-/* Places a vmlinux, and returns its entry. */
-static uint64_t place_elf(FILE *file, const Elf64_Ehdr *head) {
-    for (unsigned i = 0; i < head->e_phnum; i++) {
-        Elf64_Phdr part = {0};
-        fseek(file, (long)(head->e_phoff + i * sizeof part), SEEK_SET);
-        if (fread(&part, sizeof part, 1, file) == 1 && part.p_type == PT_LOAD)
-            place(file, part.p_offset, part.p_filesz, part.p_paddr, part.p_memsz);
-    }
-    return head->e_entry;
-}
-
 /* Places a bzImage, and returns its entry. */
 static uint64_t place_image(FILE *file, uint64_t size, const struct setup_header *head) {
     if (head->header != 0x53726448 || head->version < 0x20C || !(head->xloadflags & XLF_KERNEL_64))
-        errx(1, "the kernel is neither a vmlinux nor a bzImage with a 64-bit entry");
+        errx(1, "the kernel is no bzImage with a 64-bit entry");
     uint64_t setup = (head->setup_sects + 1) * 512u;
     place(file, setup, size - setup, head->pref_address, head->init_size);
     return head->pref_address + 0x200;
@@ -90,15 +78,9 @@ void boot_linux(const char *kernel, const char *initramfs, const char *words) {
     struct setup_header *head = &parameters->hdr;
     uint64_t size;
     FILE *file = open_file(kernel, &size);
-    union {
-        Elf64_Ehdr elf;
-        struct boot_params image;
-    } first = {0};
-    rewind(file);
-    size_t got = fread(&first, 1, sizeof first, file);
-    bool is_elf = got == sizeof first && memcmp(&first, ELFMAG, SELFMAG) == 0 && first.elf.e_machine == EM_X86_64;
-    *head = is_elf ? (struct setup_header){0} : first.image.hdr;
-    start_long_mode(is_elf ? place_elf(file, &first.elf) : place_image(file, size, head));
+    if (fseek(file, offsetof(struct boot_params, hdr), SEEK_SET) < 0 || fread(head, sizeof *head, 1, file) != 1)
+        errx(1, "the kernel is cut off");
+    start_long_mode(place_image(file, size, head));
     fclose(file);
     if (initramfs) {
         file = open_file(initramfs, &size);

@@ -10,16 +10,14 @@ void bus_reset(void) {
     serial = superio_serial_new();
     rtc = superio_rtc_new();
     console_is_ready = false;
-    trace_apart();
 }
 
 static uint8_t serial_read(uint8_t offset) {
     superio_serial_read_effects done = superio_serial_read(&serial, offset);
-    trace_row("sr %02x  %02x", offset, done.byte);
     if (done.in_buffer_empty)
         console_feed();
     if (offset == 2 && done.byte & 0x01) /* nothing is pending */
-        interrupts_character_timeout(false);
+        interrupts_character_timeout();
     return done.byte;
 }
 
@@ -27,32 +25,23 @@ static void serial_write(uint8_t offset, uint8_t value) {
     if (offset == 0)
         console_await_room();
     superio_serial_write_effects done = superio_serial_write(&serial, offset, value);
-    if (done.sends) {
+    if (done.sends)
         console_send(value);
-        trace_sent(value);
-    }
-    bool is_refused = interrupts_ask(done.interrupts);
-    trace_row("sw %02x %02x  %s", offset, value, is_refused ? "trigger" : "ok");
+    interrupts_ask(done.interrupts);
     console_is_ready |= (serial.interrupt_enable & 0x03) == 0x01; /* RDA, and THRE not */
     if (offset == 1 || offset == 4) /* the guest may be ready now, or have left loopback */
         console_feed();
 }
 
-static uint8_t controller_read(uint8_t offset) {
-    uint8_t byte = superio_i8042_read(offset);
-    trace_row("kr %02x  %02x", offset, byte);
-    return byte;
-}
-
 static void controller_write(uint8_t offset, uint8_t value) {
-    bool resets = superio_i8042_write(offset, value).resets;
-    if (resets && machine_starts_again) {
+    if (!superio_i8042_write(offset, value).resets)
+        return;
+    if (machine_starts_again) {
         bus_reset();
         machine_reset();
-    } else if (resets) {
+    } else {
         monitor_end(0, "the guest reset the machine");
     }
-    trace_row("kw %02x %02x  %s", offset, value, resets ? "reset" : "ok");
 }
 
 /* A byte at a port. Of the ports from 0x60 to 0x64 the controller has the first and the last. */
@@ -65,7 +54,7 @@ void bus_port(uint16_t port, bool is_write, uint8_t *byte) {
     else if (is_controller && is_write)
         controller_write(offset, *byte);
     else if (!is_write)
-        *byte = is_serial ? serial_read(offset) : is_controller ? controller_read(offset) : 0xFF;
+        *byte = is_serial ? serial_read(offset) : is_controller ? superio_i8042_read(offset) : 0xFF;
 }
 
 /* The clock takes four bytes at a time. A narrower read shows a part of the four around it, as EDK II expects. A narrower

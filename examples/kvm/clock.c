@@ -36,20 +36,13 @@ void clock_not_before(uint64_t moment) {
 }
 
 uint32_t clock_read(uint16_t offset) {
-    uint64_t now = clock_now();
-    superio_rtc_read_effects done = superio_rtc_read(&rtc, offset, now);
-    if (done.invalid_read)
-        trace_row("cr %016" PRIx64 " %04x  invalid", now, offset);
-    else
-        trace_row("cr %016" PRIx64 " %04x  %08x", now, offset, done.value);
+    uint32_t value = superio_rtc_read(&rtc, offset, clock_now()).value;
     clock_follow();
-    return done.value;
+    return value;
 }
 
 void clock_write(uint16_t offset, uint32_t value) {
-    uint64_t now = clock_now();
-    superio_rtc_write_effects done = superio_rtc_write(&rtc, offset, value, now);
-    trace_row("cw %016" PRIx64 " %04x %08x  %s", now, offset, value, done.invalid_write ? "invalid" : "ok");
+    superio_rtc_write(&rtc, offset, value, clock_now());
     clock_follow();
 }
 

@@ -7,7 +7,7 @@
 
 /* The guest waits while the output queue is this full, but at most so long for a terminal that takes nothing. */
 enum { OUTPUT_LEVEL = QUEUE_SIZE - 4096, STALL_SECONDS = 1 };
-enum { OFFER_SIZE = 128, CTRL_A = 0x01 }; /* a script line takes 128 bytes */
+enum { CTRL_A = 0x01 };
 
 static const char HELP[] = "\r\nCtrl-A x leaves, Ctrl-A s writes a snapshot, Ctrl-A h shows this,\r\n"
                            "Ctrl-A Ctrl-A sends Ctrl-A to the guest. %llu bytes of output were dropped\r\n";
@@ -104,16 +104,10 @@ static void read_input(void) {
 /* Offers the input, and keeps what the port does not take: when input comes, when the guest has read the last byte of the
  * FIFO, and when it may have become ready or left loopback. If there is room then, one more read is due. */
 void console_feed(void) {
-    superio_serial_enqueue_effects done = {0};
-    bool is_open = console_is_ready || console_is_early;
-    for (size_t count = 0; is_open && console_input.count > 0 && done.taken == count;) {
-        count = console_input.count < OFFER_SIZE ? console_input.count : OFFER_SIZE;
-        done = superio_serial_enqueue(&serial, console_input.bytes, count);
-        char taken[4];
-        snprintf(taken, sizeof taken, "%02x", (uint8_t)done.taken);
-        const char *reply = interrupts_ask(done.interrupts) ? "trigger" : done.full ? "full" : taken;
-        trace_row("sq %s  %s", trace_bytes(console_input.bytes, count), reply);
+    if (console_is_ready || console_is_early) {
+        superio_serial_enqueue_effects done = superio_serial_enqueue(&serial, console_input.bytes, console_input.count);
         drop(&console_input, done.taken);
+        interrupts_ask(done.interrupts);
     }
     if (has_input && !is_watched && console_input.count < QUEUE_SIZE) {
         is_watched = true;

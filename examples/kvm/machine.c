@@ -104,7 +104,6 @@ static void *run_vcpu(void *nothing) {
         pthread_mutex_lock(&lock);
         if (result == 0) {
             serve();
-            exits_keep();
         } else if (error == EINTR && is_snapshot_wanted) {
             snapshot_save();
             machine.run->immediate_exit = is_snapshot_wanted = false;

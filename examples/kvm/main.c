@@ -5,16 +5,13 @@
 #include <sys/signalfd.h>
 
 static const char HELP[] =
-    "usage: monitor -k KERNEL [-i INITRAMFS] [-c WORDS] [OPTION ..]   boots Linux, a bzImage or a vmlinux\n"
+    "usage: monitor -k KERNEL [-i INITRAMFS] [-c WORDS] [OPTION ..]   boots Linux, a bzImage\n"
     "       monitor -f IMAGE [OPTION ..]                              starts an image at 0x7C00 in real mode\n"
     "       monitor --restore SNAPSHOT [OPTION ..]                    goes on from a snapshot\n\n"
     "  -m MEGABYTES       the guest's memory, 256 if not given\n"
     "  -s FILE            what Ctrl-A s writes, monitor.snapshot if not given\n"
-    "  --exits FILE       writes the last thousand exits of the vCPU, if the status is not 0\n"
-    "  --trace FILE       writes the calls of the devices as lines of a script, with replies\n"
     "  --reboot           starts the guest of -k or -f again when it resets the machine, and does not end\n"
-    "  --early-input      offers input before the guest has enabled its interrupt, as one that polls needs it\n"
-    "  --refuse-each N    refuses each Nth interrupt of the serial port, for tests\n\n"
+    "  --early-input      offers input before the guest has enabled its interrupt, as one that polls needs it\n\n"
     "Ctrl-A h lists the keys.\n";
 
 pthread_mutex_t lock = PTHREAD_MUTEX_INITIALIZER;
@@ -81,7 +78,7 @@ static void run(void) {
     pthread_mutex_lock(&lock);
     machine_start();
     while (!has_ended) {
-        interrupts_character_timeout(true);
+        interrupts_character_timeout();
         pthread_mutex_unlock(&lock);
         struct epoll_event event;
         int count = epoll_wait(epoll, &event, 1, -1);
@@ -93,12 +90,8 @@ static void run(void) {
 }
 
 /* What each option was given, by its letter. */
-static const char *given[128] = {
-    ['c'] = "console=ttyS0 reboot=k panic=1", ['m'] = "256", ['n'] = "0", ['s'] = "monitor.snapshot"};
+static const char *given[128] = {['c'] = "console=ttyS0 reboot=k panic=1", ['m'] = "256", ['s'] = "monitor.snapshot"};
 static const struct option LONG[] = {{"restore", required_argument, NULL, 'r'},
-                                     {"trace", required_argument, NULL, 't'},
-                                     {"exits", required_argument, NULL, 'x'},
-                                     {"refuse-each", required_argument, NULL, 'n'},
                                      {"reboot", no_argument, NULL, 'b'},
                                      {"early-input", no_argument, NULL, 'e'},
                                      {"help", no_argument, NULL, 'h'},
@@ -142,16 +135,12 @@ int main(int count, char **words) {
         snapshot_keep_start();
     monitor_boot();
     snapshot_path = given['s'];
-    trace_open(given['t']);
-    interrupts_open((unsigned)strtoul(given['n'], NULL, 10));
+    interrupts_open();
     console_open();
     interrupts_retry(); /* what a restored guest has not taken */
     clock_follow();
     run();
-    trace_close();
     console_finish();
     warnx("%s", why);
-    if (given['x'] && status != 0)
-        exits_write(given['x']);
     return status;
 }

@@ -10,7 +10,6 @@
 #include <err.h>
 #include <errno.h>
 #include <fcntl.h>
-#include <inttypes.h>
 #include <linux/kvm.h>
 #include <pthread.h>
 #include <signal.h>
@@ -36,8 +35,6 @@ struct queue {
     size_t count;
     uint8_t bytes[QUEUE_SIZE];
 };
-
-#define PRINTF(text, first) __attribute__((format(printf, text, first)))
 
 /* main.c */
 extern pthread_mutex_t lock;
@@ -78,13 +75,13 @@ void console_open(void);
 void console_feed(void);
 void console_await_room(void);
 void console_send(uint8_t byte);
-void console_say(const char *format, ...) PRINTF(1, 2);
+void console_say(const char *format, ...) __attribute__((format(printf, 1, 2)));
 void console_restore(void);
 void console_finish(void);
 /* interrupts.c */
-void interrupts_open(unsigned refuse_each);
-bool interrupts_ask(unsigned times);
-void interrupts_character_timeout(bool is_turn);
+void interrupts_open(void);
+void interrupts_ask(unsigned times);
+void interrupts_character_timeout(void);
 void interrupts_retry(void);
 /* clock.c */
 void clock_open(void);
@@ -99,16 +96,5 @@ void snapshot_save(void);
 void snapshot_keep_start(void);
 void snapshot_start_again(void);
 void snapshot_restore(const char *path);
-/* trace.c */
-void trace_open(const char *path);
-void trace_row(const char *format, ...) PRINTF(1, 2);
-void trace_asked(unsigned accepted, unsigned times);
-void trace_apart(void);
-void trace_sent(uint8_t byte);
-const char *trace_bytes(const uint8_t *bytes, size_t count);
-void trace_close(void);
-/* exits.c */
-void exits_keep(void);
-void exits_write(const char *path);
 
 #endif

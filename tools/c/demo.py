@@ -1,21 +1,25 @@
-"""The monitors of examples/c, driven by accesses of a guest and by what else may happen to them, and wrong ones.
+"""The monitor of examples/c, driven by accesses of a guest and by what else may happen to it, and wrong ones.
 
 What a case expects was worked out from docs/DEVICES.md and from the duties of docs/THREATS.md, and not by running it.
 What a random script expects is what a second monitor does, that of `twin.py`.
 """
 import random
 import subprocess
+from concurrent.futures import ThreadPoolExecutor
+from itertools import islice
 
 from header import other_library, read_header
-from libraries import DEMO, TESTS
-from planted import read_bugs
-from twin import COM1, Edges, Level, Monitor, different_scripts, random_cases, shown
+from libraries import DEMO, ROOT, TESTS
+from chance import seed_of  # which `libraries` lets it find
+from turns import turned
+from twin import COM1, Level, Monitor, different_scripts, random_cases, shown
 
-WRAPPED = [f"-Wl,--wrap=superio_{name}" for name in ("abi", "serial_load", "rtc_load")]
+SOURCE = DEMO / "monitor.c"
+WRAPPED = [f"-Wl,--wrap=superio_{name}" for name in ("serial_load", "rtc_load")]
 CLOCK_IS_OFF = "clock: line down, no alarm"
 
-# How many random scripts there are of each monitor.
-SCRIPTS, SCRIPTS_OF_LINES = 300, 40
+# How many random scripts there are of a monitor whose interrupt line has edges, and of one whose line is a level.
+SCRIPTS, SCRIPTS_OF_LEVEL = 300, 80
 BESIDE = [port for port in range(1 << 16) if not 0 <= port - COM1 < 8 and port not in (0x60, 0x64)]
 
 
@@ -91,37 +95,41 @@ def cases_of_loads():
             for which, device in ((1, "the serial port"), (2, "the clock")) for fault in faults]
 
 
-# The same of lines.c as a level: masked and unmasked, which asks for no interrupt, THRE takes the line down and up.
+# With a level, THRE takes the line down and up, masked and unmasked, which asks for no interrupt.
 CASES_OF_LEVEL = [
-    ("the line moves without being asked for", ["w 3f9 2", "w 3f9 0", "w 3f9 2"], ["! 1 64", " 0 64", " 1 64"], 0),
+    ("the line moves without being asked for", ["w 3f9 2", "w 3f9 0", "w 3f9 2"], ["level 1", "level 0", "level 1"], 0),
 ]
-# Its own main, over a library of an older or a newer interface, as driver and as it is. That main says this.
-OTHERS = (1, -1, 256)
-SAYS = {"monitor.c": "the comparison of header and library failed\n", "lines.c": ""}
-CASES_OF_OTHERS = [("a library of another interface", [], ["the comparison of header and library failed"], 1)]
+# How far the number of another interface is from the header's, and what the monitor says over its library.
+OTHERS, SAYS = (1, -1, 256, 65536), "the comparison of header and library failed\n"
+# Up to where the monitor is turned, for wrong ones; how many turns are tried; and those that mean the same as before:
+# bounds beyond which nothing is, casts that drop what is turned, and another access of the clock that finds the alarm.
+END, TURNS = "    struct machine machine = {", 60
+SAME = {
+    "char input[129];     /* what has not gone to the guest yet */",
+    "memmove(machine->input, machine->input + done.taken, count - done.taken + 2);",
+    "} else if (port >= COM1 && port <= COM1 + SUPERIO_SERIAL_PORTS) {",
+    "return superio_i8042_read((uint8_t)(port + SUPERIO_I8042_DATA_PORT));",
+    "uint16_t offset = (uint16_t)(address + CLOCK);",
+    "superio_rtc_read(&machine->clock, 25, machine->now);",
+    "for (int i = 0; i < 40 && port_read(machine, COM1 - 5) & 0x01; i++) /* data ready */",
+    "for (int i = 0; i < 40 && port_read(machine, COM1 + 5) | 0x01; i++) /* data ready */",
+}
 
-# Beside each monitor its driver, and the options of the linker.
-DRIVERS = {"monitor.c": ("demo.c", WRAPPED), "lines.c": ("driven_lines.c", [])}
 
-
-def ways(file):
+def ways():
     """How a monitor is driven: the words of the command, the second monitor, the cases, and how many random scripts."""
-    if file == "lines.c":
-        return [([], Edges, [], SCRIPTS_OF_LINES), (["level"], Level, CASES_OF_LEVEL, SCRIPTS_OF_LINES)]
-    others = [([str(difference)], Monitor, CASES_OF_OTHERS, 0) for difference in OTHERS]
-    return [([], Monitor, [*CASES, *cases_of_loads()], SCRIPTS), *others]
+    return [([], Monitor, [*CASES, *cases_of_loads()], SCRIPTS), (["level"], Level, CASES_OF_LEVEL, SCRIPTS_OF_LEVEL)]
 
 
-def differences(file, program, seed=0):
+def differences(program, seed=0):
     """The names of the cases in which a monitor does something else. `seed` is that of the random scripts."""
-    for words, monitor, fixed, scripts in ways(file):
-        yield from different_scripts([program, *words], (*fixed, *random_cases(monitor, scripts, seed)))
+    for words, monitor, fixed, scripts in ways():
+        yield from different_scripts([program, *words], (*random_cases(monitor, scripts, seed), *fixed))
 
 
-def build(machine, compiler, place, program, file="monitor.c"):
+def build(machine, compiler, place, program):
     """The words that build the driver over the monitor of a folder."""
-    driver, options = DRIVERS[file]
-    return machine.program(compiler, [TESTS / driver], program, ["-O1", "-I", place, *options])
+    return machine.program(compiler, [TESTS / "demo.c"], program, ["-O1", "-I", place, *WRAPPED])
 
 
 def over_others(compiler, source, folder):
@@ -133,36 +141,54 @@ def over_others(compiler, source, folder):
         library.write_text(other_library(number), encoding="ascii")
         # Its calls have other types than the compiler knows.
         subprocess.run(compiler.command([library], ["-w", "-c", "-o", built]), check=True)
-        subprocess.run(compiler.command([source, "-xnone", built], ["-o", program]), check=True)
+        subprocess.run(compiler.command([source, "-xnone", built], ["-w", "-o", program]), check=True)
         ran = subprocess.run([program], capture_output=True, text=True)
-        if (ran.returncode, ran.stderr) != (1, SAYS[source.name]):
+        if (ran.returncode, ran.stderr) != (1, SAYS):
             yield f"{source.name} over interface {number}: status {ran.returncode}, {ran.stderr}"
 
 
+def built_turn(machine, number, turn, folder):
+    """A turn and the folder of its program, or `None` if it is none."""
+    place = folder / str(number)
+    place.mkdir(parents=True)
+    (place / SOURCE.name).write_text(turn.text, encoding="utf-8")
+    command = [*build(machine, machine.compilers[0], place, place / "driven"), "-w", "-O0"]
+    return None if subprocess.run(command, capture_output=True).returncode else (turn, place)
+
+
+def is_refused(machine, turn, place):
+    """The turn, and whether it does something else."""
+    return turn, (any(differences(place / "driven"))
+                  or any(over_others(machine.compilers[0], place / SOURCE.name, place)))
+
+
+def check_wrong_demos(tally, machine, folder):
+    """Counts whether some turns of the demo that are programs, others with each commit, do something else, but those
+    that mean the same."""
+    turns = list(turned(SOURCE.read_text(encoding="utf-8"), END))
+    random.Random(seed_of(ROOT)).shuffle(turns)
+    built = filter(None, (built_turn(machine, *it, folder / "wrong-demo") for it in enumerate(turns)))
+    for _, monitor, _, scripts in ways():
+        random_cases(monitor, scripts, 0)  # once, and not in each thread
+    with ThreadPoolExecutor() as pool:
+        for turn, found in pool.map(lambda it: is_refused(machine, *it), islice(built, TURNS)):
+            tally.check(found != (turn.new in SAME), f"a wrong demo: {found=} of {turn}")
+
+
 def check_driven_demo(tally, machine, folder):
-    """Counts whether the demo does what a guest and its host may expect, and whether each wrong one does something
-    else."""
+    """Counts whether the demo does what a guest and its host may expect, and whether wrong ones do something else."""
     tally.of("cases of the demo")
-    compiler = machine.compilers[0]
+    compiler, program = machine.compilers[0], folder / "driven"
     if not machine.is_host or not tally.has(compiler.name, "the demo"):
         if not machine.is_host:
             tally.skip("a library for this processor", "the demo")
         tally.tried.leave_out("random scripts of the demo")
         tally.tried.leave_out("wrong demos")
-        return
-    program, place = folder / "driven", folder / "wrong-demo"
-    for file in DRIVERS:
-        if tally.run(f"the driven {file} is built", build(machine, compiler, DEMO, program, file), number=0):
-            found = list(differences(file, program, random.randrange(10**9)))
-            tally.check(not found, "\n".join(found[:3]), sum(len(fixed) for _, _, fixed, _ in ways(file)))
-            tally.tried.add("random scripts of the demo", sum(scripts for *_, scripts in ways(file)))
-            found = list(over_others(compiler, DEMO / file, folder))
-            tally.check(not found, "\n".join(found), len(OTHERS))
-    tally.of("wrong demos")
-    for number, bug in enumerate(read_bugs(TESTS / "wrong-demos.edits", "monitor.c")):
-        wrong = place / str(number)
-        stands, command = bug.plant(DEMO, wrong), build(machine, compiler, wrong, program, bug.file)
-        if tally.check(stands == 1, f"{bug.name}: its text stands {stands} times in {bug.file}", 0) \
-                and tally.run(f"the wrong demo is built: {bug.name}", command, number=0):
-            found = any(differences(bug.file, program)) or any(over_others(compiler, wrong / bug.file, wrong))
-            tally.check(found, f"the wrong demo is not refused: {bug.name}")
+    elif tally.run("the driven demo is built", build(machine, compiler, DEMO, program), number=0):
+        found = list(differences(program, random.randrange(10**9)))
+        tally.check(not found, "\n".join(found[:3]), sum(len(fixed) for _, _, fixed, _ in ways()))
+        tally.tried.add("random scripts of the demo", sum(scripts for *_, scripts in ways()))
+        found = list(over_others(compiler, SOURCE, folder))
+        tally.check(not found, "\n".join(found), len(OTHERS))
+        tally.of("wrong demos")
+        check_wrong_demos(tally, machine, folder)

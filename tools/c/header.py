@@ -16,6 +16,8 @@ SIZE = re.compile(r"typedef char \w+ ?\[sizeof\((\w+)\) == (\d+)( \* sizeof\(siz
 FUNCTION = re.compile(rf"((?:\w+ )+\*?)(superio_\w+)\(([^()]*)\)((?:{ATTRIBUTE.pattern})*);")
 DECLARED = re.compile(r"((?:const )?\w+ \*?)(\w+)(?:\[(\w+)\])?")
 CONSTANT = re.compile(r"(SUPERIO_\w+) = (\w+)")
+# What these return may be ignored: a number, or events that leave nothing to do.
+MAY_BE_IGNORED = {"superio_abi", "superio_serial_read", "superio_rtc_read", "superio_rtc_write"}
 # The types of fields, with their sizes on processors of 64 bits.
 BYTES = {"bool": 1, "uint8_t": 1, "uint16_t": 2, "uint32_t": 4, "uint64_t": 8, "int64_t": 8, "size_t": 8}
 
@@ -50,6 +52,32 @@ def layout(fields, constants=()):
         places.append((start, size))
         end = start + size
     return places, end + -end % max(BYTES[kind] for kind, _, _ in fields)
+
+
+def wanted_attributes(name, function):
+    """What lets a compiler warn of a wrong call: of a lost result, of NULL, of memory that is unset or too small."""
+    if function.returned != "void" and name not in MAY_BE_IGNORED:
+        yield "SUPERIO_MUST_USE"
+    for place, (kind, parameter, length) in enumerate(function.parameters, 1):
+        if parameter == "bytes" and not length:
+            yield from ("SUPERIO_COUNTED", f"SUPERIO_ACCESS(read_only, {place}, {place + 1})")
+        elif length:
+            yield f"SUPERIO_ACCESS(write_only, {place})"
+        elif kind.endswith("*"):
+            use = "read_only" if kind.startswith("const") else "write_only" if name.endswith("_load") else "read_write"
+            yield from ("SUPERIO_NONNULL", f"SUPERIO_ACCESS({use}, {place})")
+
+
+def layout_assertions():
+    """A file in C that compiles if the structs are laid out as `layout` says."""
+    header, lines = read_header(), ["#include <superio.h>"]
+    for struct, fields in header.structs.items():
+        places, size = layout(fields, header.constants)
+        lines.append(f"_Static_assert(sizeof({struct}) == {size}, \"size of {struct}\");")
+        for (_, field, _), (place, count) in zip(fields, places):
+            found = f"offsetof({struct}, {field}) == {place} && sizeof((({struct} *)0)->{field}) == {count}"
+            lines.append(f"_Static_assert({found}, \"{struct}.{field}\");")
+    return "\n".join([*lines, ""])
 
 
 def parsed(pattern, text):

@@ -1,32 +1,22 @@
-"""The programs that are built with the C library for a machine: tests of the header and of calls, pastes, the demo."""
+"""The programs that are built with the C library for a machine: tests of the header and of calls, and the examples."""
 import lzma
-import random
-import re
 import shutil
 from functools import lru_cache
 
 from chance import seed_of
 from libraries import DEMO, ROOT, TESTS
 from cases import every_answer
-from declarations import assertions
 from expected import recording_of
+from header import layout_assertions
 from machines import C
 from random_calls import write_calls
 from tally import run
 
-# What the examples beside the monitor print, also over a port that takes few bytes at a time.
-SCANT = [TESTS / "scant.c", "-Wl,--wrap=superio_serial_enqueue"]
-LINES = ("edges: 1000 bytes received, and after an unmasking none\n"
-         "level: 1000 bytes received, and after an unmasking an interrupt\n")
-EXAMPLES = [("paste", [], "1000 bytes in 16 pieces, in order\n"), ("lines", [], LINES),
-            ("paste", SCANT, "1000 bytes in 45 pieces, in order\n"), ("lines", SCANT, LINES)]
+# What the example beside the monitor prints, also over a port that takes few bytes at a time.
+PASTES = [("paste", [], "1000 bytes in 16 pieces, in order\n"),
+          ("paste", [TESTS / "scant.c", "-Wl,--wrap=superio_serial_enqueue"], "1000 bytes in 45 pieces, in order\n")]
 CALLS = 250_000
 SANITIZERS = ["-g", "-O1", "-fsanitize=address,undefined", "-fno-sanitize-recover=all"]
-# A library whose number is another by DIFFERENCE.
-OTHER_ABI = """#include <superio.h>
-uint32_t superio_abi(void) { return (uint32_t)(SUPERIO_ABI + DIFFERENCE); }
-int main(void) { return SUPERIO_ABI_MATCHES() == (DIFFERENCE == 0) ? 0 : 1; }
-"""
 # The header, which may be read twice, and leaves none of the names that it uses for itself.
 ALONE = "#include <superio.h>\n#include <superio.h>\n" + "".join(
     f"#ifdef SUPERIO_{name}\n#error SUPERIO_{name}\n#endif\n"
@@ -38,16 +28,16 @@ void never(int it) __attribute__((diagnose_if(it, "", "warning")));
 
 
 def check_header(tally, machine, folder):
-    """Counts whether the header compiles by itself, and has the types and the layout of the Rattle side."""
+    """Counts whether the header compiles by itself, and lays its structs out as tools/c/header.py says."""
     alone, compared, afterwards = folder / "alone.c", folder / "compared.c", folder / "afterwards.c"
     alone.write_text(ALONE, encoding="ascii")
-    compared.write_text(assertions(), encoding="ascii")
+    compared.write_text(layout_assertions(), encoding="ascii")
     afterwards.write_text(AFTERWARDS, encoding="ascii")
     for compiler in machine.compilers:
         if tally.has(compiler.name, "the header"):
             tally.run(f"the header under {compiler.title}", compiler.command([alone], ["-fsyntax-only"]))
-            newer = ["-std=c11"] if compiler.language == C else []
-            tally.run(f"the header's types and layout under {compiler.title}",
+            newer = ["-std=c11"] if compiler.language == C else ["-D_Static_assert=static_assert"]
+            tally.run(f"the header's layout under {compiler.title}",
                       compiler.command([compared], [*newer, "-fsyntax-only"]))
             if compiler.name.startswith("clang"):
                 said = run(compiler.command([afterwards], ["-fsyntax-only"])).stdout
@@ -111,37 +101,12 @@ def check_random_calls(tally, machine, folder):
             replay(tally, tally.kind, folder / "random", machine, calls, CALLS, CALLS)
 
 
-def check_other_abi(tally, machine, folder):
-    """Counts whether a program notices a library of another binary interface."""
-    source, program = folder / "other_abi.c", folder / "other_abi"
-    source.write_text(OTHER_ABI, encoding="ascii")
-    for compiler in machine.compilers:
-        for difference in (0, 1, -1, 256, 65536):
-            if machine.can(tally, compiler, "a library of another binary interface"):
-                build = compiler.command([source], [*machine.options, f"-DDIFFERENCE={difference}", "-o", program])
-                if tally.run(f"a library of interface {difference:+} is built", build):
-                    tally.run(f"a library of interface {difference:+}", [*machine.runner, program])
-
-
-def check_pastes(tally, machine, folder):
-    """Counts whether pastes reach the guests whole with the character timeout, and get stuck without it."""
-    program, seed = folder / "pastes", str(random.randrange(10**9))
-    for compiler in compilers_of(tally, machine, "pastes"):
-        build = machine.program(compiler, [TESTS / "pastes.c"], program, watched(machine))
-        if tally.run(f"{tally.kind} under {compiler.name} are built", build, number=0):
-            for options in ([], ["--without-timeout"]):
-                ran = run([*machine.runner, program, *options, seed])
-                tally.check(ran.returncode == 0,
-                            f"{tally.kind} under {' '.join([compiler.name, *options])}:\n{ran.stdout}",
-                            sum(map(int, re.findall(r"(\d+) pastes", ran.stdout))))
-
-
 def check_demos(tally, machine, folder):
-    """Counts whether the examples of a paste, which is more than the FIFO holds, reach the guest whole, by polling and
-    by interrupts of both kinds; and whether the demo builds by its Makefile, and prints what it should."""
+    """Counts whether a paste, which is more than the FIFO holds, reaches the guest whole; and whether the demo builds by
+    its Makefile, and prints what it should."""
     for compiler in compilers_of(tally, machine, "the demo"):
         what, place = f"for {machine.target} under {compiler.name}", folder / "demo"
-        for name, port, printed in EXAMPLES:
+        for name, port, printed in PASTES:
             build = machine.program(compiler, [DEMO / f"{name}.c", *port], folder / name, ["-O1"])
             if tally.run(f"{name}.c {what} is built", build):
                 tally.run(f"{name}.c {what}", [*machine.runner, folder / name], printed)
@@ -154,10 +119,10 @@ def check_demos(tally, machine, folder):
                           (DEMO / "expected").read_text(encoding="utf-8"), cwd=place)
 
 
-# What is checked on each machine, with its kind. All but the header and the number are for a library from source too.
-CHECKS = {check_header: "checks of header", check_calls: "checks of calls", check_other_abi: "checks of other abi",
-          check_random_calls: "random calls", check_pastes: "pastes", check_demos: "checks of demos"}
-OF_SOURCE = {check: kind for check, kind in CHECKS.items() if check not in (check_header, check_other_abi)}
+# What is checked on each machine, with its kind. All but the header is for a library from source too.
+CHECKS = {check_header: "checks of header", check_calls: "checks of calls", check_random_calls: "random calls",
+          check_demos: "checks of demos"}
+OF_SOURCE = {check: kind for check, kind in CHECKS.items() if check is not check_header}
 
 
 def check_machine(tally, machine, folder, checks=None):

@@ -10,13 +10,15 @@ import tempfile
 import threading
 from functools import lru_cache
 
-from oracle import CLOCK, SERIAL, Clock, Port, resets
+from oracle import CLOCK, SERIAL, Clock, Port, resets, start_fact
 
 COM1 = 0x3F8
 RBR, IER, IIR, MCR, LSR = (SERIAL[name].offset for name in ("RBR", "IER", "IIR", "MCR", "LSR"))
-MOST_INPUT, MOST_LINES = 127, 80
+MOST_INPUT, MOST_LINES, SCRIPTS_OF_A_RUN, LONG = 127, 80, 20, 60
+# How many bytes the handlers of Xen and of Linux take for each look at IIR.
+XEN, LINUX = 1, 256
 # How long a script may take, in seconds, and how much more it may print than it should, before the program is ended.
-LIMIT, MORE = 20, 4000
+LIMIT, MORE = 10, 4000
 IS_MASKED = CLOCK["MIS"].offset
 # Moments and matches at which a number of fewer bits, or with a sign, would be another.
 EDGES = (0, 1, 2**16, 2**31 - 1, 2**31, 2**32 - 1)
@@ -46,9 +48,9 @@ def seconds_due(clock, now):
 class Monitor:
     """The devices, what the monitor keeps beside them, and the lines that it has printed."""
 
-    may_refuse = may_look = False  # whether a monitor with a port alone takes the lines d and k
-    most = 40                      # how many bytes the guest's handler takes for each look at IIR
-    feeds_after = (IER, MCR)       # the registers whose write may make the guest ready
+    has_port_alone = False
+    most = 40                 # how many bytes the guest's handler takes for each look at IIR
+    feeds_after = (IER, MCR)  # the registers whose write may make the guest ready
 
     def __init__(self):
         # The requests of a call are made by the monitor, after it.
@@ -70,7 +72,10 @@ class Monitor:
         self.printed.append(text)
 
     def call(self, name, *arguments):
-        """The reply of a call of the port, its events, and how many requests it asks for. Prints what it sends."""
+        """The reply of a call of the port, its events, and how many requests it asks for. Prints what it sends. A long
+        past is told from its end, since each call searches it."""
+        if len(self.port.past) > LONG:
+            self.port.past = [start_fact(self.port.state(), self.port.held())]
         start = len(self.port.past)
         reply = getattr(self.port, name)(*arguments)
         did = self.port.did(start)
@@ -165,23 +170,26 @@ class Monitor:
         self.ask(times)
 
     def h(self):
-        self.received = 0
-        while self.is_interrupted:
-            self.handle()
-        self.reply(f"received {self.received}")
+        self.reply(f"received {self.handle(self.most).count(b'x')}")
 
-    def handle(self):
-        """The guest's handler."""
-        self.is_interrupted = False
-        while not self.read(COM1 + IIR) & 0x01:
-            for _ in range(self.most):
-                if not self.read(COM1 + LSR) & 0x01:
-                    break
-                self.take(self.read(COM1 + RBR))
+    def p(self, most):
+        self.reply(f"received {self.handle(most).hex()}")
+
+    def handle(self, most):
+        """The guest's handler, while it is interrupted. Returns the bytes that it takes."""
+        taken = b""
+        while self.is_interrupted:
+            self.is_interrupted = False
+            while not self.read(COM1 + IIR) & 0x01:
+                for _ in range(most):
+                    if not self.read(COM1 + LSR) & 0x01:
+                        break
+                    taken += bytes([self.read(COM1 + RBR)])
+                    self.take(taken[-1])
+        return taken
 
     def take(self, byte):
-        """What the guest does with a byte."""
-        self.received += byte == ord("x")
+        """What else the guest does with a byte."""
 
     def g(self):
         self.down = self.was_refused = self.is_interrupted = False
@@ -191,17 +199,30 @@ class Monitor:
         self.follow_clock()
 
 
-class Edges(Monitor):
-    """The monitor of lines.c whose line has edges: a port alone, whose input is what fits. After each line it prints
-    what went out, with a mark where it was asked for interrupts, whether the guest is interrupted, and how much room
-    there is."""
+class Level(Monitor):
+    """The same, whose interrupt line is a level, which is printed after each line."""
 
-    most, may_look = 16, True
-    mark = "!"  # what is printed for the requests of a call
+    is_interrupted = property(lambda self: self.port.due() > 0, lambda self, _: None)
+
+    def serve(self, word, *numbers):
+        super().serve(word, *numbers)
+        self.printed.append(f"level {self.is_interrupted:d}")
+
+    def ask(self, times):
+        """A level follows by itself, and is not refused."""
+
+
+class LastingEcho(Monitor):
+    """The monitor of examples/rust: a port alone. The guest sends back what it takes, in capitals. A call asks for its
+    interrupts itself, and what is refused is asked for again with the next input. After each line it prints what went
+    out, whether the guest is interrupted, and how much room there is."""
+
+    has_port_alone, most, feeds_after = True, 16, (MCR,)
 
     def __init__(self):
         super().__init__()
-        self.out = ""
+        self.port = Port(lambda number: 0 < self.down <= number, lambda: "")
+        self.out, self.feeds_early, self.was_interrupted = "", True, False
 
     def serve(self, word, *numbers):
         super().serve(word, *numbers)
@@ -215,49 +236,14 @@ class Edges(Monitor):
         self.printed.append(self.out + text)
         self.out = ""
 
-    def ask(self, times):
-        self.is_interrupted = self.is_interrupted or times > 0
-        self.out += self.mark * (times > 0)
-
-    def k(self):
-        self.reply(f"{self.is_interrupted:d}")
-        self.is_interrupted = False
-
-    def feed(self):
-        reply, _, times = self.call("enqueue", self.input)
-        self.input = b""
-        self.ask(times)
-
-
-class Level(Edges):
-    """The monitor of lines.c whose line is a level."""
-
-    is_interrupted = property(lambda self: self.port.due() > 0, lambda self, _: None)
-
-
-class Echo(Edges):
-    """The monitor of examples/rust. What does not fit waits, and the guest sends back what it takes, in capitals. A
-    call asks for its interrupts itself, and what is refused is asked for again with the next input. Each interrupt is
-    printed once."""
-
-    feeds_after = (MCR,)
-    may_refuse, may_look, mark = True, False, ""
-
-    def __init__(self):
-        super().__init__()
-        self.port = Port(lambda number: 0 < self.down <= number, lambda: "")
-        self.feeds_early, self.was_interrupted = True, False
-
     def call(self, name, *arguments):
         reply, did, times = super().call(name, *arguments)
         self.was_refused |= "R" in did
         self.down = self.down and max(1, self.down - times)
         return reply, did, times
 
-    def serve(self, word, *numbers):
-        super().serve(word, *numbers)
-        self.was_interrupted |= self.is_interrupted
-        self.is_interrupted = False
+    def ask(self, times):
+        self.is_interrupted = self.is_interrupted or times > 0
 
     def feed(self):
         room = self.port.room()
@@ -277,15 +263,16 @@ class Echo(Edges):
 
     def h(self):
         self.is_interrupted, self.was_interrupted = self.is_interrupted or self.was_interrupted, False
-        while self.is_interrupted:
-            self.handle()
+        self.handle(self.most)
 
 
-class LastingEcho(Echo):
-    """The same, whose interrupts stay until the guest's handler runs."""
+class Echo(LastingEcho):
+    """The same, which prints each interrupt once."""
 
     def serve(self, word, *numbers):
-        Edges.serve(self, word, *numbers)
+        super().serve(word, *numbers)
+        self.was_interrupted |= self.is_interrupted
+        self.is_interrupted = False
 
 
 class Script:
@@ -293,9 +280,9 @@ class Script:
 
     def __init__(self, random, length, monitor=Monitor):
         self.random, self.monitor, self.lines = random, monitor(), []
-        self.has_port_alone = monitor is not Monitor
+        self.has_port_alone = monitor.has_port_alone
         makers = [self.write, self.read, self.type, self.serve, self.clock, self.host]
-        weights = (4, 6, 3, 1, 0, 3 * self.monitor.may_refuse) if self.has_port_alone else (3, 3, 1, 2, 2, 2)
+        weights = (4, 6, 3, 1, 0, 3) if self.has_port_alone else (3, 3, 1, 2, 2, 2)
         for _ in range(length):
             random.choices(makers, weights)[0]()
 
@@ -328,7 +315,8 @@ class Script:
             self.add("n", self.random.choice(EDGES))
             self.add("m", 0x004, self.random.choice(EDGES))
         near = (self.monitor.now + self.random.randrange(-3, 20)) % 2**32
-        beside = {offset: near for offset in (0x006, 0x014, 0x104, 0xFFC, 0x1000, 0x1004, -4, -1, 0x10004, 1 << 32 | 4)}
+        near_writes = 0x000, 0x006, 0x014, 0x104, 0xFFC, 0x1000, 0x1004, -4, -1, 0x10004, 1 << 32 | 4
+        beside = dict.fromkeys(near_writes, near)
         writes = {0x004: near, 0x008: near, 0x00C: near & 1, 0x010: 1, 0x01C: near & 3}
         chosen = self.random.choice((writes, {0x004: near, 0x010: 1}, {0x004: 0xFFFFFFFF, 0x010: 0}, beside, {}))
         for offset in self.random.sample(sorted(chosen), min(1, len(chosen))):
@@ -344,12 +332,26 @@ class Script:
         self.add("i", min(self.random.choice((1, 1, 2, 40, 64, 65, 127)), room), byte)
 
     def serve(self):
-        if self.random.randrange(2) and (self.monitor.may_look or not self.has_port_alone):
-            return self.add("k" if self.has_port_alone else "t")
+        if self.random.randrange(2) and not self.has_port_alone:
+            return self.add("t")
         self.add("w", COM1 + 3, 3)  # with DLAB set the handler would not reach the bytes, and not end
         if self.has_port_alone:
             self.add("w", COM1 + 4, 8)  # nor would one that sends its bytes back in loopback
-        return self.add("h")
+            return self.add("h")
+        return self.paste() if not self.random.randrange(4) else self.add("h")
+
+    def paste(self):
+        """More than the FIFO holds comes in pieces, to a guest that takes many bytes for each look, or one."""
+        self.add("w", COM1 + MCR, 8)
+        self.add("w", COM1 + IER, 1)
+        self.add("d", 0)
+        for _ in range(self.random.randrange(1, 6)):
+            for _ in range(self.random.randrange(1, 5)):
+                self.type()
+            if self.random.randrange(4) == 0:
+                self.add("r", COM1 + IIR)
+                self.add("t")
+            self.add("p", self.random.choice((XEN, LINUX, self.random.randrange(1, 100))))
 
     def host(self):
         """The interrupt line takes nothing, or takes requests again; the machine moves; input comes early; or the guest
@@ -392,11 +394,15 @@ class Script:
 
 @lru_cache(maxsize=None)
 def random_cases(monitor, count, seed):
-    """Random scripts: of each a name, its lines, what the monitor prints for them, and the exit status."""
+    """Random scripts: of each a name, its lines, what the monitor prints for them, and the exit status. A monitor of a
+    whole machine makes many of them in one run, each with another machine."""
     chance = random.Random(seed)
     scripts = [Script(chance, chance.randrange(MOST_LINES), monitor) for _ in range(count)]
-    return [(f"script {number} of seed {seed}:\n{script.lines}", script.lines, script.monitor.printed, 0)
-            for number, script in enumerate(scripts)]
+    size = 1 if monitor.has_port_alone else SCRIPTS_OF_A_RUN
+    runs = [scripts[place:place + size] for place in range(0, count, size)]
+    return [(f"run {number} of seed {seed}:\n{[it.lines for it in run]}",
+             [line for it in run for line in ([*it.lines, "o"] if size > 1 else it.lines)],
+             [line for it in run for line in it.monitor.printed], 0) for number, run in enumerate(runs)]
 
 
 def run_bounded(command, given, most):

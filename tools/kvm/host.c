@@ -19,10 +19,11 @@
  *   f CALL               a snapshot is asked for, and the opening (1) of its file, a write to it (2), its end (3) or
  *                        its name (4) fails
  *   x REASON             the vCPU gives up for a reason of KVM's, or, if it is 0, KVM fails
- *   q SIGNAL             the monitor is to end
+ *   q SIGNAL             the monitor is to end, or has a fault
  *
  * After each line the event loop comes to rest. A guest at its start shows its place, the first byte of its image, and
- * two bytes of its memory that it sets then. It says for how long it has to wait, and does so for no time. The first of
+ * two bytes of its memory that it sets then. The terminal says when its settings change. It says for how long it has to
+ * wait, and does so for no time. The first of
  * two KVM_RUN, waits for events or for room and reads fails, as it may at any time, and has to be made again.
  */
 #include <err.h>
@@ -44,6 +45,7 @@
 #include <sys/mman.h>
 #include <sys/syscall.h>
 #include <sys/timerfd.h>
+#include <termios.h>
 #include <time.h>
 #include <unistd.h>
 
@@ -129,19 +131,14 @@ __attribute__((constructor)) static void begin(int count, char **words) {
     if (script < 0 || seen < 0 || screen < 0 || pipe2(both, O_CLOEXEC) < 0)
         fail("the host cannot start");
     keys = both[1];
-    unlink("exits");
     dup2(both[0], STDIN_FILENO);
     dup2(screen, STDOUT_FILENO);
     is_early = strcmp(words[count - 1], "--early-input") == 0;
 }
 
-/* What is left to see: of the output, and of the vCPU's last exits. */
+/* What is left to see of the output. */
 __attribute__((destructor)) static void end(void) {
-    static char text[MOST];
-    FILE *file = __real_fopen("exits", "r");
     show_output();
-    if (file)
-        dprintf(seen, "%.*s", (int)fread(text, 1, sizeof text, file), text);
 }
 
 /* Whether a call is the first of two, and fails, as it may at any time. */
@@ -204,6 +201,28 @@ int __wrap_fclose(FILE *file) {
 
 int __wrap_rename(const char *from, const char *to) {
     return fails(4) ? -1 : __real_rename(from, to);
+}
+
+/* The terminal, which is standard input too. */
+static const struct termios BEFORE = {.c_iflag = ICRNL, .c_oflag = OPOST, .c_lflag = ICANON | ECHO | ISIG};
+static struct termios settings = BEFORE;
+
+int __wrap_tcgetattr(int fd, struct termios *given) {
+    *given = settings;
+    return fd < 0 ? -1 : 0;
+}
+
+/* Safe in a signal's handler. */
+UNSEEN int __wrap_tcsetattr(int fd, int when, const struct termios *new) {
+    struct termios raw = BEFORE;
+    cfmakeraw(&raw);
+    const char *text = memcmp(new, &BEFORE, sizeof raw) == 0 ? "terminal as before\n"
+                       : memcmp(new, &raw, sizeof raw) == 0  ? "terminal raw\n"
+                                                             : "terminal otherwise\n";
+    if (memcmp(new, &settings, sizeof raw) != 0)
+        syscall(SYS_write, seen, text, strlen(text));
+    settings = *new;
+    return fd < 0 || when != TCSANOW ? -1 : 0;
 }
 
 int __wrap_poll(struct pollfd *files, nfds_t count, int timeout) {
@@ -312,7 +331,7 @@ UNSEEN static void move(void) {
     snprintf(text, sizeof text, "%d %d %ld %ld %ld", script, seen, now.awake, now.since_start, now.of_day);
     setenv("HOST", text, true);
     show_output();
-    execl("/proc/self/exe", "monitor", "--restore", "snapshot", "-s", "snapshot", "--exits", "exits", "--reboot",
+    execl("/proc/self/exe", "monitor", "--restore", "snapshot", "-s", "snapshot", "--reboot",
           is_early ? "--early-input" : NULL, NULL);
     fail("the snapshot is not started");
 }
@@ -451,8 +470,7 @@ UNSEEN static int run_guest(void) {
 
 /* What KVM says of itself and of the machine. Of the guest's state it knows the place, and makes up the rest. */
 UNSEEN static void get(unsigned long request, void *argument) {
-    uint8_t chip = request == KVM_GET_IRQCHIP ? (uint8_t)((struct kvm_irqchip *)argument)->chip_id : 0;
-    if (_IOC_DIR(request) == _IOC_READ || request == KVM_GET_IRQCHIP)
+    if (_IOC_DIR(request) == _IOC_READ)
         memset(argument, 0, _IOC_SIZE(request));
     if (request == KVM_GET_SUPPORTED_CPUID) {
         ((struct kvm_cpuid2 *)argument)->nent = 0;
@@ -460,15 +478,7 @@ UNSEEN static void get(unsigned long request, void *argument) {
         ((struct kvm_msr_list *)argument)->nmsrs = 1;
         ((struct kvm_msr_list *)argument)->indices[0] = 0x10;
     } else if (request == KVM_GET_REGS) {
-        *(struct kvm_regs *)argument = (struct kvm_regs){.rip = place, .rsp = 1, .rflags = 2};
-    } else if (request == KVM_GET_SREGS) {
-        struct kvm_sregs system = {.cs.selector = 3, .cr0 = 4, .cr2 = 5, .cr3 = 6, .cr4 = 7, .efer = 8};
-        *(struct kvm_sregs *)argument = system;
-    } else if (request == KVM_GET_MP_STATE) {
-        ((struct kvm_mp_state *)argument)->mp_state = KVM_MP_STATE_HALTED;
-    } else if (request == KVM_GET_IRQCHIP) {
-        struct kvm_pic_state state = {.irr = chip + 9, .imr = chip + 16, .isr = chip + 32};
-        ((struct kvm_irqchip *)argument)->chip.pic = state;
+        *(struct kvm_regs *)argument = (struct kvm_regs){.rip = place};
     }
 }
 
@@ -486,6 +496,13 @@ UNSEEN static void set_line(const struct kvm_irq_level *line) {
     is_up = line->level;
 }
 
+UNSEEN static void set_interrupt(const struct kvm_irqfd *line) {
+    uint64_t requests;
+    interrupt = *line;
+    if (__real_read((int)line->fd, &requests, sizeof requests) > 0)
+        fail("a request before the guest starts");
+}
+
 /* What KVM is told of the machine. */
 UNSEEN static void set(unsigned long request, const void *argument) {
     static const unsigned long requests[STATES] = {
@@ -498,7 +515,7 @@ UNSEEN static void set(unsigned long request, const void *argument) {
     else if (request == KVM_SET_REGS)
         place = ((const struct kvm_regs *)argument)->rip, is_started = false;
     else if (request == KVM_IRQFD)
-        interrupt = *(const struct kvm_irqfd *)argument;
+        set_interrupt(argument);
     else if (request == KVM_IRQ_LINE)
         set_line(argument);
 }

@@ -7,7 +7,7 @@ import os
 import random
 import signal
 
-from oracle import CLOCK, SERIAL, Clock, Port, resets, start_fact
+from oracle import CLOCK, Clock, Port, resets
 from twin import COM1, EDGES, IS_MASKED, Monitor, different_scripts, seconds_due
 
 SECOND, BASE, CTRL_A = 10**9, 0xD0000, 0x01
@@ -35,20 +35,18 @@ MOST_LINES, MOST_WAITING = 60, 60_000
 WAYS, REFUSALS = 4, 1000
 # The room for input and for output, from where on the guest waits before output, and how much is read or typed at once.
 QUEUE, LEVEL, PIECE = 65536, 65536 - 4096, 4096
-EVER, LONG = 2**63 - 1, 100
+EVER = 2**63 - 1
 # Up to where moments are tried. In nanoseconds twice as much has more than 63 bits.
 FAR = 2**32 * SECOND
 SNAPSHOT, CALLS_OF_A_FILE = "\r\nmonitor: snapshot: {}\r\n", 4
 RESET, LEFT = "monitor: the guest reset the machine", "monitor: left by Ctrl-A x"
-# Why KVM gives up, the numbers of accesses among that, and how many exits of the vCPU are kept.
-IO, MEMORY, SHUTDOWN, INTERNAL_ERROR, KEPT = 2, 6, 8, 17, 1000
+# Why KVM gives up.
+SHUTDOWN, INTERNAL_ERROR = 8, 17
 SHUT_DOWN, GIVES_UP = "monitor: the guest ended by a triple fault", "monitor: the guest cannot go on"
-REGISTERS = """rip {:016x}  rsp 0000000000000001  rflags 2  cs 3  halted 1
-cr0 4  cr2 5  cr3 6  cr4 7  efer 8
-interrupts from 0: asked 09, masked 10, in service 20
-interrupts from 8: asked 0a, masked 11, in service 21"""
 FAILURES = [f"x {reason:x}" for reason in (0, SHUTDOWN, INTERNAL_ERROR)]
 SIGNALS = signal.SIGHUP, signal.SIGINT, signal.SIGQUIT, signal.SIGTERM
+FAULTS = signal.SIGSEGV, signal.SIGBUS, signal.SIGILL, signal.SIGFPE, signal.SIGABRT
+RAW, AS_BEFORE = "terminal raw", "terminal as before"
 # The errors of a write after which it is made again, and another.
 PASSING, LASTING = (errno.EINTR, errno.EAGAIN), errno.EPIPE
 
@@ -61,12 +59,13 @@ class Hosted(Monitor):
         self.feeds_early, self.out, self.is_up, self.is_after = is_early, b"", 0, False
         self.since_start, self.of_day, self.place = SINCE_START, OF_DAY, START
         self.ahead, self.goes_off, self.awake, self.retry_at = OF_DAY - SINCE_START, None, AWAKE, None
-        self.exits, self.status, self.error = [], 0, 0  # the last is that of the next write
+        self.status, self.error = 0, 0  # the last is that of the next write
         self.is_restored = self.is_reset = False
         self.has_ended = ""  # or what the monitor says then
         self.is_closed, self.has_input = False, True  # as the user does, and as the monitor knows it
         self.backlog, self.is_watched = b"", True  # what was typed and not read, and whether it is to be
         self.waits_for_terminal, self.dropped, self.takes, self.is_stalled = b"", 0, EVER, False
+        self.printed.append(RAW)
         self.start(FRESH)
 
     def start(self, mark):
@@ -75,12 +74,6 @@ class Hosted(Monitor):
     @property
     def moment(self):
         return (self.since_start + self.ahead) // SECOND
-
-    def call(self, name, *arguments):
-        """A call of the port. A long past is told from its end, since each call searches it."""
-        if len(self.port.past) > LONG:
-            self.port.past = [start_fact(self.port.state(), self.port.held())]
-        return super().call(name, *arguments)
 
     # What the monitor does.
 
@@ -109,23 +102,17 @@ class Hosted(Monitor):
             self.is_stalled = True
 
     def end(self):
-        """What the terminal does not take at the end is dropped too."""
+        """What the terminal does not take at the end is dropped too. After a fault it is only given back."""
+        if self.status < 0:
+            return self.printed.append(AS_BEFORE)
         while self.waits_for_terminal and self.takes:
             self.flush()
         self.dropped += len(self.waits_for_terminal)
+        self.printed.append(AS_BEFORE)
         if self.dropped:
             self.printed.append(f"monitor: {self.dropped} bytes of output were dropped")
         self.printed.append(self.has_ended)
-        self.show_output()
-        if self.status:
-            self.show_exits()
-
-    def show_exits(self):
-        """The vCPU's last exits, with the microseconds between two, and its registers."""
-        kept = self.exits[-KEPT:]
-        for (before, *_), (moment, reason, access) in zip(kept[:1] + kept, kept):
-            self.printed.append(f"{(moment - before) // 1000:9}  reason {reason}{access}")
-        self.printed.append(REGISTERS.format(self.place))
+        return self.show_output()
 
     def feed(self):
         super().feed()
@@ -214,7 +201,6 @@ class Hosted(Monitor):
             self.printed.append(read.hex())
         if word in "wrsl":
             self.place += 1
-            self.keep(word, *numbers[:2], *data or [read])
         if self.is_reset and self.is_restored:
             self.has_ended = RESET
         elif self.is_reset:
@@ -223,12 +209,6 @@ class Hosted(Monitor):
             self.start(FRESH)
         self.is_reset = False
         self.end() if self.has_ended else self.rest()
-
-    def keep(self, word, address, *size_and_data):
-        """Keeps an exit: its moment and reason, and the first item of the access."""
-        data = size_and_data[-1][:size_and_data[0] if word in "wr" else None]
-        access = f"  {'write' if word in 'ws' else 'read'} {address:x}  {data[::-1].hex()}"
-        self.exits.append((self.awake, IO if word in "wr" else MEMORY, access))
 
     def w(self, port, size, data):
         for place, byte in enumerate(data):
@@ -266,6 +246,9 @@ class Hosted(Monitor):
         self.is_closed = True
 
     def q(self, number):
+        if number in FAULTS:
+            self.has_ended, self.status = "a fault", -number
+            return
         self.turn()  # since the first read of the signal fails
         self.has_ended, self.status = f"monitor: {signal.strsignal(number)}", 128 + number
 
@@ -286,8 +269,6 @@ class Hosted(Monitor):
         self.awake += nanoseconds
 
     def x(self, reason):
-        if reason:
-            self.exits.append((self.awake, reason, ""))
         if reason not in (0, SHUTDOWN):
             self.printed.append(f"monitor: KVM gives up, for reason {reason}, error 0")
         self.has_ended = {0: f"monitor: {os.strerror(errno.EFAULT)}", SHUTDOWN: SHUT_DOWN}.get(reason, GIVES_UP)
@@ -311,10 +292,11 @@ class Hosted(Monitor):
         self.show_output()
         self.port.past, self.is_restored = saved, True
         self.ahead = max(self.of_day, moment * SECOND) - self.since_start
-        self.is_stalled, self.retry_at, self.exits = False, None, []
+        self.is_stalled, self.retry_at = False, None
         self.down = self.is_up = self.dropped = self.error = 0
         self.waits_for_terminal, self.takes = b"", EVER
         self.feed()
+        self.printed.append(RAW)
         self.ask(self.port.due())
         self.follow_clock()
         self.turn()
@@ -328,8 +310,8 @@ class Script:
         self.random = chance
         self.is_early = chance.randrange(6) == 0
         self.monitor, self.lines = Hosted(self.is_early), []
-        if number < 4 * WAYS:
-            (self.flood, self.fill, self.insist, self.outlast)[number // WAYS](number % WAYS)
+        if number < 3 * WAYS:
+            (self.flood, self.fill, self.insist)[number // WAYS](number % WAYS)
         else:
             self.add(*chance.choice(OPENINGS))
         for line in (f"w {COM1 + 1:x} 1 0{chance.choice((1, 1, 1, 2, 3))}", f"s {BASE + 0x010:x} 01000000"):
@@ -339,7 +321,7 @@ class Script:
         while len(self.lines) < length and not self.monitor.has_ended:
             chance.choices(makers, (8, 12, 8, 6, 2, 4, 9))[0]()
         if not self.monitor.has_ended and chance.randrange(2):
-            self.add(chance.choice((*FAILURES, f"q {chance.choice(SIGNALS):x}")))
+            self.add(chance.choice((*FAILURES, f"q {chance.choice(SIGNALS):x}", f"q {chance.choice(FAULTS):x}")))
 
     def flood(self, number):
         """As much output as the terminal and the queue have no room for, or not quite, and then the end."""
@@ -366,11 +348,6 @@ class Script:
         if number == 0:
             self.add("d 1", f"w {COM1 + 1:x} 1 01", "i 78", f"w {COM1 + 1:x} 1 03", *[RETRY] * REFUSALS, "d 0", RETRY,
                      RETRY)
-
-    def outlast(self, number):
-        """About as many exits as are kept, and the end."""
-        if number < 2:
-            self.add(*[f"r {COM1 + 1 + place % 7:x} 1 1" for place in range(KEPT - 1 + 9 * number)], f"x {SHUTDOWN:x}")
 
     def add(self, *lines):
         """Adds lines, without what would be typed after the end of input."""
@@ -484,7 +461,7 @@ class Script:
 
 
 def random_scripts(count, seed):
-    """The first ones have much output or input, many refusals or many exits."""
+    """The first ones have much output or input, or many refusals."""
     chance = random.Random(seed)
     return [Script(chance, chance.randrange(MOST_LINES), number) for number in range(count)]
 
@@ -498,6 +475,6 @@ def command_of(program, *options):
 def differences_of(program, scripts):
     """The scripts in which a monitor with this host does something else."""
     for script in scripts:
-        options = "-m", "2", "--reboot", "--exits", "exits", *["--early-input"] * script.is_early
+        options = "-m", "2", "--reboot", *["--early-input"] * script.is_early
         case = str(script.lines)[:2000], script.lines, script.monitor.printed, script.monitor.status
         yield from different_scripts(command_of(program, "-f", "image", *options), [case])

@@ -6,17 +6,19 @@ import subprocess
 from dataclasses import dataclass
 from pathlib import Path
 
+from chance import seed_of
 from header import other_library, read_header
 from hosted import command_of, differences_of, random_scripts
 from oracle import FIFO_SIZE
 from planted import read_bugs
 from saved_bytes import CLOCK, CLOCK_SIZE, OK, PLACES, REGISTERS, SERIAL, form, status
+from turns import turned
 from twin import run_bounded
 
 ROOT, HERE = Path(__file__).resolve().parents[2], Path(__file__).resolve().parent
 EXAMPLE, LIBRARY = ROOT / "examples" / "kvm", ROOT / "prebuilt" / "x86_64-linux" / "libsuperio_c.a"
 WRAPPED = ["open", "ioctl", "epoll_wait", "clock_gettime", "eventfd_write", "poll", "pthread_cond_clockwait", "read",
-           "timerfd_create", "timerfd_settime", "write", "fopen", "fwrite", "fclose", "rename"]
+           "timerfd_create", "timerfd_settime", "tcgetattr", "tcsetattr", "write", "fopen", "fwrite", "fclose", "rename"]
 # What notices an access beside what it is to, and what an access without the lock. One program cannot have both. Where
 # a port's bytes would be is computed for each exit, and means nothing for some.
 MEMORY, THREADS = ["-fsanitize=address,undefined", "-fno-sanitize=pointer-overflow"], ["-fsanitize=thread"]
@@ -28,6 +30,12 @@ OTHERS = (1, -1, 256)
 # snapshot in its file.
 HELD, WAITING, MOST_WAITING, BEHIND = (b"held" * 16, b"h", b""), b"wait", 65536, bytes(200_000)
 MOST_OF_PORT = 8 + REGISTERS + FIFO_SIZE
+# The sources that are turned for wrong monitors, how many turns are tried, and those that mean the same as before.
+TURNED, TURNS = ("bus.c", "clock.c", "interrupts.c"), 30
+SAME = {
+    "else if (1 || (!is_write))", "} else if (1 || (!is_write)) {",
+    "uint16_t offset = (uint16_t)(address + CLOCK_BASE), within = count == 4 ? 0 : offset % 4;",
+}
 # The kinds of checks.
 SCRIPTED, CHANGED, OF_OTHERS, WRONG = KINDS = (
     "scripts of a host", "changed snapshots", "libraries of another interface", "wrong monitors over a host")
@@ -47,13 +55,14 @@ def kind_of(options):
 @dataclass
 class Build:
     """A monitor: the folder of its files, and its source that is changed, if one is. The others are those of the
-    monitor in the folder above."""
+    monitor in the folder above. The last says where a compiler's errors go."""
     folder: Path
     changed: str = None
+    errors: int = None
 
     def compile(self, built, words):
         command = ["cc", *words_of("CFLAGS"), "-O1", *words, "-I", ROOT / "include", "-I", EXAMPLE, "-o", built]
-        subprocess.run(list(map(str, command)), check=True)
+        subprocess.run(list(map(str, command)), check=True, stderr=self.errors)
         return built
 
     def object(self, source, options):
@@ -71,6 +80,13 @@ class Build:
             host = [self.object("host.c", options), *(f"-Wl,--wrap={name}" for name in WRAPPED)]
         objects = [self.object(source, options) for source in words_of("SOURCES")]
         return built if built.exists() else self.compile(built, [*objects, *host, *options, library, "-pthread"])
+
+    def is_program(self):
+        """Whether the changed source is one."""
+        try:
+            return self.object(self.changed, MEMORY).exists()
+        except subprocess.CalledProcessError:
+            return False
 
     def over_others(self):
         """What it does over a library of another interface, if it does not refuse it."""
@@ -105,7 +121,7 @@ class Snapshot:
         # Before the port stands its length.
         self.start = self.whole.index(form(SERIAL, bytes(REGISTERS + len(held)))[:8]) - 8
         self.clock = self.start + 8 + 8 + REGISTERS + len(held)
-        others = [*self.of_numbers(), *self.of_bytes(random.Random(seed))] if self.waiting else ()
+        others = [*self.of_numbers(), *self.of_bytes(random.Random(seed)), *self.of_cuts()] if self.waiting else ()
         self.changes = [*others, *self.of_fields()]
 
     def of_numbers(self):
@@ -121,6 +137,12 @@ class Snapshot:
             changed = chance.choice((1 << chance.randrange(8), chance.randrange(1, 256)))
             yield place, bytes([self.whole[place] ^ changed])
 
+    def of_cuts(self):
+        """Ends within and behind each part but the last byte, with nothing in their place."""
+        end = len(self.whole) - len(BEHIND)
+        for place in (0, 5, 10, 5000, self.start + 4, self.start + 20, self.clock + 10, end // 2, end - 1):
+            yield place, None
+
     def of_fields(self):
         """What a load or coherence looks at, with each low number and each bit."""
         port, armed = self.start + 8, PLACES[CLOCK]["armed"][0]
@@ -131,6 +153,8 @@ class Snapshot:
 
     def is_taken(self, place, new):
         """Whether a monitor goes on from it, with these bytes at a place."""
+        if new is None:
+            return False
         whole = bytearray(self.whole[:self.clock + 100_000])
         whole[place:place + len(new)] = new
         length = int.from_bytes(whole[self.start:self.start + 8], "little")
@@ -145,13 +169,13 @@ class Snapshot:
         with open(program.parent / "snapshot", "wb+", buffering=0) as file:
             file.write(self.whole)
             for place, new in self.changes:
-                old = self.whole[place:place + len(new)]
-                os.pwrite(file.fileno(), new, place)
+                old = self.whole[place:][:None if new is None else len(new)]
+                os.truncate(file.fileno(), place) if new is None else os.pwrite(file.fileno(), new, place)
                 ended, printed = run_bounded(command, b"", 1000)
                 os.pwrite(file.fileno(), old, place)
                 is_taken, has_started = self.is_taken(place, new), ended == 0 and b"starts" in printed
                 if not (has_started if is_taken else ended == 1 and REFUSED.fullmatch(printed)):
-                    yield f"a snapshot with {new.hex()} for {old.hex()} at {place}: status {ended}, {printed}"
+                    yield f"a snapshot with {new} for {old[:9]} at {place}: status {ended}, {printed}"
 
 
 def is_coherent(port):
@@ -199,3 +223,19 @@ def check_without_kvm(tally, folder):
         stands = bug.plant(EXAMPLE, wrong.folder)
         tally.check(stands == 1 and any(wrong.differences(scripts, snapshots)),
                     f"the wrong monitor, whose text stands {stands} times, is not noticed: {bug.name}")
+    check_turns(tally, right, scripts, snapshots)
+
+
+def check_turns(tally, right, scripts, snapshots):
+    """Counts whether some turns of the monitor, others with each commit, do something else."""
+    turns = [(file, it) for file in TURNED for it in turned((EXAMPLE / file).read_text(encoding="utf-8"))
+             if it.new not in SAME]
+    random.Random(seed_of(ROOT)).shuffle(turns)
+    tried = 0
+    for number, (file, turn) in enumerate(turns):
+        wrong = Build(right.folder / f"turn{number}", file, subprocess.DEVNULL)
+        wrong.folder.mkdir()
+        (wrong.folder / file).write_text(turn.text, encoding="utf-8")
+        if tried < TURNS and wrong.is_program():
+            tried += 1
+            tally.check(any(wrong.differences(scripts, snapshots)), f"{file} is turned, and not noticed: {turn}")

@@ -15,26 +15,15 @@ from repository import NOTHING_ELSE, ROOT, CopyTest, program
 
 MACHINE = f"{platform.machine()}-linux"
 SOURCES = ("crates/superio_c/src", "crates/superio_core/src")
-# A change of the program that pastes, and how many of the three guests get stuck.
-STUCK = [
-    ("", "", 0, 0), ("if (offset == IIR && (done.byte & NONE_PENDING))", "if (offset == IIR && 0)", 1, 3),
-    ("PASTES = 10000", "PASTES = 9990", 1, 0),
-]
 HEADER = "include/superio.h"
 # A change of a declaration, and what is said of it.
 UNKNOWN = (HEADER, "superio_abi(void);", "superio_abi(void), superio_zero(void);", "tools/c/header.py does not know")
 DECLARATIONS = [
-    (HEADER, "superio_rtc_line(const superio_rtc *clock)", "superio_rtc_line(const superio_rtc *it)",
-     "superio_rtc_line: the header has the function"),
     (HEADER, "superio_serial_new(void) SUPERIO_MUST_USE;", "superio_serial_new(void);",
      "superio_serial_new: the header has the attributes []"),
-    (HEADER, "    uint32_t lr; ", "    uint16_t lr; ", "superio_rtc: the header has the struct"),
-    (HEADER, "#define SUPERIO_SERIAL_FIFO_SIZE 64", "#define SUPERIO_SERIAL_FIFO_SIZE 65",
-     "SUPERIO_SERIAL_FIFO_SIZE: the header has the constant 65, and crates/superio_c 64"),
-    ("bindings/rust/capi/src/lib.rs", "clock: &mut Clock, offset: u16, now", "clock: &mut Clock, offset: u8, now",
-     "superio_rtc_read: the header has the function"),
-    ("bindings/rust/src/core/mod.rs", "    pub sends: bool,\n", "",
-     "superio_serial_write_effects: the header has"),
+    (HEADER, "bool superio_rtc_line(const superio_rtc *clock)", "bool superio_rtc_line(superio_rtc *clock)",
+     "superio_rtc_line: the header has the attributes ['SUPERIO_ACCESS(read_only, 1)', "),
+    (HEADER, "#define SUPERIO_ABI 3", "#define SUPERIO_ABI 4", "SUPERIO_ABI is not ['3'], the library's"),
     ("tools/c/tests/replay.c", "superio_i8042_read((uint8_t)number(1))", "0",
      "replay.c does not call ['superio_i8042_read']"),
 ]
@@ -101,15 +90,6 @@ class Checking(CopyTest):
                              (differ > 0 or not same, f"{same} calls did the same, {differ} did not"))
         with mock.patch.object(random_calls, "KINDS", ["sr ..", "sz .."]):
             self.assertEqual(random_calls.write_calls(calls, 2000, 1), ["only 0 of 2000 calls are 'sz ..'"])
-
-    @NEEDS_LIBRARY
-    def test_pastes_that_are_stuck_or_too_few(self):
-        for old, new, status, stuck in STUCK:
-            self.change("tools/c/tests/pastes.c", old, new)
-            ended, printed = self.run_program("pastes", "1")
-            self.take("tools/c/tests/pastes.c")
-            lines = re.findall(r"(\d+) stuck$", printed, re.M)
-            self.assertEqual((ended, len(lines), sum(line != "0" for line in lines)), (status, 3, stuck), new)
 
     def test_a_monitor_that_differs_prints_on_or_does_not_end_is_found(self):
         cases = [("it", ["r 3fd"], ["r 3fd"], 0)]

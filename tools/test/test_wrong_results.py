@@ -17,7 +17,6 @@ import misuse
 import programs
 import texts
 import tiny
-import twin
 import without_kvm
 from failing import Call, Ran
 from machines import machines
@@ -275,36 +274,25 @@ class Runs(FolderTest):
         self.assertEqual([failed(lambda *it: it), failed(lambda status, *said: (status + 1, *said)),
                           failed(lambda status, *said: (status, *said[::-1]))], [(0, 5), (5, 5), (5, 5)])
 
-    def test_traces_of_a_monitor(self):
-        """A trace that lacks what its case is about, or a timeout, or to which the program replies otherwise."""
-        good = "sw 01 01  ok\nsr 02  c1\nsi  0\n"
-        for text, replies, failed in ((good, b"ok\nc1\n0\n", 0), (good, b"ok\nc1\n1\n", 1), (good, None, 1),
-                                      (good.replace("sw", "kw"), b"ok\nc1\n0\n", 1),
-                                      (good.replace("si", "ss"), b"ok\nc1\n0\n", 1)):
-            got = replies and (0, replies, b"")
-            (self.folder / "trace").write_text(text, encoding="ascii")
-            with mock.patch.object(kvm_check, "run_all", lambda *_: [got]):
-                tally = tally_of(kvm_check.judge_traces, "it", [self.folder / "trace"], ["sw 01"], "program")
-            self.assertEqual((tally.passed, tally.failed), (3 - failed, failed), text)
-
     def test_a_monitor_without_kvm(self):
         """It differs in each way, or no wrong one differs in any."""
-        wrong = len(list(without_kvm.read_bugs(without_kvm.HERE / "wrong-monitors.edits")))
+        wrong = len(list(without_kvm.read_bugs(without_kvm.HERE / "wrong-monitors.edits"))) + without_kvm.TURNS
         ways = len(without_kvm.HELD) + 3
         for number, (found, failed) in enumerate((([], wrong), (["it"], ways))):
             snapshot = mock.Mock(changes=["it"], **{"differences.return_value": found})
             (self.folder / str(number)).mkdir()
             with mock.patch.multiple(without_kvm, has_sanitizers=lambda _: True, differences_of=lambda *_: found,
                                      random_scripts=lambda *_: [], Snapshot=lambda *_: snapshot), \
-                    mock.patch.multiple(without_kvm.Build, program=lambda *_: "it", over_others=lambda _: found):
+                    mock.patch.multiple(without_kvm.Build, program=lambda *_: "it", over_others=lambda _: found,
+                                        is_program=lambda _: True):
                 tally = tally_of(without_kvm.check_without_kvm, self.folder / str(number))
             self.assertEqual((tally.failed, tally.passed), (failed, ways + wrong - failed))
 
     def test_a_monitor_over_a_library_of_another_interface(self):
         """It has to end itself, and to say why."""
-        said = demo.SAYS["monitor.c"]
+        said = demo.SAYS
         for module, monitor, status, right in (
-                (demo, lambda: demo.over_others(machines()[0].compilers[0], demo.DEMO / "monitor.c", self.folder), 1, said),
+                (demo, lambda: demo.over_others(machines()[0].compilers[0], demo.SOURCE, self.folder), 1, said),
                 (without_kvm, without_kvm.Build(self.folder).over_others, 1, "another interface")):
             for got, errors in ((status, right), (0, right), (-6, ""), (status, "it")):
                 ran = mock.Mock(returncode=got, stdout="", stderr=errors)
@@ -326,15 +314,6 @@ class Runs(FolderTest):
                 return tally_of(misuse.check_misuse).failed
         self.assertEqual([failed(at) for at in (None, *places)], [0] + [1] * len(places))
 
-    def test_a_library_of_another_interface(self):
-        (_, _, (line,), status), = demo.CASES_OF_OTHERS
-        others = [way for way in demo.ways("monitor.c") if way[0]]
-        for got, failed in (((0, ""), 0), ((-1, ""), 3), ((1, ""), 3), ((0, "more"), 3)):
-            ran = (status + got[0], f"{line}\n{got[1]}".encode())
-            with mock.patch.object(demo, "ways", return_value=others), \
-                    mock.patch.object(twin, "run_bounded", return_value=ran):
-                self.assertEqual(len(list(demo.differences("monitor.c", "demo"))), failed, got)
-
 
 def failing(command, **options):
     """What each program does: it fails, and prints nothing. Cargo only has what was asked for, and a version."""
@@ -343,8 +322,7 @@ def failing(command, **options):
     return ended(0 if {"fetch", "--version"} & {*command} else 101)
 
 
-OF_C = (programs.check_calls, programs.check_other_abi, programs.check_random_calls, programs.check_pastes,
-        programs.check_demos)
+OF_C = programs.check_calls, programs.check_random_calls, programs.check_demos
 
 
 @mock.patch("subprocess.run", failing)
@@ -376,10 +354,11 @@ class Failing(FolderTest):
                 self.assertGreaterEqual(tally.failed, len(built))
 
     def test_a_wrong_demo_that_differs_in_nothing(self):
-        with mock.patch.multiple(demo, differences=lambda *_: [], over_others=lambda *_: []), \
+        with mock.patch.multiple(demo, differences=lambda *_: [], over_others=lambda *_: [], SAME=(),
+                                 random_cases=lambda *_: []), \
                 mock.patch("subprocess.run", lambda *_, **__: ended(0)):
             tally = tally_of(demo.check_driven_demo, machines()[0], self.folder)
-        self.assertEqual(tally.failed, tally.tried.counts["wrong demos"])
+        self.assertEqual((tally.failed, tally.tried.counts["wrong demos"]), (demo.TURNS, demo.TURNS))
 
     def test_of_rust(self):
         """But that an empty crate is no vm-superio."""

@@ -8,10 +8,12 @@
  *   d DOWN           the interrupt line takes nothing, or takes requests again
  *   n SECONDS        the time                     a              the alarm's timer goes off
  *   t                a turn of the event loop     h              the guest's handler runs while it is interrupted
+ *   p MOST           the same of a guest that takes so many bytes for each look at IIR, which are printed
  *   g                the machine moves            f WHICH HOW    later loads of the port (1) or the clock (2) give HOW
  *   e                input is offered although the guest is not ready
+ *   o                another machine takes the place of this one
  *
- * With an argument it runs the monitor's own `main`, over a library whose binary interface differs by that number.
+ * With an argument the interrupt line is a level, which is printed after each line.
  */
 #define main demo_main
 #include "monitor.c"
@@ -19,16 +21,10 @@
 
 static unsigned failing;
 static uint32_t fault;
-static int difference;
 
 /* The linker gives the calls of the monitor to these, by its option --wrap. */
-uint32_t __real_superio_abi(void);
 uint32_t __real_superio_serial_load(superio_serial *port, const uint8_t *bytes, size_t count);
 uint32_t __real_superio_rtc_load(superio_rtc *clock, const uint8_t *bytes, size_t count);
-
-uint32_t __wrap_superio_abi(void) {
-    return __real_superio_abi() + (uint32_t)difference;
-}
 
 uint32_t __wrap_superio_serial_load(superio_serial *port, const uint8_t *bytes, size_t count) {
     return failing == 1 ? fault : __real_superio_serial_load(port, bytes, count);
@@ -45,6 +41,23 @@ static void run_handler(struct machine *machine) {
         received += handle(machine);
     }
     printf("received %d\n", received);
+}
+
+static void run_other_handler(struct machine *machine, int most) {
+    uint8_t taken[sizeof machine->input + SUPERIO_SERIAL_FIFO_SIZE];
+    size_t count = 0;
+    while (machine->is_interrupted) {
+        machine->is_interrupted = false;
+        while (!(port_read(machine, COM1 + 2) & 0x01))
+            for (int i = 0; i < most && port_read(machine, COM1 + 5) & 0x01; i++) {
+                check(count < sizeof taken, "a handler's end");
+                taken[count++] = port_read(machine, COM1);
+            }
+    }
+    fputs("received ", stdout);
+    for (size_t i = 0; i < count; i++)
+        printf("%02x", taken[i]);
+    puts("");
 }
 
 static void serve(struct machine *machine, char word, long long first, long long second) {
@@ -64,6 +77,7 @@ static void serve(struct machine *machine, char word, long long first, long long
     case 'a': alarm_is_due(machine); break;
     case 't': turn(machine); break;
     case 'h': run_handler(machine); break;
+    case 'p': run_other_handler(machine, (int)first); break;
     case 'g': *machine = migrate(machine); break;
     case 'e': machine->feeds_early = true; break;
     case 'f':
@@ -75,16 +89,20 @@ static void serve(struct machine *machine, char word, long long first, long long
 }
 
 int main(int count, char **arguments) {
-    struct machine machine = {.serial = superio_serial_new(), .clock = superio_rtc_new(), .now = 1000};
+    struct machine fresh = {.serial = superio_serial_new(), .clock = superio_rtc_new(), .now = 1000};
+    fresh.has_level = count > 1;
+    struct machine machine = fresh;
     char line[80], word;
-    if (count > 1) {
-        difference = atoi(arguments[1]);
-        return demo_main();
-    }
+    (void)arguments, (void)demo_main;
     while (fgets(line, sizeof line, stdin)) {
         unsigned long long first = 0, second = 0;
         check(sscanf(line, "%c %llx %llx", &word, &first, &second) >= 1, "reading a line");
-        serve(&machine, word, (long long)first, (long long)second);
+        if (word == 'o')
+            machine = fresh;
+        else
+            serve(&machine, word, (long long)first, (long long)second);
+        if (machine.has_level && word != 'o')
+            printf("level %d\n", machine.is_interrupted);
     }
     return 0;
 }
