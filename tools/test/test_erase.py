@@ -4,8 +4,8 @@ from itertools import zip_longest
 
 from repository import ROOT, CopyTest
 
-CRATE, MADE = "crates/superio_core/src", "bindings/rust/src/core/mod.rs"
-RESET = "const CMD_RESET_CPU: u8 = 0xFE;"
+CRATE, MADE = "crates/superio_core/src", "bindings/rust/src/core"
+I8042, RESET = f"{MADE}/i8042.rs", "const CMD_RESET_CPU: u8 = 0xFE;"
 ERROR_TEXT = "mod error_text;"
 BRACKETS = ("{}", "()", "[]")
 # Each form that is dropped: a source, and what is left of it.
@@ -87,13 +87,14 @@ REFUSED = {
 }
 
 
-OTHER = "is not what tools/erase makes of its source"
-# Changes of the file that was made, and of a source, and what `--check` says.
+# Changes of a file that was made, and of a source, and what `--check` says.
 CHANGES = [
-    (MADE, RESET, RESET.replace("FE", "FF"), OTHER), (MADE, RESET, f"{RESET} ", OTHER),
-    (f"{CRATE}/i8042.rt", RESET, RESET.replace("FE", "FF"), OTHER), (MADE, None, None, "mod.rs is not there"),
-    (f"{CRATE}/more.rt", None, "", "no module has more.rt"), (f"{CRATE}/fifo.rt", None, None, "there is no fifo.rt")]
-MODULE = re.compile(r"(?:pub )?mod (\w+);")
+    (I8042, RESET, RESET.replace("FE", "FF"), "i8042.rs is not what tools/erase makes of its source"),
+    (I8042, RESET, f"{RESET} ", "i8042.rs is not what tools/erase makes of its source"),
+    (f"{CRATE}/i8042.rt", RESET, RESET.replace("FE", "FF"), "i8042.rs is not what tools/erase makes of its source"),
+    (f"{MADE}/fifo.rs", None, None, "fifo.rs is not there"),
+    (f"{MADE}/more.rs", None, "", "more.rs is made from no source"),
+]
 # The first line of a contract.
 CONTRACT = re.compile(r"\s*(?:ensures\*?|requires|ghost|#!?\[tactic|#!?\[ruleset)\b")
 
@@ -105,12 +106,13 @@ class Erasing(CopyTest):
 
     def erase(self, text, *words, name="lib.rt"):
         """What the eraser says of a source, and what it makes."""
-        source, target = self.root / "source", self.root / "target" / "mod.rs"
+        source, target = self.root / "source", self.root / "target"
+        made = target / f"{name[:-3].replace('lib', 'mod')}.rs"
         source.mkdir(exist_ok=True)
         if text:
             (source / name).write_text(text, encoding="utf-8")
         ran = self.run_tool("tools/erase", *words, source, target)
-        return ran, target.read_text(encoding="utf-8") if target.exists() else None
+        return ran, made.read_text(encoding="utf-8") if made.exists() else None
 
     def test_each_form(self):
         (self.root / "target").mkdir()
@@ -119,7 +121,7 @@ class Erasing(CopyTest):
                 ran, made = self.erase(source)
                 head, _, body = made.split("\n", 2)
                 self.assertEqual((ran, body), ((0, "", ""), source if kept is None else kept))
-                self.assertIn(" tools/erase from source, ", head)
+                self.assertTrue(head.endswith("tools/erase from source/lib.rt."), head)
                 self.assertEqual(self.erase(source, "--check")[0], (0, "", ""))
 
     def test_each_refusal(self):
@@ -130,7 +132,7 @@ class Erasing(CopyTest):
                 self.assertEqual((status, printed, says in said, made), (1, "", True, None), said)
 
     def test_the_module_that_is_not_rust_has_its_line(self):
-        self.assertIn("there is no saved.rt", self.erase("mod saved;\n")[0][2])
+        self.erase("mod saved;\n")
         self.assertIn(f"no single line `{ERROR_TEXT}`", self.erase("const A: u8 = 1;\n", name="saved.rt")[0][2])
         ran, made = self.erase(f"{ERROR_TEXT}\n\nconst A: u8 = 1;\n", name="saved.rt")
         self.assertEqual((ran, "error_text" in made), ((0, "", ""), False))
@@ -138,8 +140,8 @@ class Erasing(CopyTest):
     def test_what_the_repository_has(self):
         def check(says):
             status, printed, said = self.run_tool("tools/erase", "--check")
-            self.assertEqual((status, printed, len(said.splitlines())), (bool(says), "", bool(says)))
-            self.assertIn(says, said)
+            self.assertEqual((status, len(printed.splitlines()), said), (bool(says), bool(says), ""))
+            self.assertIn(says, printed)
         check("")
         for name, old, new, says in CHANGES:
             self.change(name, old, new)
@@ -148,22 +150,18 @@ class Erasing(CopyTest):
 
     def test_every_line(self):
         """Each line of the sources is kept or is one of a contract, judged otherwise than the eraser does."""
-        made = [line for line in (ROOT / MADE).read_text(encoding="utf-8").split("\n")[2:]
-                if line.strip() and not line.lstrip().startswith("// Clauses in ")]
-        wanted = list(code_in_blocks("lib.rt"))
-        # The header of a trait's function takes the `;` of its last clause.
-        other = [found for line, found in zip_longest(wanted, made) if found not in (line, f"{line};")]
-        self.assertEqual((other, len(wanted) > 900), ([], True))
-
-
-def code_in_blocks(name):
-    """The lines of code of a file, with those of each module in a block."""
-    for line in code_of((ROOT / CRATE / name).read_text(encoding="utf-8")):
-        if found := MODULE.fullmatch(line):
-            child = f"{'' if name == 'lib.rt' else name[:-3] + '/'}{found[1]}.rt"
-            yield from (f"{line[:-1]} {{ // {child}", *code_in_blocks(child), "}")
-        else:
-            yield line
+        kept_lines, other = 0, []
+        for path in sorted((ROOT / CRATE).rglob("*.rt")):
+            name = path.relative_to(ROOT / CRATE).as_posix()
+            if name != "saved/error_text.rt":
+                made = ROOT / MADE / ("mod.rs" if name == "lib.rt" else f"{name[:-2]}rs")
+                made = [line for line in made.read_text(encoding="utf-8").split("\n")[2:]
+                        if line.strip() and not line.lstrip().startswith("// Clauses in ")]
+                wanted = code_of(path.read_text(encoding="utf-8"))
+                # The header of a trait's function takes the `;` of its last clause.
+                other += [found for line, found in zip_longest(wanted, made) if found not in (line, f"{line};")]
+                kept_lines += len(wanted)
+        self.assertEqual((other, kept_lines > 900), ([], True))
 
 
 def code_of(source):

@@ -15,7 +15,7 @@ check = module_of("check")
 # Prints a script as its own replies.
 CAT = shutil.which("cat")
 CALLS_OF, NONE = "tests/calls/calls.txt.xz", "/nowhere/at/all is not there"
-LIBRARY, DEVICE = "prebuilt/aarch64-linux/libsuperio_c.a", "bindings/rust/src/core/mod.rs"
+LIBRARY, DEVICE = "prebuilt/aarch64-linux/libsuperio_c.a", "bindings/rust/src/core/serial.rs"
 SAVED, SOME = "docs/SAVED-STATES.md", "some"
 # A tool with its arguments, the parts of the repository that it has beside tools/, the Python package and SAVED, how a
 # line of it ends, and what it passes and fails.

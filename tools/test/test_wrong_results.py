@@ -33,7 +33,7 @@ RIGHT, STATUS = "cat", "cat; exit 1"
 WRONG = ("sed 's/4$/5/'", "cat; echo", "sed '$d'", "cat; echo fault >&2", STATUS, "true")
 # A fault of the scratch register in each library, and the first call that each does otherwise then.
 SUBJECTS = [
-    ("bindings/rust/src/core/mod.rs", "Register::Scr => self.scratch,", "Register::Scr => self.scratch ^ 1,"),
+    ("bindings/rust/src/core/serial/steps.rs", "Register::Scr => self.scratch,", "Register::Scr => self.scratch ^ 1,"),
     ("bindings/python/superio/devices.py", "ReadEffects(done.byte, done",
      "ReadEffects(done.byte ^ 2 * (offset == 7), done"),
     ("tools/checks/oracle.py", "shown = self.register(name) if name else 0",

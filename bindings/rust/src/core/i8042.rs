@@ -1,0 +1,18 @@
+// Made by the command tools/erase from crates/superio_core/src/i8042.rt.
+// These are the lines that the prover checks, without their contracts. Change them there.
+//! The i8042 controller's reset command.
+
+/// The command register, port 0x64: offset 4 from the controller's base at 0x60.
+const COMMAND_OFFSET: u8 = 4;
+
+/// The command that pulses the CPU's reset line.
+const CMD_RESET_CPU: u8 = 0xFE;
+
+/// Whether a write of `value` at `offset` is the reset command. For a monitor that resets the machine without a
+/// trigger.
+#[inline(always)]
+// Clauses in crates/superio_core/src/i8042.rt: returns.
+pub fn is_reset_command(offset: u8, value: u8) -> bool
+{
+    offset == COMMAND_OFFSET && value == CMD_RESET_CPU
+}

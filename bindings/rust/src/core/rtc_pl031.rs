@@ -1,0 +1,182 @@
+// Made by the command tools/erase from crates/superio_core/src/rtc_pl031.rt.
+// These are the lines that the prover checks, without their contracts. Change them there.
+//! A real-time clock with the registers of an ARM PL031, as a value.
+//!
+//! A call changes the clock and returns what the guest reads, or whether the access is invalid. The clock reads no
+//! clock of the host: each access gets its moment, in seconds since 1970.
+
+mod alarm;
+mod registers;
+pub mod saved_form;
+mod state;
+
+use alarm::{guest_time, seconds_until};
+pub use registers::ClockRegister;
+pub use state::RtcState;
+
+/// A clock without an events object. Any values are valid.
+#[repr(C)]
+#[derive(Clone, Copy)]
+pub struct Clock {
+    /// RTCLR, the load register: the last loaded value, or 0 after a reset.
+    pub lr: u32,
+    /// RTCMR, the match register: the guest time that an alarm waits for.
+    pub mr: u32,
+    /// RTCIMSC, the interrupt mask. A write stores bit 0 of its value, and clears the others.
+    pub imsc: u32,
+    /// RTCRIS, the raw interrupt status. The alarm sets bit 0; nothing sets other bits.
+    pub ris: u32,
+    /// How far guest time is ahead of the host's time, in seconds.
+    pub offset: i64,
+    /// Nonzero if an alarm is set and has not fired. It is eight bytes wide so that the struct has no padding.
+    pub armed: u64,
+}
+
+impl Clock {
+    /// A fresh clock: it shows the host's time and has no alarm.
+    // Clauses in crates/superio_core/src/rtc_pl031.rt: returns.
+    pub fn new() -> Clock
+    {
+        Clock {
+            lr: 0,
+            mr: 0,
+            imsc: 0,
+            ris: 0,
+            offset: 0,
+            armed: 0,
+        }
+    }
+
+    /// The clock of this state.
+    // Clauses in crates/superio_core/src/rtc_pl031.rt: returns.
+    pub fn from_state(state: &RtcState) -> Clock
+    {
+        Clock {
+            lr: state.lr,
+            mr: state.mr,
+            imsc: state.imsc,
+            ris: state.ris,
+            offset: state.offset,
+            armed: u64::from(state.armed),
+        }
+    }
+
+    /// A snapshot; `from_state` recreates the clock.
+    // Clauses in crates/superio_core/src/rtc_pl031.rt: returns.
+    pub fn state(&self) -> RtcState
+    {
+        RtcState {
+            lr: self.lr,
+            offset: self.offset,
+            mr: self.mr,
+            imsc: self.imsc,
+            ris: self.ris,
+            armed: self.armed != 0,
+        }
+    }
+
+    /// Begins an access at the moment `now` and returns the host's time. Any access, even an invalid one, may fire the
+    /// alarm before its own effect.
+    #[inline(always)]
+    fn begin_access(&mut self, now: u64) -> u32
+    {
+        let time = (now % (1 << 32)) as u32;
+        if self.armed != 0 && guest_time(self.offset, time) >= self.mr {
+            self.ris |= 1;
+            self.armed = 0;
+        }
+        time
+    }
+
+    /// The value read from `register` at the host's time `time`, or `None` if it is not readable.
+    #[inline(always)]
+    fn read_register(&self, register: ClockRegister, time: u32) -> Option<u32>
+    {
+        match register {
+            ClockRegister::Dr => Some(guest_time(self.offset, time)),
+            ClockRegister::Mr => Some(self.mr),
+            ClockRegister::Lr => Some(self.lr),
+            ClockRegister::Cr => Some(1),
+            ClockRegister::Imsc => Some(self.imsc),
+            ClockRegister::Ris => Some(self.ris),
+            ClockRegister::Mis => Some(self.ris & self.imsc),
+            ClockRegister::Id(byte) => Some(u32::from(byte)),
+            ClockRegister::Icr | ClockRegister::Reserved => None,
+        }
+    }
+
+    /// Stores a match. Sets the alarm if guest time has yet to reach it, and raises the interrupt at once if guest time
+    /// equals it.
+    #[inline(always)]
+    fn write_match(&mut self, value: u32, time: u32)
+    {
+        let guest_time = guest_time(self.offset, time);
+        self.mr = value;
+        self.armed = u64::from(guest_time < value);
+        if value == guest_time {
+            self.ris |= 1;
+        }
+    }
+
+    /// Writes `value` to `register` at the host's time `time`, and returns whether the register takes a write. If not,
+    /// nothing changes.
+    #[inline(always)]
+    fn store(&mut self, register: ClockRegister, value: u32, time: u32) -> bool
+    {
+        match register {
+            ClockRegister::Mr => self.write_match(value, time),
+            ClockRegister::Lr => {
+                self.lr = value;
+                self.offset = i64::from(value) - i64::from(time);
+            }
+            ClockRegister::Cr => {
+                if value == 1 {
+                    self.lr = 0;
+                    self.offset = 0;
+                }
+            }
+            ClockRegister::Imsc => self.imsc = value & 1,
+            ClockRegister::Icr => self.ris &= !value,
+            _ => return false,
+        }
+        true
+    }
+
+    /// Reads at `offset` at the moment `now`, in seconds since 1970, as `Rtc::read` does. Only the
+    /// low 32 bits of `now` count. Returns the value read, or `None` if the read is invalid.
+    #[inline(always)]
+    // Clauses in crates/superio_core/src/rtc_pl031.rt: response, state.
+    pub fn read(&mut self, offset: u16, now: u64) -> Option<u32>
+    {
+        let time = self.begin_access(now);
+        self.read_register(ClockRegister::at(offset), time)
+    }
+
+    /// Writes `value` at `offset` at the moment `now`, as `Rtc::write` does. Returns whether this
+    /// offset takes a write.
+    #[inline(always)]
+    // Clauses in crates/superio_core/src/rtc_pl031.rt: taken, state.
+    pub fn write(&mut self, offset: u16, value: u32, now: u64) -> bool
+    {
+        let time = self.begin_access(now);
+        self.store(ClockRegister::at(offset), value, time)
+    }
+
+    /// Whether the interrupt line is up: bit 0 of RTCMIS, the raw interrupt status under the mask.
+    // Clauses in crates/superio_core/src/rtc_pl031.rt: returns.
+    pub fn interrupt_line(&self) -> bool
+    {
+        self.ris & self.imsc & 1 == 1
+    }
+
+    /// The seconds from the moment `now` until the alarm is due if the guest makes no access; see
+    /// `Rtc::alarm_due`.
+    // Clauses in crates/superio_core/src/rtc_pl031.rt: due, bound.
+    pub fn alarm_due(&self, now: u64) -> Option<u64>
+    {
+        if self.armed == 0 {
+            return None;
+        }
+        seconds_until(self.offset, self.mr, now)
+    }
+}

@@ -1,0 +1,86 @@
+// Made by the command tools/erase from crates/superio_core/src/saved.rt.
+// These are the lines that the prover checks, without their contracts. Change them there.
+//! A saved state as bytes: its header, and why bytes are refused.
+//!
+//! The form is the same on every machine. A state has at most one form, and no two states share one.
+
+/// The first bytes of a saved state.
+const MAGIC: [u8; 4] = *b"SIOS";
+
+/// The version of the form.
+const VERSION: u8 = 1;
+
+/// The length of the header.
+pub(crate) const HEADER_SIZE: usize = 8;
+
+/// The kind of the serial port.
+pub(crate) const SERIAL_KIND: u8 = 1;
+
+/// The kind of the clock.
+pub(crate) const CLOCK_KIND: u8 = 2;
+
+/// Why a state was not written or bytes were not read. Bytes are checked in the order of the cases; the first check
+/// that fails is the error.
+#[derive(Clone, Copy, Debug, Eq, PartialEq)]
+pub enum Error {
+    /// Fewer bytes than a header.
+    TooShort,
+    /// The bytes do not begin with the magic.
+    NotASavedState,
+    /// The state belongs to another device.
+    OtherDevice,
+    /// The form has this version, which is not 1.
+    UnknownVersion(u8),
+    /// The length in the header is not that of the rest, or no state of the device has it.
+    WrongLength,
+    /// The port would hold more than 64 received bytes.
+    TooManyBytes,
+    /// The clock's alarm byte is neither 0 nor 1.
+    InvalidArmed,
+}
+
+/// The header of a state of this kind, before `length` bytes.
+pub(crate) fn header(kind: u8, length: u16) -> [u8; 8]
+{
+    let [m0, m1, m2, m3] = MAGIC;
+    let [low, high] = length.to_le_bytes();
+    [m0, m1, m2, m3, kind, VERSION, low, high]
+}
+
+/// The bytes after the header of a state of this kind.
+///
+/// # Errors
+///
+/// The first header check that fails: [`Error::TooShort`], [`Error::NotASavedState`], [`Error::OtherDevice`],
+/// [`Error::UnknownVersion`] or [`Error::WrongLength`].
+pub(crate) fn contents_of(kind: u8, bytes: &[u8]) -> Result<&[u8], Error>
+{
+    match bytes {
+        [
+            m0,
+            m1,
+            m2,
+            m3,
+            its_kind,
+            its_version,
+            low,
+            high,
+            contents @ ..,
+        ] => {
+            if [*m0, *m1, *m2, *m3] != MAGIC {
+                return Err(Error::NotASavedState);
+            }
+            if *its_kind != kind {
+                return Err(Error::OtherDevice);
+            }
+            if *its_version != VERSION {
+                return Err(Error::UnknownVersion(*its_version));
+            }
+            if usize::from(u16::from_le_bytes([*low, *high])) != contents.len() {
+                return Err(Error::WrongLength);
+            }
+            Ok(contents)
+        }
+        _ => Err(Error::TooShort),
+    }
+}

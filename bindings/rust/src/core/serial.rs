@@ -1,0 +1,130 @@
+// Made by the command tools/erase from crates/superio_core/src/serial.rt.
+// These are the lines that the prover checks, without their contracts. Change them there.
+//! A serial port with the registers of a 16550, as a value.
+//!
+//! A call changes the port and returns what is left to do: a byte to send, interrupts to raise, or events to report. The
+//! port owns no objects and allocates no memory, so a monitor keeps it where it likes, in any language.
+
+mod bits;
+pub mod effects;
+pub mod registers;
+mod rx_ring;
+pub mod saved_form;
+mod steps;
+
+use super::fifo::{FIFO_SIZE, ReceiveFifo};
+pub use effects::{EnqueueEffects, ReadEffects, WriteEffects};
+pub use registers::Registers;
+pub use rx_ring::RxRing;
+
+/// A serial port without objects: its registers and received bytes. Any bytes are valid.
+#[repr(C)]
+#[derive(Clone, Copy)]
+pub struct SerialPort {
+    /// The registers.
+    pub registers: Registers,
+    /// The received bytes that no guest has read.
+    pub in_buffer: RxRing,
+}
+
+impl SerialPort {
+    /// A fresh port: divisor 12, 8 bits a character, OUT2 set, and nothing enabled, pending or held.
+    // Clauses in crates/superio_core/src/serial.rt: state, coherent.
+    pub fn new() -> SerialPort
+    {
+        SerialPort {
+            registers: Registers::new(),
+            in_buffer: RxRing::new(),
+        }
+    }
+
+    /// Reads at `offset`, as a guest does. Asks for no interrupt.
+    #[inline(always)]
+    // Clauses in crates/superio_core/src/serial.rt: step, coherent.
+    pub fn read(&mut self, offset: u8) -> ReadEffects
+    {
+        let register = self.registers.at(offset);
+        self.registers.read(&mut self.in_buffer, register)
+    }
+
+    /// Writes `value` at `offset`, as a guest does. Then send the byte if it goes out, and ask for the interrupts. Neither
+    /// a lost byte nor a refusal changes the port.
+    #[inline(always)]
+    // Clauses in crates/superio_core/src/serial.rt: step, at_most_2, coherent.
+    pub fn write(&mut self, offset: u8, value: u8) -> WriteEffects
+    {
+        let register = self.registers.at(offset);
+        self.registers.write(&mut self.in_buffer, register, value)
+    }
+
+    /// How many bytes may still be enqueued: 64 minus the number of held bytes.
+    #[inline(always)]
+    // Clauses in crates/superio_core/src/serial.rt: value, bound.
+    pub fn fifo_capacity(&self) -> usize
+    {
+        FIFO_SIZE - self.in_buffer.len()
+    }
+
+    /// Receives as many bytes for the guest as fit, first ones first. In loopback it accepts no bytes. The port keeps
+    /// the bytes even if the interrupt is then refused.
+    #[inline(always)]
+    // Clauses in crates/superio_core/src/serial.rt: step, at_most_1, coherent.
+    pub fn enqueue_raw_bytes(&mut self, input: &[u8]) -> EnqueueEffects
+    {
+        if self.registers.is_loopback() || input.is_empty() {
+            return EnqueueEffects {
+                taken: 0,
+                full: false,
+                interrupts: 0,
+            };
+        }
+        if self.fifo_capacity() == 0 {
+            return EnqueueEffects {
+                taken: 0,
+                full: true,
+                interrupts: 0,
+            };
+        }
+        let (taken, asks) = self.registers.receive(&mut self.in_buffer, input);
+        EnqueueEffects {
+            taken,
+            full: false,
+            interrupts: u8::from(asks),
+        }
+    }
+
+    /// Tells the port that the time of a few characters has passed without a read or a new byte: it raises RDA again if
+    /// bytes are held. Returns how often to ask for the interrupt: 0 or 1 times. A refusal does not change the port.
+    #[inline(always)]
+    // Clauses in crates/superio_core/src/serial.rt: step, at_most_1, pending, coherent.
+    pub fn character_timeout(&mut self) -> u8
+    {
+        self.registers.character_timeout(&self.in_buffer)
+    }
+
+    /// How often to ask for the interrupt after a restore or a refusal: once for each condition that is pending and
+    /// enabled.
+    // Clauses in crates/superio_core/src/serial.rt: calls, at_most_2.
+    pub fn interrupts_due(&self) -> u8
+    {
+        self.registers.interrupts_due()
+    }
+
+    /// Whether the interrupt line is up: while a condition is pending and enabled. For a controller that takes levels,
+    /// set your line to it after every call.
+    #[inline(always)]
+    // Clauses in crates/superio_core/src/serial.rt: line, due.
+    pub fn interrupt_line(&self) -> bool
+    {
+        self.registers.interrupt_line()
+    }
+
+    /// Whether the port is coherent, as `new` makes it: `len` is at most 64, data ready shows whether bytes are held,
+    /// and IIR is 1, 2, 4 or 6, with RDA pending only while bytes are held.
+    // Clauses in crates/superio_core/src/serial.rt: returns.
+    pub fn is_coherent(&self) -> bool
+    {
+        usize::from(self.in_buffer.len) <= FIFO_SIZE
+            && self.registers.is_coherent(!self.in_buffer.is_empty())
+    }
+}

@@ -1,0 +1,119 @@
+// Made by the command tools/erase from crates/superio_core/src/serial/saved_form.rt.
+// These are the lines that the prover checks, without their contracts. Change them there.
+//! The byte form of a serial port's state.
+
+use super::super::fifo::{FIFO_SIZE, ReceiveFifo};
+use super::super::saved::{Error, HEADER_SIZE, SERIAL_KIND, contents_of, header};
+use super::SerialPort;
+use super::registers::{REGISTER_COUNT, Registers};
+use super::rx_ring::RxRing;
+
+/// The size of a form without received bytes: the header and the registers.
+const SAVED_MIN: usize = HEADER_SIZE + REGISTER_COUNT;
+
+/// The maximum size of a port's byte form: the header, the registers and 64 received bytes.
+pub const SAVED_MAX: usize = SAVED_MIN + FIFO_SIZE;
+
+impl SerialPort {
+    /// Writes the port's saved form to the start of `form`, and returns its length. The other bytes do not change. Any
+    /// struct has a form: a port never holds more than 64 bytes. The form has no byte the guest has read.
+    // Clauses in crates/superio_core/src/serial/saved_form.rt: count, at_most_81, form.
+    pub fn to_bytes(&self, form: &mut [u8; SAVED_MAX]) -> usize
+    {
+        let (held, count) = held_array(self.in_buffer);
+        self.registers.write_form(&held[..count], form)
+    }
+
+    /// Reads a port back from these bytes, whatever its registers hold. It may be incoherent:
+    /// [`is_coherent`](Self::is_coherent) tells.
+    ///
+    /// # Errors
+    ///
+    /// Returns the first check that fails, in the order of [`Error`]: any case but [`Error::InvalidArmed`].
+    // Clauses in crates/superio_core/src/serial/saved_form.rt: form, at_most_64, read, fault.
+    pub fn from_bytes(bytes: &[u8]) -> Result<SerialPort, Error>
+    {
+        let (registers, held) = registers_of(bytes)?;
+        let mut in_buffer = RxRing::new();
+        in_buffer.fill(held);
+        Ok(SerialPort {
+            registers,
+            in_buffer,
+        })
+    }
+}
+
+/// The held bytes, oldest first, at the start of an array, and their number.
+fn held_array(mut held: RxRing) -> ([u8; FIFO_SIZE], usize)
+{
+    let mut bytes = [0; FIFO_SIZE];
+    let mut count = 0;
+    while let Some(byte) = held.take_first() {
+        bytes[count] = byte;
+        count += 1;
+    }
+    (bytes, count)
+}
+
+impl Registers {
+    /// Writes the form of a port with these registers and received bytes to the start of `form`, and returns its
+    /// length. The other bytes do not change.
+    // Clauses in crates/superio_core/src/serial/saved_form.rt: requires, count, form.
+    pub fn write_form(&self, held: &[u8], form: &mut [u8; SAVED_MAX]) -> usize
+    {
+        let (start, rest) = form.split_at_mut(SAVED_MIN);
+        start.copy_from_slice(&self.begin_form(held.len()));
+        rest[..held.len()].copy_from_slice(held);
+        SAVED_MIN + held.len()
+    }
+
+    /// The start of the form of a port with these registers and `held` received bytes.
+    fn begin_form(&self, held: usize) -> [u8; SAVED_MIN]
+    {
+        let [m0, m1, m2, m3, kind, version, low, high] = header(
+            SERIAL_KIND,
+            (REGISTER_COUNT + held) as u16,
+        );
+        [
+            m0,
+            m1,
+            m2,
+            m3,
+            kind,
+            version,
+            low,
+            high,
+            self.baud_divisor_low,
+            self.baud_divisor_high,
+            self.interrupt_enable,
+            self.interrupt_identification,
+            self.line_control,
+            self.line_status,
+            self.modem_control,
+            self.modem_status,
+            self.scratch,
+        ]
+    }
+}
+
+/// The registers and the received bytes of a port's form.
+///
+/// # Errors
+///
+/// As for [`SerialPort::from_bytes`].
+// Clauses in crates/superio_core/src/serial/saved_form.rt: form, at_most_64, fault.
+pub fn registers_of(bytes: &[u8]) -> Result<(Registers, &[u8]), Error>
+{
+    match contents_of(SERIAL_KIND, bytes)? {
+        [dll, dlm, ier, iir, lcr, lsr, mcr, msr, scr, in_buffer @ ..] => {
+            if in_buffer.len() > FIFO_SIZE {
+                return Err(Error::TooManyBytes);
+            }
+            let registers = Registers::from_array([
+                *dll, *dlm, *ier, *iir, *lcr, *lsr, *mcr, *msr, *scr,
+            ]);
+            Ok((registers, in_buffer))
+        }
+        _ => Err(Error::WrongLength),
+    }
+}
