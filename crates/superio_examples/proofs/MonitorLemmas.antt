@@ -2,7 +2,7 @@
 use Rattle.std.proofs.Common.{◌≡◌, ℕ, Bool, true, false, List, [], ◌∷◌, ◌++◌, length, refl, sym, ap, subst, ◌∙◌, append_assoc, append-nil, inl, inr}
 use Rattle.std.specs.Prelude.{if◌then◌else◌, Option, Some, None, map, ◌&&◌, ◌==◌, nat_lt}
 use Rattle.std.specs.Option.{option_map_or}
-use Rattle.std.proofs.lemmas.Bool.{false≢true, eqb-true}
+use Rattle.std.proofs.lemmas.Bool.{false≢true, eqb-true, and_parts}
 use Rattle.circular_buffer.specs.Buffer.{Buffer}
 use Rattle.superio_core.specs.declared.trace.Asked.{Asked}
 use Rattle.superio_core.specs.declared.trace.Sent.{Sent}
@@ -13,27 +13,14 @@ use Rattle.superio_core.specs.Serial.Step.{step, step_response}
 use Rattle.superio_core.specs.Serial.Step.Admissible.{kind_in_state}
 use Rattle.vm_superio.specs.Serial.History.{byte_read}
 use Rattle.vm_superio.specs.Serial.History.Registers.{accepted_by}
-use Rattle.vm_superio.proofs.Lemmas.Serial.Laws.OneCall.{one_read}
-use Rattle.superio_examples.specs.Interrupts.{answers_none}
+use Rattle.superio_examples.specs.Interrupts.{shown_at, answers_none}
 use Rattle.superio_examples.specs.Output.{Waiting, after_sent, after_byte, IsSplit}
 use Rattle.superio_examples.specs.declared.monitor.Answer.TheVariants as answer
 use Rattle.superio_examples.specs.declared.monitor.Event.{Event}
 use Rattle.superio_examples.specs.declared.monitor.Event.TheVariants.{PortRead, PortWrite, MemoryRead, MemoryWrite, Typed, Moment, Timer, Refused}
-use Rattle.superio_examples.specs.Monitor.{Machine, call_of, asks_reset, shown_at, after_call, typed_by, sent_at, act, noticed, is_open, takes_input, fed, after_event, answer_to, reply_to, after, replies_to, in_each, is_reset_answer, is_reset_reply, left_at, looped_at, KeepsInput, KeepsOut}
-use Rattle.superio_examples.proofs.InputLemmas.{accepted-rest, and-first}
-use Rattle.superio_examples.proofs.InterruptLemmas.{received_held}
-
--- ---- a list in two parts
-
-pub after-append : (first second : List Event) (m : Machine) → after (first ++ second) m ≡ after second (after first m)
-after-append [] second m = refl
-after-append (event ∷ first) second m = after-append first second (after_event event m)
-
-pub replies-append : (first second : List Event) (m : Machine)
-    → replies_to (first ++ second) m ≡ replies_to first m ++ replies_to second (after first m)
-replies-append [] second m = refl
-replies-append (event ∷ first) second m =
-    ap (λ replies. reply_to event m ∷ replies) (replies-append first second (after_event event m))
+use Rattle.superio_examples.specs.Monitor.{Machine, call_of, asks_reset, after_call, typed_by, sent_at, act, noticed, is_open, takes_input, fed, after_event, answer_to, after, replies_to, in_each, is_reset_answer, is_reset_reply, left_at, looped_at, KeepsInput, KeepsOut}
+use Rattle.superio_examples.proofs.InputLemmas.{accepted-rest}
+use Rattle.vm_superio.proofs.Lemmas.Serial.Laws.OneCall.{one_read, received_bytes}
 
 -- ---- output
 
@@ -128,7 +115,7 @@ call-in-order (Some op) s =
 reset-call : (event : Event) → asks_reset event ≡ true → call_of event ≡ None
 reset-call (PortRead port) asked = absurd (false≢true asked)
 reset-call (PortWrite port value) asked =
-    ap (λ port. call_of (PortWrite port value)) (eqb-true port 0x64 (and-first (port == 0x64) (value == 0xFE) asked))
+    ap (λ port. call_of (PortWrite port value)) (eqb-true port 0x64 (and_parts (port == 0x64) (value == 0xFE) asked).0)
 reset-call (MemoryRead address) asked = absurd (false≢true asked)
 reset-call (MemoryWrite address value) asked = absurd (false≢true asked)
 reset-call (Typed byte) asked = absurd (false≢true asked)
@@ -163,7 +150,7 @@ feeds : (m : Machine) → Feeds (fed_bytes m) m (fed m)
 feeds m =
     let bytes = enqueued_bytes m.serial m.input.items in
     let given_now = given-choice (takes_input (noticed m)) (noticed m) _ bytes (record {
-      held = received_held bytes m.serial;
+      held = received_bytes bytes m.serial;
       waiting = accepted-rest m.serial m.input.items;
     }) in
     record { held = given_now.held; waiting = given_now.waiting }

@@ -44,22 +44,22 @@ few_after : (room : Bool) (kept dropped : Waiting) → kept.dropped < 2 ^ 64 →
 few_after true kept dropped few still_few = few
 few_after false kept dropped few still_few = still_few
 
-pub output-law : OutputLaw
-output-law [] output few = record {
+pub output_law : OutputLaw
+output_law [] output few = record {
   kept = [];
   dropped = [];
   sent = (refl, refl);
   order = sym (append-nil output.items);
   counted = omega (arith, few);
 }
-output-law (Sends byte ∷ turns) output few =
+output_law (Sends byte ∷ turns) output few =
     sends turns byte output (nat_lt (length output.items) output.capacity) refl
-    (output-law turns (after_byte byte output)
+    (output_law turns (after_byte byte output)
     (few_after (nat_lt (length output.items) output.capacity) (record output { items = output.items ++ byte ∷ [] })
     (record output { dropped = min (output.dropped + 1) (2 ^ 64 - 1) }) few (omega arith)))
-output-law (Takes count ∷ turns) output few =
+output_law (Takes count ∷ turns) output few =
     let left = record output { items = drop count output.items } in
-    let rest = output-law turns left few in
+    let rest = output_law turns left few in
     record {
       kept = rest.kept;
       dropped = rest.dropped;

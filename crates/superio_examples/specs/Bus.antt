@@ -1,49 +1,93 @@
 -- The ports of a PC's bus: which device each belongs to, and what an access does there.
-use Rattle.std.specs.Prelude.{ℕ, ◌+◌, Bool, ◌&&◌, ◌||◌, ◌==◌, not, nat_le, nat_lt, [], ◌∷◌, Result, Ok, Err}
+use Rattle.std.specs.Prelude.{◌≡◌, ℕ, ◌+◌, ◌-◌, ◌%◌, Bool, ◌&&◌, ◌||◌, ◌==◌, nat_le, nat_lt, if◌then◌else◌, List, [], ◌∷◌, Option, Some, None, Result, Ok, Err}
+use Rattle.std.specs.Result.{result_and}
+use Rattle.std.specs.Bool.{OnTrue, OnFalse}
 use Rattle.superio_core.specs.Serial.Operations.{Event}
 use Rattle.vm_superio.specs.Links.{Link, TriggerAnswer, OutCall}
 use Rattle.vm_superio.specs.Serial.{Port}
-use Rattle.vm_superio.specs.Serial.Step.{IsWriteStep}
+use Rattle.vm_superio.specs.Serial.Step.{IsReadStep, IsWriteStep}
+use Rattle.superio_examples.specs.declared.bus.Bus.{Bus}
 use Rattle.superio_examples.specs.declared.bus.Keyboard.{Keyboard}
 use Rattle.superio_examples.specs.declared.bus.BusError.{BusError}
 use Rattle.superio_examples.specs.declared.bus.BusError.TheVariants.{Serial, Reset}
 
--- the eight ports of the serial port, from `base` on
-abbrev pub is_serial : (base port : ℕ) → Bool
-is_serial base port = nat_le base port && nat_lt port (base + 8)
+-- the offset at a serial port that has the eight ports from `base` on
+abbrev pub serial_offset : (base port : ℕ) → Option ℕ
+serial_offset base port = if nat_le base port && nat_lt port (base + 8) then Some (port - base) else None
 
--- the two ports of the controller, for data and commands, unless they are the serial port's
-abbrev pub is_i8042 : (base port : ℕ) → Bool
-is_i8042 base port = not (is_serial base port) && ((port == 0x60) || (port == 0x64))
-
--- what a read of these two shows: 0 of a keyboard that never answers. Otherwise bit 0x01, output full, and not bit
--- 0x02, input full
+-- what a read of the controller's two ports shows: 0 of a keyboard that never answers. Otherwise bit 0x01, output full,
+-- and not bit 0x02, input full
 abbrev pub controller_byte : (keyboard : Keyboard) → ℕ
 controller_byte Keyboard.Silent = 0
 controller_byte Keyboard.Absent = 0xFD
 
--- a port of neither device
-abbrev pub is_vacant : (base port : ℕ) → Bool
-is_vacant base port = not (is_serial base port || is_i8042 base port)
+-- what a read at a port shows that is not the serial port's: the controller's are for data and commands
+abbrev pub other_byte : (keyboard : Keyboard) (port : ℕ) → ℕ
+other_byte keyboard port = if (port == 0x60) || (port == 0x64) then controller_byte keyboard else 0xFF
 
--- a write resets the machine: the command 0xFE at port 0x64
-abbrev pub is_reset : (base port value : ℕ) → Bool
-is_reset base port value = is_i8042 base port && (port == 0x64) && (value == 0xFE)
+-- a write at such a port resets the machine: the command 0xFE at port 0x64
+abbrev pub is_reset : (port value : ℕ) → Bool
+is_reset port value = (port == 0x64) && (value == 0xFE)
 
--- the bus forwards a write to the serial port, and returns its result: an error is the serial port's
-abbrev pub ForwardsWrite :
-    {T E EV W F : Type 0} → (trigger : Link T (TriggerAnswer E)) (events : Link EV Event) (out : Link W OutCall)
-    (offset value : ℕ) (result : Result (Unit {0}) (BusError E F)) (old new : Port T EV W) → Type 0
-ForwardsWrite trigger events out offset value (Ok done) old new =
-    IsWriteStep trigger events out offset value (Ok tt) old new
-ForwardsWrite trigger events out offset value (Err (Serial error)) old new =
-    IsWriteStep trigger events out offset value (Err error) old new
-ForwardsWrite trigger events out offset value (Err (Reset refusal)) old new = ⊥
+-- the lengths that an access of a guest has
+abbrev pub is_width : (length : ℕ) → Bool
+is_width length = (length == 1) || (length == 2) || (length == 4)
 
--- the reset trigger is called once, and the bus returns its result: an error is the trigger's refusal
-abbrev pub ForwardsReset :
-    {R E F : Type 0} → (link : Link R (TriggerAnswer F))
-    (result : Result (Unit {0}) (BusError E F)) (old new : R) → Type 0
-ForwardsReset link (Ok done) old new = link old (Ok tt ∷ []) new
-ForwardsReset link (Err (Reset refusal)) old new = link old (Err refusal ∷ []) new
-ForwardsReset link (Err (Serial error)) old new = ⊥
+-- the last port is followed by the first
+abbrev pub next_port : (port : ℕ) → ℕ
+next_port port = (port + 1) % 0x10000
+
+module _ {T E EV W R F : Type 0} (trigger : Link T (TriggerAnswer E)) (events : Link EV Event) (out : Link W OutCall)
+    (reset : Link R (TriggerAnswer F)) where
+  -- a byte is read: by the serial port, or without a change
+  abbrev pub ReadsAt : (offset : Option ℕ) (port byte : ℕ) (old new : Bus T EV W R E F) → Type 0
+  ReadsAt (Some offset) port byte old new =
+      IsReadStep trigger events out offset byte old.serial new.serial × (new ≡ record old { serial = new.serial })
+  ReadsAt None port byte old new = (byte ≡ other_byte old.keyboard port) × (new ≡ old)
+
+  abbrev pub ReadsByte : (port byte : ℕ) (old new : Bus T EV W R E F) → Type 0
+  ReadsByte port byte old new = ReadsAt (serial_offset old.base port) port byte old new
+
+  -- bytes are read at ports that follow each other
+  abbrev pub ReadsBytes : (port : ℕ) (bytes : List ℕ) (old new : Bus T EV W R E F) → Type 0
+  ReadsBytes port [] old new = new ≡ old
+  ReadsBytes port (byte ∷ bytes) old new =
+      (between : Bus T EV W R E F) × ReadsByte port byte old between × ReadsBytes (next_port port) bytes between new
+
+  -- the bus forwards a write to the serial port, and returns its result: an error is the serial port's
+  abbrev pub ForwardsWrite :
+      (offset value : ℕ) (result : Result (Unit {0}) (BusError E F)) (old new : Port T EV W) → Type 0
+  ForwardsWrite offset value (Ok done) old new = IsWriteStep trigger events out offset value (Ok tt) old new
+  ForwardsWrite offset value (Err (Serial error)) old new =
+      IsWriteStep trigger events out offset value (Err error) old new
+  ForwardsWrite offset value (Err (Reset refusal)) old new = ⊥
+
+  -- the reset trigger is called once, and the bus returns its result: an error is the trigger's refusal
+  abbrev pub ForwardsReset : (result : Result (Unit {0}) (BusError E F)) (old new : R) → Type 0
+  ForwardsReset (Ok done) old new = reset old (Ok tt ∷ []) new
+  ForwardsReset (Err (Reset refusal)) old new = reset old (Err refusal ∷ []) new
+  ForwardsReset (Err (Serial error)) old new = ⊥
+
+  -- a byte is written: to the serial port, as the reset command, or without a change
+  abbrev pub WritesAt :
+      (offset : Option ℕ) (port value : ℕ) (result : Result (Unit {0}) (BusError E F)) (old new : Bus T EV W R E F)
+      → Type 0
+  WritesAt (Some offset) port value result old new =
+      ForwardsWrite offset value result old.serial new.serial × (new ≡ record old { serial = new.serial })
+  WritesAt None port value result old new =
+      OnTrue (is_reset port value) (ForwardsReset result old.controller new.controller)
+      × OnFalse (is_reset port value) ((result ≡ Ok tt) × (new.controller ≡ old.controller))
+      × (new ≡ record old { controller = new.controller })
+
+  abbrev pub WritesByte :
+      (port value : ℕ) (result : Result (Unit {0}) (BusError E F)) (old new : Bus T EV W R E F) → Type 0
+  WritesByte port value result old new = WritesAt (serial_offset old.base port) port value result old new
+
+  -- bytes are written at ports that follow each other, and the result is the first error, if there is one
+  abbrev pub WritesBytes :
+      (port : ℕ) (values : List ℕ) (result : Result (Unit {0}) (BusError E F)) (old new : Bus T EV W R E F) → Type 0
+  WritesBytes port [] result old new = (result ≡ Ok tt) × (new ≡ old)
+  WritesBytes port (value ∷ values) result old new =
+      (first rest : Result (Unit {0}) (BusError E F)) × (between : Bus T EV W R E F)
+      × WritesByte port value first old between × WritesBytes (next_port port) values rest between new
+      × (result ≡ result_and first rest)

@@ -1,14 +1,10 @@
-pub mod Alarm
 pub mod Bus
-pub mod Console
 pub mod Counter
 pub mod Input
+pub mod InterruptDriver
 pub mod Interrupts
-pub mod Migration
-pub mod Mmio
-pub mod Output
-pub mod PortIo
 pub mod LastByte
+pub mod Mmio
 pub mod Monitor
-pub mod MonitorObject
+pub mod Output
 pub mod SavedMonitor

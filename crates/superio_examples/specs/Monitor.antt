@@ -1,12 +1,11 @@
 -- A whole machine as one value: what an event does to it, what is replied, and what a list of events does.
-use Rattle.std.specs.Prelude.{◌≡◌, ℕ, ◌+◌, ◌-◌, Bool, true, false, ◌&&◌, ◌||◌, not, ◌==◌, nat_lt, if◌then◌else◌, List, [], ◌∷◌, ◌++◌, length, drop, Option, Some, None, unwrap_or, ⊤}
+use Rattle.std.specs.Prelude.{◌≡◌, ◌≤◌, ℕ, ◌+◌, ◌-◌, Bool, true, false, ◌&&◌, ◌||◌, not, nat_lt, if◌then◌else◌, List, [], ◌∷◌, ◌++◌, length, drop, Option, Some, None, unwrap_or, ⊤}
 use Rattle.std.specs.Option.{option_map, option_map_or}
 use Rattle.circular_buffer.specs.Buffer.{Buffer, buffer}
 use Rattle.superio_core.specs.declared.trace.Asked.{Asked}
 use Rattle.superio_core.specs.declared.trace.Sent.{Sent}
 use Rattle.superio_core.specs.declared.rtc_pl031.state.RtcState.{RtcState}
 use Rattle.superio_core.specs.Serial.{State, fresh_state, not_empty}
-use Rattle.superio_core.specs.Serial.RegisterMap.{register_at, register_read, is_dlab}
 use Rattle.superio_core.specs.Serial.Operations.{Op, Read, Write, Enqueue, CharacterTimeout, sent_by}
 use Rattle.superio_core.specs.Serial.Port.{state_of_port}
 use Rattle.superio_core.specs.Serial.Step.{step, step_response}
@@ -16,11 +15,12 @@ use Rattle.superio_core.specs.Rtc.Step.{is_line_up, clock_step, clock_response}
 use Rattle.superio_core.specs.Rtc.{Access, read, write, fresh_clock}
 use Rattle.vm_superio.specs.Serial.History.{byte_read}
 use Rattle.vm_superio.specs.Serial.History.Registers.{accepted_by}
-use Rattle.superio_examples.specs.Bus.{is_serial}
+use Rattle.superio_examples.specs.Bus.{serial_offset, other_byte, is_reset}
 use Rattle.superio_examples.specs.Input.{room_in, shows_ready}
-use Rattle.superio_examples.specs.Interrupts.{answers_none, state_after_read}
+use Rattle.superio_examples.specs.Interrupts.{shown_at, state_after_read, calls_after_read}
 use Rattle.superio_examples.specs.Mmio.{is_inside}
 use Rattle.superio_examples.specs.Output.{Waiting, after_sent, IsSplit}
+use Rattle.superio_examples.specs.declared.bus.Keyboard.{Keyboard}
 use Rattle.superio_examples.specs.declared.monitor.Answer.{Answer}
 use Rattle.superio_examples.specs.declared.monitor.Answer.TheVariants as answer
 use Rattle.superio_examples.specs.declared.monitor.Event.{Event}
@@ -73,12 +73,9 @@ new_machine input output = record {
 -- ---- what an event calls
 
 -- the serial port at COM1
-abbrev pub serial_offset : (port : ℕ) → Option ℕ
-serial_offset port = if is_serial 0x3F8 port then Some (port - 0x3F8) else None
-
 abbrev pub call_of : (event : Event) → Option Op
-call_of (PortRead port) = option_map Read (serial_offset port)
-call_of (PortWrite port value) = option_map (λ offset. Write offset value) (serial_offset port)
+call_of (PortRead port) = option_map Read (serial_offset 0x3F8 port)
+call_of (PortWrite port value) = option_map (λ offset. Write offset value) (serial_offset 0x3F8 port)
 call_of Timer = Some CharacterTimeout
 call_of _ = None
 
@@ -94,19 +91,15 @@ access_of _ now = None
 
 -- the reset command of the controller
 abbrev pub asks_reset : (event : Event) → Bool
-asks_reset (PortWrite port value) = (port == 0x64) && (value == 0xFE)
+asks_reset (PortWrite port value) = is_reset port value
 asks_reset _ = false
 
 -- ---- what becomes of the machine
 
--- what a guest's read of the serial port shows
-abbrev pub shown_at : (offset : ℕ) (s : State) → ℕ
-shown_at offset s = register_read (register_at (is_dlab s.line_control) offset) s
-
 -- a character timeout follows each read of IIR that shows nothing pending
 abbrev pub after_call : (call : Option Op) (s : State) → State
 after_call None s = s
-after_call (Some (Read offset)) s = state_after_read offset (shown_at offset s) s
+after_call (Some (Read offset)) s = state_after_read offset s
 after_call (Some op) s = step s op Asked.Nothing
 
 -- a reset makes the serial port anew. The clock goes on, and input that waits is for the guest that starts
@@ -174,11 +167,10 @@ after_event event m = fed (act event m)
 
 -- ---- what is replied
 
--- a port of no device shows 0xFF. The controller shows 0, as a keyboard that never answers
+-- the controller shows 0, as a keyboard that never answers
 abbrev pub port_shown : (port : ℕ) (s : State) → ℕ
 port_shown port s =
-    option_map_or (λ offset. shown_at offset s) (serial_offset port)
-    (if port == 0x60 then 0 else (if port == 0x64 then 0 else 0xFF))
+    option_map_or (λ offset. shown_at offset s) (serial_offset 0x3F8 port) (other_byte Keyboard.Silent port)
 
 -- an invalid read shows 0
 abbrev pub memory_shown : (address : ℕ) (m : Machine) → ℕ
@@ -195,9 +187,7 @@ answer_to _ m = answer.Done
 -- how often the event asks for the interrupt. After a refusal a timer asks again for all that are due
 abbrev pub calls_by : (call : Option Op) (s : State) → ℕ
 calls_by None s = 0
-calls_by (Some (Read offset)) s =
-    let read = step s (Read offset) Asked.Nothing in
-    if answers_none offset (shown_at offset s) then step_calls read CharacterTimeout else 0
+calls_by (Some (Read offset)) s = calls_after_read offset s
 calls_by (Some op) s = step_calls s op
 
 abbrev pub is_retry : (event : Event) (is_refused : Bool) → Bool
@@ -218,6 +208,13 @@ reply_to event m = record {
   interrupts = interrupts_by event m + feed_calls (act event m);
   clock_line = is_line_up (clock_after event m);
 }
+
+-- an event alone: what it answers, how often it asks for the interrupt, and what becomes of the machine
+pub record Acts (event : Event) (answered : Answer) (asked : ℕ) (old new : Machine) : Type 0 where
+  pub answer : answered ≡ answer_to event old
+  pub interrupts : asked ≡ interrupts_by event old
+  pub at_most_2 : asked ≤ 2
+  pub machine : new ≡ act event old
 
 -- ---- several events, in order
 

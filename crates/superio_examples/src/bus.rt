@@ -1,10 +1,9 @@
 //! A bus that forwards a guest's port I/O to a serial port and a reset controller, by port number.
 ghost use Rattle.vm_superio.specs.Links.{WriterCalls};
-ghost use Rattle.std.specs.Prelude.{◌≡◌, ◌-◌, ◌||◌, if◌then◌else◌, Some, None};
+ghost use Rattle.std.specs.Prelude.{◌≡◌, length, replicate};
 ghost use Rattle.std.specs.Bool.{OnTrue, OnFalse};
 ghost use Rattle.superio_core.specs.Serial.Port.{Coherent};
-ghost use Rattle.vm_superio.specs.Serial.Step.{IsReadStep};
-ghost use Rattle.superio_examples.specs.Bus.{is_serial, is_i8042, is_vacant, is_reset, controller_byte, ForwardsWrite, ForwardsReset};
+ghost use Rattle.superio_examples.specs.Bus.{serial_offset, is_width, ReadsByte, WritesByte, ReadsBytes, WritesBytes};
 
 use std::io::Write;
 use vm_superio::serial::{Error, SerialEvents};
@@ -63,15 +62,7 @@ impl<T: Trigger, EV: SerialEvents, W: Write, R: Trigger> Bus<T, EV, W, R> {
     /// Reads the byte at `port`, as a guest's `in` does. A port of neither device gives 0xFF, as on a PC. So does 0x61:
     /// Linux waits for its bit 0x20 when it measures the processor's clock.
     pub fn read(&mut self, port: u16) -> u8
-        ensures serial { OnTrue (is_serial self.old.base port)
-            (IsReadStep T.link EV.link (WriterCalls W.contents) (port - self.old.base) result self.old.serial
-            self.new.serial) }
-        ensures serial_alone { OnFalse (is_serial self.old.base port) (self.new.serial ≡ self.old.serial) }
-        ensures controller { OnTrue (is_i8042 self.old.base port) (result ≡ controller_byte self.old.keyboard) }
-        ensures controller_alone { self.new.controller ≡ self.old.controller }
-        ensures vacant { OnTrue (is_vacant self.old.base port) (result ≡ 0xFF) }
-        ensures base { self.new.base ≡ self.old.base }
-        ensures keyboard { self.new.keyboard ≡ self.old.keyboard }
+        ensures step { ReadsByte T.link EV.link (WriterCalls W.contents) R.link port result self.old self.new }
         ensures coherent { Coherent self.old.serial.state → Coherent self.new.serial.state }
     {
         match (serial_offset(self.base, port), port, self.keyboard) {
@@ -92,18 +83,7 @@ impl<T: Trigger, EV: SerialEvents, W: Write, R: Trigger> Bus<T, EV, W, R> {
     /// write: it has taken effect on the registers. Returns [`BusError::Reset`] if the reset trigger refused the reset
     /// command: nobody was notified of the reset.
     pub fn write(&mut self, port: u16, value: u8) -> Result<(), BusError<T::E, R::E>>
-        ensures serial { OnTrue (is_serial self.old.base port)
-            (ForwardsWrite T.link EV.link (WriterCalls W.contents) (port - self.old.base) value result
-            self.old.serial self.new.serial) }
-        ensures serial_alone { OnFalse (is_serial self.old.base port) (self.new.serial ≡ self.old.serial) }
-        ensures reset { OnTrue (is_reset self.old.base port value)
-            (ForwardsReset R.link result self.old.controller self.new.controller) }
-        ensures controller_alone { OnFalse (is_reset self.old.base port value)
-            (self.new.controller ≡ self.old.controller) }
-        ensures otherwise_ok { OnFalse (is_serial self.old.base port || is_reset self.old.base port value)
-            (result ≡ Ok tt) }
-        ensures base { self.new.base ≡ self.old.base }
-        ensures keyboard { self.new.keyboard ≡ self.old.keyboard }
+        ensures step { WritesByte T.link EV.link (WriterCalls W.contents) R.link port value result self.old self.new }
         ensures coherent { Coherent self.old.serial.state → Coherent self.new.serial.state }
     {
         match (serial_offset(self.base, port), port) {
@@ -121,11 +101,62 @@ impl<T: Trigger, EV: SerialEvents, W: Write, R: Trigger> Bus<T, EV, W, R> {
             (None, _) => Ok(()),
         }
     }
+
+    /// Serves an `in` of 1, 2 or 4 bytes: reads each byte at its own port, the lowest first. Any other length, which no
+    /// guest access has, gives 0xFF in each byte and changes nothing.
+    pub fn port_in(&mut self, port: u16, bytes: &mut [u8])
+        ensures bytes { OnTrue (is_width (length bytes.old))
+            (ReadsBytes T.link EV.link (WriterCalls W.contents) R.link port bytes.new self.old self.new) }
+        ensures other_lengths { OnFalse (is_width (length bytes.old)) (bytes.new ≡ replicate (length bytes.old) 0xFF) }
+        ensures alone { OnFalse (is_width (length bytes.old)) (self.new ≡ self.old) }
+        ensures coherent { Coherent self.old.serial.state → Coherent self.new.serial.state }
+    {
+        if !is_width(bytes.len()) {
+            bytes.fill(0xFF);
+            return;
+        }
+        let mut at = port;
+        for place in 0..bytes.len() {
+            bytes[place] = self.read(at);
+            at = at.wrapping_add(1);
+        }
+    }
+
+    /// Serves an `out` of 1, 2 or 4 bytes: writes each byte at its own port, the lowest first, even if an earlier one
+    /// failed. Any other length, which no guest access has, is ignored.
+    ///
+    /// # Errors
+    ///
+    /// Returns the first error of a byte's `write`. The monitor can log it. The guest goes on.
+    pub fn port_out(&mut self, port: u16, bytes: &[u8]) -> Result<(), BusError<T::E, R::E>>
+        ensures bytes { OnTrue (is_width (length bytes.now))
+            (WritesBytes T.link EV.link (WriterCalls W.contents) R.link port bytes.now result self.old self.new) }
+        ensures other_lengths { OnFalse (is_width (length bytes.now)) (result ≡ Ok tt) }
+        ensures alone { OnFalse (is_width (length bytes.now)) (self.new ≡ self.old) }
+        ensures coherent { Coherent self.old.serial.state → Coherent self.new.serial.state }
+    {
+        let mut result = Ok(());
+        if is_width(bytes.len()) {
+            let mut at = port;
+            for byte in bytes {
+                result = result.and(self.write(at, *byte));
+                at = at.wrapping_add(1);
+            }
+        }
+        result
+    }
+}
+
+/// Whether an access of a guest has this length.
+fn is_width(length: usize) -> bool
+    ensures { result ≡ is_width length }
+{
+    matches!(length, 1 | 2 | 4)
 }
 
 /// The offset of a port at a serial port that begins at `base`, if it is one of its ports.
 pub(crate) fn serial_offset(base: u16, port: u16) -> Option<u8>
-    ensures { result ≡ (if is_serial base port then Some (port - base) else None) }
+    ensures { result ≡ serial_offset base port }
 {
     match port.checked_sub(base) {
         Some(offset) if offset < SERIAL_PORTS => Some(offset as u8),

@@ -3,7 +3,7 @@
 #![tactic(auto, unfolding(superio_core::specs::Bits::has_bits, superio_core::specs::Bits::only_bits, superio_core::specs::Bits::with_bits))]
 
 ghost use Rattle.std.specs.Prelude.{◌≡◌, ◌+◌, ◌-◌, ◌<◌, ◌^◌, [], ◌∷◌, ◌++◌, take, length, true, false, IsTrue, IfOk, IfErr, OnOk};
-ghost use Rattle.vm_superio.specs.Claims.{is_fresh, held, shows_data, is_outside, is_inside, is_masked, wants_data, data_pending};
+ghost use Rattle.vm_superio.specs.Claims.{held, shows_data, is_outside, is_inside, wants_data, data_pending};
 ghost use Rattle.vm_superio.specs.Claims.{SameSettings, has_bits, not_empty, Coherent, is_reset_command, fresh_clock};
 ghost use Rattle.std.specs.Int.{w32, to_le_bytes};
 ghost use Rattle.std.specs.Io.KnownBytes.{Appends};
@@ -13,7 +13,7 @@ use std::alloc::{AllocError, Global};
 use std::convert::Infallible;
 use std::io::Write;
 use vm_superio::rtc_pl031::RtcEvents;
-use vm_superio::serial::{Error, NoEvents, Refused, SerialEvents};
+use vm_superio::serial::{Error, Refused, SerialEvents};
 use vm_superio::{I8042Device, Rtc, Serial, Trigger, laws};
 
 // ---- received bytes
@@ -57,18 +57,6 @@ pub fn read_takes_oldest<T: Trigger, EV: SerialEvents, W: Write>(
     ensures settings { SameSettings serial.old.state serial.new.state }
 {
     serial.read(0)
-}
-
-/// Bytes are read in the order in which they were enqueued.
-pub fn read_in_order<T: Trigger, EV: SerialEvents, W: Write>(
-    serial: &mut Serial<T, EV, W>,
-    bytes: [u8; 3],
-) -> [u8; 3]
-    requires { is_fresh serial.old }
-    ensures { result ≡ bytes }
-{
-    let _ = serial.enqueue_raw_bytes(&bytes);
-    [serial.read(0), serial.read(0), serial.read(0)]
 }
 
 /// As many reads as bytes are held give these bytes, in order.
@@ -162,21 +150,6 @@ pub fn sent_is_appended<T: Trigger, EV: SerialEvents, W: Write>(
     serial.write(0, byte)
 }
 
-/// A `Vec` grows by the bytes that a guest sends, in order.
-#[tactic(auto)]
-pub fn vec_gets_both<T: Trigger, EV: SerialEvents>(
-    serial: &mut Serial<T, EV, Vec<u8>>,
-    first: u8,
-    second: u8,
-) -> Result<(), Error<T::E>>
-    requires data { shows_data serial.old }
-    requires outside { is_outside serial.old }
-    ensures { OnOk result (serial.new.out.items ≡ serial.old.out.items ++ first ∷ second ∷ []) }
-{
-    serial.write(0, first)?;
-    serial.write(0, second)
-}
-
 /// In loopback a sent byte is received, and the writer gets nothing.
 pub fn loopback_returns_byte<T: Trigger, EV: SerialEvents, W: Write>(
     serial: &mut Serial<T, EV, W>,
@@ -244,31 +217,6 @@ pub fn loopback_shows_outputs<T: Trigger, EV: SerialEvents, W: Write>(
 }
 
 // ---- interrupts
-
-/// While IER is 0, input and time call no trigger.
-pub fn masked_input_is_quiet<T: Trigger, EV: SerialEvents, W: Write>(
-    serial: &mut Serial<T, EV, W>,
-    input: &[u8],
-    offset: u8,
-)
-    requires { is_masked serial.old }
-    ensures { serial.new.trigger ≡ serial.old.trigger }
-{
-    let _ = serial.enqueue_raw_bytes(input);
-    let _ = serial.character_timeout();
-    serial.read(offset);
-}
-
-/// A write that leaves IER 0 calls no trigger.
-pub fn masked_write_is_quiet<T: Trigger, EV: SerialEvents, W: Write>(
-    serial: &mut Serial<T, EV, W>,
-    offset: u8,
-    value: u8,
-)
-    ensures { is_masked serial.new → serial.new.trigger ≡ serial.old.trigger }
-{
-    let _ = serial.write(offset, value);
-}
 
 /// A guest that enables received data while a byte waits is interrupted once.
 pub fn enabling_calls_once<EV: SerialEvents, W: Write>(serial: &mut Serial<Counter, EV, W>)
@@ -410,18 +358,6 @@ pub fn alarm_raises_line<EV: RtcEvents>(
 
 // ---- from a new port
 
-/// A new port, with the fact that a claim about it begins with.
-fn new_port<T: Trigger + Drop, W: Write + Drop>(
-    alloc: Global,
-    trigger: T,
-    out: W,
-) -> Result<Serial<T, NoEvents, W>, Error<T::E>>
-    ensures fresh { IfOk result (λ serial. is_fresh serial) }
-    ensures out { IfOk result (λ serial. serial.out ≡ out) }
-{
-    Serial::new(alloc, trigger, out).map_err(Refused::into_error)
-}
-
 /// A guest reads back the input of a new port, as far as there is room for it.
 pub fn read_back<T: Trigger + Drop, W: Write + Drop>(
     alloc: Global,
@@ -431,21 +367,7 @@ pub fn read_back<T: Trigger + Drop, W: Write + Drop>(
 ) -> Result<Vec<u8>, Error<T::E>>
     ensures { IfOk result (λ read. read.items ≡ take 64 input.now) }
 {
-    let mut serial = new_port(alloc, trigger, out)?;
+    let mut serial = Serial::new(alloc, trigger, out).map_err(Refused::into_error)?;
     serial.enqueue_raw_bytes(input)?;
     Ok(read_all(alloc, &mut serial)?)
-}
-
-/// A byte that a guest sends by a new port follows those that the writer has.
-pub fn send_byte<T: Trigger + Drop, W: Write + Drop>(
-    alloc: Global,
-    trigger: T,
-    out: W,
-    last: u8,
-) -> Result<W, Error<T::E>>
-    ensures { IfOk result (λ sent. Appends (W.contents out) (W.contents sent) (last ∷ [])) }
-{
-    let mut serial = new_port(alloc, trigger, out)?;
-    serial.write(0, last)?;
-    Ok(serial.into_writer())
 }

@@ -2,21 +2,15 @@
 //! an event loop, a migration, a whole monitor, and first claims about the devices.
 #![tactic(auto)]
 
-pub mod alarm;
 pub mod bus;
-pub mod console;
 pub mod counter;
-pub mod driver;
 pub mod event_fd;
 pub mod first_claims;
 pub mod input;
 pub mod interrupt_driver;
 pub mod interrupts;
 pub mod last_byte;
-pub mod migration;
 pub mod mmio;
 pub mod monitor;
-pub mod monitor_object;
 pub mod output;
-pub mod port_io;
 pub mod saved_monitor;

@@ -2,15 +2,11 @@
 //!
 //! A loop around it makes [`Event`]s of what its hypervisor, its terminal and its timers report, passes them to
 //! [`Monitor::run`], and carries out the replies. What `run` claims rests on no object: it calls none.
-ghost use Rattle.std.specs.Prelude.{◌≡◌, ◌≤◌, map, OnOk, OnErr, IfOk, Some};
-ghost use Rattle.superio_core.specs.Serial.Port.{state_of_port};
-ghost use Rattle.superio_core.specs.Serial.Operations.{Read};
-ghost use Rattle.superio_examples.specs.Monitor.{shown_at, calls_by, after_call};
+ghost use Rattle.std.specs.Prelude.{◌≡◌, ◌≤◌, map, OnOk, OnErr, IfOk};
 
-use crate::alarm::RTCMIS;
 use crate::bus::{COM1, I8042_COMMAND, I8042_DATA, serial_offset};
 use crate::input::{Input, shows_ready};
-use crate::interrupts::{IIR_OFFSET, shows_none};
+use crate::interrupts::read_timed;
 use crate::mmio::offset_in;
 use crate::output::Output;
 use std::alloc::{AllocError, Global};
@@ -19,6 +15,9 @@ use superio_core::{RtcState, SerialPort, is_reset_command};
 
 /// The offset of the command port.
 const COMMAND_OFFSET: u8 = (I8042_COMMAND - I8042_DATA) as u8;
+
+/// The offset of RTCMIS, the masked interrupt status.
+const RTCMIS: u16 = 0x018;
 
 /// The address of the clock's window in memory.
 const CLOCK: u64 = 0x0901_0000;
@@ -89,12 +88,12 @@ pub struct Monitor {
 }
 
 impl Monitor {
-    ghost use Rattle.superio_examples.specs.Monitor.{machine_of, new_machine, act, fed, after_event, after};
+    ghost use Rattle.superio_examples.specs.Monitor.{machine_of, new_machine, fed, after_event, after};
     ghost use Rattle.superio_examples.specs.declared.monitor.Event.{Event};
     ghost use Rattle.superio_examples.specs.Monitor.{in_each, sent_at, left_at, looped_at, typed_by, KeepsInput, KeepsOut};
     ghost use Rattle.superio_examples.specs.Monitor.{is_reset_reply, asks_reset};
     ghost use Rattle.superio_examples.specs.Output.{after_sent};
-    ghost use Rattle.superio_examples.specs.Monitor.{answer_to, interrupts_by, feed_calls, reply_to, replies_to};
+    ghost use Rattle.superio_examples.specs.Monitor.{Acts, feed_calls, reply_to, replies_to};
 
     /// The monitor of a new machine. At most `input` bytes wait for the guest, and at most `output` for the sink.
     ///
@@ -160,10 +159,7 @@ impl Monitor {
 
     /// Makes an event alone. Returns the answer, and how often to raise the interrupt.
     fn act(&mut self, event: Event) -> (Answer, u8)
-        ensures answer { result.0 ≡ answer_to event (machine_of self.old) }
-        ensures interrupts { result.1 ≡ interrupts_by event (machine_of self.old) }
-        ensures at_most_2 { result.1 ≤ 2 }
-        ensures machine { machine_of self.new ≡ act event (machine_of self.old) }
+        ensures acts { Acts event result.0 result.1 (machine_of self.old) (machine_of self.new) }
     {
         match event {
             Event::PortRead(port) => self.read_port(port),
@@ -186,14 +182,11 @@ impl Monitor {
     /// A guest's read of a port. One of IIR that shows nothing pending is followed by a character timeout, so that bytes
     /// which the guest left in the FIFO interrupt it again.
     fn read_port(&mut self, port: u16) -> (Answer, u8)
-        ensures answer { result.0 ≡ answer_to (Event.PortRead port) (machine_of self.old) }
-        ensures interrupts { result.1 ≡ interrupts_by (Event.PortRead port) (machine_of self.old) }
-        ensures at_most_2 { result.1 ≤ 2 }
-        ensures machine { machine_of self.new ≡ act (Event.PortRead port) (machine_of self.old) }
+        ensures acts { Acts (Event.PortRead port) result.0 result.1 (machine_of self.old) (machine_of self.new) }
     {
         match (serial_offset(COM1, port), port) {
             (Some(offset), _) => {
-                let (byte, interrupts) = read_serial(&mut self.port, offset);
+                let (byte, interrupts) = read_timed(&mut self.port, offset);
                 (Answer::Shows(u32::from(byte)), interrupts)
             }
             (None, I8042_DATA | I8042_COMMAND) => (Answer::Shows(0), 0),
@@ -203,10 +196,7 @@ impl Monitor {
 
     /// A guest's write of a port. A byte that it sends waits in the output.
     fn write_port(&mut self, port: u16, value: u8) -> (Answer, u8)
-        ensures answer { result.0 ≡ answer_to (Event.PortWrite port value) (machine_of self.old) }
-        ensures interrupts { result.1 ≡ interrupts_by (Event.PortWrite port value) (machine_of self.old) }
-        ensures at_most_2 { result.1 ≤ 2 }
-        ensures machine { machine_of self.new ≡ act (Event.PortWrite port value) (machine_of self.old) }
+        ensures acts { Acts (Event.PortWrite port value) result.0 result.1 (machine_of self.old) (machine_of self.new) }
     {
         match (serial_offset(COM1, port), port) {
             (Some(offset), _) => {
@@ -227,10 +217,7 @@ impl Monitor {
 
     /// A guest's read of memory.
     fn read_memory(&mut self, address: u64) -> (Answer, u8)
-        ensures answer { result.0 ≡ answer_to (Event.MemoryRead address) (machine_of self.old) }
-        ensures interrupts { result.1 ≡ interrupts_by (Event.MemoryRead address) (machine_of self.old) }
-        ensures at_most_2 { result.1 ≤ 2 }
-        ensures machine { machine_of self.new ≡ act (Event.MemoryRead address) (machine_of self.old) }
+        ensures acts { Acts (Event.MemoryRead address) result.0 result.1 (machine_of self.old) (machine_of self.new) }
     {
         match offset_in(CLOCK, address) {
             Some(offset) => {
@@ -243,10 +230,8 @@ impl Monitor {
 
     /// A guest's write of memory.
     fn write_memory(&mut self, address: u64, value: u32) -> (Answer, u8)
-        ensures answer { result.0 ≡ answer_to (Event.MemoryWrite address value) (machine_of self.old) }
-        ensures interrupts { result.1 ≡ interrupts_by (Event.MemoryWrite address value) (machine_of self.old) }
-        ensures at_most_2 { result.1 ≤ 2 }
-        ensures machine { machine_of self.new ≡ act (Event.MemoryWrite address value) (machine_of self.old) }
+        ensures acts { Acts (Event.MemoryWrite address value) result.0 result.1 (machine_of self.old)
+            (machine_of self.new) }
     {
         if let Some(offset) = offset_in(CLOCK, address) {
             self.clock.write(offset, value, self.moment);
@@ -256,10 +241,7 @@ impl Monitor {
 
     /// A typed byte waits if there is room.
     fn take_typed(&mut self, byte: u8) -> (Answer, u8)
-        ensures answer { result.0 ≡ answer_to (Event.Typed byte) (machine_of self.old) }
-        ensures interrupts { result.1 ≡ interrupts_by (Event.Typed byte) (machine_of self.old) }
-        ensures at_most_2 { result.1 ≤ 2 }
-        ensures machine { machine_of self.new ≡ act (Event.Typed byte) (machine_of self.old) }
+        ensures acts { Acts (Event.Typed byte) result.0 result.1 (machine_of self.old) (machine_of self.new) }
     {
         if self.input.room() == 0 {
             return (Answer::Full, 0);
@@ -270,10 +252,7 @@ impl Monitor {
 
     /// A timer: the clock finds its alarm, bytes that are held interrupt the guest, and refused interrupts are retried.
     fn time_out(&mut self) -> (Answer, u8)
-        ensures answer { result.0 ≡ answer_to Event.Timer (machine_of self.old) }
-        ensures interrupts { result.1 ≡ interrupts_by Event.Timer (machine_of self.old) }
-        ensures at_most_2 { result.1 ≤ 2 }
-        ensures machine { machine_of self.new ≡ act Event.Timer (machine_of self.old) }
+        ensures acts { Acts Event.Timer result.0 result.1 (machine_of self.old) (machine_of self.new) }
     {
         self.clock.read(RTCMIS, self.moment);
         let raised = self.port.character_timeout();
@@ -298,22 +277,6 @@ impl Monitor {
         if !is_open || self.port.fifo_capacity() < FIFO_SIZE {
             return 0;
         }
-        self.input.feed_port(&mut self.port)
+        self.input.feed(&mut self.port)
     }
-}
-
-/// Reads the serial port. Returns the byte, and how often to raise the interrupt.
-fn read_serial(port: &mut SerialPort, offset: u8) -> (u8, u8)
-    ensures byte { result.0 ≡ shown_at offset (state_of_port port.old) }
-    ensures interrupts { result.1 ≡ calls_by (Some (Read offset)) (state_of_port port.old) }
-    ensures at_most_1 { result.1 ≤ 1 }
-    ensures state { state_of_port port.new ≡ after_call (Some (Read offset)) (state_of_port port.old) }
-{
-    let byte = port.read(offset).byte;
-    let interrupts = if offset == IIR_OFFSET && shows_none(byte) {
-        port.character_timeout()
-    } else {
-        0
-    };
-    (byte, interrupts)
 }

@@ -1,12 +1,7 @@
 //! Output of a guest. It waits until the monitor's sink takes it, and the guest never waits for the sink.
-ghost use Rattle.vm_superio.specs.Links.{WriterCalls};
 ghost use Rattle.std.specs.Prelude.{◌≡◌, ◌≤◌, ◌-◌, ◌==◌, ◌++◌, [], ◌∷◌, length, drop, min, max, Some, IfOk, OnErr};
 ghost use Rattle.std.specs.Io.{WritesAtMost};
 ghost use Rattle.std.specs.Io.KnownBytes.{WriteAppends, Appends, Keeps};
-ghost use Rattle.superio_core.specs.Serial.Port.{Coherent};
-ghost use Rattle.superio_core.specs.Serial.Operations.{sent_by, Write};
-ghost use Rattle.superio_core.specs.Serial.Step.Admissible.{kind_in_state};
-ghost use Rattle.vm_superio.specs.Serial.Step.{IsWriteStep};
 ghost use Rattle.superio_examples.specs.Output.{Waiting, OutputLaw, after_sent, dropped_by};
 
 use circular_buffer::HeapCircularBuffer;
@@ -14,15 +9,13 @@ use std::alloc::{AllocError, Global};
 use std::io;
 use std::io::Write;
 use std::marker::Model;
-use vm_superio::serial::{Error, SerialEvents};
-use vm_superio::{Serial, Trigger};
 
 /// The bytes that wait for the monitor's sink, oldest first, in a ring. Their number is limited, and `new` allocates
 /// the memory for this limit. A byte that finds no room is dropped, and counted.
 ///
-/// A monitor passes each write of the guest to [`Output::forward`], as a `Console` does. An `Output` may also be the
-/// port's own writer. Then the guest's write returns an I/O error of the kind `WriteZero` for a byte that is dropped,
-/// which the monitor can log, and no contract says what the output holds after an I/O error.
+/// A monitor passes each byte that the guest sends to [`Output::push`]. An `Output` may also be a port's own writer.
+/// Then the guest's write returns an I/O error of the kind `WriteZero` for a byte that is dropped, which the monitor can
+/// log, and no contract says what the output holds after an I/O error.
 #[derive(Drop)]
 pub struct Output {
     waiting: HeapCircularBuffer<u8>,
@@ -114,31 +107,8 @@ impl Output {
         self.waiting.to_vec(alloc)
     }
 
-    /// Makes the guest's write of `value` at `offset`. If it sends a byte, which a write to THR outside loopback does,
-    /// the byte waits. If it finds no room, it is dropped, and counted. The port's own writer gets each byte too, and
-    /// may be `io::sink()`.
-    ///
-    /// # Errors
-    ///
-    /// Returns the error of the port's `write`. It says nothing of the output.
-    pub fn forward<T: Trigger, EV: SerialEvents, W: Write>(
-        &mut self,
-        serial: &mut Serial<T, EV, W>,
-        offset: u8,
-        value: u8,
-    ) -> Result<(), Error<T::E>>
-        ensures sent { self.new ≡ after_sent (sent_by (kind_in_state serial.old.state (Write offset value))) self.old }
-        ensures step { IsWriteStep T.link EV.link (WriterCalls W.contents) offset value result serial.old serial.new }
-        ensures coherent { Coherent serial.old.state → Coherent serial.new.state }
-    {
-        if serial.sends(offset) {
-            self.push(value);
-        }
-        serial.write(offset, value)
-    }
-
-    /// Takes a byte if there is room, and otherwise drops and counts it.
-    pub(crate) fn push(&mut self, byte: u8)
+    /// Takes a byte that the guest sent if there is room, and otherwise drops and counts it.
+    pub fn push(&mut self, byte: u8)
         ensures { self.new ≡ after_sent (byte ∷ []) self.old }
     {
         if self.waiting.try_push_back(byte).is_err() {
@@ -193,9 +163,10 @@ impl Write for Output {
     }
 }
 
-/// A law, for proofs about many calls: a guest sends bytes, by `forward`, and sinks take them, by `drain_into`, in any
+/// A law, for proofs about many calls: a guest sends bytes, by `push`, and sinks take them, by `drain_into`, in any
 /// order. What sinks took, then what waits, is what waited at the start, then what the guest sent, in order, without
 /// the bytes that were dropped. The count has grown by the number of these, up to 2^64 - 1.
+#[tactic(auto, using(crate::proofs::OutputLemmas::output_law))]
 pub fn in_order()
     ensures { OutputLaw }
 {}

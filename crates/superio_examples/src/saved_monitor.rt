@@ -1,12 +1,13 @@
 //! A monitor as plain data: it goes on from there on another machine, as if nothing had happened.
-ghost use Rattle.std.specs.Prelude.{◌≡◌, ◌++◌, IfOk};
+//!
+//! Both hosts must tell the same time, since the clock keeps only the difference between guest time and host time.
+ghost use Rattle.std.specs.Prelude.{◌≡◌, IfOk};
 ghost use Rattle.superio_core.specs.Saved.{IsClock};
-ghost use Rattle.superio_examples.specs.Monitor.{Machine, machine_of, after, replies_to};
+ghost use Rattle.superio_examples.specs.Monitor.{machine_of};
 ghost use Rattle.superio_examples.specs.SavedMonitor.{IsSavedAs, saved_input, saved_output};
 
 use crate::input::Input;
-use crate::migration::{Saved, restore_input};
-use crate::monitor::{Event, Monitor, Reply};
+use crate::monitor::Monitor;
 use crate::output::Output;
 use std::alloc::{AllocError, Global};
 use superio_core::serial::saved_form::SAVED_MAX;
@@ -16,8 +17,12 @@ use vm_superio::saved::Error;
 /// A saved monitor.
 #[derive(Debug, Drop, Eq, PartialEq)]
 pub struct SavedMonitor {
-    /// The serial port, the clock and the input that waits.
-    pub devices: Saved,
+    /// The serial port's state as bytes, at most 81.
+    pub serial: Vec<u8>,
+    /// The clock's state as bytes.
+    pub clock: Vec<u8>,
+    /// The input that the serial port has not taken.
+    pub input: Vec<u8>,
     /// How many bytes of input may wait.
     pub input_limit: usize,
     /// The output that no sink has taken.
@@ -47,11 +52,9 @@ pub fn save_monitor(alloc: Global, monitor: &Monitor) -> Result<SavedMonitor, Al
     let mut form = [0; SAVED_MAX];
     let length = monitor.port.to_bytes(&mut form);
     Ok(SavedMonitor {
-        devices: Saved {
-            serial: form[..length].to_vec(alloc)?,
-            clock: monitor.clock.to_bytes().to_vec(alloc)?,
-            input: monitor.input.waiting(alloc)?,
-        },
+        serial: form[..length].to_vec(alloc)?,
+        clock: monitor.clock.to_bytes().to_vec(alloc)?,
+        input: monitor.input.waiting(alloc)?,
         input_limit: monitor.input.limit(),
         output: monitor.output.waiting(alloc)?,
         output_limit: monitor.output.limit(),
@@ -74,8 +77,8 @@ pub fn restore_monitor(alloc: Global, saved: &SavedMonitor) -> Result<Monitor, E
     ensures saved { IfOk result (λ monitor. IsSavedAs saved.now (machine_of monitor)) }
     ensures clock { IfOk result (λ monitor. IsClock monitor.clock) }
 {
-    let clock = RtcState::from_bytes(&saved.devices.clock)?;
-    let port = SerialPort::from_bytes(&saved.devices.serial)?;
+    let clock = RtcState::from_bytes(&saved.clock)?;
+    let port = SerialPort::from_bytes(&saved.serial)?;
     match queues(alloc, saved) {
         Ok((input, output)) => Ok(Monitor {
             port,
@@ -96,82 +99,23 @@ fn queues(alloc: Global, saved: &SavedMonitor) -> Result<(Input, Output), AllocE
     ensures input { IfOk result (λ queues. queues.0 ≡ saved_input saved.now) }
     ensures output { IfOk result (λ queues. queues.1 ≡ saved_output saved.now) }
 {
-    let input = restore_input(alloc, &saved.devices, saved.input_limit)?;
+    let input = Input::restored(alloc, &saved.input, saved.input_limit)?;
     let output = Output::restored(alloc, &saved.output, saved.output_limit, saved.dropped)?;
     Ok((input, output))
 }
 
-/// What two monitors did, one after the other.
-#[derive(Drop)]
-pub struct Moved {
-    /// The replies of the first.
-    pub before: Vec<Reply>,
-    /// The replies of the second.
-    pub after: Vec<Reply>,
-    /// The second.
-    pub monitor: Monitor,
-}
-
-/// Makes the first events on a monitor, saves it, and makes the others on a monitor that is restored from there. The
-/// replies, and what becomes of the machine, are those of one monitor that makes all of them.
+/// Saves a monitor, and restores another one from there. Both are the same machine, so by the contract of
+/// [`Monitor::run`] the other one replies to any events as the first would, and becomes what it would.
 ///
 /// # Errors
 ///
 /// Returns `Memory` if memory is refused.
-pub fn run_on_two(
-    alloc: Global,
-    monitor: &mut Monitor,
-    first: &[Event],
-    others: &[Event],
-) -> Result<Moved, Error>
-    ensures replies { IfOk result (λ moved. moved.before.items ++ moved.after.items
-        ≡ replies_to (first.now ++ others.now) (machine_of monitor.old)) }
-    ensures machine { IfOk result (λ moved. machine_of moved.monitor
-        ≡ after (first.now ++ others.now) (machine_of monitor.old)) }
+pub fn move_monitor(alloc: Global, monitor: &Monitor) -> Result<Monitor, Error>
+    ensures machine { IfOk result (λ moved. machine_of moved ≡ machine_of monitor.now) }
 {
-    match run_and_save(alloc, monitor, first) {
-        Ok((before, saved)) => {
-            let (after, monitor) = restore_and_run(alloc, &saved, others)?;
-            Ok(Moved {
-                before,
-                after,
-                monitor,
-            })
-        }
-        Err(AllocError) => Err(Error::Memory),
-    }
-}
-
-/// Makes events on a monitor, and saves it.
-fn run_and_save(
-    alloc: Global,
-    monitor: &mut Monitor,
-    events: &[Event],
-) -> Result<(Vec<Reply>, SavedMonitor), AllocError>
-    ensures replies { IfOk result (λ made. made.0.items ≡ replies_to events.now (machine_of monitor.old)) }
-    ensures saved { IfOk result (λ made. IsSavedAs made.1 (after events.now (machine_of monitor.old))) }
-    ensures clock { IfOk result (λ made. IsClock (after events.now (machine_of monitor.old)).clock) }
-{
-    let replies = monitor.run(alloc, events)?;
-    let saved = save_monitor(alloc, monitor)?;
     numbers_fit(monitor.clock);
-    Ok((replies, saved))
-}
-
-/// Makes events on a monitor that is restored.
-fn restore_and_run(
-    alloc: Global,
-    saved: &SavedMonitor,
-    events: &[Event],
-) -> Result<(Vec<Reply>, Monitor), Error>
-    ensures replies { (m : Machine) → IsClock m.clock → IsSavedAs saved.now m →
-        IfOk result (λ made. made.0.items ≡ replies_to events.now m) }
-    ensures machine { (m : Machine) → IsClock m.clock → IsSavedAs saved.now m →
-        IfOk result (λ made. machine_of made.1 ≡ after events.now m) }
-{
-    let mut monitor = restore_monitor(alloc, saved)?;
-    match monitor.run(alloc, events) {
-        Ok(replies) => Ok((replies, monitor)),
+    match save_monitor(alloc, monitor) {
+        Ok(saved) => restore_monitor(alloc, &saved),
         Err(AllocError) => Err(Error::Memory),
     }
 }

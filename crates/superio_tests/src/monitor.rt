@@ -5,7 +5,7 @@ use superio_examples::monitor::Event::{
     MemoryRead, MemoryWrite, Moment, PortRead, PortWrite, Refused, Timer, Typed,
 };
 use superio_examples::monitor::{Answer, Event, Monitor, Reply};
-use superio_examples::saved_monitor::{restore_monitor, run_on_two, save_monitor};
+use superio_examples::saved_monitor::{move_monitor, restore_monitor, save_monitor};
 use vm_superio::saved::{Error, Fault};
 
 /// The clock's window.
@@ -13,7 +13,7 @@ const CLOCK: u64 = 0x0901_0000;
 
 /// Events, and to each the answer, how often the interrupt is raised, and whether the clock's line is up. At most one
 /// byte waits.
-const SESSION: [(Event, Answer, u8, bool); 42] = [
+const SESSION: [(Event, Answer, u8, bool); 48] = [
     // What is typed waits while the guest tests its port.
     (Typed(b'a'), Done, 0, false),
     (PortWrite(0x3F9, 0x0F), Done, 1, false),
@@ -36,12 +36,17 @@ const SESSION: [(Event, Answer, u8, bool); 42] = [
     (PortRead(0x3F8), Shows(0x62), 0, false),
     (PortRead(0x3F8), Shows(0), 0, false),
     (PortRead(0x3FA), Shows(0xC1), 0, false),
-    // It sends two bytes. A third stays in loopback.
+    // It sends two bytes. Another stays in loopback.
     (PortWrite(0x3F8, b'x'), Done, 0, false),
     (PortWrite(0x3F8, b'y'), Done, 0, false),
+    // What is written while DLAB is set is the divisor.
+    (PortWrite(0x3FB, 0x83), Done, 0, false),
+    (PortWrite(0x3F8, b'w'), Done, 0, false),
+    (PortWrite(0x3FB, 0x03), Done, 0, false),
     (PortWrite(0x3FC, 0x10), Done, 0, false),
     (PortWrite(0x3F8, b'z'), Done, 1, false),
     (PortRead(0x3F8), Shows(0x7A), 0, false),
+    (PortWrite(0x3FC, 0x08), Done, 0, false),
     // It sets an alarm.
     (Moment(100), Done, 0, false),
     (MemoryWrite(CLOCK + 0x010, 1), Done, 0, false),
@@ -56,7 +61,9 @@ const SESSION: [(Event, Answer, u8, bool); 42] = [
     (PortRead(0x64), Shows(0), 0, false),
     (PortRead(0x61), Shows(0xFF), 0, false),
     (PortRead(0x400), Shows(0xFF), 0, false),
-    // It resets the machine. Input waits again.
+    // It resets the machine. The byte that is held is lost, and input waits again.
+    (Typed(b'e'), Done, 1, false),
+    (PortRead(0x3FD), Shows(0x61), 0, false),
     (PortWrite(0x60, 0xFE), Done, 0, false),
     (PortWrite(0x64, 0xFF), Done, 0, false),
     (PortWrite(0x64, 0xFE), Reset, 0, false),
@@ -83,14 +90,13 @@ fn a_monitor_replies_to_each_event_also_if_it_moves(rt: HostRuntime) -> Result<(
     for place in 0..=events.len() {
         let mut monitor = Monitor::new(alloc, 1, 100)?;
         let (first, others) = events.split_at(place);
-        let moved = run_on_two(alloc, &mut monitor, first, others)?;
-        assert!(rt; (moved.before.len(), moved.after.len()) == (place, SESSION.len() - place));
+        let before = monitor.run(alloc, first)?;
+        let mut moved = move_monitor(alloc, &monitor)?;
+        let after = moved.run(alloc, others)?;
+        assert!(rt; (before.len(), after.len()) == (place, SESSION.len() - place));
+        assert!(rt; first_wrong(&before, &after).is_none(), "{place}");
         assert!(rt;
-            first_wrong(&moved.before, &moved.after).is_none(),
-            "{place}"
-        );
-        assert!(rt;
-            moved.monitor.output.waiting(alloc)?.as_slice() == b"xy".as_slice(),
+            moved.output.waiting(alloc)?.as_slice() == b"xy".as_slice(),
             "{place}"
         );
     }
@@ -107,7 +113,7 @@ fn a_guest_that_polls_gets_its_input_at_once(rt: HostRuntime) -> Result<(), Fail
     // Bytes of another device are no monitor.
     let mut saved = save_monitor(rt.alloc(), &monitor)?;
     assert!(rt; restore_monitor(rt.alloc(), &saved).is_ok());
-    saved.devices.serial = saved.devices.clock.clone()?;
+    saved.serial = saved.clock.clone()?;
     let error = restore_monitor(rt.alloc(), &saved).err();
     assert!(rt; matches!(error, Some(Error::Bytes(Fault::OtherDevice))));
     Ok(())

@@ -8,10 +8,7 @@ use std::io;
 use std::io::Write;
 use std::test::Fail;
 use superio_examples::bus::{Bus, BusError, COM1, COM2, COM3, COM4, Keyboard};
-use superio_examples::console::Console;
 use superio_examples::event_fd::EventFd;
-use superio_examples::first_claims::send_byte;
-use superio_examples::input::Input;
 use superio_examples::output::Output;
 use superio_script::LineRefused;
 use vm_superio::run::{Call, Reply};
@@ -111,47 +108,25 @@ enum Way {
     Write,
     Bus,
     PortOut,
-    Forward,
-    Console,
-    NewPort,
 }
 
 /// What those calls are made on.
-#[derive(Drop)]
-struct Machine<'a> {
-    bus: Bus<Object<'a>, Object<'a>, Object<'a>, Object<'a>>,
-    console: Console<Object<'a>, Object<'a>, Object<'a>>,
-}
+type AnyBus<'a> = Bus<Object<'a>, Object<'a>, Object<'a>, Object<'a>>;
 
-/// A machine with ports in any state.
-fn any_machine<'a>(alloc: Global, log: &'a Log, numbers: &mut u64) -> Result<Machine<'a>, Fail> {
+/// A bus with a port in any state.
+fn any_bus<'a>(alloc: Global, log: &'a Log, numbers: &mut u64) -> Result<AnyBus<'a>, Fail> {
     let choice = next(numbers);
-    let mut input = Input::new(alloc, 3)?;
-    input.push(&b"abc"[..(choice % 4) as usize]);
-    Ok(Machine {
-        bus: Bus {
-            base: match choice >> 2 & 7 {
-                0..=3 => [COM1, COM2, COM3, COM4][(choice >> 5 & 3) as usize],
-                _ => 0x200 + 8 * (choice >> 5 & 0x1FF) as u16,
-            },
-            keyboard: match choice >> 14 & 1 {
-                0 => Keyboard::Silent,
-                _ => Keyboard::Absent,
-            },
-            serial: any_port(alloc, log, numbers)?,
-            controller: I8042Device::new(Object(log)),
+    Ok(Bus {
+        base: match choice & 7 {
+            0..=3 => [COM1, COM2, COM3, COM4][(choice >> 3 & 3) as usize],
+            _ => 0x200 + 8 * (choice >> 3 & 0x1FF) as u16,
         },
-        console: Console {
-            serial: any_port(alloc, log, numbers)?,
-            input,
-            output: Output::new(
-                alloc,
-                [0, 1, 3, 4, 64, 1_000, 2, 65][(choice >> 15 & 7) as usize],
-            )?,
-            is_refused: choice >> 18 & 1 == 1,
-            is_early: choice >> 19 & 1 == 1,
-            is_ready: choice >> 20 & 1 == 1,
+        keyboard: match choice >> 12 & 1 {
+            0 => Keyboard::Silent,
+            _ => Keyboard::Absent,
         },
+        serial: any_port(alloc, log, numbers)?,
+        controller: I8042Device::new(Object(log)),
     })
 }
 
@@ -167,10 +142,8 @@ fn of_port(error: BusError<LineRefused, LineRefused>) -> Error<LineRefused> {
 }
 
 /// Sends any byte.
-fn sent(alloc: Global, log: &Log, machine: &mut Machine, way: Way, numbers: &mut u64) -> Sent {
+fn sent(bus: &mut AnyBus, way: Way, numbers: &mut u64) -> Sent {
     let value = any_byte(numbers);
-    let object = Object(log);
-    let Machine { bus, console } = machine;
     match way {
         Way::Write => bus.serial.write(0, value),
         Way::Bus => bus.write(bus.base, value).map_err(of_port),
@@ -181,9 +154,6 @@ fn sent(alloc: Global, log: &Log, machine: &mut Machine, way: Way, numbers: &mut
             let at = bus.base.wrapping_sub(u16::from(before));
             bus.port_out(at, &bytes[..width]).map_err(of_port)
         }
-        Way::Forward => console.output.forward(&mut bus.serial, 0, value),
-        Way::Console => console.write(0, value),
-        Way::NewPort => send_byte(alloc, object, object, value).map(|_| ()),
     }
 }
 
@@ -207,23 +177,15 @@ fn a_fault_of_the_writer_is_returned_as_it_is(rt: HostRuntime) -> Result<(), Fai
     let interruptions = interruptions(rt.alloc())?;
     for fault in faults(rt.alloc())?.iter() {
         let log = Log::new();
-        let mut machine = any_machine(rt.alloc(), &log, &mut numbers)?;
+        let mut bus = any_bus(rt.alloc(), &log, &mut numbers)?;
         let interruption = interruptions[(next(&mut numbers) % 8) as usize];
         for writing in losses(*fault, interruption, next(&mut numbers) % 4) {
             let expected = expected(rt.alloc(), writing)?;
-            for way in [
-                Way::Write,
-                Way::Bus,
-                Way::PortOut,
-                Way::Forward,
-                Way::Console,
-                Way::NewPort,
-            ] {
+            for way in [Way::Write, Way::Bus, Way::PortOut] {
                 log.start(writing);
-                let found = sent(rt.alloc(), &log, &mut machine, way, &mut numbers);
+                let found = sent(&mut bus, way, &mut numbers);
                 assert!(rt; is_right(rt.alloc(), &log, &expected, &found)?, "{fault:?}");
-                go_on(&mut machine.bus.serial, &mut numbers);
-                go_on(&mut machine.console.serial, &mut numbers);
+                go_on(&mut bus.serial, &mut numbers);
             }
         }
     }

@@ -3,14 +3,10 @@
 
 use crate::objects::{Log, Object, port};
 use std::test::Fail;
-use superio_examples::alarm::{Alarm, alarm_at, find_alarm};
 use superio_examples::bus::{Bus, BusError, COM1, COM2, COM3, COM4, Keyboard};
-use superio_examples::console::Console;
-use superio_examples::input::Input;
-use superio_examples::interrupt_driver::{Feed, handle_repeatedly};
+use superio_examples::interrupt_driver::Session;
 use superio_examples::interrupts::TimedPort;
 use superio_examples::mmio::ClockWindow;
-use superio_examples::output::Output;
 use vm_superio::serial::SerialPort;
 use vm_superio::{I8042Device, Rtc};
 
@@ -160,74 +156,19 @@ fn a_clock_is_reached_in_its_window(rt: HostRuntime) {
 fn an_alarm_is_found_when_the_timer_goes_off(rt: HostRuntime) {
     let log = Log::new();
     let mut clock = Rtc::with_events(Object(&log));
-    let alarm = |line, next| Alarm { line, next };
-    assert!(rt; alarm_at(&clock, 1_000) == alarm(false, None));
+    let alarm = |clock: &Rtc<Object>, now| (clock.interrupt_line(), clock.alarm_due(now));
+    assert!(rt; alarm(&clock, 1_000) == (false, None));
     // The guest unmasks the interrupt and sets an alarm in a minute.
     clock.write(0x010, &1u32.to_le_bytes(), 1_000);
     clock.write(0x004, &1_060u32.to_le_bytes(), 1_000);
-    assert!(rt; alarm_at(&clock, 1_000) == alarm(false, Some(1_060)));
-    assert!(rt; find_alarm(&mut clock, 1_059) == alarm(false, Some(1_060)));
-    assert!(rt; find_alarm(&mut clock, 1_060) == alarm(true, None));
+    assert!(rt; alarm(&clock, 1_000) == (false, Some(60)));
+    clock.read(0x018, &mut [0; 4], 1_059);
+    assert!(rt; alarm(&clock, 1_059) == (false, Some(1)));
+    clock.read(0x018, &mut [0; 4], 1_060);
+    assert!(rt; alarm(&clock, 1_060) == (true, None));
     // It is cleared.
     clock.write(0x01C, &1u32.to_le_bytes(), 1_061);
-    assert!(rt; alarm_at(&clock, 1_061) == alarm(false, None));
-}
-
-// ---- consoles
-
-/// Eighty bytes.
-const INPUT: [u8; 80] = *b"\
-0123456789abcdefghijABCDEFGHIJ)!@#$%^&*(9876543210\
-jihgfedcbaJIHGFEDCBA(*&^%$#@!)";
-
-/// An event loop without poll, over 80 bytes of input, for a guest that reads when it is interrupted. The trigger
-/// refuses its calls in the first eight turns, and the source has no more bytes from the sixth turn on. A loop that
-/// stops there ends with its source, or waits for more bytes in a blocking read.
-#[test]
-fn a_loop_without_poll_serves_what_its_source_left(rt: HostRuntime) -> Result<(), Fail> {
-    for (stops, expected, held, room) in [(true, 0, 64, 0), (false, 80, 0, 16)] {
-        let log = Log::new();
-        let mut console = Console {
-            serial: port(rt.alloc(), &log)?,
-            input: Input::new(rt.alloc(), 16)?,
-            output: Output::new(rt.alloc(), 0)?,
-            is_refused: false,
-            is_early: false,
-            is_ready: false,
-        };
-        console.write(1, 0x01)?;
-        let (mut rest, mut served) = (&INPUT[..], 0usize);
-        for turn in 0..20 {
-            let next = log.triggers.get().wrapping_add(1);
-            log.refused.set(if turn < 8 { next } else { 0 });
-            console.retry();
-            let count = console.receive(rest);
-            rest = &rest[count..];
-            if rest.is_empty() && (stops || !console.is_refused && console.input.room() == 16) {
-                break;
-            }
-            if !console.is_refused {
-                for byte in INPUT.iter().skip(served) {
-                    if console.read(5) & 0x01 == 0 {
-                        break;
-                    }
-                    served = served.wrapping_add(usize::from(console.read(0) == *byte));
-                }
-            }
-            console.character_timeout();
-        }
-        assert!(rt; served == expected, "{stops}");
-        // After a reset input waits until the next guest is ready: it has enabled RDA, and not THRE, as a test of the
-        // port does. SeaBIOS finds a port if IIR shows THRE alone.
-        log.refused.set(0);
-        let old = console.reset(port(rt.alloc(), &log)?);
-        assert!(rt; (old.fifo_capacity(), console.receive(&INPUT)) == (64 - held, room));
-        console.write(1, 0x0F)?;
-        assert!(rt; console.read(5) == 0x60 && console.read(2) == 0xC2);
-        console.write(1, 0x05)?;
-        assert!(rt; console.read(5) == 0x61 && console.input.room() == 16);
-    }
-    Ok(())
+    assert!(rt; alarm(&clock, 1_061) == (false, None));
 }
 
 // ---- handlers of interrupts
@@ -275,17 +216,21 @@ fn a_handler_that_runs_again_gets_what_waited(rt: HostRuntime) -> Result<(), Fai
         let mut port = SerialPort::new();
         port.write(1, 0x01);
         port.enqueue_raw_bytes(b"ab");
-        let mut timed = TimedPort::new(port);
+        let timed = TimedPort::new(port);
         let registers = timed.port.registers;
         assert!(rt; registers.interrupt_enable & 0x01 == 0x01 && registers.line_control == 0x03);
         assert!(rt; bound >= 1);
-        let mut got = Vec::new(rt.alloc());
-        let mut feed = Feed {
+        let mut session = Session {
+            timed,
             rest: b"cdef",
             sizes,
+            got: Vec::new(rt.alloc()),
         };
-        handle_repeatedly(&mut timed, bound, runs, &mut feed, &mut got)?;
-        assert!(rt; got.as_slice() == expected, "{bound}: {runs}, {sizes:?}");
+        session.handle_repeatedly(bound, runs)?;
+        assert!(rt;
+            session.got.as_slice() == expected,
+            "{bound}: {runs}, {sizes:?}"
+        );
     }
     Ok(())
 }

@@ -4,19 +4,16 @@ use crate::objects::{Log, Object, PortObjects, port};
 use std::alloc::{AllocError, Global};
 use std::io::Write;
 use std::test::Fail;
-use superio_examples::driver::{receive_all, run_polled};
 use superio_examples::first_claims::{interleaved_in_order, read_back, restored_reads_same};
 use superio_examples::input::Input;
-use superio_examples::interrupt_driver::{receive_all_by_interrupts, receive_all_in_pieces};
-use superio_examples::migration::{Saved, restore, restore_input, save};
+use superio_examples::interrupt_driver::receive_all_in_pieces;
 use superio_examples::monitor::{Event, Monitor};
 use superio_examples::output::Output;
-use superio_examples::saved_monitor::{SavedMonitor, restore_monitor, run_on_two, save_monitor};
-use superio_script::drain;
+use superio_examples::saved_monitor::{SavedMonitor, move_monitor, restore_monitor, save_monitor};
 use vm_superio::rtc_pl031::saved_form::SAVED_SIZE;
 use vm_superio::run::Call;
-use vm_superio::serial::Three;
-use vm_superio::{Rtc, RtcState, SerialState};
+use vm_superio::serial::{SerialPort, Three};
+use vm_superio::{RtcState, Serial, SerialState};
 
 /// Sizes about the FIFO's, and above any that a body could have in mind.
 const SIZES: [usize; 7] = [0, 1, 63, 64, 65, 1_000, 100_000];
@@ -56,7 +53,6 @@ fn guests_get_all_input(rt: HostRuntime) -> Result<(), Fail> {
         );
         let read = read_back(alloc, object, object, part)?;
         assert!(rt; read.as_slice() == &part[..size.min(64)]);
-        assert!(rt; receive_all(alloc, object, object, part)?.as_slice() == part);
         for (place, bound) in BOUNDS.into_iter().enumerate() {
             // The most bytes arrive in one way for each bound.
             let ways = if size < 100_000 {
@@ -65,10 +61,8 @@ fn guests_get_all_input(rt: HostRuntime) -> Result<(), Fail> {
                 &ARRIVALS[place..=place]
             };
             for arrivals in ways.iter() {
-                let got = receive_all_by_interrupts(alloc, object, bound, part, arrivals)?;
-                assert!(rt; got.as_slice() == part, "{bound}: {size}");
                 let got = receive_all_in_pieces(alloc, bound, part, arrivals)?;
-                assert!(rt; got.as_slice() == part, "{bound}: {size}, without objects");
+                assert!(rt; got.as_slice() == part, "{bound}: {size}");
             }
         }
         let mut serial = port(alloc, &log)?;
@@ -78,7 +72,7 @@ fn guests_get_all_input(rt: HostRuntime) -> Result<(), Fail> {
         }
         calls.push(Call::CharacterTimeout)?;
         calls.push(Call::Restore(Three::with_writer(object, object, object)))?;
-        assert!(rt; run_polled(alloc, &mut serial, calls)?.len() == size + 3);
+        assert!(rt; serial.run(alloc, calls)?.len() == size + 3);
     }
     // Nothing was sent, and no interrupt was enabled.
     assert!(rt; log.calls() == [0; 4]);
@@ -88,8 +82,6 @@ fn guests_get_all_input(rt: HostRuntime) -> Result<(), Fail> {
 #[test]
 fn queues_take_as_many_bytes_as_they_may(rt: HostRuntime) -> Result<(), Fail> {
     let alloc = rt.alloc();
-    let log = Log::new();
-    let (serial, clock) = (port(alloc, &log)?, Rtc::new());
     let bytes = b"waiting ".repeat(alloc, 12_500)?;
     for size in SIZES {
         let part = &bytes[..size];
@@ -99,15 +91,17 @@ fn queues_take_as_many_bytes_as_they_may(rt: HostRuntime) -> Result<(), Fail> {
         assert!(rt; output.write(part).ok() == Some(size) && output.write(b"abc").ok() == Some(0));
         assert!(rt; output.waiting(alloc)?.as_slice() == part && output.dropped() == 3);
         assert!(rt; output.limit() == size && output.flush().is_ok());
-        let saved = save(alloc, &serial, &clock, &input)?;
-        let mut fed = port(alloc, &log)?;
-        assert!(rt; input.feed(&mut fed).ok() == Some(size.min(64)), "{size}");
+        let mut fed = SerialPort::new();
         assert!(rt;
-            drain(&mut fed).as_slice() == &part[..size.min(64)],
+            input.feed(&mut fed) == 0 && input.room() == size.min(64),
             "{size}"
         );
+        for byte in part.iter().take(64) {
+            assert!(rt; fed.read(0).byte == *byte, "{size}");
+        }
+        assert!(rt; fed.fifo_capacity() == 64, "{size}");
         for limit in [0, size, 2 * size] {
-            let restored = restore_input(alloc, &saved, limit)?;
+            let restored = Input::restored(alloc, part, limit)?;
             assert!(rt; restored.waiting(alloc)?.as_slice() == part, "{size}");
             assert!(rt; restored.room() == limit.saturating_sub(size), "{size}");
         }
@@ -118,35 +112,33 @@ fn queues_take_as_many_bytes_as_they_may(rt: HostRuntime) -> Result<(), Fail> {
             events.push(Event::Typed(b'a'))?;
             events.push(Event::PortWrite(0x3F8, b'b'))?;
         }
-        let moved = run_on_two(alloc, &mut monitor, &events, &events[..size.min(2)])?;
-        assert!(rt; moved.before.len() == 2 * size && moved.after.len() == size.min(2));
-        assert!(rt; moved.monitor.output.waiting(alloc)?.len() == size);
-        assert!(rt; moved.monitor.input.waiting(alloc)?.len() == size);
+        assert!(rt; monitor.run(alloc, &events)?.len() == 2 * size);
+        let mut moved = move_monitor(alloc, &monitor)?;
+        let others = &events[..size.min(2)];
+        assert!(rt; moved.run(alloc, others)?.len() == others.len());
+        assert!(rt; moved.output.waiting(alloc)?.len() == size);
+        assert!(rt; moved.input.waiting(alloc)?.len() == size);
     }
     Ok(())
 }
 
 #[test]
-fn devices_move_however_many_bytes_are_held(rt: HostRuntime) -> Result<(), Fail> {
+fn monitors_move_however_many_bytes_are_held(rt: HostRuntime) -> Result<(), Fail> {
     let alloc = rt.alloc();
-    let log = Log::new();
-    let object = Object(&log);
-    let mut serial = port(alloc, &log)?;
     // The ring of the input begins in its middle, and goes on at its start.
-    let mut input = Input::new(alloc, 100)?;
-    input.push(&[b'a'; 80]);
-    assert!(rt; input.feed(&mut port(alloc, &log)?).ok() == Some(64));
-    assert!(rt; input.push(&[b'b'; 84]) == 84 && input.waiting(alloc)?.len() == 100);
+    let mut monitor = Monitor::new(alloc, 100, 0)?;
+    monitor.input.push(&[b'a'; 80]);
+    monitor.input.feed(&mut SerialPort::new());
+    assert!(rt; monitor.input.push(&[b'b'; 84]) == 84 && monitor.input.room() == 0);
     for count in 0..=64usize {
         // The alarm's line is up, or down.
-        let state = RtcState::from_five(0, 0, 0, 1, (count % 2) as u32);
-        let clock = Rtc::from_state(&state, object);
-        let saved = save(alloc, &serial, &clock, &input)?;
+        monitor.clock = RtcState::from_five(0, 0, 0, 1, (count % 2) as u32);
+        let saved = save_monitor(alloc, &monitor)?;
         assert!(rt; saved.serial.len() == 17 + count && saved.clock.len() == SAVED_SIZE);
-        let restored = restore(alloc, &saved, object, object, object, object);
-        let moved = restored.ok().expect(&rt, "restored devices");
-        assert!(rt; save(alloc, &moved.serial, &moved.clock, &input)? == saved);
-        assert!(rt; serial.enqueue_raw_bytes(b"a").is_ok() == (count < 64));
+        assert!(rt; saved.input.len() == 100);
+        assert!(rt; save_monitor(alloc, &move_monitor(alloc, &monitor)?)? == saved);
+        let taken = monitor.port.enqueue_raw_bytes(b"a").taken;
+        assert!(rt; taken == usize::from(count < 64));
     }
     Ok(())
 }
@@ -154,20 +146,15 @@ fn devices_move_however_many_bytes_are_held(rt: HostRuntime) -> Result<(), Fail>
 /// How many registers a saved port has, a byte each, after the eight bytes that its form begins with.
 const REGISTERS: usize = 9;
 
-/// The devices of a machine: the port is new, but for the register at this place of its byte form, and holds so many
-/// bytes.
-fn devices_with(alloc: Global, place: usize, value: u8, held: usize) -> Result<Saved, AllocError> {
+/// A saved port that is new, but for the register at this place of its form, and that holds so many bytes.
+fn port_with(alloc: Global, place: usize, value: u8, held: usize) -> Result<Vec<u8>, AllocError> {
     let mut state = SerialState::default(alloc);
     for _ in 0..held {
         state.in_buffer.push(value)?;
     }
-    let mut serial = state.to_bytes().unwrap().as_bytes().to_vec(alloc)?;
-    serial[8 + place] = value;
-    Ok(Saved {
-        serial,
-        clock: Rtc::new().state().to_bytes().to_vec(alloc)?,
-        input: b"ab".to_vec(alloc)?,
-    })
+    let mut form = state.to_bytes().unwrap().as_bytes().to_vec(alloc)?;
+    form[8 + place] = value;
+    Ok(form)
 }
 
 /// An access of each register, each other event of a machine, and a second write of this value.
@@ -188,18 +175,21 @@ fn no_value_of_a_register_is_refused(rt: HostRuntime) -> Result<(), Fail> {
     let object = Object(&log);
     for place in 0..REGISTERS {
         for value in 0..=255u8 {
-            let devices = devices_with(alloc, place, value, usize::from(value % 65))?;
-            let restored = restore(alloc, &devices, object, object, object, object);
-            let mut moved = restored.ok().expect(&rt, "restored devices");
+            let form = port_with(alloc, place, value, usize::from(value % 65))?;
+            let state = SerialState::from_bytes(alloc, &form)?;
+            let restored = Serial::from_state(alloc, &state, object, object, object);
+            let mut serial = restored.ok().expect(&rt, "a restored port");
             let offset = value % 8;
             let calls = vec![in alloc; Call::Read(offset), Call::Write(offset, value)]?;
-            assert!(rt; run_polled(alloc, &mut moved.serial, calls)?.len() == 2);
+            assert!(rt; serial.run(alloc, calls)?.len() == 2);
             let at = value % 9;
-            let reads = restored_reads_same(alloc, &mut moved.serial, object, object, object, at);
+            let reads = restored_reads_same(alloc, &mut serial, object, object, object, at);
             assert!(rt; reads.is_ok(), "register {place} is {value}");
             let limit = usize::from(value % 4);
             let mut saved = SavedMonitor {
-                devices,
+                serial: form,
+                clock: RtcState::default().to_bytes().to_vec(alloc)?,
+                input: b"ab".to_vec(alloc)?,
                 input_limit: 2,
                 output: b"c".to_vec(alloc)?,
                 output_limit: limit,
@@ -221,8 +211,9 @@ fn no_value_of_a_register_is_refused(rt: HostRuntime) -> Result<(), Fail> {
             {
                 assert!(rt; monitor.run(alloc, &[*event; 5])?.len() == 5, "{event:?}");
             }
-            let moved = run_on_two(alloc, &mut monitor, &events, &events)?;
-            assert!(rt; moved.before.len() == events.len() && moved.after.len() == events.len());
+            assert!(rt; monitor.run(alloc, &events)?.len() == events.len());
+            let mut moved = move_monitor(alloc, &monitor)?;
+            assert!(rt; moved.run(alloc, &events)?.len() == events.len());
         }
     }
     Ok(())

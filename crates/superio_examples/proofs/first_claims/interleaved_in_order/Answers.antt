@@ -1,10 +1,14 @@
 -- A byte that is enqueued follows those before it on both sides. A byte that is read goes from one list to the other.
-use Rattle.std.proofs.Common.{[], ◌∷◌, ◌++◌, ap, ◌∙◌, append_assoc}
+use Rattle.std.proofs.Common.{◌≡◌, ℕ, List, [], ◌∷◌, ◌++◌, sym, ap, ◌∙◌, append_assoc}
 use Rattle.superio_core.specs.Serial.RegisterMap.{is_dlab, is_loopback}
 use Rattle.superio_core.specs.Serial.{State}
-use Rattle.superio_examples.proofs.ClaimLemmas.{enqueued_last}
 use Rattle.superio_examples.proofs.first_claims.interleaved_in_order.Goals.{in-Some+in_ok-push-in-Some, in-Some+else-fifo_capacity-gt0, in-None+in_ok-push-in-None, in-None+else-fifo_capacity-lt64}
 use Rattle.superio_examples.proofs.first_claims.interleaved_in_order.Goals as goal
+
+enqueued_last : (read held start enqueued bytes : List ℕ) → read ++ held ≡ start ++ enqueued
+    → read ++ (held ++ bytes) ≡ start ++ (enqueued ++ bytes)
+enqueued_last read held start enqueued bytes before =
+    sym (append_assoc read held bytes) ∙ ap (λ all. all ++ bytes) before ∙ append_assoc start enqueued bytes
 
 pub loop-turn-preserved : goal.loop-turn-preserved
 loop-turn-preserved g c =

@@ -1,45 +1,23 @@
--- One read for each byte.
-use Rattle.std.proofs.Common.{refl}
+use Rattle.std.proofs.Common.{Bool, true, false, ◌∷◌, [], take, refl, append_assoc, append-nil, arith}
+use Rattle.std.specs.Bool.{OnTrue}
+use Rattle.std.proofs.lemmas.List.{take_all, take_more_set}
 use Rattle.superio_examples.proofs.bus.Bus.port_in.Goals as goal
 
-pub returns-in-1-clause-bytes : goal.returns-in-1-clause-bytes
-returns-in-1-clause-bytes g c = rw (c.in-1.is, c.copy_from_slice.ensures.after) (
-  c.read.new.self,
-  record {
-    serial = c.read.ensures.serial;
-    serial_alone = c.read.ensures.serial_alone;
-    controller = c.read.ensures.controller;
-    controller_alone = c.read.ensures.controller_alone;
-    vacant = c.read.ensures.vacant;
-    base = c.read.ensures.base;
-    keyboard = c.read.ensures.keyboard;
-  },
-  refl,
-)
-
-pub returns-in-2-clause-bytes : goal.returns-in-2-clause-bytes
-returns-in-2-clause-bytes g c = rw (c.in-2.is, c.copy_from_slice-in-2.ensures.after) (
-  c.read-in-2.new.self,
-  record {
-    serial = c.read-in-2.ensures.serial;
-    serial_alone = c.read-in-2.ensures.serial_alone;
-    controller = c.read-in-2.ensures.controller;
-    controller_alone = c.read-in-2.ensures.controller_alone;
-    vacant = c.read-in-2.ensures.vacant;
-    base = c.read-in-2.ensures.base;
-    keyboard = c.read-in-2.ensures.keyboard;
-  },
-  (
-    c.read-in-2-2.new.self,
+pub loop-place-preserved : goal.loop-place-preserved
+loop-place-preserved g c =
+    let before = c.loop-place.invariant in
     record {
-      serial = c.read-in-2-2.ensures.serial;
-      serial_alone = c.read-in-2-2.ensures.serial_alone;
-      controller = c.read-in-2-2.ensures.controller;
-      controller_alone = c.read-in-2-2.ensures.controller_alone;
-      vacant = c.read-in-2-2.ensures.vacant;
-      base = c.read-in-2-2.ensures.base;
-      keyboard = c.read-in-2-2.ensures.keyboard;
-    },
-    refl,
-  ),
-)
+      coherent = λ is. c.read.ensures.coherent (before.coherent is);
+      read = λ more new made.
+          rw (take_more_set c.loop-place.bytes c.loop-place.place c.read.result (omega arith), append_assoc)
+          (before.read (c.read.result ∷ more) new (c.read.new.self, c.read.ensures.step, made));
+    }
+
+on-true : {P : Type 0} (test : Bool) → P → OnTrue test P
+on-true true holds = holds
+on-true false holds = tt
+
+pub returns-clause-bytes : goal.returns-clause-bytes
+returns-clause-bytes g c =
+    on-true _ (rw (append-nil (take c.loop-place.place c.loop-place.bytes), take_all c.loop-place.place c.loop-place.bytes (omega arith))
+    at (c.loop-place.invariant.read [] c.loop-place.self refl))

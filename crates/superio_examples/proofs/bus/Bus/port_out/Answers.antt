@@ -1,79 +1,39 @@
--- One write for each byte.
-use Rattle.vm_superio.specs.Links.{WriterCalls}
-use Rattle.std.proofs.Common.{◌≡◌, length, [], ◌∷◌, Ok, refl, sym, subst, arith}
-use Rattle.std.specs.Prelude.{slice_index}
-use Rattle.superio_examples.specs.PortIo.{WritesBytes}
-use Rattle.superio_examples.proofs.PortIoLemmas.{on-true, and-ok, list-of-1, list-of-2, list-of-4}
+use Rattle.std.proofs.Common.{◌≡◌, ◌+◌, ◌<◌, Bool, true, false, Result, Ok, Err, [], ◌∷◌, length, drop, get_or, refl, add-one, drop-cons, arith}
+use Rattle.std.specs.Bool.{OnTrue}
+use Rattle.std.proofs.Math.Seq.{drop-length}
+use Rattle.std.specs.Result.{result_and}
 use Rattle.superio_examples.proofs.bus.Bus.port_out.Goals as goal
 
-pub returns-in-len1-clause-bytes : goal.returns-in-len1-clause-bytes
-returns-in-len1-clause-bytes g c =
-    let bytes = c.args.bytes.now in
-    let few : length bytes ≡ 1 = omega (arith, c.in-len1.len_at_least, c.in-len1.len_below) in
-    let made : WritesBytes g.T.Trigger.link g.EV.SerialEvents.link (WriterCalls g.W.Write.contents) g.R.Trigger.link c.args.port
-    (slice_index bytes 0 ∷ []) c.write.result c.args.self.now c.write.new.self = (
-      c.write.result,
-      Ok tt,
-      c.write.new.self,
-      record {
-        serial = c.write.ensures.serial;
-        serial_alone = c.write.ensures.serial_alone;
-        reset_called = c.write.ensures.reset;
-        controller_alone = c.write.ensures.controller_alone;
-        otherwise_ok = c.write.ensures.otherwise_ok;
-        base = c.write.ensures.base;
-        keyboard = c.write.ensures.keyboard;
-      },
-      (refl, refl),
-      and-ok c.write.result,
-    ) in
-    on-true _ (subst (λ values. WritesBytes g.T.Trigger.link g.EV.SerialEvents.link (WriterCalls g.W.Write.contents) g.R.Trigger.link c.args.port values c.write.result c.args.self.now c.write.new.self)
-    (sym (list-of-1 bytes few)) made)
+and-then : {E : Type 0} (first second third : Result (Unit {0}) E)
+    → result_and first (result_and second third) ≡ result_and (result_and first second) third
+and-then (Ok done) second third = refl
+and-then (Err error) second third = refl
 
-pub returns-in-len2-clause-bytes : goal.returns-in-len2-clause-bytes
-returns-in-len2-clause-bytes g c =
-    let bytes = c.args.bytes.now in
-    let few : length bytes ≡ 2 = omega (arith, c.in-len2.len_at_least, c.in-len2.len_below) in
-    let made : WritesBytes g.T.Trigger.link g.EV.SerialEvents.link (WriterCalls g.W.Write.contents) g.R.Trigger.link c.args.port
-    (slice_index bytes 0 ∷ slice_index bytes 1 ∷ []) c.and.result c.args.self.now c.write-in-len2.new.self = (
-      c.write-first.result,
-      c.write-in-len2.result,
-      c.write-first.new.self,
-      record {
-        serial = c.write-first.ensures.serial;
-        serial_alone = c.write-first.ensures.serial_alone;
-        reset_called = c.write-first.ensures.reset;
-        controller_alone = c.write-first.ensures.controller_alone;
-        otherwise_ok = c.write-first.ensures.otherwise_ok;
-        base = c.write-first.ensures.base;
-        keyboard = c.write-first.ensures.keyboard;
-      },
-      (
-        c.write-in-len2.result,
-        Ok tt,
-        c.write-in-len2.new.self,
-        record {
-          serial = c.write-in-len2.ensures.serial;
-          serial_alone = c.write-in-len2.ensures.serial_alone;
-          reset_called = c.write-in-len2.ensures.reset;
-          controller_alone = c.write-in-len2.ensures.controller_alone;
-          otherwise_ok = c.write-in-len2.ensures.otherwise_ok;
-          base = c.write-in-len2.ensures.base;
-          keyboard = c.write-in-len2.ensures.keyboard;
-        },
-        (refl, refl),
-        and-ok c.write-in-len2.result,
-      ),
-      c.and.ensures,
-    ) in
-    on-true _ (subst (λ values. WritesBytes g.T.Trigger.link g.EV.SerialEvents.link (WriterCalls g.W.Write.contents) g.R.Trigger.link c.args.port values c.and.result c.args.self.now c.write-in-len2.new.self)
-    (sym (list-of-2 bytes few)) made)
+and-ok : {E : Type 0} (result : Result (Unit {0}) E) → result_and result (Ok tt) ≡ result
+and-ok (Ok done) = refl
+and-ok (Err error) = refl
 
-pub returns-in-len4-clause-bytes : goal.returns-in-len4-clause-bytes
-returns-in-len4-clause-bytes g c =
+on-true : {P : Type 0} (test : Bool) → P → OnTrue test P
+on-true true holds = holds
+on-true false holds = tt
+
+pub loop-byte-preserved : goal.loop-byte-preserved
+loop-byte-preserved g c =
+    let before = c.loop-byte.invariant in
     let bytes = c.args.bytes.now in
-    let few : length bytes ≡ 4 = omega (arith, c.in-len4.len_at_least, c.in-len4.len_below) in
-    let made : WritesBytes g.T.Trigger.link g.EV.SerialEvents.link (WriterCalls g.W.Write.contents) g.R.Trigger.link c.args.port
-    (slice_index bytes 0 ∷ slice_index bytes 1 ∷ slice_index bytes 2 ∷ slice_index bytes 3 ∷ []) c.write_four.result c.args.self.now c.write_four.new.self = c.write_four.ensures.bytes in
-    on-true _ (subst (λ values. WritesBytes g.T.Trigger.link g.EV.SerialEvents.link (WriterCalls g.W.Write.contents) g.R.Trigger.link c.args.port values c.write_four.result c.args.self.now c.write_four.new.self)
-    (sym (list-of-4 bytes few)) made)
+    let place = c.loop-byte.byte-index in
+    let h : c.loop-byte.byte-index < length c.args.bytes.now = c.loop-byte-test.true in
+    let left : drop place bytes ≡ get_or bytes place 0 ∷ drop (place + 1) bytes = rw (add-one, drop-cons bytes place 0) in
+    record {
+      coherent = λ is. c.write.ensures.coherent (before.coherent is);
+      written = λ rest new made.
+          rw (c.and-result.ensures, ← and-then c.loop-byte.result c.write.result rest)
+          (before.written (result_and c.write.result rest) new
+          (rw left (c.write.result, rest, c.write.new.self, c.write.ensures.step, made, refl)));
+    }
+
+pub returns-after-loop-byte-clause-bytes : goal.returns-after-loop-byte-clause-bytes
+returns-after-loop-byte-clause-bytes g c =
+    let all : c.loop-byte.byte-index ≡ length c.args.bytes.now = omega arith in
+    let none : drop c.loop-byte.byte-index c.args.bytes.now ≡ [] = rw all (drop-length c.args.bytes.now) in
+    on-true _ (rw (and-ok c.loop-byte.result) at (c.loop-byte.invariant.written (Ok tt) c.loop-byte.self (rw none (refl, refl))))

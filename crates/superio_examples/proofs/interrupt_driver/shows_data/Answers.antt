@@ -1,7 +1,0 @@
-use Rattle.std.proofs.Common.{refl}
-use Rattle.superio_core.specs.Bits.{has_bits}
-use Rattle.superio_examples.proofs.interrupt_driver.shows_data.Goals as goal
-
-pub returns : goal.returns
-unfolding has_bits
-returns c = refl
