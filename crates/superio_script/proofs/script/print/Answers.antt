@@ -3,7 +3,7 @@ use Rattle.std.proofs.Common.{◌≡◌, Bor, ℕ, List, ap, sym, ◌∙◌, ◌
 use Rattle.std.proofs.lemmas.List.{nil_from_length}
 use Rattle.std.specs.Io.KnownBytes.{Appends, WriteAppends}
 use Rattle.vm_superio.proofs.Lemmas.{Appends-nothing, Appends-append}
-use Rattle.superio_script.proofs.PartLemmas.{Appends-then_kept, whole_then}
+use Rattle.superio_script.proofs.ScriptLemmas.{Appends-then_kept, whole_then}
 use Rattle.superio_script.proofs.script.print.Goals.{in-Ok, in-Err}
 use Rattle.superio_script.proofs.script.print.Goals as goal
 

@@ -14,7 +14,7 @@ returns-in-Ok-clause-step c =
     let state = state_of c.in-Ok.state in
     let loads = port-loaded c.args.bytes.now state c.in-Ok.ensures.at_most_64 c.in-Ok.ensures.form in
     reply-weaker c.restore_from.result
-    (λ reply restores. load-step old new reply.items c.states_of_history.ensures.state c.args.bytes.now state loads restores)
+    (λ reply restores. load-step old new reply.items c.args.bytes.now state loads restores)
     c.restore_from.ensures.restore
 
 pub returns-in-Err-Bytes-clause-step : goal.returns-in-Err-Bytes-clause-step

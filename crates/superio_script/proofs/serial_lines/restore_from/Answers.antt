@@ -1,5 +1,5 @@
 -- A restore, whether its calls were accepted or one was refused. Without memory it has no reply.
-use Rattle.std.proofs.Common.{◌≡◌, refl, ap, sym, ◌∙◌, subst}
+use Rattle.std.proofs.Common.{◌≡◌, ap, sym, ◌∙◌, subst}
 use Rattle.vm_superio.specs.declared.serial.errors.Error.TheVariants.{Memory}
 use Rattle.vm_superio.specs.Serial.{Port}
 use Rattle.vm_superio.specs.Saved.{state_of}
@@ -19,7 +19,7 @@ returns-in-Ok-clause-restore c =
     let after = c.replace-old.ensures.after in
     let link = subst (λ (new : InterruptLine). InterruptLineLink old.trigger (all_ok (restore_calls state)) new) (ap (λ (port : Port InterruptLine EventCounts Output). port.trigger) (sym after))
     (subst (λ (l : InterruptLine). InterruptLineLink l (all_ok (restore_calls state)) c.in-Ok.restored.trigger) c.interrupt_evt-line.ensures made.called) in
-    rw c.reply_text.ensures (restore-accepts c.states_of_history.ensures.state c.steps_of_history.ensures old _ state
+    rw c.reply_text.ensures (restore-accepts old _ state
     (ap (λ (port : Port InterruptLine EventCounts Output). port.state) after ∙ made.state)
     link
     (ap (λ (port : Port InterruptLine EventCounts Output). port.events) after ∙ made.events ∙ c.events-counts.ensures)
@@ -33,4 +33,4 @@ returns-in_default-clause-restore c =
     let refuses = subst (λ (l : InterruptLine). RefusesRestore InterruptLineLink state refused.error l refused.trigger) c.interrupt_evt-line.ensures c.in-Err.ensures.refused in
     let other = λ (is : refused.error ≡ Memory). c.in_default.not-Memory (c.into_error.ensures ∙ is) in
     rw (c.error_reply.ensures, c.into_error.ensures)
-    (restore-refuses c.states_of_history.ensures.state c.steps_of_history.ensures old old state refused.trigger refused.error c.requires refuses other refl)
+    (restore-refuses old state refused.trigger refused.error c.requires refuses other)

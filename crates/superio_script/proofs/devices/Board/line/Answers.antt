@@ -13,10 +13,11 @@ use Rattle.superio_script.proofs.devices.Board.line.Goals as goal
 after-serial_line :
     {Reply Failure : Type 0} (items : Reply → List ℕ) (line : SerialCommand) (result : Result Reply Failure) (old new : Port InterruptLine EventCounts Output) (rtc : ClockDevice EventCounts) (reset_line : InterruptLine) →
     IfOk result (λ reply. IsSerialLineStep line (items reply) old new) → OnErr result (new ≡ old) → IsBetweenLines old rtc reset_line → IsBetweenLines new rtc reset_line
+unfolding IsSerialLineStep
 after-serial_line items line (Ok reply) old new rtc reset_line step unchanged before =
     let taken = step before.session before.serial in record {
       session = session_after_line before.session taken.0 line;
-      serial = taken.3;
+      serial = taken.2;
       clock_session = before.clock_session;
       clock = before.clock;
       controller = before.controller;
