@@ -8,7 +8,9 @@ use Rattle.vm_superio.specs.Rtc.{ClockDevice}
 use Rattle.vm_superio.specs.Serial.{Port}
 use Rattle.vm_superio.proofs.Lemmas.{Appends-nothing, Appends-append}
 use Rattle.vm_superio.proofs.Lemmas.Rtc.{fresh_clock-history}
-use Rattle.superio_script.specs.Objects.{InterruptLine, EventCounts, written_bytes}
+use Rattle.superio_script.specs.Objects.{written_bytes}
+use Rattle.superio_script.specs.declared.trigger.Line.{Line}
+use Rattle.superio_script.specs.declared.counts.Counts.{Counts}
 use Rattle.superio_script.specs.Command.{command_of, TakesMemory}
 use Rattle.superio_script.specs.Reply.{controller_reply}
 use Rattle.superio_script.specs.SerialScript.{Session, fresh_session, session_after_line}
@@ -50,7 +52,7 @@ module _ (session : Session) (clock_session : ClockSession) (line reply : List �
         next = next;
         next_clock = clock_session;
         serial = after;
-        clock = ap (λ (clock : ClockDevice EventCounts). clock.state) same_clock ∙ clock_at;
+        clock = ap (λ (clock : ClockDevice Counts). clock.state) same_clock ∙ clock_at;
         good = ap (λ (command : Option Command). is_some command) is;
         text = λ lines text (replies, are, same). subst (λ command. IsTextFrom session clock_session (until_bad command (good_commands lines)) (reply ++ text)) (sym is)
             (reply ∷ replies, (choice, replied, output-few next.output new.serial.out after.output, are), ap (λ rest. reply ++ rest) same);
@@ -60,7 +62,7 @@ module _ (session : Session) (clock_session : ClockSession) (line reply : List �
       record {
         next = session;
         next_clock = clock_session_after_line clock_session clock;
-        serial = subst (λ (port : Port InterruptLine EventCounts Output). IsAt session port) (sym same_serial) at;
+        serial = subst (λ (port : Port Line Counts Output). IsAt session port) (sym same_serial) at;
         clock = after;
         good = ap (λ (command : Option Command). is_some command) is;
         text = λ lines text (replies, are, same). subst (λ command. IsTextFrom session clock_session (until_bad command (good_commands lines)) (reply ++ text)) (sym is)
@@ -102,7 +104,7 @@ HasCarriedOut-at_start {mask} start all fresh = record {
   session = fresh_session mask;
   clock_session = fresh_clock_session;
   serial = fresh.serial;
-  clock = ap (λ (clock : ClockDevice EventCounts). clock.state) fresh.clock ∙ fresh_clock-history;
+  clock = ap (λ (clock : ClockDevice Counts). clock.state) fresh.clock ∙ fresh_clock-history;
   so_far = [];
   written = Appends-nothing start;
   text = λ lines text is. is;
@@ -216,10 +218,25 @@ pub Appends-then_kept :
     (before middle after : Option (List ℕ)) (bytes : List ℕ) → Appends before middle bytes → Keeps middle after → Appends before after bytes
 Appends-then_kept before middle after bytes first kept = grind arith
 
--- so much was written, and then more of the rest
-pub whole_then : (bytes written rest : List ℕ) (count : ℕ) → bytes ≡ written ++ rest → bytes ≡ (written ++ take count rest) ++ drop count rest
-whole_then bytes written rest count whole =
-    whole ∙ ap (λ rest. written ++ rest) (sym (take-append-drop count rest)) ∙ sym (append_assoc written (take count rest) (drop count rest))
+module _ {bytes : List ℕ} {start before : Option (List ℕ)} (part : WritesFirst bytes start before) (after : Option (List ℕ)) where
+  -- nothing more was written after it
+  abbrev pub WritesFirst-kept : Keeps before after → WritesFirst bytes start after
+  WritesFirst-kept kept = record {
+    written = part.written;
+    unwritten = part.unwritten;
+    whole = part.whole;
+    appended = Appends-then_kept start before after part.written part.appended kept;
+  }
+
+  -- or more of the rest
+  abbrev pub WritesFirst-more : (rest : List ℕ) → part.unwritten ≡ rest → (count : ℕ) → Appends before after (take count rest) → WritesFirst bytes start after
+  WritesFirst-more rest left count wrote = record {
+    written = part.written ++ take count rest;
+    unwritten = drop count rest;
+    whole = part.whole ∙ ap (λ rest. part.written ++ rest) (left ∙ sym (take-append-drop count rest))
+        ∙ sym (append_assoc part.written (take count rest) (drop count rest));
+    appended = Appends-append start before after part.written (take count rest) part.appended wrote;
+  }
 
 module _ {mask : ℕ} {lines : List (List ℕ)} {before : Option (List ℕ)} where
   pub WritesPart-nothing : (after : Option (List ℕ)) → Keeps before after → WritesPart mask lines before after
@@ -258,12 +275,7 @@ module _ {mask : ℕ} {lines : List (List ℕ)} {before : Option (List ℕ)} whe
     split = part.split;
     text = part.text;
     is_text = part.is_text;
-    part = record {
-      written = part.part.written;
-      unwritten = part.part.unwritten;
-      whole = part.part.whole;
-      appended = Appends-then_kept before middle after part.part.written part.part.appended kept;
-    };
+    part = WritesFirst-kept part.part after kept;
   }
 
 pub IfSome-always : {T : Type 0} {P : T → Type 0} (known : Option T) → ((value : T) → P value) → IfSome known P

@@ -1,5 +1,5 @@
 -- A line of the serial port is a step of its session.
-use Rattle.std.proofs.Common.{◌≡◌, ℕ, zero, suc, ◌-◌, ◌≤◌, Bool, true, false, List, [], ◌∷◌, ◌++◌, length, drop, slice_index, Option, Some, None, Result, Ok, Err, refl, ap, sym, ◌∙◌, subst, arith, append_assoc, append-nil, inl, inr, ◌≢◌, IsTrue, IfSome, IfOk, if◌then◌else◌, not, codes, ◌&&◌, is_some, length-drop}
+use Rattle.std.proofs.Common.{◌≡◌, ℕ, zero, suc, ◌-◌, ◌≤◌, Bool, true, false, List, [], ◌∷◌, ◌++◌, length, drop, slice_index, Option, Some, None, Result, Ok, Err, refl, ap, sym, ◌∙◌, subst, arith, append_assoc, append-nil, inl, inr, ◌≢◌, IsTrue, IfSome, if◌then◌else◌, not, codes, ◌&&◌, is_some, length-drop}
 use Rattle.std.specs.Option.{option_map}
 use Rattle.std.specs.Bool.{beq}
 use Rattle.std.proofs.lemmas.Bool.{and_parts, false≢true}
@@ -29,7 +29,9 @@ use Rattle.vm_superio.specs.declared.serial.errors.Error.{Error}
 use Rattle.vm_superio.specs.declared.serial.errors.Error.TheVariants.{Trigger, IOError, FullFifo, Memory}
 use Rattle.vm_superio.specs.Serial.{Port, failure_response}
 use Rattle.vm_superio.specs.Links.FoldsEvents.{FoldsEvents}
-use Rattle.superio_script.specs.Objects.{InterruptLine, fresh_interrupt_line, InterruptLineLink, EventCounts, no_counts, counts_after_event, written_bytes}
+use Rattle.superio_script.specs.Objects.{fresh_interrupt_line, InterruptLineLink, no_counts, counts_after_event, written_bytes}
+use Rattle.superio_script.specs.declared.trigger.Line.{Line}
+use Rattle.superio_script.specs.declared.counts.Counts.{Counts}
 use Rattle.superio_script.specs.Reply.{with_lf, response_reply, digits_reply, count_digits, counts_reply}
 use Rattle.superio_script.specs.Loading.{loaded_port, fault_words}
 use Rattle.superio_script.specs.SerialScript.{Session, fresh_session, Choice, trigger_answers, interrupt_line_after_calls, output_after, session_after_step, session_answers, session_outcome, call_reply, session_after_call, drained_bytes, session_after_reads, restore_answers, is_restore_refused, restore_reply, session_after_restore, load_reply, session_after_load, output_or_chosen, session_after_calls, session_trace, SessionStateLaw, DrainLaw, SessionOutputLaw}
@@ -56,7 +58,7 @@ was_refused false refusal e = absurd cc
 
 -- the answers that link an interrupt line are those that its mask gives
 trigger_answers-from_link :
-    (line new : InterruptLine) (calls : ℕ) (asked : Asked) (refusal : Option LineRefused) →
+    (line new : Line) (calls : ℕ) (asked : Asked) (refusal : Option LineRefused) →
     IsTrue (answers_all calls asked) → is_some refusal ≡ ends_in_refusal asked → InterruptLineLink line (answers_of asked refusal) new →
     (asked ≡ trigger_answers line calls) × (new ≡ interrupt_line_after_calls (answer_count asked) line)
 trigger_answers-from_link line new calls Nothing refusal fits some link =
@@ -124,16 +126,16 @@ written_bytes-after_call (Some all) sent.Out accepted bytes old new link same wa
 
 -- a fresh port is at the fresh session
 pub at-start :
-    (mask : ℕ) (port : Port InterruptLine EventCounts Output) →
+    (mask : ℕ) (port : Port Line Counts Output) →
     port.state ≡ fresh_state → port.trigger ≡ fresh_interrupt_line mask → port.events ≡ no_counts → written_bytes port.out ≡ [] → IsAt (fresh_session mask) port
 unfolding has_bits only_bits
 at-start mask port state line counts output = record { state = state; interrupt_line = line; counts = counts; output = output }
 
 -- the links of the board's objects
-abbrev pub board_links : PortLinks InterruptLine LineRefused EventCounts Output
+abbrev pub board_links : PortLinks Line LineRefused Counts Output
 board_links = port_links InterruptLineLink (FoldsEvents counts_after_event) output_link
 
-module _ {op : Op} {asked : Asked} {outcome : Sent} {response : Response} {refusal : Option LineRefused} {old new : Port InterruptLine EventCounts Output}
+module _ {op : Op} {asked : Asked} {outcome : Sent} {response : Response} {refusal : Option LineRefused} {old new : Port Line Counts Output}
     (made : IsPortStep board_links op asked outcome response refusal old new) where
   call-step : (before : Session) → IsAt before old →
       (response_reply response ≡ call_reply before op (is_lost outcome)) × IsAt (session_after_call before op (is_lost outcome)) new
@@ -141,7 +143,7 @@ module _ {op : Op} {asked : Asked} {outcome : Sent} {response : Response} {refus
       let s = before.state in
       let same : old ≡ record { state = s; trigger = before.interrupt_line; events = before.counts; out = old.out } =
       λ i. record { state = at.state i; trigger = at.interrupt_line i; events = at.counts i; out = old.out } in
-      let here = subst (λ (port : Port InterruptLine EventCounts Output). IsPortStep board_links op asked outcome response refusal port new) same made in
+      let here = subst (λ (port : Port Line Counts Output). IsPortStep board_links op asked outcome response refusal port new) same made in
       let fits = and_parts (answers_all (step_calls s op) asked) (beq (is_sent outcome) (sends_byte s op)) here.admissible in
       let answered = trigger_answers-from_link before.interrupt_line new.trigger (step_calls s op) asked refusal fits.0 here.refused here.trigger in
       let P : Asked → Sent → Type 0 = λ asked outcome. (response_reply response ≡ response_reply (step_response s op asked outcome)) × IsAt (session_after_step before op asked outcome) new in
@@ -166,7 +168,7 @@ module _ {op : Op} {asked : Asked} {outcome : Sent} {response : Response} {refus
 -- ---- a drain
 
 -- the reads of a driver, of which each is a call
-reads-step : (bytes : List ℕ) (old new : Port InterruptLine EventCounts Output) (before : Session) → IsAt before old
+reads-step : (bytes : List ℕ) (old new : Port Line Counts Output) (before : Session) → IsAt before old
     → ReadsWhileReady InterruptLineLink (FoldsEvents counts_after_event) output_link bytes old new
     → IsAt (session_after_reads (length bytes) before) new
 reads-step [] old new before at same = subst (IsAt before) (sym same) at
@@ -183,7 +185,7 @@ no_choice : Choice
 no_choice = record { loses = false; printed = []; short = omega arith }
 
 pub drain-step :
-    (bytes : List ℕ) (old new : Port InterruptLine EventCounts Output)
+    (bytes : List ℕ) (old new : Port Line Counts Output)
     → ReadsWhileReady InterruptLineLink (FoldsEvents counts_after_event) output_link bytes old new
     → length bytes ≤ 64
     → (IsTrue (is_dlab old.state.line_control) → bytes ≡ [])
@@ -202,7 +204,7 @@ drain-step bytes old new reads few latch ends before at =
 
 -- ---- the lines that change nothing
 
-module _ (port : Port InterruptLine EventCounts Output) where
+module _ (port : Port Line Counts Output) where
   pub capacity-step : IsSerialLineStep line.Capacity (digits_reply ((64 - length port.state.in_buffer) ∷ [])) port port
   unfolding IsSerialLineStep
   capacity-step before at = (no_choice, ap (λ (s : State). digits_reply ((64 - length s.in_buffer) ∷ [])) at.state, at)
@@ -213,7 +215,7 @@ module _ (port : Port InterruptLine EventCounts Output) where
 
   pub calls-step : IsSerialLineStep line.Calls (with_lf (count_digits port.trigger.calls)) port port
   unfolding IsSerialLineStep
-  calls-step before at = (no_choice, ap (λ (l : InterruptLine). with_lf (count_digits l.calls)) at.interrupt_line, at)
+  calls-step before at = (no_choice, ap (λ (l : Line). with_lf (count_digits l.calls)) at.interrupt_line, at)
 
   pub events-step : IsSerialLineStep line.Events (counts_reply port.events) port port
   unfolding IsSerialLineStep
@@ -261,7 +263,7 @@ refused-answers refusal (first ∷ second ∷ third ∷ due) responses few stops
 few-pending : (thre rda : Bool) → length (pending_in_order thre rda) ≤ 2
 few-pending thre rda = grind arith
 
-module _ (old new : Port InterruptLine EventCounts Output) (state : State) (reply : List ℕ) where
+module _ (old new : Port Line Counts Output) (state : State) (reply : List ℕ) where
   -- a restore whose calls were answered so
   abbrev IsRestoredBy : (before : Session) (asked : Asked) (refused : Bool) → Type 0
   IsRestoredBy before asked refused =
@@ -269,7 +271,7 @@ module _ (old new : Port InterruptLine EventCounts Output) (state : State) (repl
       × IsAt (if refused then before else record before { state = state; interrupt_line = interrupt_line_after_calls (answer_count asked) before.interrupt_line }) new
       × (IsTrue refused → new ≡ old)
 
-  restored-by : (before : Session) (after : InterruptLine) (refusal : Option LineRefused) (responses : List (Result (Unit {0}) LineRefused)) (refused : Bool) →
+  restored-by : (before : Session) (after : Line) (refusal : Option LineRefused) (responses : List (Result (Unit {0}) LineRefused)) (refused : Bool) →
       AreAnswered (restore_calls state) refusal responses refused → InterruptLineLink before.interrupt_line responses after →
       ((asked : Asked) → after ≡ interrupt_line_after_calls (answer_count asked) before.interrupt_line → IsRestoredBy before asked refused) →
       IsRestoredBy before (restore_answers before state) (is_restore_refused before state)
@@ -280,7 +282,7 @@ module _ (old new : Port InterruptLine EventCounts Output) (state : State) (repl
       (subst (IsRestoredBy before asked) (sym ends) (holds asked answered.1))
 
 -- a restore whose calls were accepted
-pub restore-accepts : (old new : Port InterruptLine EventCounts Output) (state : State) →
+pub restore-accepts : (old new : Port Line Counts Output) (state : State) →
     new.state ≡ state → InterruptLineLink old.trigger (all_ok (restore_calls state)) new.trigger → new.events ≡ old.events → new.out ≡ old.out →
     IsRestore state (with_lf (codes "ok")) old new
 restore-accepts old new state is link events out before at =
@@ -298,7 +300,7 @@ restore-accepts old new state is link events out before at =
     ))
 
 -- one of whose calls was refused
-pub restore-refuses : (old : Port InterruptLine EventCounts Output) (state : State) (after : InterruptLine) (error : Error LineRefused) →
+pub restore-refuses : (old : Port Line Counts Output) (state : State) (after : Line) (error : Error LineRefused) →
     length state.in_buffer ≤ 64 → RefusesRestore InterruptLineLink state error old.trigger after → error ≢ Memory →
     IsRestore state (response_reply (failure_response error)) old old
 restore-refuses old state after FullFifo few refuses other before at = absurd (omega (arith, refuses.0))
@@ -312,7 +314,7 @@ restore-refuses old state after (Trigger refusal) few (none_more, (responses, st
 
 -- ---- the lines that restore
 
-module _ (old new : Port InterruptLine EventCounts Output) (reply : List ℕ) where
+module _ (old new : Port Line Counts Output) (reply : List ℕ) where
   pub restore-step : IsRestore old.state reply old new → IsSerialLineStep line.Restore reply old new
   unfolding IsSerialLineStep
   restore-step restores before at =
@@ -326,17 +328,11 @@ module _ (old new : Port InterruptLine EventCounts Output) (reply : List ℕ) wh
       let (replied, after, unchanged) = restores before at in
       (no_choice, replied ∙ ap (load_reply before) (sym loads), subst (λ (loaded : Result State Fault). IsAt (session_after_load before loaded) new) (sym loads) after)
 
-pub refused-load-step : (bytes : List ℕ) (port : Port InterruptLine EventCounts Output) (fault : Fault) → loaded_port bytes ≡ Err fault →
+pub refused-load-step : (bytes : List ℕ) (port : Port Line Counts Output) (fault : Fault) → loaded_port bytes ≡ Err fault →
     IsSerialLineStep (line.Load bytes) (with_lf (fault_words fault)) port port
 unfolding IsSerialLineStep
 refused-load-step bytes port fault fails before at =
     (no_choice, ap (load_reply before) (sym fails), subst (λ (loaded : Result State Fault). IsAt (session_after_load before loaded) port) (sym fails) at)
-
--- what holds of a reply, if there is one, has this consequence
-pub reply-weaker : {Reply Failure : Type 0} {P Q : Reply → Type 0} (result : Result Reply Failure) → ((reply : Reply) → P reply → Q reply) →
-    IfOk result P → IfOk result Q
-reply-weaker (Ok reply) follows holds = follows reply holds
-reply-weaker (Err failure) follows holds = tt
 
 -- ---- a session by the history of its calls
 

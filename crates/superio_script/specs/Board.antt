@@ -5,7 +5,9 @@ use Rattle.superio_core.specs.Rtc.{fresh_clock}
 use Rattle.superio_core.specs.Serial.{State}
 use Rattle.vm_superio.specs.Serial.{Port}
 use Rattle.vm_superio.specs.Rtc.{ClockDevice}
-use Rattle.superio_script.specs.Objects.{InterruptLine, fresh_interrupt_line, EventCounts, no_counts, written_bytes}
+use Rattle.superio_script.specs.Objects.{fresh_interrupt_line, no_counts, written_bytes}
+use Rattle.superio_script.specs.declared.trigger.Line.{Line}
+use Rattle.superio_script.specs.declared.counts.Counts.{Counts}
 use Rattle.superio_script.specs.Reply.{controller_reply}
 use Rattle.superio_script.specs.SerialScript.{Session, fresh_session, Choice, is_restore_refused, restore_reply, session_after_restore, serial_reply, session_after_line}
 use Rattle.superio_script.specs.ClockScript.{ClockSession, clock_session_state, clock_reply, clock_session_after_line}
@@ -17,12 +19,12 @@ use Rattle.superio_script.specs.declared.command.ClockCommand.{ClockCommand}
 
 -- the devices. Of the controller, a contract sees its reset line
 pub record Devices : Type 0 where
-  pub serial : Port InterruptLine EventCounts Output
-  pub clock : ClockDevice EventCounts
-  pub controller : InterruptLine
+  pub serial : Port Line Counts Output
+  pub clock : ClockDevice Counts
+  pub controller : Line
 
 -- the board's serial port is at this session: in its state, with its objects
-pub record IsAt (session : Session) (port : Port InterruptLine EventCounts Output) : Type 0 where
+pub record IsAt (session : Session) (port : Port Line Counts Output) : Type 0 where
   pub state : port.state ≡ session.state
   pub interrupt_line : port.trigger ≡ session.interrupt_line
   pub counts : port.events ≡ session.counts
@@ -31,7 +33,7 @@ pub record IsAt (session : Session) (port : Port InterruptLine EventCounts Outpu
 -- a board between two lines: the serial port and the clock are each at some session, and the reset line was never
 -- called, since a fresh controller replaces one that was reset
 pub record IsBetweenLines
-    (port : Port InterruptLine EventCounts Output) (rtc : ClockDevice EventCounts) (reset_line : InterruptLine) :
+    (port : Port Line Counts Output) (rtc : ClockDevice Counts) (reset_line : Line) :
     Type 0 where
   pub session : Session
   pub serial : IsAt session port
@@ -49,14 +51,14 @@ pub record IsFresh (mask : ℕ) (board : Devices) : Type 0 where
 -- session's, and the port is then at the session after the line. That no more than 256 bytes go out before a loss, over
 -- several lines, follows from where the port is: its output holds no more
 unfoldable pub IsSerialLineStep :
-    (line : SerialCommand) (reply : List ℕ) (old new : Port InterruptLine EventCounts Output) → Type 0
+    (line : SerialCommand) (reply : List ℕ) (old new : Port Line Counts Output) → Type 0
 IsSerialLineStep line reply old new =
     (before : Session) → IsAt before old → (choice : Choice)
     × (reply ≡ serial_reply before choice line) × IsAt (session_after_line before choice line) new
 
 -- a restore of the port in a state, with the old port's objects. From each session that the port is at, the reply is
 -- that of a restore, and the port is then at the session after it; if the restore was refused, the port is unchanged
-abbrev pub IsRestore : (state : State) (reply : List ℕ) (old new : Port InterruptLine EventCounts Output) → Type 0
+abbrev pub IsRestore : (state : State) (reply : List ℕ) (old new : Port Line Counts Output) → Type 0
 IsRestore state reply old new =
     (before : Session) → IsAt before old
     → (reply ≡ restore_reply before state) × IsAt (session_after_restore before state) new

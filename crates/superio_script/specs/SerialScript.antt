@@ -14,7 +14,9 @@ use Rattle.superio_core.specs.Serial.Step.{step, step_response, step_events}
 use Rattle.superio_core.specs.Serial.Step.Admissible.{kind_in_state, step_calls, sends_byte}
 use Rattle.superio_core.specs.Serial.Step.Raising.{restore_calls}
 use Rattle.vm_superio.specs.Serial.History.{none_lost, output, state_of_history}
-use Rattle.superio_script.specs.Objects.{InterruptLine, fresh_interrupt_line, is_call_refused, interrupt_line_after_call, EventCounts, no_counts, counts_after_event}
+use Rattle.superio_script.specs.Objects.{fresh_interrupt_line, is_call_refused, interrupt_line_after_call, no_counts, counts_after_event}
+use Rattle.superio_script.specs.declared.trigger.Line.{Line}
+use Rattle.superio_script.specs.declared.counts.Counts.{Counts}
 use Rattle.superio_script.specs.Driver.{bytes_while_ready}
 use Rattle.superio_script.specs.Loading.{loaded_port, fault_words}
 use Rattle.superio_script.specs.Reply.{with_lf, response_reply, digits_reply, count_digits, counts_reply}
@@ -28,8 +30,8 @@ pub record Session : Type 0 where
   pub state : State
   -- the bytes that went out, which are not known once a byte was lost
   pub output : Option (List ℕ)
-  pub interrupt_line : InterruptLine
-  pub counts : EventCounts
+  pub interrupt_line : Line
+  pub counts : Counts
 
 -- a fresh port that was never called. The mask names the calls that its interrupt line refuses
 abbrev pub fresh_session : (mask : ℕ) → Session
@@ -50,7 +52,7 @@ pub record Choice : Type 0 where
 -- ---- a call of the port
 
 -- the interrupt line's answers to this many trigger calls, up to two. A refusal is the last answer
-abbrev pub trigger_answers : (line : InterruptLine) (calls : ℕ) → Asked
+abbrev pub trigger_answers : (line : Line) (calls : ℕ) → Asked
 trigger_answers line zero = Asked.Nothing
 trigger_answers line (suc zero) = if is_call_refused line.mask line.calls then Asked.Refused else Asked.Took
 trigger_answers line (suc (suc more)) =
@@ -59,7 +61,7 @@ trigger_answers line (suc (suc more)) =
     else Asked.TookTook)
 
 -- the interrupt line after so many calls
-abbrev pub interrupt_line_after_calls : (calls : ℕ) (line : InterruptLine) → InterruptLine
+abbrev pub interrupt_line_after_calls : (calls : ℕ) (line : Line) → Line
 interrupt_line_after_calls zero line = line
 interrupt_line_after_calls (suc calls) line = interrupt_line_after_calls calls (interrupt_line_after_call line)
 
