@@ -32,6 +32,8 @@ clock_form-loads state numbers =
     ap (λ (fault : Option Fault). unless_fault fault (clock_in (clock_form state))) (clock_form_has_no_fault state)
     ∙ ap Ok (numbers_in-form state numbers)
 
+pub ruleset saved_forms_load_laws = (port_form-loads, clock_form-loads)
+
 -- ---- what is read
 
 -- if a state was read, it is loaded

@@ -19,6 +19,7 @@ pub fn sessions_by_history()
 
 /// The saved form of a state loads this state: an `sl` or `cl` with the digits of an `sb` or `cb` starts where that was
 /// made.
+#[tactic(auto, using(crate::proofs::LineLemmas::saved_forms_load_laws))]
 pub fn saved_forms_load()
     ensures port { PortFormLoads }
     ensures clock { ClockFormLoads }

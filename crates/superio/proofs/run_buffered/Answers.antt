@@ -5,7 +5,7 @@ use Rattle.std.proofs.lemmas.Result.{on_ok_weaker}
 use Rattle.std.specs.Io.KnownBytes.{Keeps, append_known}
 use Rattle.std.specs.Io.Buffered.{writer_inner, writer_buffer, writer_contents}
 use Rattle.superio_script.specs.Script.{PrintsLines, RunsUpTo, StopsWithoutMemory}
-use Rattle.superio_script.proofs.ScriptLemmas.{Appends-then_kept}
+use Rattle.superio_script.proofs.ScriptLemmas.{Appends-then_kept, WritesPart-kept}
 use Rattle.superio.proofs.run_buffered.Goals as goal
 
 -- a buffer that holds nothing adds nothing
@@ -20,11 +20,24 @@ PrintsLines-kept mask lines before middle after kept (text, is, appended) = (tex
 
 RunsUpTo-kept : {bad : Option ℕ} {script : List ℕ} {left before middle : Option (List ℕ)} (after : Option (List ℕ)) → Keeps middle after
     → RunsUpTo bad script left before middle → RunsUpTo bad script left before after
-RunsUpTo-kept after kept run = record run { text = PrintsLines-kept _ _ _ _ after kept run.text }
+RunsUpTo-kept {middle = middle} after kept run = record {
+  within_limit = run.within_limit;
+  none_left = run.none_left;
+  first_bad = run.first_bad;
+  text = PrintsLines-kept _ _ _ middle after kept run.text;
+}
 
 StopsWithoutMemory-kept : {mask : ℕ} {lines : List (List ℕ)} {before middle : Option (List ℕ)} (after : Option (List ℕ)) → Keeps middle after
     → StopsWithoutMemory mask lines before middle → StopsWithoutMemory mask lines before after
-StopsWithoutMemory-kept after kept stops = record stops { text = PrintsLines-kept _ _ _ _ after kept stops.text }
+StopsWithoutMemory-kept {middle = middle} after kept stops = record {
+  earlier = stops.earlier;
+  line = stops.line;
+  later = stops.later;
+  split = stops.split;
+  all_good = stops.all_good;
+  takes_memory = stops.takes_memory;
+  text = PrintsLines-kept _ _ _ middle after kept stops.text;
+}
 
 pub returns-in-Ok-clause-ok : goal.returns-in-Ok-clause-ok
 returns-in-Ok-clause-ok g c =
@@ -54,3 +67,8 @@ returns-in-Ok-clause-too_long_unwritten g c = λ e.
     let end = g.W.Write.contents (writer_inner c.flush.new.self) in
     let kept = Keeps-behind _ end c.in-Ok.ensures.ok c.in-Ok.ensures.bytes in
     subst (λ output. Keeps (writer_contents g.W.Write.contents output) end) (c.run_script-end.ensures.too_long_unwritten e) kept
+
+pub returns-in-Err-clause-part : goal.returns-in-Err-clause-part
+returns-in-Err-clause-part g c =
+    IfSome_then (g.R.Read.remaining c.args.reader.now) c.run_script-end.ensures.part
+    (λ script part. WritesPart-kept (writer_contents g.W.Write.contents c.flush.new.self) part c.in-Err.ensures.bytes)
