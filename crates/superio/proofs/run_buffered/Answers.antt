@@ -3,8 +3,8 @@ use Rattle.std.proofs.Common.{◌≡◌, ℕ, List, [], ◌++◌, Option, Some, 
 use Rattle.std.proofs.lemmas.Option.{IfSome_then}
 use Rattle.std.proofs.lemmas.Result.{on_ok_weaker}
 use Rattle.std.specs.Io.KnownBytes.{Keeps, append_known}
-use Rattle.std.specs.Io.Buffered.{writer_inner, writer_buffer, writer_contents}
-use Rattle.superio_script.specs.Script.{PrintsLines, RunsUpTo, StopsWithoutMemory}
+use Rattle.std.specs.Io.Buffered.{writer_inner, writer_contents}
+use Rattle.superio_script.specs.Script.{body_of, PrintsLines, RunsUpTo, StopsWithoutMemory}
 use Rattle.superio_script.proofs.ScriptLemmas.{Appends-then_kept, WritesPart-kept}
 use Rattle.superio.proofs.run_buffered.Goals as goal
 
@@ -20,23 +20,23 @@ PrintsLines-kept mask lines before middle after kept (text, is, appended) = (tex
 
 RunsUpTo-kept : {bad : Option ℕ} {script : List ℕ} {left before middle : Option (List ℕ)} (after : Option (List ℕ)) → Keeps middle after
     → RunsUpTo bad script left before middle → RunsUpTo bad script left before after
-RunsUpTo-kept {middle = middle} after kept run = record {
+RunsUpTo-kept {script = script} {before = before} {middle = middle} after kept run = record {
   within_limit = run.within_limit;
   none_left = run.none_left;
   first_bad = run.first_bad;
-  text = PrintsLines-kept _ _ _ middle after kept run.text;
+  text = PrintsLines-kept (body_of script).mask (body_of script).lines before middle after kept run.text;
 }
 
 StopsWithoutMemory-kept : {mask : ℕ} {lines : List (List ℕ)} {before middle : Option (List ℕ)} (after : Option (List ℕ)) → Keeps middle after
     → StopsWithoutMemory mask lines before middle → StopsWithoutMemory mask lines before after
-StopsWithoutMemory-kept {middle = middle} after kept stops = record {
+StopsWithoutMemory-kept {mask = mask} {before = before} {middle = middle} after kept stops = record {
   earlier = stops.earlier;
   line = stops.line;
   later = stops.later;
   split = stops.split;
   all_good = stops.all_good;
   takes_memory = stops.takes_memory;
-  text = PrintsLines-kept _ _ _ middle after kept stops.text;
+  text = PrintsLines-kept mask stops.earlier before middle after kept stops.text;
 }
 
 pub returns-in-Ok-clause-ok : goal.returns-in-Ok-clause-ok
