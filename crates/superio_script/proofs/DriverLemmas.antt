@@ -42,42 +42,11 @@ byte_in (ByteRead byte) = byte
 byte_in _ = 0
 
 module _ {T E EV W : Type 0} (trigger : Link T (TriggerAnswer E)) (events : Link EV Event) (out : Link W OutCall) where
-  -- a read of LCR, and of LSR, gives its byte
-  pub lcr_read : (byte : ℕ) (old new : Port T EV W) → IsReadStep trigger events out 3 byte old new
-      → byte ≡ old.state.line_control
-  lcr_read byte old new made = ap byte_in made.response
-
-  pub lsr_read : (byte : ℕ) (old new : Port T EV W) → IsReadStep trigger events out 5 byte old new
-      → byte ≡ old.state.line_status
-  lsr_read byte old new made = ap byte_in made.response
-
   -- a read at offset 0 with DLAB clear
   pub record IsRbrRead (byte : ℕ) (old new : Port T EV W) : Type 0 where
     pub value : byte ≡ slice_index old.state.in_buffer 0
     pub state : new.state ≡ rbr_read old.state
     pub reported : events old.events (read_events RbrThr old.state.in_buffer) new.events
-
-  pub rbr_read-from_step : (byte : ℕ) (old new : Port T EV W) → is_dlab old.state.line_control ≡ false
-      → IsReadStep trigger events out 0 byte old new → IsRbrRead byte old new
-  rbr_read-from_step byte old new hidden made = record {
-    value = ap byte_in made.response ∙ ap (λ latch. register_read (register_at latch 0) old.state) hidden;
-    state = made.state ∙ ap (λ latch. read_step (register_at latch 0) old.state) hidden;
-    reported = subst (λ latch. events old.events (read_events (register_at latch 0) old.state.in_buffer) new.events)
-        hidden made.events;
-  }
-
-  pub reads_left-after_read : RbrDataReadyLaw → (byte : ℕ) (old new : Port T EV W)
-      → is_dlab old.state.line_control ≡ false → IsReady old.state
-      → IsReadStep trigger events out 0 byte old new → reads_left new.state + 1 ≡ reads_left old.state
-  reads_left-after_read law byte old new hidden ready made =
-      let read = rbr_read-from_step byte old new hidden made in
-      let left = ap (λ (s : State). s.in_buffer) read.state in
-      let shows = ap (λ (s : State). has_bits s.line_status 0x01) made.state ∙ law old.state hidden
-      ∙ ap (λ shown. shown && not_empty (step old.state (Read 0) Nothing).in_buffer) ready
-      ∙ ap (λ (s : State). not_empty s.in_buffer) (sym made.state) ∙ ap not_empty left in
-      ap (λ held. (if has_bits new.state.line_status 0x01 then 1 + (length held - 1) else 0) + 1) left
-      ∙ one-less old.state.in_buffer (has_bits new.state.line_status 0x01) shows
-      ∙ ap (λ shown. if shown then 1 + (length old.state.in_buffer - 1) else 0) (sym ready)
 
   -- a read of LSR that shows data ready, and then one of RBR
   pub record IsPass (byte : ℕ) (old new : Port T EV W) : Type 0 where
@@ -86,19 +55,46 @@ module _ {T E EV W : Type 0} (trigger : Link T (TriggerAnswer E)) (events : Link
     pub hidden : is_dlab new.state.line_control ≡ false
     pub less : reads_left new.state + 1 ≡ reads_left old.state
 
-  pub pass : RbrDataReadyLaw → (status byte : ℕ) (old seen new : Port T EV W) → is_dlab old.state.line_control ≡ false
+module _ {T E EV W : Type 0} {trigger : Link T (TriggerAnswer E)} {events : Link EV Event} {out : Link W OutCall} where
+  -- a read of LCR, and of LSR, gives its byte
+  pub lcr_read : {byte : ℕ} {old new : Port T EV W} → IsReadStep trigger events out 3 byte old new → byte ≡ old.state.line_control
+  lcr_read made = ap byte_in made.response
+
+  pub lsr_read : {byte : ℕ} {old new : Port T EV W} → IsReadStep trigger events out 5 byte old new → byte ≡ old.state.line_status
+  lsr_read made = ap byte_in made.response
+
+  pub rbr_read-from_step : {byte : ℕ} {old new : Port T EV W} → is_dlab old.state.line_control ≡ false
+      → IsReadStep trigger events out 0 byte old new → IsRbrRead trigger events out byte old new
+  rbr_read-from_step {byte} {old} {new} hidden made = record {
+    value = ap byte_in made.response ∙ ap (λ latch. register_read (register_at latch 0) old.state) hidden;
+    state = made.state ∙ ap (λ latch. read_step (register_at latch 0) old.state) hidden;
+    reported = subst (λ latch. events old.events (read_events (register_at latch 0) old.state.in_buffer) new.events)
+        hidden made.events;
+  }
+
+  pub pass : {status byte : ℕ} {old seen new : Port T EV W} → RbrDataReadyLaw → is_dlab old.state.line_control ≡ false
       → IsReadStep trigger events out 5 status old seen → seen ≡ old → has_bits status 0x01 ≡ true
-      → IsReadStep trigger events out 0 byte seen new → IsPass byte old new
-  pass law status byte old seen new hidden looked same shows made =
-      let ready = ap (λ lsr. has_bits lsr 0x01) (sym (ap byte_in looked.response)) ∙ shows in
-      let step = subst (λ (port : Port T EV W). IsReadStep trigger events out 0 byte port new) same made in record {
+      → IsReadStep trigger events out 0 byte seen new → IsPass trigger events out byte old new
+  pass {status} {byte} {old} {seen} {new} law hidden looked same shows read =
+      let ready = ap (λ lsr. has_bits lsr 0x01) (sym (lsr_read looked)) ∙ shows in
+      let made : IsReadStep trigger events out 0 byte old new =
+      subst (λ (port : Port T EV W). IsReadStep trigger events out 0 byte port new) same read in
+      let state = (rbr_read-from_step hidden made).state in
+      let left = ap (λ (s : State). s.in_buffer) state in
+      let still = ap (λ (s : State). has_bits s.line_status 0x01) made.state ∙ law old.state hidden
+      ∙ ap (λ shown. shown && not_empty (step old.state (Read 0) Nothing).in_buffer) ready
+      ∙ ap (λ (s : State). not_empty s.in_buffer) (sym made.state) ∙ ap not_empty left in
+      record {
         ready = ready;
-        made = step;
-        hidden = ap (λ (s : State). is_dlab s.line_control) (rbr_read-from_step byte old new hidden step).state ∙ hidden;
-        less = reads_left-after_read law byte old new hidden ready step;
+        made = made;
+        hidden = ap (λ (s : State). is_dlab s.line_control) state ∙ hidden;
+        less = ap (λ held. (if has_bits new.state.line_status 0x01 then 1 + (length held - 1) else 0) + 1) left
+            ∙ one-less old.state.in_buffer (has_bits new.state.line_status 0x01) still
+            ∙ ap (λ shown. if shown then 1 + (length old.state.in_buffer - 1) else 0) (sym ready);
       }
 
-  -- a driver reads what the steps say, if its reads end because LSR does not show data ready
+-- a driver reads what the steps say, if its reads end because LSR does not show data ready
+module _ {T E EV W : Type 0} (trigger : Link T (TriggerAnswer E)) (events : Link EV Event) (out : Link W OutCall) where
   pub reads-are_stepped : (most : ℕ) (bytes : List ℕ) (old new : Port T EV W) → is_dlab old.state.line_control ≡ false
       → ReadsWhileReady trigger events out bytes old new → has_bits new.state.line_status 0x01 ≡ false
       → length bytes ≤ most → bytes ≡ bytes_while_ready most old.state
@@ -108,7 +104,7 @@ module _ {T E EV W : Type 0} (trigger : Link T (TriggerAnswer E)) (events : Link
       (sym (ap (λ (port : Port T EV W). has_bits port.state.line_status 0x01) (sym same) ∙ ended))
   reads-are_stepped zero (byte ∷ bytes) old new hidden (ready, (middle, made, later)) ended few = absurd (omega (arith, few))
   reads-are_stepped (suc most) (byte ∷ bytes) old new hidden (ready, (middle, made, later)) ended few =
-      let read = rbr_read-from_step byte old middle hidden made in
+      let read = rbr_read-from_step hidden made in
       let rest = reads-are_stepped most bytes middle new (ap (λ (s : State). is_dlab s.line_control) read.state ∙ hidden) later ended (omega (arith, few)) in
       ap (λ first. first ∷ bytes) read.value
       ∙ ap (λ more. register_read RbrThr old.state ∷ more) (rest ∙ ap (bytes_while_ready most) read.state)
@@ -209,7 +205,7 @@ module _
         events = (no_event old.events new.events).1 (ap (λ (port : Port T EV W). port.events) (sym same));
       }
   takes_all (byte ∷ bytes) old new is hidden (ready, (middle, made, later)) clear =
-      let read = rbr_read-from_step trigger events out byte old middle hidden made in
+      let read = rbr_read-from_step hidden made in
       let after = subst Coherent read.state
       (subst Coherent (sym made.state) (coherence old.state (Read 0) Nothing is)) in
       let is_middle = subst Coherent (sym read.state) after in

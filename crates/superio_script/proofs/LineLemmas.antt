@@ -18,7 +18,8 @@ use Rattle.superio_script.specs.Loading.{unless_fault, port_in, loaded_port, clo
 use Rattle.vm_superio.specs.Links.FoldsEvents.{FoldsEvents}
 use Rattle.vm_superio.specs.Rtc.{invalid_write, GoesOnByHistory}
 use Rattle.vm_superio.specs.Rtc.History.{clock_of_history}
-use Rattle.superio_script.specs.Objects.{EventCounts, no_counts, counts_after_clock_event}
+use Rattle.superio_script.specs.Objects.{no_counts, counts_after_clock_event}
+use Rattle.superio_script.specs.declared.counts.Counts.{Counts}
 use Rattle.superio_script.specs.ClockScript.{ClockSession, clock_session_state, clock_session_after_access}
 
 -- ---- the laws
@@ -30,6 +31,8 @@ pub clock_form-loads : ClockFormLoads
 clock_form-loads state numbers =
     ap (λ (fault : Option Fault). unless_fault fault (clock_in (clock_form state))) (clock_form_has_no_fault state)
     ∙ ap Ok (numbers_in-form state numbers)
+
+pub ruleset saved_forms_load_laws = (port_form-loads, clock_form-loads)
 
 -- ---- what is read
 
@@ -48,20 +51,20 @@ port-refused fault state result error is found memory = grind arith
 -- ---- what a write of the clock does: the count of invalid writes shows whether the register takes it, and the
 -- bytes are the value
 
-abbrev pub IsReported : (writable : Bool) (old new : EventCounts) → Type 0
+abbrev pub IsReported : (writable : Bool) (old new : Counts) → Type 0
 IsReported writable old new = FoldsEvents counts_after_clock_event old (if writable then [] else invalid_write ∷ []) new
 
-pub counted-is_invalid : (writable : Bool) (old new : EventCounts) → old ≡ no_counts → IsReported writable old new → new.invalid_writes ≡ 1 → writable ≡ false
+pub counted-is_invalid : (writable : Bool) (old new : Counts) → old ≡ no_counts → IsReported writable old new → new.invalid_writes ≡ 1 → writable ≡ false
 counted-is_invalid true old new none reported one =
-    let zero : new.invalid_writes ≡ 0 = ap (λ (counts : EventCounts). counts.invalid_writes) (reported.folds ∙ none) in
+    let zero : new.invalid_writes ≡ 0 = ap (λ (counts : Counts). counts.invalid_writes) (reported.folds ∙ none) in
     absurd (omega (arith, zero, one))
 counted-is_invalid false old new none reported one = refl
 
-pub uncounted-is_valid : (writable : Bool) (old new : EventCounts) → old ≡ no_counts → IsReported writable old new → new.invalid_writes ≢ 1 → writable ≡ true
+pub uncounted-is_valid : (writable : Bool) (old new : Counts) → old ≡ no_counts → IsReported writable old new → new.invalid_writes ≢ 1 → writable ≡ true
 uncounted-is_valid true old new none reported other = refl
 uncounted-is_valid false old new none reported other =
-    let after = λ (counts : EventCounts). (counts_after_clock_event counts invalid_write).invalid_writes in
-    absurd (other (ap (λ (counts : EventCounts). counts.invalid_writes) reported.folds ∙ ap after none))
+    let after = λ (counts : Counts). (counts_after_clock_event counts invalid_write).invalid_writes in
+    absurd (other (ap (λ (counts : Counts). counts.invalid_writes) reported.folds ∙ ap after none))
 
 pub write-goes_on :
     (session : ClockSession) (old new : RtcState) (offset value moment : ℕ) (bytes : List ℕ) → value < 2 ^ 32 → bytes ≡ to_le_bytes w32 value →

@@ -1,14 +1,15 @@
 -- What a contract sees of a board, and of one line on it.
-use Rattle.std.specs.Prelude.{◌≡◌, ℕ, Bool, false, if◌then◌else◌, List, codes, IfSome, IsTrue}
+use Rattle.std.specs.Prelude.{◌≡◌, ℕ, List, IfSome, IsTrue}
 use Rattle.superio_core.specs.declared.rtc_pl031.state.RtcState.{RtcState}
 use Rattle.superio_core.specs.Rtc.{fresh_clock}
 use Rattle.superio_core.specs.Serial.{State}
 use Rattle.vm_superio.specs.Serial.{Port}
 use Rattle.vm_superio.specs.Rtc.{ClockDevice}
-use Rattle.superio_script.specs.Objects.{InterruptLine, fresh_interrupt_line, EventCounts, no_counts, written_bytes}
-use Rattle.superio_script.specs.Reply.{with_lf, controller_reply}
-use Rattle.superio_script.specs.PortSession.{Session, fresh_session, known_output, session_state}
-use Rattle.superio_script.specs.SerialScript.{Environment, IsPossible, serial_reply, is_restore_refused, restored_session, session_after_line}
+use Rattle.superio_script.specs.Objects.{fresh_interrupt_line, no_counts, written_bytes}
+use Rattle.superio_script.specs.declared.trigger.Line.{Line}
+use Rattle.superio_script.specs.declared.counts.Counts.{Counts}
+use Rattle.superio_script.specs.Reply.{controller_reply}
+use Rattle.superio_script.specs.SerialScript.{Session, fresh_session, Choice, is_restore_refused, restore_reply, session_after_restore, serial_reply, session_after_line}
 use Rattle.superio_script.specs.ClockScript.{ClockSession, clock_session_state, clock_reply, clock_session_after_line}
 use Rattle.superio_script.specs.declared.output.Output.{Output}
 use Rattle.superio_script.specs.declared.command.Command.{Command}
@@ -18,21 +19,21 @@ use Rattle.superio_script.specs.declared.command.ClockCommand.{ClockCommand}
 
 -- the devices. Of the controller, a contract sees its reset line
 pub record Devices : Type 0 where
-  pub serial : Port InterruptLine EventCounts Output
-  pub clock : ClockDevice EventCounts
-  pub controller : InterruptLine
+  pub serial : Port Line Counts Output
+  pub clock : ClockDevice Counts
+  pub controller : Line
 
 -- the board's serial port is at this session: in its state, with its objects
-pub record IsAt (session : Session) (port : Port InterruptLine EventCounts Output) : Type 0 where
-  pub state : port.state ≡ session_state session
+pub record IsAt (session : Session) (port : Port Line Counts Output) : Type 0 where
+  pub state : port.state ≡ session.state
   pub interrupt_line : port.trigger ≡ session.interrupt_line
   pub counts : port.events ≡ session.counts
-  pub output : IfSome (known_output session) (λ bytes. written_bytes port.out ≡ bytes)
+  pub output : IfSome session.output (λ bytes. written_bytes port.out ≡ bytes)
 
 -- a board between two lines: the serial port and the clock are each at some session, and the reset line was never
 -- called, since a fresh controller replaces one that was reset
 pub record IsBetweenLines
-    (port : Port InterruptLine EventCounts Output) (rtc : ClockDevice EventCounts) (reset_line : InterruptLine) :
+    (port : Port Line Counts Output) (rtc : ClockDevice Counts) (reset_line : Line) :
     Type 0 where
   pub session : Session
   pub serial : IsAt session port
@@ -46,30 +47,22 @@ pub record IsFresh (mask : ℕ) (board : Devices) : Type 0 where
   pub clock : board.clock ≡ record { state = fresh_clock; events = no_counts }
   pub controller : board.controller ≡ fresh_interrupt_line 0
 
--- a line of the serial port. From each session that the port is at, there is a possible environment by which the reply
--- is the session's, and the port is then at the session after the line. That no more than 256 bytes go out before a
--- loss, over several lines, follows from where the port is: its output holds no more
-abbrev pub IsSerialLineStep :
-    (line : SerialCommand) (reply : List ℕ) (old new : Port InterruptLine EventCounts Output) → Type 0
+-- a line of the serial port. From each session that the port is at, there is a choice by which the reply is the
+-- session's, and the port is then at the session after the line. That no more than 256 bytes go out before a loss, over
+-- several lines, follows from where the port is: its output holds no more
+unfoldable pub IsSerialLineStep :
+    (line : SerialCommand) (reply : List ℕ) (old new : Port Line Counts Output) → Type 0
 IsSerialLineStep line reply old new =
-    (before : Session) → IsAt before old → (environment : Environment)
-    × IsPossible environment × (reply ≡ serial_reply before environment line)
-    × IsAt (session_after_line before environment line) new
+    (before : Session) → IsAt before old → (choice : Choice)
+    × (reply ≡ serial_reply before choice line) × IsAt (session_after_line before choice line) new
 
--- a restore of the port in a state, with the old port's objects. From each session that a port in this state with these
--- objects is at, the reply is that of a restore, and the port is then at the restored session, or unchanged if the
--- restore was refused
-pub record RestoresTo
-    (restored : Session) (refused : Bool) (reply : List ℕ) (old new : Port InterruptLine EventCounts Output) :
-    Type 0 where
-  pub replied : reply ≡ with_lf (if refused then codes "trigger" else codes "ok")
-  pub accepted : refused ≡ false → IsAt restored new
-  pub unchanged : IsTrue refused → new ≡ old
-
-abbrev pub IsRestore : (state : State) (reply : List ℕ) (old new : Port InterruptLine EventCounts Output) → Type 0
+-- a restore of the port in a state, with the old port's objects. From each session that the port is at, the reply is
+-- that of a restore, and the port is then at the session after it; if the restore was refused, the port is unchanged
+abbrev pub IsRestore : (state : State) (reply : List ℕ) (old new : Port Line Counts Output) → Type 0
 IsRestore state reply old new =
-    (session : Session) → IsAt session (record old { state = state })
-    → RestoresTo (restored_session session) (is_restore_refused session) reply old new
+    (before : Session) → IsAt before old
+    → (reply ≡ restore_reply before state) × IsAt (session_after_restore before state) new
+    × (IsTrue (is_restore_refused before state) → new ≡ old)
 
 -- a line of the clock. From each session that the clock is at, the reply is the session's, and the clock is then at the
 -- session after the line

@@ -5,7 +5,6 @@ pub mod Driver
 pub mod Fields
 pub mod Loading
 pub mod Objects
-pub mod PortSession
 pub mod Reply
 pub mod Script
 pub mod SerialScript

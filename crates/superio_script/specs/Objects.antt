@@ -1,20 +1,17 @@
--- What a contract sees of the objects that the devices of a script own: the interrupt line, the counts of events and
--- the output.
+-- The objects that the devices of a script own: what calls make of the interrupt line, of the counts of events and of the
+-- output.
 use Rattle.std.specs.Prelude.{◌≡◌, ℕ, ◌+◌, ◌-◌, ◌^◌, Bool, ◌&&◌, ◌==◌, nat_lt, min, if◌then◌else◌, List, [], ◌∷◌, ◌++◌, Result, Ok, Err}
 use Rattle.std.specs.Int.{bit_at}
 use Rattle.std.proofs.Common.{subst, sym}
 use Rattle.superio_script.specs.declared.trigger.LineRefused.{LineRefused}
 use Rattle.superio_core.specs.Serial.Operations.{Event, buffer_read, out_byte, tx_lost_byte, in_buffer_empty}
 use Rattle.vm_superio.specs.Rtc.{RtcEvent, invalid_read, invalid_write}
+use Rattle.superio_script.specs.declared.counts.Counts.{Counts}
 use Rattle.superio_script.specs.declared.output.Output.{Output}
-
--- what a contract sees of an interrupt line: how often it was called, and which of its first 64 calls it refuses
-pub record InterruptLine : Type 0 where
-  pub calls : ℕ
-  pub mask : ℕ
+use Rattle.superio_script.specs.declared.trigger.Line.{Line}
 
 -- an interrupt line that was never called
-abbrev pub fresh_interrupt_line : (mask : ℕ) → InterruptLine
+abbrev pub fresh_interrupt_line : (mask : ℕ) → Line
 fresh_interrupt_line mask = record { calls = 0; mask = mask }
 
 -- the call with this number, counted from 0, is refused: the number is below 64, and the mask has that bit
@@ -26,23 +23,23 @@ abbrev pub saturating_increment : (count : ℕ) → ℕ
 saturating_increment count = min (count + 1) (2 ^ 64 - 1)
 
 -- the response to the next call
-abbrev pub next_call_answer : (line : InterruptLine) → Result (Unit {0}) LineRefused
+abbrev pub next_call_answer : (line : Line) → Result (Unit {0}) LineRefused
 next_call_answer line = if is_call_refused line.mask line.calls then Err (record {}) else Ok tt
 
 -- the interrupt line after one more call
-abbrev pub interrupt_line_after_call : (line : InterruptLine) → InterruptLine
+abbrev pub interrupt_line_after_call : (line : Line) → Line
 interrupt_line_after_call line = record { calls = saturating_increment line.calls; mask = line.mask }
 
 -- calls with these responses, in order, take the interrupt line from old to new
 abbrev pub InterruptLineLink :
-    (old : InterruptLine) (responses : List (Result (Unit {0}) LineRefused)) (new : InterruptLine) → Type 0
+    (old : Line) (responses : List (Result (Unit {0}) LineRefused)) (new : Line) → Type 0
 InterruptLineLink old [] new = old ≡ new
 InterruptLineLink old (response ∷ responses) new =
     (response ≡ next_call_answer old) × InterruptLineLink (interrupt_line_after_call old) responses new
 
 -- calls that follow each other are one list of calls
 pub InterruptLineLink-append :
-    (x y z : InterruptLine) (first second : List (Result (Unit {0}) LineRefused)) →
+    (x y z : Line) (first second : List (Result (Unit {0}) LineRefused)) →
     InterruptLineLink x first y → InterruptLineLink y second z → InterruptLineLink x (first ++ second) z
 InterruptLineLink-append x y z [] second same h = subst (λ line. InterruptLineLink line second z) (sym same) h
 InterruptLineLink-append x y z (response ∷ responses) second l h =
@@ -50,17 +47,8 @@ InterruptLineLink-append x y z (response ∷ responses) second l h =
 
 -- ---- counts of the events that devices report
 
--- how often each event of a serial port and of a clock was reported
-pub record EventCounts : Type 0 where
-  pub buffer_reads : ℕ
-  pub out_bytes : ℕ
-  pub tx_lost_bytes : ℕ
-  pub in_buffer_empties : ℕ
-  pub invalid_reads : ℕ
-  pub invalid_writes : ℕ
-
 -- no event was reported
-abbrev pub no_counts : EventCounts
+abbrev pub no_counts : Counts
 no_counts = record {
   buffer_reads = 0;
   out_bytes = 0;
@@ -71,7 +59,7 @@ no_counts = record {
 }
 
 -- the counts after one event of a serial port
-abbrev pub counts_after_event : (counts : EventCounts) (event : Event) → EventCounts
+abbrev pub counts_after_event : (counts : Counts) (event : Event) → Counts
 counts_after_event counts buffer_read =
     record counts { buffer_reads = saturating_increment counts.buffer_reads }
 counts_after_event counts out_byte =
@@ -82,7 +70,7 @@ counts_after_event counts in_buffer_empty =
     record counts { in_buffer_empties = saturating_increment counts.in_buffer_empties }
 
 -- the counts after one event of a clock
-abbrev pub counts_after_clock_event : (counts : EventCounts) (event : RtcEvent) → EventCounts
+abbrev pub counts_after_clock_event : (counts : Counts) (event : RtcEvent) → Counts
 counts_after_clock_event counts invalid_read =
     record counts { invalid_reads = saturating_increment counts.invalid_reads }
 counts_after_clock_event counts invalid_write =

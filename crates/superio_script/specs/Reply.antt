@@ -5,7 +5,7 @@ use Rattle.std.specs.Fmt.{decimal}
 use Rattle.hex.specs.Hex.{encode_lower}
 use Rattle.superio_core.specs.Serial.Operations.{Response, ByteRead, WriteOk, EnqueueOk, TimeoutOk, TriggerRefused, WriterFailed, FifoFull, OutOfMemory, NoResponse}
 use Rattle.superio_core.specs.I8042.{is_reset_command}
-use Rattle.superio_script.specs.Objects.{EventCounts}
+use Rattle.superio_script.specs.declared.counts.Counts.{Counts}
 use Rattle.superio_script.specs.declared.command.ControllerCommand.{ControllerCommand}
 use Rattle.superio_script.specs.declared.fault.ScriptFault.{ScriptFault}
 use Rattle.superio_script.specs.declared.fault.ScriptFault.TheVariants.{Bad, Io, Memory, TooLong}
@@ -41,7 +41,7 @@ response_reply OutOfMemory = []
 response_reply NoResponse = []
 
 -- the four counts of a serial port's events, with one space between two
-abbrev pub counts_reply : (counts : EventCounts) → List ℕ
+abbrev pub counts_reply : (counts : Counts) → List ℕ
 counts_reply counts =
     with_lf (count_digits counts.buffer_reads ++ 32 ∷ count_digits counts.out_bytes
     ++ 32 ∷ count_digits counts.tx_lost_bytes ++ 32 ∷ count_digits counts.in_buffer_empties)

@@ -5,8 +5,7 @@ use Rattle.std.specs.Io.KnownBytes.{Appends, Consumes, IsAtEnd}
 use Rattle.superio_script.specs.Fields.{lines_of}
 use Rattle.superio_script.specs.Command.{command_of, mask_of, TakesMemory}
 use Rattle.superio_script.specs.Reply.{controller_reply}
-use Rattle.superio_script.specs.PortSession.{Session, fresh_session}
-use Rattle.superio_script.specs.SerialScript.{Environment, IsPossible, serial_replies}
+use Rattle.superio_script.specs.SerialScript.{Session, fresh_session, AreSerialReplies}
 use Rattle.superio_script.specs.ClockScript.{ClockSession, fresh_clock_session, clock_replies}
 use Rattle.superio_script.specs.declared.command.Command.{Command}
 use Rattle.superio_script.specs.declared.command.Command.TheVariants.{Serial, Clock, Controller}
@@ -85,21 +84,19 @@ replies_in_order (Controller line ∷ commands) serial clock (reply ∷ controll
     reply ++ replies_in_order commands serial clock controller
 replies_in_order _ serial clock controller = []
 
--- the replies to these commands, from a session of the serial port and one of the clock on. The replies of each device
--- come from its own lines alone
-abbrev pub text_from :
-    (session : Session) (clock_session : ClockSession) (environment : Environment) (commands : List Command) → List ℕ
-text_from session clock_session environment commands =
-    replies_in_order commands
-    (serial_replies session environment (serial_lines commands))
-    (clock_replies clock_session (clock_lines commands))
-    (controller_replies (controller_lines commands))
+-- these are the replies to these commands, from a session of the serial port and one of the clock on. The replies of
+-- each device come from its own lines alone
+abbrev pub IsTextFrom :
+    (session : Session) (clock_session : ClockSession) (commands : List Command) (text : List ℕ) → Type 0
+IsTextFrom session clock_session commands text =
+    (replies : List (List ℕ)) × AreSerialReplies session (serial_lines commands) replies
+    × (text ≡ replies_in_order commands replies (clock_replies clock_session (clock_lines commands))
+    (controller_replies (controller_lines commands)))
 
--- the replies to the good ones of these lines, from fresh devices, given the mask of the serial port's interrupt line
--- and the environment
-abbrev pub text_of_lines : (mask : ℕ) (environment : Environment) (lines : List (List ℕ)) → List ℕ
-text_of_lines mask environment lines =
-    text_from (fresh_session mask) fresh_clock_session environment (good_commands lines)
+-- these are the replies to the good ones of these lines, from fresh devices, given the mask of the serial port's
+-- interrupt line
+abbrev pub IsText : (mask : ℕ) (lines : List (List ℕ)) (text : List ℕ) → Type 0
+IsText mask lines text = IsTextFrom (fresh_session mask) fresh_clock_session (good_commands lines) text
 
 -- the number of a script's first bad line, counted from 1, or `None` if every line is good
 abbrev pub first_bad_line_of : (script : List ℕ) → Option ℕ
@@ -107,11 +104,9 @@ first_bad_line_of script = first_bad_line (body_of script).first (body_of script
 
 -- ---- a run
 
--- for some possible environment, the text of these lines was written: what the writer held before, and what it holds
--- after
+-- the text of these lines was written: what the writer held before, and what it holds after
 abbrev pub PrintsLines : (mask : ℕ) (lines : List (List ℕ)) (before after : Option (List ℕ)) → Type 0
-PrintsLines mask lines before after =
-    (environment : Environment) × IsPossible environment × Appends before after (text_of_lines mask environment lines)
+PrintsLines mask lines before after = (text : List ℕ) × IsText mask lines text × Appends before after text
 
 -- a run read the whole script, which is within the limit, found this line to be the first bad one, and wrote the text
 -- of the lines before it: what remains in the reader, and what the writer held before and holds after
@@ -133,12 +128,9 @@ pub record WritesPart (mask : ℕ) (lines : List (List ℕ)) (before after : Opt
   pub earlier : List (List ℕ)
   pub later : List (List ℕ)
   pub split : lines ≡ earlier ++ later
-  pub environment : Environment
-  pub possible : IsPossible environment
-  pub written : List ℕ
-  pub unwritten : List ℕ
-  pub text : text_of_lines mask environment earlier ≡ written ++ unwritten
-  pub appended : Appends before after written
+  pub text : List ℕ
+  pub is_text : IsText mask earlier text
+  pub part : WritesFirst text before after
 
 -- the same of a run of this script
 abbrev pub WritesPartOf : (script : List ℕ) (before after : Option (List ℕ)) → Type 0

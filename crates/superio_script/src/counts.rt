@@ -2,7 +2,6 @@
 ghost use Rattle.std.specs.Prelude.{◌≡◌};
 ghost use Rattle.superio_script.specs.Objects.{saturating_increment};
 
-use std::marker::Model;
 use vm_superio::rtc_pl031::RtcEvents;
 use vm_superio::serial::SerialEvents;
 
@@ -15,30 +14,6 @@ pub struct Counts {
     in_buffer_empties: u64,
     invalid_reads: u64,
     invalid_writes: u64,
-}
-
-impl Model for Counts {
-    ghost use Rattle.superio_script.specs.Objects.{EventCounts};
-
-    ghost Value = { EventCounts };
-
-    ghost view = { λ counts. record {
-      buffer_reads = counts.buffer_reads;
-      out_bytes = counts.out_bytes;
-      tx_lost_bytes = counts.tx_lost_bytes;
-      in_buffer_empties = counts.in_buffer_empties;
-      invalid_reads = counts.invalid_reads;
-      invalid_writes = counts.invalid_writes;
-    } };
-
-    ghost inverse = { λ counts. record {
-      buffer_reads = counts.buffer_reads;
-      out_bytes = counts.out_bytes;
-      tx_lost_bytes = counts.tx_lost_bytes;
-      in_buffer_empties = counts.in_buffer_empties;
-      invalid_reads = counts.invalid_reads;
-      invalid_writes = counts.invalid_writes;
-    } };
 }
 
 impl Counts {

@@ -19,8 +19,8 @@ use vm_superio::{I8042Device, Rtc, Serial};
 
 /// The devices that a script drives: a serial port, a clock and an i8042 controller.
 ///
-/// Between two lines, the serial port and the clock are each at a session: the state they started in, and the trace of
-/// the calls since. [`Board::line`] states which session a line leads to.
+/// Between two lines, the serial port and the clock are each at a session: the port's state and what is known of its
+/// objects; the clock's start, and the accesses since. [`Board::line`] states which session a line leads to.
 #[derive(Drop)]
 pub struct Board {
     serial: Port,

@@ -1,14 +1,25 @@
 //! The laws over the definitions of a script. Each function does nothing: its contract is the law.
 ghost use Rattle.superio_script.specs.Loading.{PortFormLoads, ClockFormLoads};
-ghost use Rattle.superio_script.specs.PortSession.{CoherenceIsDecided};
+ghost use Rattle.superio_script.specs.SerialScript.{SessionStateLaw, DrainLaw, SessionOutputLaw};
 
-/// A session's texts are those of its history exactly if it started in a coherent state.
-pub fn coherence_is_decided()
-    ensures { CoherenceIsDecided }
-{}
+use vm_superio::laws;
+
+/// A session by the history of its calls. From a coherent start its state is that of the history, by which it replies
+/// (`laws::steps_of_history` of `vm_superio`), and a drain reads what is held. From any start its output is that of the
+/// history.
+pub fn sessions_by_history()
+    ensures state { SessionStateLaw }
+    ensures drained { DrainLaw }
+    ensures output { SessionOutputLaw }
+{
+    laws::states_of_history();
+    laws::coherence();
+    laws::registers();
+}
 
 /// The saved form of a state loads this state: an `sl` or `cl` with the digits of an `sb` or `cb` starts where that was
 /// made.
+#[tactic(auto, using(crate::proofs::LineLemmas::saved_forms_load_laws))]
 pub fn saved_forms_load()
     ensures port { PortFormLoads }
     ensures clock { ClockFormLoads }

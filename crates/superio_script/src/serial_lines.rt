@@ -19,7 +19,7 @@ use crate::trigger::{Line, LineRefused};
 use std::alloc::Global;
 use std::mem;
 use vm_superio::serial::Error;
-use vm_superio::{Serial, SerialState, laws, saved};
+use vm_superio::{Serial, SerialState, saved};
 
 /// The serial port of a board.
 pub(crate) type Port = Serial<Line, Counts, Output>;
@@ -36,12 +36,6 @@ pub(crate) fn serial_line(
     ensures only_memory { IfErr result (λ fault. fault ≡ LineFault.Memory) }
     ensures takes_memory { OnErr result (IsTrue (takes_memory line)) }
 {
-    // The port's contracts describe its state, a session the trace of its calls.
-    laws::registers();
-    laws::held_bytes();
-    laws::steps_of_history();
-    laws::states_of_history();
-    laws::coherence();
     match line {
         SerialCommand::Read { offset } => Ok(reply_byte(serial.read(offset))),
         SerialCommand::Write { offset, value } => Ok(result_reply(serial.write(offset, value))),
@@ -89,7 +83,6 @@ fn load(alloc: Global, serial: &mut Port, bytes: &[u8]) -> Result<Reply, LineFau
     ensures unchanged { OnErr result (serial.new ≡ serial.old) }
     ensures only_memory { IfErr result (λ fault. fault ≡ LineFault.Memory) }
 {
-    laws::states_of_history();
     match SerialState::from_bytes(alloc, bytes) {
         Ok(state) => restore_from(alloc, serial, &state),
         Err(saved::Error::Memory) => Err(LineFault::Memory),
@@ -104,8 +97,6 @@ fn restore_from(alloc: Global, serial: &mut Port, state: &SerialState) -> Result
     ensures unchanged { OnErr result (serial.new ≡ serial.old) }
     ensures only_memory { IfErr result (λ fault. fault ≡ LineFault.Memory) }
 {
-    laws::steps_of_history();
-    laws::states_of_history();
     let line = *serial.interrupt_evt();
     let counts = *serial.events();
     match Serial::from_state(alloc, state, line, counts, Output::new()) {

@@ -3,7 +3,6 @@ ghost use Rattle.std.specs.Prelude.{◌≡◌, Some, codes};
 
 use std::error::Error;
 use std::fmt;
-use std::marker::Model;
 use vm_superio::Trigger;
 
 /// The refusal of a call of a [`Line`], displayed as `line refused`.
@@ -28,16 +27,6 @@ impl Error for LineRefused {}
 pub struct Line {
     calls: u64,
     mask: u64,
-}
-
-impl Model for Line {
-    ghost use Rattle.superio_script.specs.Objects.{InterruptLine};
-
-    ghost Value = { InterruptLine };
-
-    ghost view = { λ line. record { calls = line.calls; mask = line.mask } };
-
-    ghost inverse = { λ line. record { calls = line.calls; mask = line.mask } };
 }
 
 impl Line {

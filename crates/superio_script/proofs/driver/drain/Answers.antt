@@ -17,7 +17,7 @@ loop-bytes-init g c =
     let EV = g.row.EV.Denot in
     let W = g.row.W.Denot in
     let same = c.read.ensures.rest_unchanged (refl {a = Other}) in
-    let value = lcr_read g.T.Trigger.link g.EV.SerialEvents.link (WriterCalls g.W.Write.contents) c.read.result c.args.serial.now c.read.new.self c.read.ensures.step in
+    let value = lcr_read c.read.ensures.step in
     record {
       hidden = ap (λ (port : Port T EV W). is_dlab port.state.line_control) same
           ∙ ap (λ byte. has_bits byte 0x80) (sym value) ∙ sym c.shows_latch.ensures ∙ c.if-shows_latch.false;
@@ -30,27 +30,21 @@ loop-bytes-init g c =
 
 pub push-requires : goal.push-requires
 push-requires g c =
-    let one = pass g.T.Trigger.link g.EV.SerialEvents.link (WriterCalls g.W.Write.contents) c.one_call.ensures.data_ready c.read-in-loop-bytes.result
-    c.read-in-loop-bytes-2.result c.loop-bytes.serial c.read-in-loop-bytes.new.self c.read-in-loop-bytes-2.new.self
-    c.loop-bytes.invariant.hidden c.read-in-loop-bytes.ensures.step (c.read-in-loop-bytes.ensures.rest_unchanged (refl {a = Other}))
-    (sym c.shows_data.ensures ∙ c.loop-bytes-test.true) c.read-in-loop-bytes-2.ensures.step in
+    let one = pass c.one_call.ensures.data_ready c.loop-bytes.invariant.hidden c.read-in-loop-bytes.ensures.step
+    (c.read-in-loop-bytes.ensures.rest_unchanged (refl {a = Other})) (sym c.shows_data.ensures ∙ c.loop-bytes-test.true) c.read-in-loop-bytes-2.ensures.step in
     (omega arith, omega (arith, c.loop-bytes.invariant.room, one.less))
 
 pub loop-bytes-smaller : goal.loop-bytes-smaller
 loop-bytes-smaller g c =
-    let one = pass g.T.Trigger.link g.EV.SerialEvents.link (WriterCalls g.W.Write.contents) c.one_call.ensures.data_ready c.read-in-loop-bytes.result
-    c.read-in-loop-bytes-2.result c.loop-bytes.serial c.read-in-loop-bytes.new.self c.read-in-loop-bytes-2.new.self
-    c.loop-bytes.invariant.hidden c.read-in-loop-bytes.ensures.step (c.read-in-loop-bytes.ensures.rest_unchanged (refl {a = Other}))
-    (sym c.shows_data.ensures ∙ c.loop-bytes-test.true) c.read-in-loop-bytes-2.ensures.step in
+    let one = pass c.one_call.ensures.data_ready c.loop-bytes.invariant.hidden c.read-in-loop-bytes.ensures.step
+    (c.read-in-loop-bytes.ensures.rest_unchanged (refl {a = Other})) (sym c.shows_data.ensures ∙ c.loop-bytes-test.true) c.read-in-loop-bytes-2.ensures.step in
     omega (arith, one.less)
 
 pub loop-bytes-preserved : goal.loop-bytes-preserved
 loop-bytes-preserved g c =
     let before = c.loop-bytes.invariant in
-    let one = pass g.T.Trigger.link g.EV.SerialEvents.link (WriterCalls g.W.Write.contents) c.one_call.ensures.data_ready c.read-in-loop-bytes.result
-    c.read-in-loop-bytes-2.result c.loop-bytes.serial c.read-in-loop-bytes.new.self c.read-in-loop-bytes-2.new.self
-    c.loop-bytes.invariant.hidden c.read-in-loop-bytes.ensures.step (c.read-in-loop-bytes.ensures.rest_unchanged (refl {a = Other}))
-    (sym c.shows_data.ensures ∙ c.loop-bytes-test.true) c.read-in-loop-bytes-2.ensures.step in
+    let one = pass c.one_call.ensures.data_ready c.loop-bytes.invariant.hidden c.read-in-loop-bytes.ensures.step
+    (c.read-in-loop-bytes.ensures.rest_unchanged (refl {a = Other})) (sym c.shows_data.ensures ∙ c.loop-bytes-test.true) c.read-in-loop-bytes-2.ensures.step in
     record {
       hidden = one.hidden;
       room = omega (arith, before.room, c.push.ensures.len, one.less);
@@ -69,14 +63,13 @@ returns-clause-at_most_64 g c = omega (arith, c.loop-bytes.invariant.room)
 
 pub returns-clause-dlab_reads_nothing : goal.returns-clause-dlab_reads_nothing
 returns-clause-dlab_reads_nothing g c = λ set.
-    let value = lcr_read g.T.Trigger.link g.EV.SerialEvents.link (WriterCalls g.W.Write.contents) c.read.result c.args.serial.now c.read.new.self c.read.ensures.step in
+    let value = lcr_read c.read.ensures.step in
     let clear = ap (λ byte. has_bits byte 0x80) (sym value) ∙ sym c.shows_latch.ensures ∙ c.if-shows_latch.false in
     absurd (false≢true (sym clear ∙ set))
 
 pub returns-clause-stops_when_not_ready : goal.returns-clause-stops_when_not_ready
 returns-clause-stops_when_not_ready g c = λ hidden.
-    let value = lsr_read g.T.Trigger.link g.EV.SerialEvents.link (WriterCalls g.W.Write.contents) c.read-in-loop-bytes.result c.loop-bytes.serial c.read-in-loop-bytes.new.self
-    c.read-in-loop-bytes.ensures.step in
+    let value = lsr_read c.read-in-loop-bytes.ensures.step in
     ap (λ (port : Port g.row.T.Denot g.row.EV.Denot g.row.W.Denot). has_bits port.state.line_status 0x01) (c.read-in-loop-bytes.ensures.rest_unchanged (refl {a = Other}))
     ∙ ap (λ byte. has_bits byte 0x01) (sym value) ∙ sym c.shows_data.ensures ∙ c.loop-bytes-test.false
 
@@ -94,7 +87,7 @@ returns-clause-all g c = λ is hidden.
 
 pub returns-clause-no_loss : goal.returns-clause-no_loss
 returns-clause-no_loss g c = λ is.
-    let value = lcr_read g.T.Trigger.link g.EV.SerialEvents.link (WriterCalls g.W.Write.contents) c.read.result c.args.serial.now c.read.new.self c.read.ensures.step in
+    let value = lcr_read c.read.ensures.step in
     let clear = ap (λ byte. has_bits byte 0x80) (sym value) ∙ sym c.shows_latch.ensures ∙ c.if-shows_latch.false in
     let all = returns-clause-all g c is clear in
     ap (λ (s : State). c.loop-bytes.bytes.items ++ s.in_buffer) all.state ∙ append-nil c.loop-bytes.bytes.items ∙ all.bytes

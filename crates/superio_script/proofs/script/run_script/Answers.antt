@@ -2,8 +2,8 @@
 use Rattle.std.proofs.Common.{rules, arith, ◌≡◌, Some, None, IfSome, List, ℕ}
 use Rattle.std.proofs.lemmas.Option.{IfSome_then}
 use Rattle.std.proofs.KnownBytes.{Keeps-refl}
-use Rattle.superio_script.specs.Script.{body_of, RunsUpTo, WritesPartOf}
-use Rattle.superio_script.proofs.PartLemmas.{IfSome-always, WritesPart-nothing, WritesPart-kept}
+use Rattle.superio_script.specs.Script.{RunsUpTo, WritesPartOf}
+use Rattle.superio_script.proofs.ScriptLemmas.{IfSome-always, WritesPart-nothing, WritesPart-kept}
 use Rattle.superio_script.proofs.SplittingLemmas.{length-lines_of-le}
 use Rattle.superio_script.proofs.script.run_script.Goals as goal
 
@@ -34,7 +34,7 @@ pub returns-in_err-script-clause-part : goal.returns-in_err-script-clause-part
 returns-in_err-script-clause-part g c =
     let start = g.W.Write.contents c.args.writer.now in
     IfSome-always (g.R.Read.remaining c.args.reader.now)
-    (λ script. WritesPart-nothing (body_of script).mask (body_of script).lines start start (Keeps-refl start))
+    (λ script. WritesPart-nothing start (Keeps-refl start))
 
 pub returns-clause-part : goal.returns-clause-part
 returns-clause-part g c =
@@ -47,4 +47,4 @@ returns-clause-part g c =
     c.in_ok-script.ensures.whole
     (λ script same.
     let part : WritesPartOf script start middle = search rules in
-    WritesPart-kept (body_of script).mask (body_of script).lines start middle end part c.flush.ensures.bytes)
+    WritesPart-kept end part c.flush.ensures.bytes)

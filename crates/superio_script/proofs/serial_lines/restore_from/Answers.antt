@@ -1,12 +1,14 @@
 -- A restore, whether its calls were accepted or one was refused. Without memory it has no reply.
-use Rattle.std.proofs.Common.{◌≡◌, refl, ap, sym, ◌∙◌, subst}
+use Rattle.std.proofs.Common.{◌≡◌, ap, sym, ◌∙◌, subst}
 use Rattle.vm_superio.specs.declared.serial.errors.Error.TheVariants.{Memory}
 use Rattle.vm_superio.specs.Serial.{Port}
 use Rattle.vm_superio.specs.Saved.{state_of}
 use Rattle.superio_core.specs.Serial.Step.Raising.{restore_calls}
 use Rattle.vm_superio.specs.Serial.Step.{RefusesRestore}
 use Rattle.vm_superio.specs.Links.{all_ok}
-use Rattle.superio_script.specs.Objects.{InterruptLine, InterruptLineLink, EventCounts}
+use Rattle.superio_script.specs.Objects.{InterruptLineLink}
+use Rattle.superio_script.specs.declared.trigger.Line.{Line}
+use Rattle.superio_script.specs.declared.counts.Counts.{Counts}
 use Rattle.superio_script.specs.declared.output.Output.{Output}
 use Rattle.superio_script.proofs.SerialScriptLemmas.{restore-accepts, restore-refuses}
 use Rattle.superio_script.proofs.serial_lines.restore_from.Goals as goal
@@ -17,20 +19,20 @@ returns-in-Ok-clause-restore c =
     let state = state_of c.args.state.now in
     let made = c.in-Ok.ensures in
     let after = c.replace-old.ensures.after in
-    let link = subst (λ (new : InterruptLine). InterruptLineLink old.trigger (all_ok (restore_calls state)) new) (ap (λ (port : Port InterruptLine EventCounts Output). port.trigger) (sym after))
-    (subst (λ (l : InterruptLine). InterruptLineLink l (all_ok (restore_calls state)) c.in-Ok.restored.trigger) c.interrupt_evt-line.ensures made.called) in
-    rw c.reply_text.ensures (restore-accepts c.states_of_history.ensures.state c.steps_of_history.ensures old _ state
-    (ap (λ (port : Port InterruptLine EventCounts Output). port.state) after ∙ made.state)
+    let link = subst (λ (new : Line). InterruptLineLink old.trigger (all_ok (restore_calls state)) new) (ap (λ (port : Port Line Counts Output). port.trigger) (sym after))
+    (subst (λ (l : Line). InterruptLineLink l (all_ok (restore_calls state)) c.in-Ok.restored.trigger) c.interrupt_evt-line.ensures made.called) in
+    rw c.reply_text.ensures (restore-accepts old _ state
+    (ap (λ (port : Port Line Counts Output). port.state) after ∙ made.state)
     link
-    (ap (λ (port : Port InterruptLine EventCounts Output). port.events) after ∙ made.events ∙ c.events-counts.ensures)
-    (c.into_writer.ensures ∙ ap (λ (port : Port InterruptLine EventCounts Output). port.out) c.replace-old.ensures.value))
+    (ap (λ (port : Port Line Counts Output). port.events) after ∙ made.events ∙ c.events-counts.ensures)
+    (c.into_writer.ensures ∙ ap (λ (port : Port Line Counts Output). port.out) c.replace-old.ensures.value))
 
 pub returns-in_default-clause-restore : goal.returns-in_default-clause-restore
 returns-in_default-clause-restore c =
     let old = c.args.serial.now in
     let state = state_of c.args.state.now in
     let refused = c.in-Err.refused in
-    let refuses = subst (λ (l : InterruptLine). RefusesRestore InterruptLineLink state refused.error l refused.trigger) c.interrupt_evt-line.ensures c.in-Err.ensures.refused in
+    let refuses = subst (λ (l : Line). RefusesRestore InterruptLineLink state refused.error l refused.trigger) c.interrupt_evt-line.ensures c.in-Err.ensures.refused in
     let other = λ (is : refused.error ≡ Memory). c.in_default.not-Memory (c.into_error.ensures ∙ is) in
     rw (c.error_reply.ensures, c.into_error.ensures)
-    (restore-refuses c.states_of_history.ensures.state c.steps_of_history.ensures old old state refused.trigger refused.error c.requires refuses other refl)
+    (restore-refuses old state refused.trigger refused.error c.requires refuses other)

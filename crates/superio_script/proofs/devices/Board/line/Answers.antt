@@ -4,25 +4,27 @@ use Rattle.vm_superio.specs.Rtc.{ClockDevice}
 use Rattle.vm_superio.specs.Serial.{Port}
 use Rattle.superio_script.specs.Board.{IsBetweenLines, IsSerialLineStep}
 use Rattle.superio_script.specs.ClockScript.{clock_session_after_line}
-use Rattle.superio_script.specs.Objects.{EventCounts, InterruptLine}
+use Rattle.superio_script.specs.declared.trigger.Line.{Line}
+use Rattle.superio_script.specs.declared.counts.Counts.{Counts}
 use Rattle.superio_script.specs.SerialScript.{session_after_line}
 use Rattle.superio_script.specs.declared.command.SerialCommand.{SerialCommand}
 use Rattle.superio_script.specs.declared.output.Output.{Output}
 use Rattle.superio_script.proofs.devices.Board.line.Goals as goal
 
 after-serial_line :
-    {Reply Failure : Type 0} (items : Reply → List ℕ) (line : SerialCommand) (result : Result Reply Failure) (old new : Port InterruptLine EventCounts Output) (rtc : ClockDevice EventCounts) (reset_line : InterruptLine) →
+    {Reply Failure : Type 0} (items : Reply → List ℕ) (line : SerialCommand) (result : Result Reply Failure) (old new : Port Line Counts Output) (rtc : ClockDevice Counts) (reset_line : Line) →
     IfOk result (λ reply. IsSerialLineStep line (items reply) old new) → OnErr result (new ≡ old) → IsBetweenLines old rtc reset_line → IsBetweenLines new rtc reset_line
+unfolding IsSerialLineStep
 after-serial_line items line (Ok reply) old new rtc reset_line step unchanged before =
     let taken = step before.session before.serial in record {
       session = session_after_line before.session taken.0 line;
-      serial = taken.3;
+      serial = taken.2;
       clock_session = before.clock_session;
       clock = before.clock;
       controller = before.controller;
     }
 after-serial_line items line (Err failure) old new rtc reset_line step unchanged before =
-    subst (λ (port : Port InterruptLine EventCounts Output). IsBetweenLines port rtc reset_line) (sym unchanged) before
+    subst (λ (port : Port Line Counts Output). IsBetweenLines port rtc reset_line) (sym unchanged) before
 
 pub invariant_of-self : goal.invariant_of-self
 invariant_of-self c =

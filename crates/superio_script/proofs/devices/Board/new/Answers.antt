@@ -3,7 +3,7 @@ use Rattle.std.proofs.Common.{rules, ◌≡◌, ◌∙◌}
 use Rattle.superio_core.specs.Rtc.{fresh_clock}
 use Rattle.vm_superio.proofs.Lemmas.Rtc.{fresh_clock-history}
 use Rattle.superio_script.specs.ClockScript.{fresh_clock_session}
-use Rattle.superio_script.specs.PortSession.{fresh_session}
+use Rattle.superio_script.specs.SerialScript.{fresh_session}
 use Rattle.superio_script.proofs.SerialScriptLemmas.{at-start}
 use Rattle.superio_script.proofs.devices.Board.new.Goals as goal
 
