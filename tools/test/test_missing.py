@@ -20,9 +20,9 @@ SAVED, SOME = "docs/SAVED-STATES.md", "some"
 # A tool with its arguments, the parts of the repository that it has beside tools/, the Python package and SAVED, how a
 # line of it ends, and what it passes and fails.
 MISSING = [
-    ("checks/calls", [CAT], [], "calls/clocks.txt is not there", (0, SOME)),
+    ("checks/calls", [CAT], [], "calls/line.txt is not there", (0, SOME)),
     ("checks/excerpts", [], [], "nothing was checked", (0, SOME)),
-    ("checks/failing_io", [CAT], [], "tests/whole_scripts.txt: No such file or directory", (0, SOME)),
+    ("checks/failing_io", [CAT], [], "tests/scripts.txt: No such file or directory", (0, SOME)),
     ("replay", [CAT], [], "boot.recording.xz: No such file or directory", (0, SOME)),
     ("checks/scripts", [CAT], [], "tests/clock.txt is not there", (0, SOME)),
     ("checks/transcripts", [CAT], [], "nothing was checked", (0, SOME)),

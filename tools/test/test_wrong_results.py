@@ -97,8 +97,8 @@ class Programs(CopyTest):
             printed = self.run_tool("tools/checks/calls", program(self.root / "program", text), env=environment)[1]
             return (*sum_of(printed)[:2], printed)
         passed, failed, _ = calls(OF_CALLS, self.tools)
-        self.assertIn((passed, failed), [(29, 0), (41, 0)])  # with Cargo beside cc there is a library more
-        self.assertEqual(calls(f"{OF_CALLS}sys.exit(1)\n", NOTHING_ELSE)[:2], (19, 10))
+        self.assertIn((passed, failed), [(20, 0), (29, 0)])  # with Cargo beside cc there is a library more
+        self.assertEqual(calls(f"{OF_CALLS}sys.exit(1)\n", NOTHING_ELSE)[:2], (13, 7))
         further = ("c/tests/shared.txt", "compare/panics.txt")
         for path in (*folder.glob("*.txt*"), *(self.root / "tools" / it for it in further)):
             pack, unpack = (lzma.compress, lzma.decompress) if path.suffix == ".xz" else (bytes, bytes)
@@ -109,7 +109,7 @@ class Programs(CopyTest):
         wrong = OF_CALLS.replace("print(reply)", "print('08' if line == 'sr 07\\n' else reply)")
         passed, failed, printed = calls(wrong, os.environ)
         lost = [it for it, says in DIFFERS.items() if f"{it}, line.txt: recorded: {says}\n" not in printed]
-        self.assertIn((passed, failed, lost), [(0, 29, ["Rust"]), (0, 41, [])], printed)
+        self.assertIn((passed, failed, lost), [(0, 20, ["Rust"]), (0, 29, [])], printed)
 
     def test_saved_forms(self):
         self.take("bindings", "docs/SAVED-STATES.md")
@@ -122,8 +122,9 @@ class Programs(CopyTest):
     @unittest.skipUnless(shutil.which("node"), "node is needed")
     def test_calls_in_javascript(self):
         recorded = (ROOT / "tests" / "calls" / "line.txt").read_text(encoding="ascii")
-        for equals, status, said in ((" = ", 0, "99 calls did the same, 0 did not"),
-                                     (" = 0", 1, "98 calls did the same, 1 did not")):
+        count = recorded.count(" = ")
+        for equals, status, said in ((" = ", 0, f"{count} calls did the same, 0 did not"),
+                                     (" = 0", 1, f"{count - 1} calls did the same, 1 did not")):
             ran = run(["node", js_check.REPLAY], input=equals.join(recorded.rpartition(" = ")[::2]))
             self.assertEqual((ran.returncode, said in ran.stdout), (status, True))
 
@@ -168,6 +169,22 @@ class Runs(FolderTest):
             {}, {"status": 1}, {"printed": b"0"}, {"errors": b"0"}, {"calls": []})]
         self.assertEqual(found, [0, every, every, every, sum(count - 2 for count in counts)])
 
+    def test_refused_memory_of_random_scripts(self):
+        """The runs end as they should, or all in one other way. No run differs that has all its memory."""
+        numbers, count = refused_memory.OF_A_RANDOM_SCRIPT, 5
+        status, _, errors = refused_memory.WITHOUT_MEMORY
+        refused = [[Call("allocate", 1, -1), *[Call("read", 1, 1)] * (number > 2)] for number in numbers]
+        rights = [Ran(status, b"", errors, calls) for calls in refused] * count
+        for right, wrong in ((rights, 0), ([replace(it, status=status + 1) for it in rights], len(rights)),
+                             ([replace(it, printed=b"0") for it in rights], len(rights)),
+                             ([replace(it, errors=b"") for it in rights], len(rights)),
+                             ([replace(it, calls=it.calls[:1]) for it in rights], len(rights) - 2 * count),
+                             ([None] * len(rights), len(rights)), ([Ran(9, b"", b"")] * len(rights), len(rights))):
+            failing = mock.Mock(**{"run_all.return_value": iter(right)})
+            with mock.patch.object(refused_memory, "RANDOM_SCRIPTS", count), \
+                    mock.patch.object(refused_memory, "random_script", lambda _: "ss\nsr 00\nss\n"):
+                self.assertEqual(faults_in(refused_memory.random_script_results(failing)), wrong)
+
     def test_calls_in_any_state(self):
         """A call says that memory was refused exactly if it was, and takes as much as it may. Each function is called,
         and runs differ in states. A run without a refusal ends with the number of its calls."""
@@ -192,20 +209,18 @@ class Runs(FolderTest):
 
     def test_loads_through_a_player_and_through_scripts(self):
         """One load differs, or a status is never returned. The runs of all scripts but the first are right."""
-        tried = list(saved_forms.chosen_bytes(random.Random(1)))
-        loads = len(saved_forms.LINES) * len(tried)
-        for printed, failed in ((f"{2 * loads} calls did the same, 0 did not\n", 0), ("", loads),
-                                (f"{2 * loads - 1} calls did the same, 1 did not\n", loads)):
-            with mock.patch("subprocess.run", return_value=ended(0, printed)), \
-                    mock.patch.object(saved_forms, "CHUNK", len(tried)):
-                result, _ = silently(saved_forms.through_player, [""], tried)
-            self.assertEqual(result, (loads - failed, failed))
-        with mock.patch("subprocess.run", return_value=ended(0, "4 calls did the same, 0 did not\n")):
-            self.assertGreater(silently(saved_forms.through_player, [""], [b""])[0][1], 0)
-        right = [(0, replies.encode(), b"") for _, replies in saved_forms.scripts(tried)]
+        tried = list(saved_forms.chosen_bytes(random.Random(1)))[:2 * saved_forms.OF_A_SCRIPT]
+        pieces = ["a = b\n" * 4]
+        for printed, failed in (("4 calls did the same, 0 did not\n", 0), ("", 2),
+                                ("3 calls did the same, 1 did not\n", 2)):
+            with mock.patch("subprocess.run", return_value=ended(0, printed)):
+                result, _ = silently(saved_forms.through_player, [""], pieces)
+            self.assertEqual(result, (2 - failed, failed))
+        self.assertGreater(len(saved_forms.never_returned([b""])), 0)
+        right = [script.expected for script, _ in saved_forms.scripts(tried)]
         for wrong in (right[0], (1, *right[0][1:]), (0, right[0][1][:-2] + b"0\n", b""), (*right[0][:2], b"0"), None):
             with mock.patch.object(saved_forms, "run_all", return_value=[wrong, *right[1:]]):
-                (passed, failed), _ = silently(saved_forms.scripted, "", tried)
+                (passed, failed), _ = silently(saved_forms.through_program, "", tried)
             self.assertEqual((passed > 0, failed > 0), (True, wrong != right[0]))
 
     def test_first_crate(self):

@@ -8,7 +8,6 @@
 //! If a number of rounds follows the seed, each call is made once more in each round, with a list of a length about
 //! those of FIFOs. Then the calls alone that returned that memory was refused have a line, and the last line is the
 //! number of all calls.
-mod any_lines;
 mod any_state;
 mod source;
 

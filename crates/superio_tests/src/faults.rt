@@ -1,5 +1,4 @@
 //! The faults of writers and readers, in each way that std can make one.
-use crate::objects::Log;
 use std::alloc::{AllocError, Global};
 use std::io;
 use std::io::ErrorKind;
@@ -77,55 +76,25 @@ pub fn faults_of_drivers(alloc: Global) -> Result<Vec<io::Error>, Fail> {
 
 /// Those by which a call is interrupted.
 pub fn interruptions(alloc: Global) -> Result<Vec<io::Error>, Fail> {
-    let mut interruptions = Vec::new(alloc);
-    for fault in faults(alloc)?
-        .iter()
-        .filter(|fault| fault.kind() == ErrorKind::Interrupted)
-    {
-        interruptions.push(*fault)?;
-    }
-    Ok(interruptions)
+    let mut faults = faults(alloc)?;
+    faults.retain(|fault| fault.kind() == ErrorKind::Interrupted);
+    Ok(faults)
 }
 
-/// What a call returns, and how often it calls `write` and `flush` of its writer.
-#[derive(Drop)]
-pub struct Expected {
-    returned: io::Result<()>,
-    text: String,
-    calls: [u64; 2],
-}
+/// What a call returned, and how often it called `write` and `flush` of its writer.
+pub type Outcome = (io::Result<()>, [u64; 2]);
 
-/// All that tells a result from others with its number: what a fault without one prints for debugging.
-fn text_of(alloc: Global, returned: &io::Result<()>) -> Result<String, AllocError> {
-    match returned {
-        Err(fault) if fault.raw_os_error().is_none() => format!(in alloc; "{fault:?}"),
-        _ => Ok(String::new(alloc)),
-    }
-}
-
-impl Expected {
-    pub fn new(
-        alloc: Global,
-        (returned, calls): (io::Result<()>, [u64; 2]),
-    ) -> Result<Expected, AllocError> {
-        Ok(Expected {
-            returned,
-            text: text_of(alloc, &returned)?,
-            calls,
-        })
-    }
-
-    /// Whether nothing tells a call from the expected one that returned this, and whose objects have this log.
-    pub fn is(&self, alloc: Global, log: &Log, found: &io::Result<()>) -> Result<bool, AllocError> {
-        let is_same = match (found, &self.returned) {
-            (Ok(()), Ok(())) => true,
-            (Err(found), Err(fault)) => found.raw_os_error() == fault.raw_os_error(),
-            _ => false,
-        };
-        Ok(
-            is_same
-                && text_of(alloc, found)? == self.text
-                && [log.writes.get(), log.flushes.get()] == self.calls,
-        )
-    }
+/// Whether nothing tells two outcomes apart. A fault without a number is known by what it prints.
+pub fn is_same(alloc: Global, first: &Outcome, second: &Outcome) -> Result<bool, AllocError> {
+    let ((returned, calls), (expected, expected_calls)) = (first, second);
+    let is_same = match (returned, expected) {
+        (Ok(()), Ok(())) => true,
+        (Err(fault), Err(other)) if fault.raw_os_error().is_none() => {
+            other.raw_os_error().is_none()
+                && format!(in alloc; "{fault:?}")? == format!(in alloc; "{other:?}")?
+        }
+        (Err(fault), Err(other)) => fault.raw_os_error() == other.raw_os_error(),
+        _ => false,
+    };
+    Ok(is_same && calls == expected_calls)
 }

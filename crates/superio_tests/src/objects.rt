@@ -1,8 +1,7 @@
 //! The objects that the tests give to a device: a trigger, an events object and a writer, which share a log.
-//!
-//! All tests use this one type of object, since the prover takes ten seconds for each type of port.
 ghost use Rattle.vm_superio.specs.Links.Unspecified.{Unspecified, Unspecified-nil, Unspecified-append};
 
+use crate::faults::Outcome;
 use std::alloc::Global;
 use std::cell::Cell;
 use std::io;
@@ -69,9 +68,9 @@ impl Writing {
     }
 }
 
-/// What std's own `write_all` returns of a writer that does this, piece by piece, and then `flush`, if that is to be
-/// called; and how often they call its `write` and `flush`.
-pub fn by_std(writing: Writing, pieces: &[&[u8]], flushes: bool) -> (io::Result<()>, [u64; 2]) {
+/// The outcome of std's own `write_all` over a writer that does this, piece by piece, and then of `flush`, if that is to
+/// be called.
+pub fn by_std(writing: Writing, pieces: &[&[u8]], flushes: bool) -> Outcome {
     let log = Log::new();
     log.start(writing);
     let mut writer = Object(&log);
@@ -84,7 +83,7 @@ pub fn by_std(writing: Writing, pieces: &[&[u8]], flushes: bool) -> (io::Result<
     if flushes && result.is_ok() {
         result = writer.flush();
     }
-    (result, [log.writes.get(), log.flushes.get()])
+    log.outcome(result)
 }
 
 /// What objects do, and how often they were called.
@@ -117,6 +116,11 @@ impl Log {
         self.writes.set(0);
         self.flushes.set(0);
         self.writing.set(writing);
+    }
+
+    /// The outcome of a call that returned this.
+    pub fn outcome(&self, returned: io::Result<()>) -> Outcome {
+        (returned, [self.writes.get(), self.flushes.get()])
     }
 
     /// How often the trigger, the events object, `write` and `flush` were called.

@@ -1,22 +1,28 @@
-//! The programs to copy succeed at any size, and for any value of a register. A body that gives up above a size or in
-//! some states, as without memory, meets each contract.
+//! The programs and claims to copy that a contract lets fail succeed, at any size, and for any value of a register. A body
+//! that gives up above a size or in some states, as without memory, meets each contract.
 use crate::objects::{Log, Object, PortObjects, port};
 use std::alloc::{AllocError, Global};
 use std::io::Write;
 use std::test::Fail;
+use superio_examples::counter::Counter;
 use superio_examples::driver::{receive_all, run_polled};
-use superio_examples::first_claims::{interleaved_in_order, read_back, restored_reads_same};
+use superio_examples::first_claims::{
+    interleaved_in_order, only_full_fails, read_back, refused_keeps_bytes, restored_reads_same,
+    sent_is_appended, vec_gets_both,
+};
 use superio_examples::input::Input;
 use superio_examples::interrupt_driver::{receive_all_by_interrupts, receive_all_in_pieces};
+use superio_examples::last_byte::{LastByte, write_kept};
 use superio_examples::migration::{Saved, restore, restore_input, save};
 use superio_examples::monitor::{Event, Monitor};
+use superio_examples::monitor_object::{MonitorObject, write_in_order};
 use superio_examples::output::Output;
 use superio_examples::saved_monitor::{SavedMonitor, restore_monitor, run_on_two, save_monitor};
 use superio_script::drain;
 use vm_superio::rtc_pl031::saved_form::SAVED_SIZE;
 use vm_superio::run::Call;
-use vm_superio::serial::Three;
-use vm_superio::{Rtc, RtcState, SerialState};
+use vm_superio::serial::{NoEvents, Port, Refused, Three};
+use vm_superio::{Rtc, RtcState, Serial, SerialState};
 
 /// Sizes about the FIFO's, and above any that a body could have in mind.
 const SIZES: [usize; 7] = [0, 1, 63, 64, 65, 1_000, 100_000];
@@ -225,5 +231,46 @@ fn no_value_of_a_register_is_refused(rt: HostRuntime) -> Result<(), Fail> {
             assert!(rt; moved.before.len() == events.len() && moved.after.len() == events.len());
         }
     }
+    Ok(())
+}
+
+#[test]
+fn claims_about_a_port_succeed(rt: HostRuntime) -> Result<(), Fail> {
+    let made = Serial::new(rt.alloc(), Counter::new(), Vec::new(rt.alloc()));
+    let mut serial = made.map_err(Refused::into_error)?;
+    assert!(rt; only_full_fails(&mut serial, b"ab").ok() == Some(2));
+    assert!(rt; refused_keeps_bytes(&mut serial, b"hi").ok() == Some(2));
+    assert!(rt; sent_is_appended(&mut serial, b's').is_ok());
+    assert!(rt; vec_gets_both(&mut serial, b'c', b'd').is_ok());
+    assert!(rt; serial.writer().as_slice() == b"scd".as_slice());
+    Ok(())
+}
+
+/// Where one object plays all roles, and where an output has a link of its own.
+#[test]
+fn claims_about_one_object_succeed(rt: HostRuntime) -> Result<(), Fail> {
+    let objects = Three {
+        trigger: Counter::new(),
+        events: NoEvents,
+        out: LastByte { byte: None },
+    };
+    let mut port = Port::new(rt.alloc(), objects).map_err(|_| AllocError)?;
+    assert!(rt; write_kept(&mut port, 0, b'k').is_ok());
+    assert!(rt; port.objects().out.byte == Some(b'k'));
+    let object = MonitorObject {
+        byte: None,
+        at_interrupt: None,
+    };
+    let mut port = Port::new(rt.alloc(), object).map_err(|_| AllocError)?;
+    assert!(rt; write_in_order(&mut port, 1, 0x02).is_ok());
+    assert!(rt; port.objects().at_interrupt.is_none());
+    // The IIR read acknowledges THRE, so that the byte raises it.
+    assert!(rt; port.read(2) == 0xC2);
+    assert!(rt; write_in_order(&mut port, 0, b'!').is_ok());
+    assert!(rt; port.retry_interrupts().is_ok());
+    for byte in (0..=255).chain(b'!'..=b'!') {
+        assert!(rt; write_in_order(&mut port, 0, byte).is_ok(), "{byte}");
+    }
+    assert!(rt; port.into_objects().at_interrupt == Some(b'!'));
     Ok(())
 }
