@@ -82,6 +82,7 @@ class Programs(CopyTest):
         nothing = str(program(self.root / "program", "true"))
         words = ["hostile", nothing, nothing, "--scripts", "60", "--runs", "60", "--jobs", "1"]
         with mock.patch.object(sys, "argv", words), mock.patch.object(cases, "fixed_runs", list), \
+                mock.patch.object(cases, "fixed_scripts", list), \
                 mock.patch.dict(sys.modules, hostile=hostile):
             status, printed = silently(hostile.main)
         self.assertEqual((status, sum_of(printed)), (1, (0, 62)))
@@ -186,23 +187,19 @@ class Runs(FolderTest):
                 self.assertEqual(faults_in(refused_memory.random_script_results(failing)), wrong)
 
     def test_calls_in_any_state(self):
-        """A call says that memory was refused exactly if it was, and takes as much as it may. Each function is called,
-        and runs differ in states. A run without a refusal ends with the number of its calls."""
+        """A call says that memory was refused exactly if it was, and takes as much as it may. Each function is called."""
         lines = [("+ more", 1), ("one: refused", -1), ("other: not refused", 1)]
 
-        def different(lines, status=0, functions=("one", "other"), unrefused=b"2\n"):
+        def different(lines, status=0, functions=("one", "other")):
             calls = [call for _, given in lines for call in (Call("allocate", 1, given), Call("write", 1, 1))]
             ran = Ran(status, "".join(f"{line}\n" for line, _ in lines).encode(), b"", calls)
-            failing = mock.Mock(run_all=lambda cases: [
-                Ran(0, unrefused, b"") if b" " in line else ran for line in {line for line, _ in cases}])
+            failing = mock.Mock(run_all=lambda cases: [ran for _ in cases])
             with mock.patch.object(refused_memory, "functions_that_take_memory", lambda: functions):
                 return faults_in(silently(refused_memory.any_state_results, failing)[0])
-        runs, unrefused = refused_memory.MOST_OF_A_CALL + len(refused_memory.LATER), refused_memory.UNREFUSED
+        runs = refused_memory.UNREFUSED + refused_memory.MOST_OF_A_CALL + len(refused_memory.LATER)
         turned = [(line, -given if ":" in line else given) for line, given in lines]
         self.assertEqual([different(lines), different(turned), different(lines, status=1),
-                          different(lines, functions=("one", "other", "third"))], [0, 2 * runs, 1 + 2, 1])
-        self.assertEqual([different(lines, unrefused=printed) for printed in (b"one: refused\n2\n", b"", b"one\n")],
-                         [unrefused] * 3)
+                          different(lines, functions=("one", "other", "third"))], [0, 2 * runs, 1, 1])
         for most, faults in ((1, 0), (0, 1), (2, 1)):
             with mock.patch.object(refused_memory, "MOST", {"other": most}):
                 self.assertEqual(different(lines), faults)
