@@ -8,7 +8,7 @@ from concurrent.futures import ThreadPoolExecutor
 from pathlib import Path
 
 from status import Status, progress
-from tried import Tried
+from tally import Tried
 
 CRATES = Path(__file__).resolve().parents[2] / "crates"
 # The programs, each with the crates whose sources it is built of, the lowest last.

@@ -9,7 +9,7 @@ from pathlib import Path
 
 import tiny
 from repository import NOTHING_ELSE, ROOT, CopyTest, module_of, program, sum_of
-from tried import Tried, read_floors, shortfalls
+from tally import Tried, read_floors, shortfalls
 
 check = module_of("check")
 # Prints a script as its own replies.
