@@ -5,12 +5,12 @@ import re
 import shutil
 from functools import lru_cache
 
-from chance import seed_of
 from libraries import DEMO, ROOT, TESTS
 from cases import every_answer
 from declarations import assertions
 from expected import recording_of
 from machines import C
+from program import seed_of
 from random_calls import write_calls
 from tally import run
 

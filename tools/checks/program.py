@@ -100,6 +100,14 @@ def run_all(program, scripts, *arguments):
         yield from pool.map(lambda script: run(program, script, *arguments), scripts)
 
 
+def seed_of(root):
+    """The commit, so that each commit tries other cases and can try its own again. Without one, as in a release: ''."""
+    try:
+        return subprocess.run(["git", "rev-parse", "HEAD"], cwd=root, capture_output=True, text=True).stdout.strip()
+    except OSError:
+        return ""
+
+
 def side_by_side(block):
     """Script lines and their replies, of lines that have both with two spaces or more between them. A line without a
     reply has `None`."""

@@ -2,7 +2,7 @@
 
 A check prints a line for each kind, in any place before its last line. Lines of one kind add up:
 
-    tried: 42 scripts of serial.txt
+    tried: 42 scripts of scripts.txt
     not tried: random calls for aarch64-linux
 
 The second form names a kind of which something cannot run here, which the check counts as skipped. `tools/floors` has a

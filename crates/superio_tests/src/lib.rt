@@ -5,8 +5,6 @@
 #[cfg(test)]
 mod dropped;
 #[cfg(test)]
-mod faults;
-#[cfg(test)]
 mod objects;
 #[cfg(test)]
 mod printed;

@@ -1,7 +1,6 @@
 //! What neither a script nor `tools/checks/failing_io` shows of a run: when its writer is flushed, reads of no byte,
 //! and faults of kinds that no operating system reports.
-use crate::faults::{interruptions, plain_faults};
-use crate::objects::{Log, Object, Writing, by_std};
+use crate::objects::{Log, Object, Writing, by_std, interruptions, plain_faults};
 use std::alloc::Global;
 use std::io;
 use std::io::Read;

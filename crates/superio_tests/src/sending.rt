@@ -2,8 +2,10 @@
 //! in whatever state the port is, and whichever call makes the write. No contract says how often the writer is called,
 //! and which fault it has. tools/checks/calls has one fault, over each byte, each number of held bytes and what is
 //! pending.
-use crate::faults::{faults, faults_of_drivers, interruptions, is_same, plain_faults};
-use crate::objects::{Log, Object, Port, PortObjects, Then, Writing, by_std, port};
+use crate::objects::{
+    Log, Object, Port, PortObjects, Then, Writing, by_std, faults, faults_of_drivers,
+    interruptions, is_same, plain_faults, port,
+};
 use std::alloc::Global;
 use std::io;
 use std::io::Write;
