@@ -103,7 +103,7 @@ class MissingPrograms(CopyTest):
             for path in Path(folder).iterdir():
                 if not LACKING.fullmatch(path.name) and not (self.bin / path.name).exists() and path.exists():
                     (self.bin / path.name).symlink_to(path)
-        # A recording of a hundred calls in place of one of 200,000.
+        # A short recording in place of one of 200,000 calls.
         self.floors = read_floors()
         self.floors["calls"]["calls of calls.txt.xz"] = self.floors["calls"]["calls of line.txt"]
         self.floors["calls"]["different calls of a file"] = 1
