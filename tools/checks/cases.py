@@ -194,7 +194,7 @@ def random_script(source):
 
 
 def broken_lines():
-    """A line of each form up to each character, and with each lost, doubled or another one. Some are good none the less."""
+    """A line of each form up to each character, and with each lost, doubled or another one. Some are good after all."""
     for name, fields in FORMS.items():
         line = " ".join([name, *("0" * (field.digits or 4) for field in fields)])
         yield f"{line} 00"
