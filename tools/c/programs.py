@@ -3,12 +3,12 @@ import lzma
 import shutil
 from functools import lru_cache
 
-from chance import seed_of
 from libraries import DEMO, ROOT, TESTS
 from cases import every_answer
 from expected import recording_of
 from header import layout_assertions
 from machines import C
+from program import seed_of
 from random_calls import write_calls
 from tally import run
 

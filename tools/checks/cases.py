@@ -193,6 +193,23 @@ def random_script(source):
     return broken(source, script) if source.randrange(8) == 0 else script
 
 
+def broken_lines():
+    """A line of each form up to each character, and with each lost, doubled or another one. Some are good after all."""
+    for name, fields in FORMS.items():
+        line = " ".join([name, *("0" * (field.digits or 4) for field in fields)])
+        yield f"{line} 00"
+        for place, good in enumerate(f"{line} "):
+            others = ("", 2 * good, good.upper(), *"g \t\r\0\xFF")
+            yield from (line[:place], *(line[:place] + other + line[place + 1:] for other in others))
+
+
+def fixed_scripts():
+    """Each script with a name: a broken line alone, and one after a good line, without a line feed."""
+    for line in dict.fromkeys(broken_lines()):
+        yield f"broken_lines, {line!r}", f"{line}\n"
+        yield f"broken_lines, {line!r} after another", f"sc\n{line}"
+
+
 # Runs of calls. Each begins with a state, so that many follow each other in one process.
 
 def port_state(source, *counts):

@@ -8,7 +8,7 @@ from concurrent.futures import ThreadPoolExecutor
 from pathlib import Path
 
 from status import Status, progress
-from tried import Tried
+from tally import Tried
 
 CRATES = Path(__file__).resolve().parents[2] / "crates"
 # The programs, each with the crates whose sources it is built of, the lowest last.
@@ -98,6 +98,14 @@ def run_all(program, scripts, *arguments):
     """Runs scripts side by side. The results come in their order."""
     with ThreadPoolExecutor(len(os.sched_getaffinity(0))) as pool:
         yield from pool.map(lambda script: run(program, script, *arguments), scripts)
+
+
+def seed_of(root):
+    """The commit, so that each commit tries other cases and can try its own again. Without one, as in a release: ''."""
+    try:
+        return subprocess.run(["git", "rev-parse", "HEAD"], cwd=root, capture_output=True, text=True).stdout.strip()
+    except OSError:
+        return ""
 
 
 def side_by_side(block):

@@ -11,8 +11,8 @@ import subprocess
 from functools import cache
 from pathlib import Path
 
-from chance import seed_of
 from edits import may_share
+from program import seed_of
 from rooms import PARTS, crates_of
 
 HEAD = """\

@@ -71,6 +71,14 @@ def of_rows(place, block):
     return Script(place, script.encode(), "".join(reply + "\n" for reply in replies).encode(), end)
 
 
+def of_bad_line(place, row):
+    """The scripts in which a line is bad, after so many good ones. After one it ends the script."""
+    line, _, numbers = row.partition(" after ")
+    for good in map(int, numbers.split() or ("0", "1")):
+        end = b"" if good == 1 else b"\nsc\n"
+        yield Script(place, b"sc\n" * good + text(line) + end, b"40\n" * good, f"bad line {good + 1}")
+
+
 def scripts_of(path):
     """The scripts of a file of tests/."""
     lines = enumerate(path.read_text(encoding="utf-8").splitlines(), 1)
@@ -83,8 +91,6 @@ def scripts_of(path):
             yield of_texts(place, block)
         elif block[0].startswith("bad \""):
             for number, row in rows:
-                place, line = f"tests/{path.name}:{number}", text(row[len("bad "):])
-                yield Script(place, line + b"\nkr 00\n", b"", "bad line 1")
-                yield Script(place, b"kr 00\n" + line, b"00\n", "bad line 2")
+                yield from of_bad_line(f"tests/{path.name}:{number}", row[len("bad "):])
         else:
             yield of_rows(place, block)

@@ -21,7 +21,7 @@ from libraries import PREBUILT, BuildError, replace_lines, source_line, sums_of 
 from superio.library import ABI, RTC_SAVED_SIZE, RtcStruct  # noqa: E402
 from superio.registers import CLOCK, SERIAL, RtcState  # noqa: E402
 from toolchains import DEBIAN  # noqa: E402
-from usage import takes_no_argument  # noqa: E402
+from tally import takes_no_argument  # noqa: E402
 
 TARGET = "wasm32-unknown-unknown"
 MODULE = "wasm32/superio.wasm"

@@ -11,10 +11,10 @@ from unittest import mock
 
 import program
 import status
-import tried
+import tally
 from repository import TOOLS, FolderTest, module_of, silently
 from repository import program as script_at
-from tried import Tried, raised, read_floors, shortfalls, write_floors
+from tally import Tried, raised, read_floors, shortfalls, write_floors
 
 check = module_of("check")
 FLOORS = read_floors()
@@ -141,7 +141,7 @@ class Running(FolderTest):
 
     def test_whatever_is_no_pass_of_a_test_is_a_failure(self):
         (self.folder / "checks").mkdir()
-        shutil.copy(TOOLS / "checks" / "tried.py", self.folder / "checks")
+        shutil.copy(TOOLS / "checks" / "tally.py", self.folder / "checks")
         for text, last in TESTS:
             run = script_at(self.folder / "test" / "run", (TOOLS / "test" / "run").read_text(encoding="utf-8"))
             head = "from unittest import TestCase, expectedFailure"
@@ -197,9 +197,9 @@ class Tables(FolderTest):
         self.assertEqual(wrong, [])
 
     def test_the_table_is_written_as_it_is_read(self):
-        path = Path(shutil.copy(tried.FLOORS, self.folder))
+        path = Path(shutil.copy(tally.FLOORS, self.folder))
         write_floors(FLOORS, path)
-        self.assertEqual(path.read_bytes(), tried.FLOORS.read_bytes())
+        self.assertEqual(path.read_bytes(), tally.FLOORS.read_bytes())
 
 
 class Counting(unittest.TestCase):
@@ -224,7 +224,7 @@ class Counting(unittest.TestCase):
             def test_it(self):
                 pass
 
-        found, result = Tried(), tried.Asserting(mock.Mock(), False, 0)
+        found, result = Tried(), tally.Asserting(mock.Mock(), False, 0)
         unittest.defaultTestLoader.loadTestsFromTestCase(One).run(result)
         found.add_assertions(result)
         self.assertEqual(found.left_out, {f"assertions of {__name__}"})

@@ -9,7 +9,7 @@ from pathlib import Path
 
 import tiny
 from repository import NOTHING_ELSE, ROOT, CopyTest, module_of, program, sum_of
-from tried import Tried, read_floors, shortfalls
+from tally import Tried, read_floors, shortfalls
 
 check = module_of("check")
 # Prints a script as its own replies.
@@ -20,9 +20,9 @@ SAVED, SOME = "docs/SAVED-STATES.md", "some"
 # A tool with its arguments, the parts of the repository that it has beside tools/, the Python package and SAVED, how a
 # line of it ends, and what it passes and fails.
 MISSING = [
-    ("checks/calls", [CAT], [], "calls/clocks.txt is not there", (0, SOME)),
+    ("checks/calls", [CAT], [], "calls/line.txt is not there", (0, SOME)),
     ("checks/excerpts", [], [], "nothing was checked", (0, SOME)),
-    ("checks/failing_io", [CAT], [], "tests/whole_scripts.txt: No such file or directory", (0, SOME)),
+    ("checks/failing_io", [CAT], [], "tests/scripts.txt: No such file or directory", (0, SOME)),
     ("replay", [CAT], [], "boot.recording.xz: No such file or directory", (0, SOME)),
     ("checks/scripts", [CAT], [], "tests/clock.txt is not there", (0, SOME)),
     ("checks/transcripts", [CAT], [], "nothing was checked", (0, SOME)),
@@ -103,7 +103,7 @@ class MissingPrograms(CopyTest):
             for path in Path(folder).iterdir():
                 if not LACKING.fullmatch(path.name) and not (self.bin / path.name).exists() and path.exists():
                     (self.bin / path.name).symlink_to(path)
-        # A recording of a hundred calls in place of one of 200,000.
+        # A short recording in place of one of 200,000 calls.
         self.floors = read_floors()
         self.floors["calls"]["calls of calls.txt.xz"] = self.floors["calls"]["calls of line.txt"]
         self.floors["calls"]["different calls of a file"] = 1

@@ -81,6 +81,7 @@ class Programs(CopyTest):
         nothing = str(program(self.root / "program", "true"))
         words = ["hostile", nothing, nothing, "--scripts", "60", "--runs", "60", "--jobs", "1"]
         with mock.patch.object(sys, "argv", words), mock.patch.object(cases, "fixed_runs", list), \
+                mock.patch.object(cases, "fixed_scripts", list), \
                 mock.patch.dict(sys.modules, hostile=hostile):
             status, printed = silently(hostile.main)
         self.assertEqual((status, sum_of(printed)), (1, (0, 62)))
@@ -96,8 +97,8 @@ class Programs(CopyTest):
             printed = self.run_tool("tools/checks/calls", program(self.root / "program", text), env=environment)[1]
             return (*sum_of(printed)[:2], printed)
         passed, failed, _ = calls(OF_CALLS, self.tools)
-        self.assertIn((passed, failed), [(29, 0), (41, 0)])  # with Cargo beside cc there is a library more
-        self.assertEqual(calls(f"{OF_CALLS}sys.exit(1)\n", NOTHING_ELSE)[:2], (19, 10))
+        self.assertIn((passed, failed), [(17, 0), (25, 0)])  # with Cargo beside cc there is a library more
+        self.assertEqual(calls(f"{OF_CALLS}sys.exit(1)\n", NOTHING_ELSE)[:2], (11, 6))
         further = ("c/tests/shared.txt", "compare/panics.txt")
         for path in (*folder.glob("*.txt*"), *(self.root / "tools" / it for it in further)):
             pack, unpack = (lzma.compress, lzma.decompress) if path.suffix == ".xz" else (bytes, bytes)
@@ -108,7 +109,7 @@ class Programs(CopyTest):
         wrong = OF_CALLS.replace("print(reply)", "print('08' if line == 'sr 07\\n' else reply)")
         passed, failed, printed = calls(wrong, os.environ)
         lost = [it for it, says in DIFFERS.items() if f"{it}, line.txt: recorded: {says}\n" not in printed]
-        self.assertIn((passed, failed, lost), [(0, 29, ["Rust"]), (0, 41, [])], printed)
+        self.assertIn((passed, failed, lost), [(0, 17, ["Rust"]), (0, 25, [])], printed)
 
     def test_saved_forms(self):
         self.take("bindings", "docs/SAVED-STATES.md")
@@ -121,8 +122,9 @@ class Programs(CopyTest):
     @unittest.skipUnless(shutil.which("node"), "node is needed")
     def test_calls_in_javascript(self):
         recorded = (ROOT / "tests" / "calls" / "line.txt").read_text(encoding="ascii")
-        for equals, status, said in ((" = ", 0, "99 calls did the same, 0 did not"),
-                                     (" = 0", 1, "98 calls did the same, 1 did not")):
+        count = recorded.count(" = ")
+        for equals, status, said in ((" = ", 0, f"{count} calls did the same, 0 did not"),
+                                     (" = 0", 1, f"{count - 1} calls did the same, 1 did not")):
             ran = run(["node", js_check.REPLAY], input=equals.join(recorded.rpartition(" = ")[::2]))
             self.assertEqual((ran.returncode, said in ran.stdout), (status, True))
 
@@ -167,44 +169,54 @@ class Runs(FolderTest):
             {}, {"status": 1}, {"printed": b"0"}, {"errors": b"0"}, {"calls": []})]
         self.assertEqual(found, [0, every, every, every, sum(count - 2 for count in counts)])
 
+    def test_refused_memory_of_random_scripts(self):
+        """The runs end as they should, or all in one other way. No run differs that has all its memory."""
+        numbers, count = refused_memory.OF_A_RANDOM_SCRIPT, 5
+        status, _, errors = refused_memory.WITHOUT_MEMORY
+        refused = [[Call("allocate", 1, -1), *[Call("read", 1, 1)] * (number > 2)] for number in numbers]
+        rights = [Ran(status, b"", errors, calls) for calls in refused] * count
+        for right, wrong in ((rights, 0), ([replace(it, status=status + 1) for it in rights], len(rights)),
+                             ([replace(it, printed=b"0") for it in rights], len(rights)),
+                             ([replace(it, errors=b"") for it in rights], len(rights)),
+                             ([replace(it, calls=it.calls[:1]) for it in rights], len(rights) - 2 * count),
+                             ([None] * len(rights), len(rights)), ([Ran(9, b"", b"")] * len(rights), len(rights))):
+            failing = mock.Mock(**{"run_all.return_value": iter(right)})
+            with mock.patch.object(refused_memory, "RANDOM_SCRIPTS", count), \
+                    mock.patch.object(refused_memory, "random_script", lambda _: "ss\nsr 00\nss\n"):
+                self.assertEqual(faults_in(refused_memory.random_script_results(failing)), wrong)
+
     def test_calls_in_any_state(self):
-        """A call says that memory was refused exactly if it was, and takes as much as it may. Each function is called,
-        and runs differ in states. A run without a refusal ends with the number of its calls."""
+        """A call says that memory was refused exactly if it was, and takes as much as it may. Each function is called."""
         lines = [("+ more", 1), ("one: refused", -1), ("other: not refused", 1)]
 
-        def different(lines, status=0, functions=("one", "other"), unrefused=b"2\n"):
+        def different(lines, status=0, functions=("one", "other")):
             calls = [call for _, given in lines for call in (Call("allocate", 1, given), Call("write", 1, 1))]
             ran = Ran(status, "".join(f"{line}\n" for line, _ in lines).encode(), b"", calls)
-            failing = mock.Mock(run_all=lambda cases: [
-                Ran(0, unrefused, b"") if b" " in line else ran for line in {line for line, _ in cases}])
+            failing = mock.Mock(run_all=lambda cases: [ran for _ in cases])
             with mock.patch.object(refused_memory, "functions_that_take_memory", lambda: functions):
                 return faults_in(silently(refused_memory.any_state_results, failing)[0])
-        runs, unrefused = refused_memory.MOST_OF_A_CALL + len(refused_memory.LATER), refused_memory.UNREFUSED
+        runs = refused_memory.UNREFUSED + refused_memory.MOST_OF_A_CALL + len(refused_memory.LATER)
         turned = [(line, -given if ":" in line else given) for line, given in lines]
         self.assertEqual([different(lines), different(turned), different(lines, status=1),
-                          different(lines, functions=("one", "other", "third"))], [0, 2 * runs, 1 + 2, 1])
-        self.assertEqual([different(lines, unrefused=printed) for printed in (b"one: refused\n2\n", b"", b"one\n")],
-                         [unrefused] * 3)
+                          different(lines, functions=("one", "other", "third"))], [0, 2 * runs, 1, 1])
         for most, faults in ((1, 0), (0, 1), (2, 1)):
             with mock.patch.object(refused_memory, "MOST", {"other": most}):
                 self.assertEqual(different(lines), faults)
 
     def test_loads_through_a_player_and_through_scripts(self):
         """One load differs, or a status is never returned. The runs of all scripts but the first are right."""
-        tried = list(saved_forms.chosen_bytes(random.Random(1)))
-        loads = len(saved_forms.LINES) * len(tried)
-        for printed, failed in ((f"{2 * loads} calls did the same, 0 did not\n", 0), ("", loads),
-                                (f"{2 * loads - 1} calls did the same, 1 did not\n", loads)):
-            with mock.patch("subprocess.run", return_value=ended(0, printed)), \
-                    mock.patch.object(saved_forms, "CHUNK", len(tried)):
-                result, _ = silently(saved_forms.through_player, [""], tried)
-            self.assertEqual(result, (loads - failed, failed))
-        with mock.patch("subprocess.run", return_value=ended(0, "4 calls did the same, 0 did not\n")):
-            self.assertGreater(silently(saved_forms.through_player, [""], [b""])[0][1], 0)
-        right = [(0, replies.encode(), b"") for _, replies in saved_forms.scripts(tried)]
+        tried = list(saved_forms.chosen_bytes(random.Random(1)))[:2 * saved_forms.OF_A_SCRIPT]
+        pieces = ["a = b\n" * 4]
+        for printed, failed in (("4 calls did the same, 0 did not\n", 0), ("", 2),
+                                ("3 calls did the same, 1 did not\n", 2)):
+            with mock.patch("subprocess.run", return_value=ended(0, printed)):
+                result, _ = silently(saved_forms.through_player, [""], pieces)
+            self.assertEqual(result, (2 - failed, failed))
+        self.assertGreater(len(saved_forms.never_returned([b""])), 0)
+        right = [script.expected for script, _ in saved_forms.scripts(tried)]
         for wrong in (right[0], (1, *right[0][1:]), (0, right[0][1][:-2] + b"0\n", b""), (*right[0][:2], b"0"), None):
             with mock.patch.object(saved_forms, "run_all", return_value=[wrong, *right[1:]]):
-                (passed, failed), _ = silently(saved_forms.scripted, "", tried)
+                (passed, failed), _ = silently(saved_forms.through_program, "", tried)
             self.assertEqual((passed > 0, failed > 0), (True, wrong != right[0]))
 
     def test_first_crate(self):

@@ -11,8 +11,7 @@ from pathlib import Path
 
 from support import ROOT, run
 
-from chance import seed_of
-from program import run_all
+from program import run_all, seed_of
 from script_tests import scripts_of
 
 from superio import Board, ScriptError, parse

@@ -1,5 +1,6 @@
-//! A call that takes and drops objects must not call them before. No contract says this.
-use crate::objects::{Log, Object};
+//! A call that takes and drops objects must not call them before, which no contract says. One that lends an object calls
+//! what takes its place.
+use crate::objects::{Log, Object, port};
 use std::io;
 use std::io::ErrorKind;
 use std::test::Fail;
@@ -72,4 +73,25 @@ fn other_holders_of_objects_are_dropped_and_taken_apart_in_silence(rt: HostRunti
         let _ = refused.into_error();
     }
     assert!(rt; log.calls() == [2, 2, 0, 0]);
+}
+
+/// What takes the place of an object that a device lends is called.
+#[test]
+fn devices_lend_their_objects(rt: HostRuntime) -> Result<(), Fail> {
+    let (before, after) = (Log::new(), Log::new());
+    let mut serial = port(rt.alloc(), &before)?;
+    *serial.interrupt_evt_mut() = Object(&after);
+    *serial.events_mut() = Object(&after);
+    // A byte is reported, goes to the writer that stayed, and raises an interrupt.
+    assert!(rt; serial.write(1, 0x02).is_ok() && serial.write(0, b'a').is_ok());
+    *serial.writer_mut() = Object(&after);
+    assert!(rt; serial.write(0, b'a').is_ok() && serial.events().0.events.get() == 2);
+    let mut clock = Rtc::with_events(Object(&before));
+    *clock.events_mut() = Object(&after);
+    clock.write(0x000, &[0; 4], 0);
+    let mut controller = I8042Device::new(Object(&before));
+    *controller.reset_evt_mut() = Object(&after);
+    assert!(rt; controller.write(4, 0xFE).is_ok());
+    assert!(rt; before.calls() == [0, 0, 1, 1] && after.calls() == [2, 3, 1, 1]);
+    Ok(())
 }

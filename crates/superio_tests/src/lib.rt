@@ -3,13 +3,7 @@
 #![tactic(auto)]
 
 #[cfg(test)]
-mod claims;
-#[cfg(test)]
 mod dropped;
-#[cfg(test)]
-mod faults;
-#[cfg(test)]
-mod monitor;
 #[cfg(test)]
 mod objects;
 #[cfg(test)]

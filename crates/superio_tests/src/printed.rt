@@ -1,7 +1,7 @@
 //! What errors print, and values for debugging. No contract has the text of a derived `Debug`.
 ghost use Rattle.vm_superio.specs.Links.Unspecified.{Unspecified, Unspecified-nil, Unspecified-append};
 
-use crate::faults::faults;
+use crate::objects::faults;
 use std::alloc::{AllocError, Global};
 use std::error::Error as StdError;
 use std::test::Fail;

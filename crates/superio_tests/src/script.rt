@@ -1,11 +1,9 @@
 //! What neither a script nor `tools/checks/failing_io` shows of a run: when its writer is flushed, reads of no byte,
 //! and faults of kinds that no operating system reports.
-use crate::faults::{interruptions, plain_faults};
-use crate::objects::{Log, Object, Writing, by_std};
+use crate::objects::{Log, Object, Writing, by_std, interruptions, plain_faults};
 use std::alloc::Global;
 use std::io;
 use std::io::Read;
-use std::process::Abort;
 use std::test::Fail;
 use superio_script::{ScriptFault, run_script};
 
@@ -30,25 +28,17 @@ impl Read for Input<'_> {
 /// How a script ends, and how often it calls `read`, `write` and `flush`.
 type Run = (Result<(), ScriptFault>, [u64; 3]);
 
-/// Runs a script over streams with faults.
-fn expect_run(
-    rt: &impl Abort,
-    alloc: Global,
-    bytes: &[u8],
-    read_fault: Option<io::Error>,
-    writing: Writing,
-    expected: Run,
-) {
+/// Runs a script that a reader gives, and then perhaps fails, over a writer that does this.
+fn run_over(alloc: Global, bytes: &[u8], fault: Option<io::Error>, writing: Writing) -> Run {
     let log = Log::new();
     log.start(writing);
     let mut reader = Input {
         bytes,
-        fault: read_fault,
+        fault,
         reads: 0,
     };
     let end = run_script(alloc, &mut reader, &mut Object(&log));
-    let [_, _, writes, flushes] = log.calls();
-    assert_eq!(rt; (end, [reader.reads, writes, flushes]), expected);
+    (end, [reader.reads, log.writes.get(), log.flushes.get()])
 }
 
 #[test]
@@ -62,7 +52,10 @@ fn a_script_calls_its_streams_no_more_than_it_has_to(rt: HostRuntime) -> Result<
         (&too_long, (Err(ScriptFault::TooLong), [1, 0, 0])),
     ];
     for (bytes, expected) in runs {
-        expect_run(&rt, rt.alloc(), bytes, None, Writing::takes(), expected);
+        assert_eq!(rt;
+            run_over(rt.alloc(), bytes, None, Writing::takes()),
+            expected
+        );
     }
     Ok(())
 }
@@ -74,20 +67,16 @@ const SCRIPTS: [(&[u8], &[&[u8]]); 3] = [
     (b"", &[]),
 ];
 
-/// Runs a script over a writer that does this: each reply is written as by std's `write_all`, and then all is flushed.
-fn expect_written(rt: &impl Abort, alloc: Global, script: usize, writing: Writing) {
+/// Whether a script writes each reply as by std's `write_all`, and then flushes all, over a writer that does this.
+fn is_written(alloc: Global, script: usize, writing: Writing) -> bool {
     let (bytes, replies) = SCRIPTS[script];
     let (result, [writes, flushes]) = by_std(writing, replies, true);
-    let end = result.map_err(|_| ScriptFault::Io);
     let reads = 1 + u64::from(!bytes.is_empty());
-    expect_run(
-        rt,
-        alloc,
-        bytes,
-        None,
-        writing,
-        (end, [reads, writes, flushes]),
+    let expected = (
+        result.map_err(|_| ScriptFault::Io),
+        [reads, writes, flushes],
     );
+    run_over(alloc, bytes, None, writing) == expected
 }
 
 /// A write fails at once by each fault. By each without a number, a read fails after any part of a script, a write
@@ -99,46 +88,42 @@ fn a_fault_of_any_kind_is_io(rt: HostRuntime) -> Result<(), Fail> {
     let interruptions = interruptions(alloc)?;
     for (place, fault) in plain_faults(alloc)?.iter().enumerate() {
         let fails = Writing::failing(*fault);
-        expect_written(&rt, alloc, 0, fails);
+        assert!(rt; is_written(alloc, 0, fails), "{fault:?}");
         if fault.raw_os_error().is_some() {
             continue;
         }
         let (script, _) = SCRIPTS[0];
         let read = &script[..place % (script.len() + 1)];
         let reads = 1 + u64::from(!read.is_empty());
-        let end = (Err(ScriptFault::Io), [reads, 0, 0]);
-        expect_run(&rt, alloc, read, Some(*fault), Writing::takes(), end);
+        let run = run_over(alloc, read, Some(*fault), Writing::takes());
+        assert_eq!(rt; run, (Err(ScriptFault::Io), [reads, 0, 0]));
         let later = Writing {
             room: [1, 2, 4, 5, 6, 7, 8, 10, 11][place % 9],
             interruptions: 1 + (place % 3) as u64,
             interruption: interruptions[place % 8],
             ..fails
         };
-        expect_written(&rt, alloc, 0, later);
+        assert!(rt; is_written(alloc, 0, later), "{fault:?}");
         let unflushed = Writing {
             flush: Some(*fault),
             ..Writing::takes()
         };
         for script in 0..SCRIPTS.len() {
-            expect_written(&rt, alloc, script, unflushed);
+            assert!(rt; is_written(alloc, script, unflushed), "{fault:?}");
         }
     }
     for room in 0..12usize {
-        expect_written(
-            &rt,
-            alloc,
-            0,
-            Writing {
-                room,
-                ..Writing::takes_none()
-            },
-        );
+        let takes_some = Writing {
+            room,
+            ..Writing::takes_none()
+        };
+        assert!(rt; is_written(alloc, 0, takes_some), "{room}");
     }
     let interrupted = Writing {
         interruptions: 100_000,
         ..Writing::takes()
     };
-    let run = (Ok(()), [2, 100_003, 1]);
-    expect_run(&rt, alloc, SCRIPTS[0].0, None, interrupted, run);
+    let run = run_over(alloc, SCRIPTS[0].0, None, interrupted);
+    assert_eq!(rt; run, (Ok(()), [2, 100_003, 1]));
     Ok(())
 }

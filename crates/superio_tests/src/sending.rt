@@ -1,9 +1,12 @@
 //! What a data write asks of the writer: one `write`, and one `flush` if that succeeded. Its fault is returned as it is,
 //! in whatever state the port is, and whichever call makes the write. No contract says how often the writer is called,
-//! and which fault it has. tools/checks/calls has one fault, over each number of held bytes and what is pending.
-use crate::faults::{Expected, faults, faults_of_drivers, interruptions, plain_faults};
-use crate::objects::{Log, Object, Port, PortObjects, Then, Writing, by_std, port};
-use std::alloc::{AllocError, Global};
+//! and which fault it has. tools/checks/calls has one fault, over each byte, each number of held bytes and what is
+//! pending.
+use crate::objects::{
+    Log, Object, Port, PortObjects, Then, Writing, by_std, faults, faults_of_drivers,
+    interruptions, is_same, plain_faults, port,
+};
+use std::alloc::Global;
 use std::io;
 use std::io::Write;
 use std::test::Fail;
@@ -45,23 +48,16 @@ fn losses(fault: io::Error, interruption: io::Error, interruptions: u64) -> [Wri
     ]
 }
 
-/// What a call does that sends a byte to a writer which does this: it returns its fault, and calls `write` and `flush`
-/// no more than it has to.
-fn expected(alloc: Global, writing: Writing) -> Result<Expected, AllocError> {
-    Expected::new(alloc, by_std(writing, &[b"x"], true))
-}
-
-fn is_right(
-    alloc: Global,
-    log: &Log,
-    expected: &Expected,
-    found: &Sent,
-) -> Result<bool, AllocError> {
-    match found {
-        Ok(()) => expected.is(alloc, log, &Ok(())),
-        Err(Error::IOError(fault)) => expected.is(alloc, log, &Err(*fault)),
-        Err(_) => Ok(false),
-    }
+/// Whether a call that sent a byte to a writer which does this returned its fault, and called `write` and `flush` no
+/// more than it has to.
+fn is_right(alloc: Global, log: &Log, writing: Writing, found: &Sent) -> Result<bool, Fail> {
+    let returned = match found {
+        Ok(()) => Ok(()),
+        Err(Error::IOError(fault)) => Err(*fault),
+        Err(_) => return Ok(false),
+    };
+    let expected = by_std(writing, &[b"x"], true);
+    Ok(is_same(alloc, &log.outcome(returned), &expected)?)
 }
 
 // ---- calls that send a byte
@@ -78,10 +74,7 @@ fn next(numbers: &mut u64) -> u64 {
 fn any_byte(numbers: &mut u64) -> u8 {
     let [typical, byte, ..] = next(numbers).to_le_bytes();
     match typical {
-        0..=31 => 0x00,
-        32..=63 => 0x01,
-        64..=95 => 0x03,
-        96..=127 => 0xFF,
+        0..=127 => [0x00, 0x01, 0x03, 0xFF][usize::from(typical / 32)],
         _ => byte,
     }
 }
@@ -102,15 +95,7 @@ fn any_port<'a>(alloc: Global, log: &'a Log, numbers: &mut u64) -> Result<Port<'
     Ok(port.map_err(Refused::into_error)?)
 }
 
-/// The calls that can send a byte.
-#[derive(Clone, Copy)]
-enum Way {
-    Write,
-    Bus,
-    PortOut,
-}
-
-/// What those calls are made on.
+/// What the calls are made on that can send a byte.
 type AnyBus<'a> = Bus<Object<'a>, Object<'a>, Object<'a>, Object<'a>>;
 
 /// A bus with a port in any state.
@@ -118,7 +103,7 @@ fn any_bus<'a>(alloc: Global, log: &'a Log, numbers: &mut u64) -> Result<AnyBus<
     let choice = next(numbers);
     Ok(Bus {
         base: match choice & 7 {
-            0..=3 => [COM1, COM2, COM3, COM4][(choice >> 3 & 3) as usize],
+            0..=3 => [COM1, COM2, COM3, COM4][(choice & 3) as usize],
             _ => 0x200 + 8 * (choice >> 3 & 0x1FF) as u16,
         },
         keyboard: match choice >> 12 & 1 {
@@ -133,6 +118,9 @@ fn any_bus<'a>(alloc: Global, log: &'a Log, numbers: &mut u64) -> Result<AnyBus<
 /// The accesses of several widths that reach THR: how far before it they begin, and their width.
 const ACCESSES: [(u8, usize); 7] = [(0, 1), (0, 2), (1, 2), (0, 4), (1, 4), (2, 4), (3, 4)];
 
+/// How many ways there are to send a byte.
+const WAYS: usize = 3;
+
 /// The error of a bus as one of its port.
 fn of_port(error: BusError<LineRefused, LineRefused>) -> Error<LineRefused> {
     match error {
@@ -141,13 +129,13 @@ fn of_port(error: BusError<LineRefused, LineRefused>) -> Error<LineRefused> {
     }
 }
 
-/// Sends any byte.
-fn sent(bus: &mut AnyBus, way: Way, numbers: &mut u64) -> Sent {
+/// Sends any byte, in one of the ways.
+fn sent(bus: &mut AnyBus, way: usize, numbers: &mut u64) -> Sent {
     let value = any_byte(numbers);
     match way {
-        Way::Write => bus.serial.write(0, value),
-        Way::Bus => bus.write(bus.base, value).map_err(of_port),
-        Way::PortOut => {
+        0 => bus.serial.write(0, value),
+        1 => bus.write(bus.base, value).map_err(of_port),
+        _ => {
             let (before, width) = ACCESSES[(next(numbers) % 7) as usize];
             let mut bytes = [0x03; 4];
             bytes[usize::from(before)] = value;
@@ -180,11 +168,13 @@ fn a_fault_of_the_writer_is_returned_as_it_is(rt: HostRuntime) -> Result<(), Fai
         let mut bus = any_bus(rt.alloc(), &log, &mut numbers)?;
         let interruption = interruptions[(next(&mut numbers) % 8) as usize];
         for writing in losses(*fault, interruption, next(&mut numbers) % 4) {
-            let expected = expected(rt.alloc(), writing)?;
-            for way in [Way::Write, Way::Bus, Way::PortOut] {
+            for way in 0..WAYS {
                 log.start(writing);
                 let found = sent(&mut bus, way, &mut numbers);
-                assert!(rt; is_right(rt.alloc(), &log, &expected, &found)?, "{fault:?}");
+                assert!(rt;
+                    is_right(rt.alloc(), &log, writing, &found)?,
+                    "{way} {fault:?}"
+                );
                 go_on(&mut bus.serial, &mut numbers);
             }
         }
@@ -199,37 +189,33 @@ fn a_run_returns_the_fault_of_each_writer(rt: HostRuntime) -> Result<(), Fail> {
     let mut numbers = 1;
     let faults = faults(alloc)?;
     for (fault, other) in faults.iter().zip(faults.iter().skip(1)) {
-        for (first_loses, second_loses) in losses(*fault, *fault, 0)
+        let of_both = losses(*fault, *fault, 0)
             .into_iter()
-            .zip(losses(*other, *fault, 0))
-        {
+            .zip(losses(*other, *fault, 0));
+        for (of_first, of_second) in of_both {
             let (first, second) = (Log::new(), Log::new());
-            first.start(first_loses);
-            second.start(second_loses);
+            first.start(of_first);
+            second.start(of_second);
             let object = Object(&second);
-            let calls: Vec<Call<PortObjects>> = vec![in alloc;
-                Call::Read(7),
-                Call::Read(7),
-                Call::Read(7),
-                Call::Write(0, any_byte(&mut numbers)),
+            let mut calls: Vec<Call<PortObjects>> = Vec::new(alloc);
+            for next in [
                 Call::Restore(Three::with_writer(object, object, object)),
                 Call::Read(7),
-                Call::Read(7),
-                Call::Read(7),
-                Call::Write(0, any_byte(&mut numbers)),
-            ]?;
+            ] {
+                for _ in 0..3 {
+                    calls.push(Call::Read(7))?;
+                }
+                calls.push(Call::Write(0, any_byte(&mut numbers)))?;
+                calls.push(next)?;
+            }
             let done = any_port(alloc, &first, &mut numbers)?.run(alloc, calls)?;
-            let is_as_expected = match done.as_slice() {
-                [_, _, _, before, _, _, _, _, after] => match (&before.reply, &after.reply) {
-                    (Reply::Wrote(before), Reply::Wrote(after)) => {
-                        is_right(alloc, &first, &expected(alloc, first_loses)?, before)?
-                            && is_right(alloc, &second, &expected(alloc, second_loses)?, after)?
-                    }
+            for (place, log, writing) in [(3usize, &first, of_first), (8, &second, of_second)] {
+                let is_expected = match &done[place].reply {
+                    Reply::Wrote(sent) => is_right(alloc, log, writing, sent)?,
                     _ => false,
-                },
-                _ => false,
-            };
-            assert!(rt; is_as_expected, "{fault:?} {other:?}");
+                };
+                assert!(rt; is_expected, "{fault:?} {other:?}");
+            }
         }
     }
     Ok(())
@@ -253,14 +239,10 @@ fn no_byte_changes_the_fault_of_its_put(rt: HostRuntime) -> Result<(), Fail> {
             ..Writing::takes()
         };
         for (writing, bytes) in [(Writing::failing(*fault), bytes), (unflushed, last..=last)] {
-            let expected = expected(alloc, writing)?;
             for byte in bytes {
                 log.start(writing);
                 let found = serial.write(0, byte);
-                assert!(rt;
-                    is_right(alloc, &log, &expected, &found)?,
-                    "{byte} {fault:?}"
-                );
+                assert!(rt; is_right(alloc, &log, writing, &found)?, "{byte} {fault:?}");
             }
         }
     }
@@ -268,11 +250,11 @@ fn no_byte_changes_the_fault_of_its_put(rt: HostRuntime) -> Result<(), Fail> {
 }
 
 /// Whether an event returns the fault that a descriptor gives which does this, and calls it no more than it has to.
-fn is_right_event(alloc: Global, writing: Writing) -> Result<bool, AllocError> {
+fn is_right_event(alloc: Global, writing: Writing) -> Result<bool, Fail> {
     let log = Log::new();
     log.start(writing);
-    let found = EventFd { file: Object(&log) }.trigger();
-    Expected::new(alloc, by_std(writing, &[&[0; 8]], false))?.is(alloc, &log, &found)
+    let found = log.outcome(EventFd { file: Object(&log) }.trigger());
+    Ok(is_same(alloc, &found, &by_std(writing, &[&[0; 8]], false))?)
 }
 
 /// Of its eight bytes some were taken before. After an interruption the others are written again.
@@ -320,6 +302,27 @@ fn drains_twice(
     )
 }
 
+/// Whether an output passes what waits to a sink that does this by one `write`, returns what that does, and keeps what
+/// it did not take.
+fn is_drained(alloc: Global, output: &mut Output, writing: Writing) -> Result<bool, Fail> {
+    let (log, other) = (Log::new(), Log::new());
+    log.start(writing);
+    other.start(writing);
+    let waiting = output.waiting(alloc)?;
+    let by_write = Object(&other).write(&waiting);
+    let found = output.drain_into(&mut Object(&log));
+    let taken = by_write.ok().unwrap_or(0);
+    let outcomes = (
+        log.outcome(found.map(|_| ())),
+        (by_write.map(|_| ()), [1, 0]),
+    );
+    Ok(
+        found.ok().unwrap_or(0) == taken
+            && is_same(alloc, &outcomes.0, &outcomes.1)?
+            && output.waiting(alloc)?.as_slice() == &waiting[taken..],
+    )
+}
+
 /// None, one or any number of bytes wait, at any place of the ring, or as many as may wait; with or without a byte that
 /// was dropped before. The sink fails, takes some of the bytes first, or takes none.
 #[test]
@@ -330,83 +333,32 @@ fn a_drained_output_is_one_write_and_returns_its_fault(rt: HostRuntime) -> Resul
     let mut narrow = Output::restored(alloc, &[], 320, 1)?;
     for (place, fault) in faults(alloc)?.iter().enumerate() {
         let fails = Writing::failing(*fault);
-        for length in [0, 1, place * 13 % 5_001] {
-            let waiting = &bytes[..length];
-            assert!(rt;
-                drains_twice(alloc, &mut wide, waiting, fails)?,
-                "{length} {fault:?}"
-            );
-        }
-        for length in [0, place % 320, 320] {
-            let waiting = &bytes[..length];
-            assert!(rt;
-                drains_twice(alloc, &mut narrow, waiting, fails)?,
-                "{length} {fault:?}"
-            );
-        }
         let takes_some = Writing {
             room: 1 + place % 320,
             ..fails
         };
-        let waiting = &bytes[..320 + place];
-        assert!(rt;
-            drains_twice(alloc, &mut wide, waiting, takes_some)?,
-            "{fault:?}"
-        );
+        for (length, writing) in [
+            (0usize, fails),
+            (1, fails),
+            (place * 13 % 5_001, fails),
+            (320 + place, takes_some),
+        ] {
+            let drains = drains_twice(alloc, &mut wide, &bytes[..length], writing)?;
+            assert!(rt; drains, "{length} {fault:?}");
+        }
+        for length in [0, place % 320, 320] {
+            let drains = drains_twice(alloc, &mut narrow, &bytes[..length], fails)?;
+            assert!(rt; drains, "{length} {fault:?}");
+        }
     }
     for fault in faults_of_drivers(alloc)?.iter() {
-        let fails = Writing::failing(*fault);
-        assert!(rt;
-            drains_twice(alloc, &mut narrow, b"byte", fails)?,
-            "{fault:?}"
-        );
+        let drains = drains_twice(alloc, &mut narrow, b"byte", Writing::failing(*fault))?;
+        assert!(rt; drains, "{fault:?}");
     }
     for length in 0..321usize {
-        let none = Writing::takes_none();
-        assert!(rt;
-            drains_twice(alloc, &mut narrow, &bytes[..length], none)?,
-            "{length}"
-        );
+        let drains = drains_twice(alloc, &mut narrow, &bytes[..length], Writing::takes_none())?;
+        assert!(rt; drains, "{length}");
     }
-    Ok(())
-}
-
-/// Whether an output passes what waits to a sink that does this by one `write`, returns what that does, and keeps what
-/// it did not take.
-fn is_drained(alloc: Global, output: &mut Output, writing: Writing) -> Result<bool, Fail> {
-    let (log, other) = (Log::new(), Log::new());
-    log.start(writing);
-    other.start(writing);
-    let waiting = output.waiting(alloc)?;
-    let by_write = Object(&other).write(&waiting);
-    let expected = Expected::new(alloc, (by_write.map(|_| ()), [1, 0]))?;
-    let found = output.drain_into(&mut Object(&log));
-    let taken = by_write.ok().unwrap_or(0);
-    Ok(
-        found.ok().unwrap_or(0) == taken
-            && expected.is(alloc, &log, &found.map(|_| ()))?
-            && output.waiting(alloc)?.as_slice() == &waiting[taken..],
-    )
-}
-
-#[test]
-fn the_writer_is_asked_once_for_each_byte(rt: HostRuntime) -> Result<(), Fail> {
-    let fault = io::Error::from_raw_os_error(5);
-    let takes = Writing::takes();
-    let fails_to_flush = Writing {
-        flush: Some(fault),
-        ..takes
-    };
-    let ways = [takes, Writing::failing(fault), fails_to_flush];
-    let log = Log::new();
-    let mut serial = port(rt.alloc(), &log)?;
-    for number in 0..100_000usize {
-        log.writing.set(ways[number % 3]);
-        let sent = serial.write(0, (number % 251) as u8);
-        assert!(rt; sent.is_ok() == (number % 3 == 0), "{number}");
-    }
-    // Each third byte fails at once.
-    assert!(rt; [log.writes.get(), log.flushes.get()] == [100_000, 66_667]);
     Ok(())
 }
 
@@ -420,20 +372,18 @@ fn an_interrupted_write_is_made_again_however_often(rt: HostRuntime) -> Result<(
     let log = Log::new();
     let mut serial = port(alloc, &log)?;
     log.start(writing);
-    assert!(rt; serial.write(0, b'x').is_ok());
-    assert!(rt; [log.writes.get(), log.flushes.get()] == [100_001, 1]);
-    log.start(Writing { room: 3, ..writing });
-    assert!(rt; EventFd { file: Object(&log) }.trigger().is_ok() && log.writes.get() == 100_002);
+    let sent = serial.write(0, b'x');
+    assert!(rt; is_right(alloc, &log, writing, &sent)?);
+    assert!(rt; is_right_event(alloc, Writing { room: 3, ..writing })?);
     for (interruptions, interruption) in (300..).zip(interruptions(alloc)?.iter()) {
-        log.start(Writing {
+        let writing = Writing {
             interruptions,
             interruption: *interruption,
             ..writing
-        });
-        assert!(rt;
-            serial.write(0, b'x').is_ok() && log.writes.get() == interruptions + 1,
-            "{interruption:?}"
-        );
+        };
+        log.start(writing);
+        let sent = serial.write(0, b'x');
+        assert!(rt; is_right(alloc, &log, writing, &sent)?, "{interruption:?}");
     }
     Ok(())
 }

@@ -1,18 +1,23 @@
-//! The programs to copy succeed at any size, and for any value of a register. A body that gives up above a size or in
-//! some states, as without memory, meets each contract.
+//! The programs and claims to copy that a contract lets fail succeed, at any size, and for any value of a register. A body
+//! that gives up above a size or in some states, as without memory, meets each contract.
 use crate::objects::{Log, Object, PortObjects, port};
 use std::alloc::{AllocError, Global};
 use std::io::Write;
 use std::test::Fail;
-use superio_examples::first_claims::{interleaved_in_order, read_back, restored_reads_same};
+use superio_examples::counter::Counter;
+use superio_examples::first_claims::{
+    interleaved_in_order, only_full_fails, read_back, refused_keeps_bytes, restored_reads_same,
+    sent_is_appended,
+};
 use superio_examples::input::Input;
 use superio_examples::interrupt_driver::receive_all_in_pieces;
+use superio_examples::last_byte::{LastByte, write_kept};
 use superio_examples::monitor::{Event, Monitor};
 use superio_examples::output::Output;
 use superio_examples::saved_monitor::{SavedMonitor, move_monitor, restore_monitor, save_monitor};
 use vm_superio::rtc_pl031::saved_form::SAVED_SIZE;
 use vm_superio::run::Call;
-use vm_superio::serial::{SerialPort, Three};
+use vm_superio::serial::{NoEvents, Port, Refused, SerialPort, Three};
 use vm_superio::{RtcState, Serial, SerialState};
 
 /// Sizes about the FIFO's, and above any that a body could have in mind.
@@ -216,5 +221,30 @@ fn no_value_of_a_register_is_refused(rt: HostRuntime) -> Result<(), Fail> {
             assert!(rt; moved.run(alloc, &events)?.len() == events.len());
         }
     }
+    Ok(())
+}
+
+#[test]
+fn claims_about_a_port_succeed(rt: HostRuntime) -> Result<(), Fail> {
+    let made = Serial::new(rt.alloc(), Counter::new(), Vec::new(rt.alloc()));
+    let mut serial = made.map_err(Refused::into_error)?;
+    assert!(rt; only_full_fails(&mut serial, b"ab").ok() == Some(2));
+    assert!(rt; refused_keeps_bytes(&mut serial, b"hi").ok() == Some(2));
+    assert!(rt; sent_is_appended(&mut serial, b's').is_ok());
+    assert!(rt; sent_is_appended(&mut serial, b't').is_ok());
+    assert!(rt; serial.writer().as_slice() == b"st".as_slice());
+    Ok(())
+}
+
+#[test]
+fn the_claim_about_an_output_with_a_link_of_its_own_succeeds(rt: HostRuntime) -> Result<(), Fail> {
+    let objects = Three {
+        trigger: Counter::new(),
+        events: NoEvents,
+        out: LastByte { byte: None },
+    };
+    let mut port = Port::new(rt.alloc(), objects).map_err(|_| AllocError)?;
+    assert!(rt; write_kept(&mut port, 0, b'k').is_ok());
+    assert!(rt; port.objects().out.byte == Some(b'k'));
     Ok(())
 }

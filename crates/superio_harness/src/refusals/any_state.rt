@@ -1,14 +1,13 @@
 //! Calls that allocate memory, made after any calls in states of any registers, coherent or not, with lists of a length
 //! that is given.
 use super::Case;
-use super::any_lines::{any_line, any_script};
 use super::source::{Favourite, Source};
 use crate::calls::devices::port_state;
 use crate::calls::objects::{Log, Object};
 use std::alloc::{AllocError, Global};
 use std::io;
 use std::io::ErrorKind;
-use superio_script::{Board, Counts, Line, LineFault, Output, ScriptFault, run_script};
+use superio_script::{Counts, Line, Output};
 use vm_superio::run::{Call, Done, Reply};
 use vm_superio::serial::{Error, Objects, Port as PortOverOne, SerialPort, Three, WriterOut};
 use vm_superio::{Serial, SerialState, laws, saved};
@@ -21,7 +20,7 @@ type PortObjects = Three<Line, Counts, WriterOut<Output>>;
 type OnePort = PortOverOne<PortObjects>;
 
 /// The calls.
-pub const CALLS: [&str; 23] = [
+pub const CALLS: [&str; 18] = [
     "Serial::new",
     "Serial::with_events",
     "Serial::from_state",
@@ -40,11 +39,6 @@ pub const CALLS: [&str; 23] = [
     "serial_read_then_written",
     "state_to_port_and_back",
     "port_to_state_and_back",
-    "Board::new",
-    "Board::line, a save",
-    "Board::line, a restore",
-    "Board::line, a load",
-    "run_script",
 ];
 
 /// What each register holds mostly, in the order of the byte form: in a new port, after a driver, or at an end.
@@ -62,11 +56,7 @@ const REGISTERS: [[u8; 8]; 9] = [
 
 /// Any registers, most of them as those of a port in use, and so many received bytes. In half of the states LSR shows
 /// whether there are any.
-pub fn any_state(
-    alloc: Global,
-    source: &mut Source,
-    length: usize,
-) -> Result<SerialState, AllocError> {
+fn any_state(alloc: Global, source: &mut Source, length: usize) -> Result<SerialState, AllocError> {
     let mut registers = [0; 9];
     for (register, values) in registers.iter_mut().zip(REGISTERS.iter()) {
         *register = match source.byte() {
@@ -107,11 +97,11 @@ fn any_objects(source: &mut Source) -> PortObjects {
 /// A port after any calls, made with at most 64 bytes.
 fn any_port(alloc: Global, source: &mut Source, length: usize) -> Result<Port, AllocError> {
     let state = any_state(alloc, source, length % 65)?;
-    let made = Serial::from_state(alloc, &state, Line::new(0), Counts::new(), Output::new());
+    let line = Line::new(any_mask(source) & !3);
+    let made = Serial::from_state(alloc, &state, line, Counts::new(), Output::new());
     let Ok(mut port) = made else {
         return Err(AllocError);
     };
-    *port.interrupt_evt_mut() = Line::new(any_mask(source));
     port.run(alloc, any_turn(alloc, source)?)?;
     let count = source.count();
     port.run(alloc, any_calls(alloc, source, count)?)?;
@@ -166,7 +156,7 @@ fn any_call(
         181..=220 => Call::CharacterTimeout,
         221..=253 => Call::Enqueue(any_state(alloc, source, usize::from(offset))?.in_buffer),
         254 => {
-            let length = source.limit();
+            let length = (source.number() >> 52) as usize;
             Call::Enqueue(any_state(alloc, source, length)?.in_buffer)
         }
         255 => Call::Restore(Three::with_writer(
@@ -228,40 +218,8 @@ fn any_bytes(alloc: Global, source: &mut Source, length: usize) -> Result<Vec<u8
     }
 }
 
-/// A line that loads any registers and at most 64 bytes, at times damaged.
-pub fn any_load(alloc: Global, source: &mut Source, length: usize) -> Result<String, AllocError> {
-    let state = any_state(alloc, source, length % 65)?;
-    let Ok(form) = state.to_bytes() else {
-        return Err(AllocError);
-    };
-    let bytes = any_damage(source, form.as_bytes().to_vec(alloc)?)?;
-    if source.byte() < 32 {
-        return format!(in alloc; "sl {}", hex::encode_upper(alloc, &bytes)?);
-    }
-    format!(in alloc; "sl {}", hex::encode(alloc, &bytes)?)
-}
-
-/// A board after any lines, of any mask.
-fn any_board(alloc: Global, source: &mut Source, length: usize) -> Result<Board, AllocError> {
-    let Ok(mut board) = Board::new(alloc, any_mask(source)) else {
-        return Err(AllocError);
-    };
-    let load = any_load(alloc, source, length)?;
-    if board.line(alloc, load.as_bytes()).is_err() {
-        return Err(AllocError);
-    }
-    let favourite = source.favourite();
-    for _ in 0..source.count() {
-        let line = any_line(alloc, source, favourite)?;
-        if board.line(alloc, line.as_bytes()).is_err() {
-            return Err(AllocError);
-        }
-    }
-    Ok(board)
-}
-
 /// Any mask of refused calls: any bits, mostly ones, one bit, the lowest ones, none or all.
-pub fn any_mask(source: &mut Source) -> u64 {
+fn any_mask(source: &mut Source) -> u64 {
     let mask = source.number();
     match source.byte() {
         0..=95 => mask,
@@ -286,34 +244,17 @@ fn is_one_from_state_refused(alloc: Global, state: SerialState, objects: PortObj
 /// Whether a call of a port, by its place in `CALLS`, returned that memory was refused. A new port fails only so.
 fn is_port_refused(rt: &HostRuntime, case: &Case, source: &mut Source) -> io::Result<bool> {
     let alloc = rt.alloc();
+    let line = Line::new(any_mask(source));
+    let state = any_saved(alloc, source, case.length)?;
+    let mut port = any_port(alloc, source, case.length)?;
+    let calls = any_calls(alloc, source, case.length)?;
+    case.begin(rt)?;
     Ok(match case.call {
-        0 => {
-            let line = Line::new(any_mask(source));
-            case.begin(rt)?;
-            Serial::new(alloc, line, Output::new()).is_err()
-        }
-        1 => {
-            let line = Line::new(any_mask(source));
-            case.begin(rt)?;
-            Serial::with_events(alloc, line, Counts::new(), Output::new()).is_err()
-        }
-        2 => {
-            let state = any_saved(alloc, source, case.length)?;
-            let line = Line::new(any_mask(source));
-            case.begin(rt)?;
-            is_from_state_refused(alloc, state, line)
-        }
-        3 => {
-            let port = any_port(alloc, source, case.length)?;
-            case.begin(rt)?;
-            port.state(alloc).is_err()
-        }
-        _ => {
-            let mut port = any_port(alloc, source, case.length)?;
-            let calls = any_calls(alloc, source, case.length)?;
-            case.begin(rt)?;
-            is_refused_run(&port.run(alloc, calls))
-        }
+        0 => Serial::new(alloc, line, Output::new()).is_err(),
+        1 => Serial::with_events(alloc, line, Counts::new(), Output::new()).is_err(),
+        2 => is_from_state_refused(alloc, state, line),
+        3 => port.state(alloc).is_err(),
+        _ => is_refused_run(&port.run(alloc, calls)),
     })
 }
 
@@ -339,29 +280,16 @@ fn is_restore_refused(rt: &HostRuntime, case: &Case, source: &mut Source) -> io:
 /// The same of a port over one object.
 fn is_one_port_refused(rt: &HostRuntime, case: &Case, source: &mut Source) -> io::Result<bool> {
     let alloc = rt.alloc();
+    let objects = any_objects(source);
+    let state = any_saved(alloc, source, case.length)?;
+    let mut port = any_one_port(alloc, source, case.length)?;
+    let calls = any_calls(alloc, source, case.length)?;
+    case.begin(rt)?;
     Ok(match case.call {
-        6 => {
-            let objects = any_objects(source);
-            case.begin(rt)?;
-            OnePort::new(alloc, objects).is_err()
-        }
-        7 => {
-            let state = any_saved(alloc, source, case.length)?;
-            let objects = any_objects(source);
-            case.begin(rt)?;
-            is_one_from_state_refused(alloc, state, objects)
-        }
-        8 => {
-            let port = any_one_port(alloc, source, case.length)?;
-            case.begin(rt)?;
-            port.state(alloc).is_err()
-        }
-        _ => {
-            let mut port = any_one_port(alloc, source, case.length)?;
-            let calls = any_calls(alloc, source, case.length)?;
-            case.begin(rt)?;
-            is_refused_run(&port.run(alloc, calls))
-        }
+        6 => OnePort::new(alloc, objects).is_err(),
+        7 => is_one_from_state_refused(alloc, state, objects),
+        8 => port.state(alloc).is_err(),
+        _ => is_refused_run(&port.run(alloc, calls)),
     })
 }
 
@@ -373,6 +301,8 @@ fn is_state_refused(rt: &HostRuntime, case: &Case, source: &mut Source) -> io::R
     let bytes = any_bytes(alloc, source, case.length)?;
     case.begin(rt)?;
     Ok(match case.call {
+        10 => !SerialState::default(alloc).is_coherent(),
+        11 => state.clone(alloc).is_err(),
         12 => is_memory(&SerialState::from_bytes(alloc, &bytes)),
         13 => SerialState::from_port(alloc, &port).is_err(),
         14 => is_memory(&laws::saved::serial_written_then_read(alloc, &state)),
@@ -382,49 +312,13 @@ fn is_state_refused(rt: &HostRuntime, case: &Case, source: &mut Source) -> io::R
     })
 }
 
-/// The same of a board.
-fn is_board_refused(rt: &HostRuntime, case: &Case, source: &mut Source) -> io::Result<bool> {
-    let alloc = rt.alloc();
-    let line = match case.call {
-        19 => String::from_str(alloc, "sb")?,
-        20 => String::from_str(alloc, "ss")?,
-        _ => any_load(alloc, source, case.length)?,
-    };
-    let mut board = any_board(alloc, source, case.length)?;
-    case.begin(rt)?;
-    let made = board.line(alloc, line.as_bytes());
-    Ok(matches!(made, Err(LineFault::Memory)))
-}
-
 /// Makes a call by its place in `CALLS`, and returns whether it returned that memory was refused.
 pub fn is_refused(rt: &HostRuntime, case: &Case, source: &mut Source) -> io::Result<bool> {
-    let alloc = rt.alloc();
     match case.call {
         5 => is_restore_refused(rt, case, source),
         0..=4 => is_port_refused(rt, case, source),
         6..=9 => is_one_port_refused(rt, case, source),
-        10 => {
-            case.begin(rt)?;
-            Ok(!SerialState::default(alloc).is_coherent())
-        }
-        11 => {
-            let state = any_state(alloc, source, case.length)?;
-            case.begin(rt)?;
-            Ok(state.clone(alloc).is_err())
-        }
-        12..=17 => is_state_refused(rt, case, source),
-        18 => {
-            let mask = any_mask(source);
-            case.begin(rt)?;
-            Ok(matches!(Board::new(alloc, mask), Err(ScriptFault::Memory)))
-        }
-        19..=21 => is_board_refused(rt, case, source),
-        _ => {
-            let script = any_script(alloc, source, case.length)?;
-            case.begin(rt)?;
-            let end = run_script(alloc, &mut script.as_slice(), &mut io::sink());
-            Ok(matches!(end, Err(ScriptFault::Memory)))
-        }
+        _ => is_state_refused(rt, case, source),
     }
 }
 

@@ -10,32 +10,16 @@ const TYPICAL: [u8; 16] = [
 /// Lengths about those of FIFOs.
 const LENGTHS: [usize; 8] = [0, 1, 2, 14, 16, 63, 64, 65];
 
-/// Limits above that.
-const LIMITS: [usize; 8] = [100, 128, 255, 256, 512, 1_000, 1_024, 4_096];
-
-/// Numbers at the ends of types.
-const ENDS: [u64; 8] = [
-    0,
-    0xFF,
-    0x100,
-    0x7FFF_FFFF,
-    0xFFFF_FFFF,
-    0x1_0000_0000,
-    0x8000_0000_0000_0000,
-    u64::MAX,
-];
-
 #[derive(Drop)]
 pub struct Source {
     numbers: SplitMix64,
 }
 
-/// A byte that is chosen more often, in `share` of 256 choices. All have the bits `always`.
+/// A byte that is chosen more often, in `share` of 256 choices.
 #[derive(Clone, Copy)]
 pub struct Favourite {
-    pub byte: u8,
-    pub share: u8,
-    pub always: u8,
+    byte: u8,
+    share: u8,
 }
 
 impl Source {
@@ -64,38 +48,12 @@ impl Source {
         }
     }
 
-    /// Any number, of any number of bits, or one at the end of a type.
-    pub fn scaled(&mut self) -> u64 {
-        let shift = self.byte() & 63;
-        if self.byte() < 32 {
-            ENDS[usize::from(self.byte()) % 8]
-        } else {
-            self.number() >> shift
-        }
-    }
-
-    /// The same, of at most 32 bits.
-    pub fn word(&mut self) -> u32 {
-        (self.scaled() & 0xFFFF_FFFF) as u32
-    }
-
     /// Any length below 80. Half of them are about those of FIFOs.
     pub fn length(&mut self) -> usize {
         if self.byte() < 128 {
             LENGTHS[usize::from(self.byte()) % 8]
         } else {
             usize::from(self.byte()) % 80
-        }
-    }
-
-    /// How many bytes may wait: any length as above, a usual limit, or any number of at most 12 bits or, at times, 17.
-    pub fn limit(&mut self) -> usize {
-        let (number, shift) = (self.number(), self.byte() & 15);
-        match self.byte() {
-            0..=95 => self.length(),
-            96..=127 => LIMITS[usize::from(self.byte()) % 8],
-            128..=251 => ((number >> 52) >> shift) as usize,
-            252..=255 => ((number >> 47) >> shift) as usize,
         }
     }
 
@@ -111,12 +69,11 @@ impl Source {
 
     /// Any byte, or mostly the favourite one.
     pub fn choice(&mut self, favourite: Favourite) -> u8 {
-        let chosen = if self.byte() < favourite.share {
+        if self.byte() < favourite.share {
             favourite.byte
         } else {
             self.byte()
-        };
-        chosen | favourite.always
+        }
     }
 
     /// Any byte as a favourite, in half of the choices, or at times in nearly all.
@@ -125,7 +82,6 @@ impl Source {
         Favourite {
             byte: self.byte(),
             share,
-            always: 0,
         }
     }
 
