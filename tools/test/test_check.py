@@ -44,6 +44,13 @@ CHECKS = [
     ("echo 'not tried: cases'; echo '3 passed, 0 failed'", {"cases": 3}, (3, 1, 0), "nothing counts as skipped"),
     ("echo 'not tried: cases'; echo '3 passed, 0 failed, 0 skipped'", {"cases": 3}, (3, 1, 0), "nothing counts as"),
     ("echo 'not tried: cases'; echo '3 passed, 0 failed, 2 skipped'", {"cases": 3}, (3, 0, 2), ""),
+    # A row for several kinds has their sum, and how many they are; one of its own counts for a kind alone.
+    (f"{THREE}echo 'tried: 1 cases'; echo 'tried: 2 of c'; echo 'tried: 9 of d'; echo '3 passed, 0 failed'",
+     {"cases": 4, "of *": 11, "kinds: of *": 2}, (3, 0, 0), ""),
+    (f"{THREE}echo 'tried: 9 of d'; echo '3 passed, 0 failed'", {"cases": 3, "of *": 9, "kinds: of *": 2}, (3, 1, 0),
+     "kinds: of *: 1 tried, of 2 at least"),
+    (f"{THREE}echo 'tried: 9 of d'; echo '3 passed, 0 failed'", {"cases": 3, "of *": 0, "of d": 10}, (3, 1, 0),
+     "of d: 9 tried, of 10 at least"),
     # The other kinds keep their floors.
     (f"{THREE}echo 'not tried: pastes'; echo '3 passed, 0 failed, 1 skipped'", {"cases": 4, "pastes": 8}, (3, 1, 1),
      FEW),
