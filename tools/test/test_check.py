@@ -77,11 +77,6 @@ TESTS = [
                             for body in ("self.fail()", "pass"))))]
 
 
-class Terminal(io.StringIO):
-    def isatty(self):
-        return True
-
-
 class Running(FolderTest):
     def run_check(self, text, floors, is_writing=False, needs_kit=True):
         """Runs a check that is a shell script. Returns its result, and what is printed."""
@@ -251,10 +246,3 @@ class StatusLines(unittest.TestCase):
         last = [it for it in log.getvalue().splitlines() if "30 of 165" in it][-1]
         self.assertEqual(last, "tools/it 0:00 | 2 passed, 0 failed | a crate: 30 of 165 functions")
         self.assertTrue(check.STATUS.match(last))
-
-    def test_a_terminal_has_one_line_that_is_gone_at_the_end(self):
-        terminal = Terminal()
-        with mock.patch.dict("os.environ", {"TERM": "xterm"}), status.Status("tools/it", terminal) as line, \
-                line.task("a crate"):
-            pass
-        self.assertRegex(terminal.getvalue(), r"a crate[^\n]*\r\x1b\[K\Z")

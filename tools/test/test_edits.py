@@ -4,7 +4,7 @@ import unittest
 
 import tiny
 from contracts import functions_of
-from edits import function_at, has_path, read_edits, rounds_of, texts_of
+from edits import function_at, read_edits, rounds_of, texts_of
 from repository import FolderTest
 from verdicts import judge, read_said
 
@@ -113,18 +113,6 @@ class Places(unittest.TestCase):
         self.assertEqual(next(functions_of(SOURCE)).lines(SOURCE), (2, 8))
         self.assertEqual(function_at(SOURCE, SOURCE.index("byte == ")).name, "write")
         self.assertIsNone(function_at(SOURCE, SOURCE.index("fn trigger")))
-
-    def test_a_path_ends_in_the_impl_and_the_name(self):
-        write, new, last = (it for it in functions_of(SOURCE) if it.has_body)
-        [of_trait] = functions_of(
-            "impl<V: Drop, E> From<Refused<V>> for Error<E> {\n    fn from(it: V) -> Self { it }\n}\n")
-        for file, function, path, expected in (
-                ("port", write, "port::PortWrite::write", True), ("port", write, "port::Port::write", False),
-                ("port", new, "port::Port+u8+NoWriter::new", True), ("port", new, "port::PortState::new", False),
-                ("port", last, "port::last", True), ("port", last, "port::Port::last", False),
-                ("port", last, "bits::last", False), ("lib", last, "last", True),
-                ("lib", of_trait, "ErrorFromRefused::from", True), ("lib", of_trait, "ErrorFromFault::from", False)):
-            self.assertEqual(has_path(f"src/{file}.rt", function, f"crate::{path}"), expected, path)
 
     def test_the_clauses_of_a_function_have_their_names(self):
         self.assertEqual([clause[:2] for clause in next(functions_of(SOURCE)).clauses], [("", "state"), ("", "")])

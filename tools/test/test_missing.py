@@ -21,13 +21,11 @@ SAVED, SOME = "docs/SAVED-STATES.md", "some"
 # line of it ends, and what it passes and fails.
 MISSING = [
     ("checks/calls", [CAT], [], "calls/clocks.txt is not there", (0, SOME)),
-    ("checks/excerpts", [], [], "nothing was checked", (0, SOME)),
+    ("checks/links", [], [], "nothing was checked", (0, SOME)),
     ("checks/failing_io", [CAT], [], "tests/whole_scripts.txt: No such file or directory", (0, SOME)),
     ("replay", [CAT], [], "boot.recording.xz: No such file or directory", (0, SOME)),
     ("checks/scripts", [CAT], [], "tests/clock.txt is not there", (0, SOME)),
     ("checks/transcripts", [CAT], [], "nothing was checked", (0, SOME)),
-    ("checks/excerpts", [], ["README.md", "docs", "examples/c", "bindings/rust/tests"], "No such file or directory",
-     (SOME, 1)),
     *((f"checks/{name}", ["/nowhere/at/all"], [], NONE, (0, SOME)) for name in ("scripts", "hostile")),
     ("checks/calls", ["/nowhere/at/all"], ["tests/calls/line.txt"], NONE, (SOME, SOME)),
     ("checks/saved_forms", [CAT, "--random", "0"], ["include"], "returned non-zero exit status 1.", (0, 1)),
