@@ -10,6 +10,9 @@ GOOD_VIEW = "λ it. record { count = it.count; calls = it.calls }"
 # What stands before a view of a ring, and what after it.
 RING, BOUND = "pub struct Counter { ring: HeapCircularBuffer<u8> }", "λ it. it.ring.items }; ghost invariant = { λ it. "
 INNER = "struct Inner { kept: u8, past: u8 } "
+THREE, VIEW_OF_THREE = "struct Three<T, EV, W> { trigger: T, events: EV, out: W } struct WriterOut<W> { writer: W } ", (
+    "λ it. record { trigger = it.inner.trigger; events = it.inner.events; out = it.inner.out.writer }")
+OF_THREE = f"{THREE}pub struct Counter<T, EV, W> {{ inner: Three<T, EV, WriterOut<W>> }}"
 # A struct and its view, and whether the view names each field.
 VIEWS = [
     *((COUNTER, view, view == GOOD_VIEW) for view in (
@@ -21,44 +24,44 @@ VIEWS = [
         (GOOD_VIEW, True), ("λ it. it.count", False))),
     *(("pub struct Counter<T: Drop>(T, u64);", *it) for it in (
         ("λ it. record { kept = it.0; past = it.1 }", True), ("λ it. it.1", False))),
-    *((f"pub {INNER}pub struct Counter {{ inner: Inner }}", *it) for it in (
-        ("λ it. it.inner", True), ("λ it. it.inner.kept", False), ("λ it. (it.inner)", False),
-        ("λ it. record { kept = it.inner.past; past = it.inner.kept }", True), ("λ it. both it.inner", True),
-        ("λ it. none it.inner", False), ("λ it. first it.inner", False), ("λ it. whole it.inner", True),
-        ("λ it. pair it.inner.past it.inner.kept", True), ("λ it. (both it.inner)", False),
-        ("λ it. first (both it.inner)", False), ("λ it. first both it.inner", False))),
-    (INNER + "impl Model for Inner { ghost view = { λ it. record { kept = it.kept; past = it.kept; all = it.past } }; }"
-     " pub struct Counter { inner: Inner }", "λ it. record { kept = it.inner.kept; past = it.inner.past }", False),
+    *((f"pub {INNER}pub struct Counter {{ inner: Inner, more: u8 }}", *it) for it in (
+        ("λ it. state_with it.inner it.more", True), ("λ it. state_with it.inner", False),
+        ("λ it. record { inner = take it.more it.inner }", True), ("λ it. record { inner = of it.inner it.more }", False),
+        ("λ it. record { kept = it.inner.past; past = it.inner.kept; more = it.more }", False),
+        ("λ it. take (it.inner) it.more", False), ("λ it. take (take it.inner it.more) it.more", False))),
     ("use crate::hidden::Log as ArrayVec; pub struct Counter { log: ArrayVec<u8, 8> }", "λ it. it.log.items", False),
+    ("pub struct Counter { log: ArrayVec<u8, 8> }", "λ it. it.log.items", True),
+    ("pub struct Counter { log: ArrayVec<u8, 8, u64> }", "λ it. it.log.items", False),
     ("pub struct Counter where u8: Fn() { count: u64, calls: u64 }", "λ it. it.count", False),
     ("pub enum Counter { None, Some(u64) }", "λ it. it.0", False),
-    (f"pub {INNER}type Same = Inner; pub struct Counter {{ inner: Same }}", "λ it. it.inner.kept", False),
-    (f"mod first {{ {INNER}}} struct Inner {{ kept: u8 }} pub struct Counter {{ inner: Inner }}",
-     "λ it. it.inner.kept", False),
-    ("struct Inner<O, const N: usize> { kept: O } struct Own { past: u8 } pub struct Counter { inner: Inner<Own, 8> }",
-     "λ it. it.inner.kept.past", True),
-    ("struct Inner<O> { kept: O } struct Own { past: u8, more: u8 } pub struct Counter { inner: Inner<Own> }",
-     "λ it. it.inner.kept.past", False),
+    (OF_THREE, VIEW_OF_THREE, True), (OF_THREE, VIEW_OF_THREE.replace(".writer", ""), False),
+    (OF_THREE, VIEW_OF_THREE.replace("events = it.inner.events; ", ""), False),
+    (OF_THREE.replace("out: W }", "out: W, count: u8 }"), VIEW_OF_THREE, False),
+    (OF_THREE.replace("WriterOut<W>>", "W>"), VIEW_OF_THREE, False),
+    (f"{OF_THREE} type Three = Inner;", VIEW_OF_THREE, False),
     (RING, "λ it. it.ring.items", False),
     *((RING, BOUND + invariant, is_good) for invariant, is_good in (
         ("it.ring.capacity ≡ 64", True), ("it.ring.capacity ≤ 64", False),
         ("(it.ring.capacity ≡ 64) × (0 ≤ 1)", True), ("(0 ≡ 1 → it.ring.capacity ≡ 64) × (0 ≤ 1)", False),
         ("(it.ring.capacity ≡ 64 + any) × (0 ≤ 1)", False), ("0 ≡ 0 ∨₁ (0 ≤ 1) × (it.ring.capacity ≡ 64)", False))),
 ]
-# What views use.
+# What names the parts of other types.
 SPECS = """
 use Rattle.tiny.specs.declared.Inner.{Inner}
-use Rattle.tiny.specs.declared.Own.{Own}
-
-part own = own.past
+use Rattle.tiny.specs.declared.Clock.{Clock}
+use Rattle.tiny.specs.declared.Three.{Three}
+use Rattle.tiny.specs.declared.WriterOut.{WriterOut}
 
 both inner = record { kept = inner.kept; past = inner.past }
 
-first inner = inner.kept
+three it = record { trigger = it.trigger; events = it.events; out = written it.out; count = it.count }
 
-whole inner = state inner
+written out = out.writer
 
-pair one other = record { kept = one; past = other }
+state_of_clock clock = record {
+  lr = clock.lr;
+  armed = not (clock.armed == 0);
+}
 """
 MODEL = ("use std::marker::Model; impl{parameters} {path}Model for Counter{arguments} {{ ghost Value = {{ Of }}; "
          "ghost view = {{ {view} }}; }}")
@@ -210,18 +213,9 @@ PLAIN = [
 ]
 
 
-def on_lines(text, lines):
-    """A text in so many lines, broken between its words: in each way into two, and in some into three."""
-    words = text.split(" ")
-    places = range(1, len(words))
-    if lines == 1:
-        yield text
-    elif lines == 2:
-        yield from (f"{' '.join(words[:place])}\n{' '.join(words[place:])}" for place in places)
-    else:
-        pairs = [(first, second) for first, second in product(places, repeat=2) if first < second]
-        for first, second in pairs[::1 + len(pairs) // 12]:
-            yield "\n    ".join(map(" ".join, (words[:first], words[first:second], words[second:])))
+def layouts(text):
+    """A text as it is, and with each word on a line of its own, unless it has a comment."""
+    return [text] if "//" in text else [text, text.replace(" ", "\n")]
 
 
 class Models(FolderTest):
@@ -242,13 +236,18 @@ class Models(FolderTest):
             if struct.startswith("pub struct Counter<") != bool(arguments) and view != GOOD_VIEW:
                 continue
             text = f"{struct} {MODEL.format(parameters=parameters, path=path, arguments=arguments, view=view)}"
-            for lines in (1, 2, 3):
-                for laid_out in on_lines(text, lines):
-                    self.assertEqual(not self.faults(laid_out), is_good, laid_out)
+            for laid_out in layouts(text):
+                self.assertEqual(not self.faults(laid_out), is_good, laid_out)
+
+    def test_a_definition_names_each_field(self):
+        """Of Clock, what SPECS make of it, all fields and no others."""
+        clock = "pub struct Clock {{ lr: u32, armed: u64{more} }}"
+        self.assertEqual(self.faults(clock.format(more="")), [])
+        self.assertEqual(self.faults(clock.format(more=", kept: u8")), ["state_of_clock leaves out kept of Clock"])
 
     def test_hidden_calls_and_state_are_found(self):
-        for text, lines in product(HIDING, (1, 2)):
-            for laid_out in on_lines(text, lines):
+        for text in HIDING:
+            for laid_out in layouts(text):
                 self.assertTrue(self.faults(laid_out), laid_out)
 
     def test_what_hides_nothing_passes(self):
