@@ -136,13 +136,13 @@ def read_floors(path=FLOORS):
 
 
 def in_rows(floors, tried):
-    """What a check tried, by the rows of the table that its kinds have."""
+    """What a check tried, by the rows of the table that its kinds have. A kind that is left out is one of its form."""
     forms, found = [row for row in floors if "*" in row and not row.startswith(KINDS)], Tried()
     for kind, number in {**dict.fromkeys(tried.left_out, 0), **tried.counts}.items():
         row = kind if kind in floors else next((it for it in forms if fnmatchcase(kind, it)), kind)
-        rows = {row: number} if row == kind else {row: number, f"{KINDS}{row}": number > 0}
-        found.counts.update(rows)
-        found.left_out.update(rows if kind in tried.left_out else ())
+        is_left_out = kind in tried.left_out
+        found.counts.update({row: number} if row == kind else {row: number, f"{KINDS}{row}": number > 0 or is_left_out})
+        found.left_out.update([row] * is_left_out)
     return found
 
 
