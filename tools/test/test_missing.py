@@ -7,8 +7,7 @@ import sys
 import unittest
 from pathlib import Path
 
-import tiny
-from repository import NOTHING_ELSE, ROOT, CopyTest, module_of, program, sum_of
+from repository import NOTHING_ELSE, ROOT, CopyTest, make_tiny, module_of, program, sum_of
 from tried import Tried, read_floors, shortfalls
 
 check = module_of("check")
@@ -71,7 +70,7 @@ class MissingFiles(CopyTest):
         self.judge_sums("rust/check", says=f"{DEVICE} is not there", sums=(SOME, SOME), env=path)
 
     def test_wrong_bodies_without_the_prover(self):
-        tiny.make(self.root, [("one", "same", "ensures", "    number", "    0")])
+        make_tiny(self.root, [("one", "same", "ensures", "    number", "    0")])
         self.judge_sums("checks/wrong_bodies", "--root", self.root, says="No such file or directory: 'rt'", sums=(0, 1),
                         env=NOTHING_ELSE)
 

@@ -16,13 +16,12 @@ import demo
 import misuse
 import programs
 import texts
-import tiny
 import twin
 import without_kvm
 from failing import Call, Ran
 from machines import machines
-from repository import (NOTHING_ELSE, OF_CALLS, ROOT, CopyTest, FolderTest, ended, module_of, program, silently,
-                        sum_of, tally_of)
+from repository import (NOTHING_ELSE, OF_CALLS, ROOT, CopyTest, FolderTest, ended, make_tiny, module_of, program,
+                        silently, sum_of, tally_of)
 from tally import run
 from toolchains import Toolchain
 
@@ -409,7 +408,7 @@ class Proving(CopyTest):
     parts = ("tools", "docs/SAVED-STATES.md")
 
     def test_ci_runs_all_in_a_copy_and_ends_as_it_does(self):
-        tiny.make(self.root, [])
+        make_tiny(self.root, [])
         program(self.root / "rt", 'echo "rt $* in $PWD"\nexit 3')
         status, printed, _ = self.run_tool("tools/checks/ci", env={"PATH": f"{self.root}:/usr/bin:/bin"})
         self.assertEqual(status, 3)
