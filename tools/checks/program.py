@@ -148,8 +148,8 @@ def report(results, generated=()):
     if not checks and not failed:
         print("nothing was checked")
         failed = 1
-    skipped = f", {len(tried.left_out)} skipped" if tried.left_out else ""
-    print(*tried.lines(), f"{max(0, sum(checks.values()) + faults - failed)} passed, {failed} failed{skipped}", sep="\n")
+    passed, skipped = max(0, sum(checks.values()) + faults - failed), len(tried.left_out)
+    print(*tried.lines(), f"{passed} passed, {failed} failed" + f", {skipped} skipped" * bool(skipped), sep="\n")
     return 1 if failed else 0
 
 

@@ -125,12 +125,12 @@ class Place(NamedTuple):
 
 
 def places_of(edit, texts):
-    """Where an edit may be refused: in the functions that it changes, or if it changes something outside any function, in
-    all; of these in those that have the name of its function."""
-    found = [Place(file, *it.lines(text), it) for file, text in texts.items() for it in functions_of(text) if it.has_body]
+    """Where an edit may be refused: in the functions with the name of its function that it changes, or in all of these
+    if it changes something outside any function."""
     name = edit.function.split("::")[-1]
-    return [it for it in found if name in ("", it.function.name)
-            and (edit.is_outside or any(map(it.has, edit.replacements)))]
+    found = [Place(file, *it.lines(text), it) for file, text in texts.items() for it in functions_of(text)
+             if it.has_body and name in ("", it.name)]
+    return [it for it in found if edit.is_outside or any(map(it.has, edit.replacements))]
 
 
 def proofs_of(path):

@@ -121,7 +121,8 @@ class Running(FolderTest):
         for place in range(3):
             scripts = [good.replace("1 passed, 0", "0 passed, 1") if number == place else good for number in range(3)]
             self.assertEqual(self.run_all(scripts, floors), (1, "5 passed, 1 failed, 3 skipped"))
-        for wrong in ({"ci": {"cases": 2}}, {"ci": {"cases": 1, "more": 1}}, {}, {"ci": {"cases": 1}, "1": {"cases": 1}}):
+        one = {"cases": 1}
+        for wrong in ({"ci": {"cases": 2}}, {"ci": {**one, "more": 1}}, {}, {"ci": one, "1": one}):
             self.assertEqual(self.run_all([good], wrong)[0], 1)
 
     def test_what_needs_what_ci_builds_begins_after_it(self):

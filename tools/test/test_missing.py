@@ -20,7 +20,7 @@ SAVED, SOME = "docs/SAVED-STATES.md", "some"
 # line of it ends, and what it passes and fails.
 MISSING = [
     ("checks/calls", [CAT], [], "calls/clocks.txt is not there", (0, SOME)),
-    ("checks/links", [], [], "nothing was checked", (0, SOME)),
+    ("checks/links", [], [], "SAVED-STATES.md: no document links to it", (0, SOME)),
     ("checks/failing_io", [CAT], [], "tests/whole_scripts.txt: No such file or directory", (0, SOME)),
     ("replay", [CAT], [], "boot.recording.xz: No such file or directory", (0, SOME)),
     ("checks/scripts", [CAT], [], "tests/clock.txt is not there", (0, SOME)),

@@ -26,7 +26,7 @@ VIEWS = [
         ("λ it. record { kept = it.0; past = it.1 }", True), ("λ it. it.1", False))),
     *((f"pub {INNER}pub struct Counter {{ inner: Inner, more: u8 }}", *it) for it in (
         ("λ it. state_with it.inner it.more", True), ("λ it. state_with it.inner", False),
-        ("λ it. record { inner = take it.more it.inner }", True), ("λ it. record { inner = of it.inner it.more }", False),
+        ("λ it. record { all = take it.more it.inner }", True), ("λ it. record { all = of it.inner it.more }", False),
         ("λ it. record { kept = it.inner.past; past = it.inner.kept; more = it.more }", False),
         ("λ it. take (it.inner) it.more", False), ("λ it. take (take it.inner it.more) it.more", False))),
     ("use crate::hidden::Log as ArrayVec; pub struct Counter { log: ArrayVec<u8, 8> }", "λ it. it.log.items", False),
@@ -38,7 +38,9 @@ VIEWS = [
     (OF_THREE, VIEW_OF_THREE.replace("events = it.inner.events; ", ""), False),
     (OF_THREE.replace("out: W }", "out: W, count: u8 }"), VIEW_OF_THREE, False),
     (OF_THREE.replace("WriterOut<W>>", "W>"), VIEW_OF_THREE, False),
-    (f"{OF_THREE} type Three = Inner;", VIEW_OF_THREE, False),
+    (f"{OF_THREE} type Three<T> = Inner;", VIEW_OF_THREE, False),
+    (OF_THREE.replace("WriterOut<W>>", "WriterOut<W>>, port: Port<Three<T, EV, WriterOut<W>>>").replace(
+        "pub struct", "struct Port<O> { objects: O, kept: u8 } pub struct"), VIEW_OF_THREE, False),
     (RING, "λ it. it.ring.items", False),
     *((RING, BOUND + invariant, is_good) for invariant, is_good in (
         ("it.ring.capacity ≡ 64", True), ("it.ring.capacity ≤ 64", False),

@@ -51,7 +51,7 @@ INSTALLED = {**{name: "0o644" for name in f"""
 
 
 def has_another_user():
-    return bool(shutil.which("unshare")) and subprocess.run([*ANOTHER_USER, "true"], capture_output=True).returncode == 0
+    return shutil.which("unshare") and not subprocess.run([*ANOTHER_USER, "true"], capture_output=True).returncode
 
 
 class Addresses(unittest.TestCase):
@@ -79,10 +79,10 @@ class Interface(CopyTest):
         rest = (self.root / CHANGES).read_text(encoding="utf-8")
         self.write(CHANGES, f"### Binary interface {number}\n\n{text}\n{rest}")
 
-    def assert_said(self, *says, options=("--write", "--check")):
+    def assert_said(self, *says, options=(["--write"], [])):
         """What the tool says of the table, or nothing."""
         for option in options:
-            ended, printed, said = self.run_tool("tools/packages/abi", option)
+            ended, printed, said = self.run_tool("tools/packages/abi", *option)
             self.assertEqual((ended, printed, [text for text in says if text not in said]), (bool(says), "", []), said)
             self.assertEqual(bool(said), bool(says))
 
@@ -114,7 +114,7 @@ class Interface(CopyTest):
         self.change(HEADER, "superio_abi(void);", "superio_abi(void);\nuint8_t superio_new(uint8_t value);")
         self.change(HEADER, "superio_rtc_line(const superio_rtc *clock)", "superio_rtc_line(const superio_rtc *it)")
         before = self.kept()
-        self.assert_said("run tools/packages/abi --write", options=["--check"])
+        self.assert_said("run tools/packages/abi --write", options=[[]])
         self.assert_said()
         self.assertEqual(self.kept().replace("function uint8_t superio_new(uint8_t)\n", ""), before)
 
@@ -132,10 +132,10 @@ class Interface(CopyTest):
         self.take("include", CHANGES)
         self.give_number(self.number + 1)
         self.tell(self.number + 1, "- **Another meaning**: `superio_gone`.\n")
-        self.assert_said(options=["--write"])
-        self.assert_said("not there: {'superio_gone'}", options=["--check"])
+        self.assert_said(options=[["--write"]])
+        self.assert_said("not there: {'superio_gone'}", options=[[]])
         self.tell(self.number + 2, "- **Gone**: `superio_gone`.\n")
-        self.assert_said("the last has to be", options=["--check"])
+        self.assert_said("the last has to be", options=[[]])
 
     @unittest.skipUnless(shutil.which("git"), "git is not there")
     def test_the_last_release_counts(self):

@@ -1,5 +1,5 @@
-"""Tests that checks find planted faults of documents, declarations and packages: in tables, each with what has to be said
-of it. They need no compiler, browser or kit."""
+"""Tests that checks find planted faults of documents, declarations and packages: in tables, each with what has to be
+said of it. They need no compiler, browser or kit."""
 import re
 from unittest import mock
 
@@ -22,7 +22,8 @@ LINKS = [(USING, "", text, f"{USING}: {says}") for text, says in (
     ("[1](one.md 'a' b)", "](one.md 'a' b) is no link"), ("[up](../../README.md)", "../../README.md is not there"),
     ("## Same\n\n## Same\n\n[second](#same-1), [third](#same-2)", "#same-2 is no heading"),
     ("```text\n[not a link](nowhere.md)\n```\n\n[eight](eight.md)", "eight.md is not there"))]
-LINKS.append(("docs/lost.md", None, "# Lost\n", "docs/lost.md: no document links to it"))
+LINKS += [("docs/lost.md", None, "# Lost\n", "docs/lost.md: no document links to it"),
+          (CALLING, "", "[c](../../docs/c.md)", f"{CALLING}: ../../docs/c.md leads out of what is copied")]
 NAMES = [
     (PROOFS, "`Serial::read: data, ", "`Serial::read: date, ",
      f"{PROOFS}: vm_superio::serial::Serial::read has no clause date",
@@ -184,7 +185,8 @@ OF_JS = [
     ("bindings/rust/capi/src/clock.rs", "const NEVER: u64 = u64::MAX;", "const NEVER: u64 = 0;",
      "the module was built from other sources"),
     (f"{JS}/registers.mjs", "", "[].toSorted();", "registers.mjs has .toSorted(, which Node 18 lacks"),
-    (f"{JS}/superio.mjs", "", "'i'.toLocaleUpperCase();", "superio.mjs has toLocale, which differs with the user's language"),
+    (f"{JS}/superio.mjs", "", "'i'.toLocaleUpperCase();",
+     "superio.mjs has toLocale, which differs with the user's language"),
     ("bindings/python/superio/registers.py", '"ICR", 0x01C', '"ICR", 0x020', "module.mjs has other bytes or tables"),
     (f"prebuilt/{MODULE}", None, (ROOT / "prebuilt" / MODULE).read_bytes()[:-1],
      f"prebuilt/SHA256SUMS has another sum than {MODULE}", "module.mjs has other bytes")]

@@ -214,13 +214,8 @@ class Runs(FolderTest):
         whole = "\n".join(first_crate.PROVED)
         self.assertEqual([proves(whole), proves(whole, 1)], [True, False])
         self.assertFalse(any(proves(whole.replace(text, "")) for text in first_crate.PROVED))
-        with mock.patch.multiple(first_crate, unproved=str, links_out=str, steps=str):
+        with mock.patch.multiple(first_crate, unproved=str, steps=str):
             self.assertTrue(all(message for _, message in silently(first_crate.check)[0]))
-        library = self.folder / "library"
-        library.mkdir()
-        for link, is_good in (("README.md", True), ("lost.md", False), ("../..", False)):
-            (library / "README.md").write_text(f"[a link]({link})\n", encoding="ascii")
-            self.assertEqual(first_crate.links_out(library) is None, is_good)
 
     def test_a_tally(self):
         for command, expected, is_good in ((["echo", "a"], "a\n", True), (["echo", "a"], "b\n", False),
@@ -302,8 +297,9 @@ class Runs(FolderTest):
     def test_a_monitor_over_a_library_of_another_interface(self):
         """It has to end itself, and to say why."""
         said = demo.SAYS["monitor.c"]
+        compiler = machines()[0].compilers[0]
         for module, monitor, status, right in (
-                (demo, lambda: demo.over_others(machines()[0].compilers[0], demo.DEMO / "monitor.c", self.folder), 1, said),
+                (demo, lambda: demo.over_others(compiler, demo.DEMO / "monitor.c", self.folder), 1, said),
                 (without_kvm, without_kvm.Build(self.folder).over_others, 1, "another interface")):
             for got, errors in ((status, right), (0, right), (-6, ""), (status, "it")):
                 ran = mock.Mock(returncode=got, stdout="", stderr=errors)
