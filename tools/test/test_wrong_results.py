@@ -210,12 +210,10 @@ class Runs(FolderTest):
     def test_first_crate(self):
         def proves(printed, status=0):
             with mock.patch("subprocess.run", return_value=ended(status, printed)):
-                return first_crate.unproved(self.folder) is None
+                return faults_in(silently(first_crate.check)[0]) == 0
         whole = "\n".join(first_crate.PROVED)
         self.assertEqual([proves(whole), proves(whole, 1)], [True, False])
         self.assertFalse(any(proves(whole.replace(text, "")) for text in first_crate.PROVED))
-        with mock.patch.multiple(first_crate, unproved=str, steps=str):
-            self.assertTrue(all(message for _, message in silently(first_crate.check)[0]))
 
     def test_a_tally(self):
         for command, expected, is_good in ((["echo", "a"], "a\n", True), (["echo", "a"], "b\n", False),
