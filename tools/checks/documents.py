@@ -1,11 +1,12 @@
 """The repository's documents, as one reader of Markdown shows them to all checks, and how a check of them ends."""
 import re
+import sys
 from functools import cached_property
 from pathlib import Path
 from typing import NamedTuple
 
-from program import reason
-from tally import run_check
+from program import report
+from tally import takes_no_argument
 
 ROOT = Path(__file__).resolve().parents[2]
 # Folders of what is built.
@@ -114,19 +115,7 @@ def judged(kind, is_good, fault):
 
 
 def run(check, said):
-    """Runs a check of documents that takes no argument, prints what is wrong, how much of each kind was tried, and the
-    sum, and ends: with 1 if something is wrong or nothing was tried. A result is a kind and its faults, which are
-    `None` without rt. `said` is what the check says of itself."""
-    def count(tally):
-        try:
-            for kind, faults in check():
-                tally.of(kind)
-                if faults is None:
-                    tally.skip("rt", kind)
-                for fault in [""] if faults == [] else faults or ():
-                    tally.check(not fault, fault)
-        except OSError as error:
-            tally.check(False, reason(error))
-        if not tally.tried.counts:
-            tally.check(False, "nothing was checked")
-    run_check(count, said)
+    """Runs a check of documents that takes no argument, and reports each kind with its faults. `said` is what the check
+    says of itself."""
+    takes_no_argument(said)
+    sys.exit(report((kind, fault) for kind, faults in check() for fault in faults or [None]))

@@ -4,39 +4,13 @@ from collections import Counter, namedtuple
 from dataclasses import dataclass, field
 from pathlib import Path
 
-from contracts import functions_of, without_generics
-
-
-# What is in angle brackets, with those in it.
-GENERICS = r"<(?:[^<>]|<(?:[^<>]|<[^<>]*>)*>)*>"
-
-
-def pattern_of(header):
-    """The pattern of what an `impl` puts into the paths of its functions: `Serial`, or `LineTrigger` of a trait, whose
-    arguments follow it. The types in place of its parameters may follow the type."""
-    parameters, header = re.fullmatch(rf"\s*({GENERICS})?(.*)", header.split(" where ")[0], re.S).groups()
-    names = [re.findall(r"\w+", part) for part in without_generics(header).split(" for ")]
-    if len(names) == 1:
-        return rf"{names[0][-1]}(?:\+\S*)?"
-    trait = re.search(r"(\w+)\s*(?:<(.*)>)?\s* for ", header, re.S)
-    arguments = [it for it in re.findall(r"\w+", without_generics(trait[2] or ""))
-                 if it not in re.findall(r"\w+", parameters or "")]
-    return rf"{names[1][-1]}\w*{trait[1]}{''.join(arguments)}"
+from contracts import functions_of
 
 
 def function_at(text, place):
     """The innermost function around a place, `None` if there is none."""
     around = [it for it in functions_of(text) if it.has_body and it.start <= place < it.end]
     return around[-1] if around else None
-
-
-def has_path(file, function, path):
-    """Whether a path, as `rt check` prints it, can be that of a function of this file: its `impl` precedes the name, or
-    else its module."""
-    *modules, name = path.split("::")
-    stem = Path(file).stem
-    pattern = pattern_of(function.header) if function.header else modules[0] if stem in ("lib", "main") else stem
-    return name == function.name and bool(re.fullmatch(pattern, modules[-1]))
 
 
 # A text that takes the place of another in a file, in a line of it.

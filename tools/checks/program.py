@@ -24,6 +24,10 @@ IDLE = {"superio": [], "superio_harness": ["calls"]}
 TIMEOUT = 60
 
 
+class Skipped(str):
+    """In the place of a message: what is not there, so that something cannot be tried."""
+
+
 class NotBuilt(Exception):
     """A program or a library could not be built. The text says why."""
 
@@ -136,6 +140,10 @@ def report(results, generated=()):
     tried, failures, faults = Tried(), Counter(), 0
     try:
         for kind, message in results:
+            if isinstance(message, Skipped):
+                print(f"skipped: {message} is not there, for {kind}")
+                tried.leave_out(kind)
+                continue
             tried.add(kind)
             if message is not None:
                 print(message)
@@ -148,7 +156,8 @@ def report(results, generated=()):
     if not checks and not failed:
         print("nothing was checked")
         failed = 1
-    print(*tried.lines(), f"{max(0, sum(checks.values()) + faults - failed)} passed, {failed} failed", sep="\n")
+    passed, skipped = max(0, sum(checks.values()) + faults - failed), len(tried.left_out)
+    print(*tried.lines(), f"{passed} passed, {failed} failed" + f", {skipped} skipped" * bool(skipped), sep="\n")
     return 1 if failed else 0
 
 

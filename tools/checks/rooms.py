@@ -87,9 +87,9 @@ def crates_of(root):
     return crates
 
 
-def make_room(folder, crate, texts=(), kept=None):
-    """Copies a crate, with these texts in place of its own and over kept work, and the libraries below it. Returns the
-    folder of the copy."""
+def make_room(folder, crate, texts=()):
+    """Copies a crate, with these texts in place of its own, and the libraries below it. Returns the folder of the
+    copy."""
     below = crate.below()
     for library in below:
         for part in PARTS:
@@ -101,8 +101,6 @@ def make_room(folder, crate, texts=(), kept=None):
             shutil.copytree(crate.folder / part, copy / part)
     for file, text in dict(texts).items():
         (copy / file).write_text(text, encoding="utf-8")
-    if kept:
-        link_tree(kept, copy / "out" / "incremental")
     (folder / "crates.txt").write_text("".join(it.line + "\n" for it in [*below, crate]), encoding="utf-8")
     return copy
 

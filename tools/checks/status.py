@@ -19,9 +19,7 @@ import threading
 import time
 from contextlib import contextmanager
 
-SECONDS_ON_A_TERMINAL = 1
-SECONDS_IN_A_LOG = 60
-
+SECONDS_ON_A_TERMINAL, SECONDS_IN_A_LOG = 1, 60
 # How far a check is: `checked NAME, 3 of 20`, or `so far: 30 of 165 functions checked`.
 PROGRESS = re.compile(r"(?:checked .*, |so far: )(\d+) of (\d+)\b")
 
@@ -63,13 +61,15 @@ class Status:
     def __init__(self, name, stream=None, counts=True):
         self.name, self.counts, self.stream = name, counts, stream or sys.stderr
         self.is_terminal = self.stream.isatty() and os.environ.get("TERM") != "dumb"
+        # A tool that shows the line of another asks for it more often.
+        self.seconds = SECONDS_ON_A_TERMINAL if self.is_terminal else float(
+            os.environ.get("STATUS_SECONDS", SECONDS_IN_A_LOG))
         self.passed = self.failed = self.skipped = 0
         self.tasks, self.start = [], time.monotonic()
         self.lock, self.ended = threading.RLock(), threading.Event()
         self.ticker = threading.Thread(target=self.tick, daemon=True)
 
     def __enter__(self):
-        self.start = time.monotonic()
         self.ticker.start()
         return self
 
@@ -83,44 +83,36 @@ class Status:
         """A thing that runs from now to the end of its `with` block."""
         task = Task(name)
         self.tasks.append(task)
-        self.draw(self.text())
         try:
             yield task
         finally:
             self.tasks.remove(task)
-            self.draw(self.text())
 
     def count(self, passed=0, failed=0, skipped=0):
         """Adds to what the line says has passed, failed and was skipped."""
         with self.lock:
-            self.passed += passed
-            self.failed += failed
-            self.skipped += skipped
+            self.passed, self.failed, self.skipped = self.passed + passed, self.failed + failed, self.skipped + skipped
 
     def print(self, text, stream=None):
         """Prints a line that stays, on standard output if no stream is given."""
         with self.lock:
             self.draw("")
             print(text, file=stream or sys.stdout, flush=True)
-            self.draw("" if self.ended.is_set() else self.text())
 
-    def text(self):
-        """The line as it stands now."""
+    def __str__(self):
         parts, tasks = [f"{self.name} {clock(time.monotonic() - self.start)}"], list(self.tasks)
         if self.counts:
             passed, failed = (sum(getattr(it, name) for it in [self, *tasks]) for name in ("passed", "failed"))
-            skipped = f", {self.skipped} skipped" if self.skipped else ""
-            parts.append(f"{passed} passed, {failed} failed{skipped}")
+            parts.append(f"{passed} passed, {failed} failed" + f", {self.skipped} skipped" * bool(self.skipped))
         return " | ".join([*parts, *map(str, tasks)])
 
     def tick(self):
-        # A tool that shows the line of another asks for it more often.
-        often = float(os.environ.get("STATUS_SECONDS", SECONDS_IN_A_LOG))
-        while not self.ended.wait(SECONDS_ON_A_TERMINAL if self.is_terminal else often):
-            self.draw(self.text())
-            if not self.is_terminal:
-                with self.lock:
-                    print(self.text(), file=self.stream, flush=True)
+        while not self.ended.wait(self.seconds):
+            with self.lock:
+                if self.is_terminal:
+                    self.draw(str(self))
+                else:
+                    print(self, file=self.stream, flush=True)
 
     def draw(self, text):
         """Rewrites the line of a terminal."""

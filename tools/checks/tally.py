@@ -6,7 +6,8 @@ A check prints a line for each kind, in any place before its last line. Lines of
     not tried: random calls for aarch64-linux
 
 The second form names a kind of which something cannot run here, which the check counts as skipped. `tools/floors` has a
-row for each kind: the check, the number, and the kind.
+row for each kind: the check, the number, and the kind. A row `lines of *` is for all such kinds without a row of their
+own, and has their sum; a row `kinds: lines of *` has how many these are.
 """
 import argparse
 import re
@@ -15,6 +16,7 @@ import subprocess
 import sys
 from collections import Counter
 from doctest import DocTestCase
+from fnmatch import fnmatchcase
 from pathlib import Path
 from unittest import TextTestResult, TextTestRunner, defaultTestLoader
 
@@ -22,6 +24,7 @@ FLOORS = Path(__file__).resolve().parents[1] / "floors"
 TRIED = re.compile(r"tried: (\d+) (\S.*)")
 NOT_TRIED = re.compile(r"not tried: (\S.*)")
 ROW = re.compile(r"(\w+) +(\d+)  (\S.*)")
+KINDS = "kinds: "
 LIMIT = 300  # seconds, after which a program counts as one that does not end
 
 
@@ -225,11 +228,23 @@ def read_floors(path=FLOORS):
     return floors
 
 
+def in_rows(floors, tried):
+    """What a check tried, by the rows of the table that its kinds have. A kind that is left out is one of its form."""
+    forms, found = [row for row in floors if "*" in row and not row.startswith(KINDS)], Tried()
+    for kind, number in {**dict.fromkeys(tried.left_out, 0), **tried.counts}.items():
+        row = kind if kind in floors else next((it for it in forms if fnmatchcase(kind, it)), kind)
+        is_left_out = kind in tried.left_out
+        found.counts.update({row: number} if row == kind else {row: number, f"{KINDS}{row}": number > 0 or is_left_out})
+        found.left_out.update([row] * is_left_out)
+    return found
+
+
 def shortfalls(floors, tried, skipped):
     """A message for each kind of which a check tried too little, by its rows of the table, `None` if it has none. Where
     a part cannot run here, its kind has no floor, but then the check has to count something as skipped."""
     if floors is None:
         return ["the table of floors has no row of this check"]
+    tried = in_rows(floors, tried)
     found = [f"{kind}: {tried.counts[kind]} tried, of {least} at least" for kind, least in floors.items()
              if kind not in tried.left_out and tried.counts[kind] < least]
     found += [f"{kind}: the table of floors has no row of it"
@@ -241,6 +256,7 @@ def shortfalls(floors, tried, skipped):
 
 def raised(floors, tried):
     """The rows of a check with the numbers that it tried where these are higher, and with its new kinds."""
+    tried = in_rows(floors, tried)
     whole = {kind: number for kind, number in tried.counts.items() if kind not in tried.left_out}
     return {kind: max(floors.get(kind, 0), whole.get(kind, 0)) for kind in {**floors, **whole}}
 

@@ -4,7 +4,6 @@ from dataclasses import dataclass, field
 from typing import NamedTuple
 
 from contracts import functions_of
-from edits import has_path
 
 GOAL = re.compile(r"\((?:in )?`([^`]+)`\)|^error: `([^`]+)`: ")
 # What the prover says of a text that it could not even read.
@@ -125,17 +124,13 @@ class Place(NamedTuple):
         return it.file == self.file and self.first <= it.line <= self.last
 
 
-def functions_of_edit(edit, texts):
-    """The places of the functions in which an edit may be refused: those that it changes and whose path it names, or
-    all with this path if it changes something outside any function."""
-    found = []
-    for file, text in texts.items():
-        for function in filter(lambda it: it.has_body, functions_of(text)):
-            place = Place(file, *function.lines(text), function)
-            is_changed = edit.is_outside or any(map(place.has, edit.replacements))
-            if is_changed and (not edit.function or has_path(file, function, edit.function)):
-                found.append(place)
-    return found
+def places_of(edit, texts):
+    """Where an edit may be refused: in the functions with the name of its function that it changes, or in all of these
+    if it changes something outside any function."""
+    name = edit.function.split("::")[-1]
+    found = [Place(file, *it.lines(text), it) for file, text in texts.items() for it in functions_of(text)
+             if it.has_body and name in ("", it.name)]
+    return [it for it in found if edit.is_outside or any(map(it.has, edit.replacements))]
 
 
 def proofs_of(path):
@@ -143,9 +138,26 @@ def proofs_of(path):
     return "/".join(["proofs", *path.split("::")[1:], ""])
 
 
+def refusals(edit, said, places):
+    """The unproved functions of an edit, each with the clauses that an error of its own says are not proved, and the
+    errors in texts that could not be read."""
+    refused, clauses, unread = set(), set(), []
+    for path, why in said.unproved.items():
+        proofs = {proofs_of(path), *re.findall(r"expected answers in (?:\./)?(proofs/\S+/)\w+\.antt", why)}
+        for place in places if edit.function in ("", path) else ():
+            own = [it for it in said.errors if place.has(it) or it.file.startswith(tuple(proofs))]
+            unread += [it for it in own if it.is_of_text]
+            # What cites another function's proof fails with it, whatever its own body is.
+            for error in (it for it in own if not it.is_of_text and "was not admitted" not in it.text):
+                if path.split("::")[-1] == place.function.name:
+                    refused.add(path)
+                    clauses.update(said.clauses(path, place.function, error))
+    return refused, clauses, unread
+
+
 def judge(edit, said, texts):
     """What a check of a crate with these sources says of an edit."""
-    places = functions_of_edit(edit, texts)
+    places = places_of(edit, texts)
     changed = {(it.file, it.line) for it in edit.replacements}
     for error in said.errors_of_text:
         if (error.file, error.line) in changed or any(it.has(error) for it in places):
@@ -156,20 +168,7 @@ def judge(edit, said, texts):
         return Outcome("BAD", f"the check did not reach a verdict: {said.tail}")
     if not places:
         return Outcome("BAD", f"it changes no function of the path `{edit.function}`")
-    refused, clauses, unread = set(), set(), []
-    for path, why in said.unproved.items():
-        proofs = {proofs_of(path), *re.findall(r"expected answers in (?:\./)?(proofs/\S+/)\w+\.antt", why)}
-        for place in places:
-            if has_path(place.file, place.function, path) and edit.function in ("", path):
-                for error in said.errors:
-                    if not place.has(error) and not error.file.startswith(tuple(proofs)):
-                        continue
-                    if error.is_of_text:
-                        unread.append(error)
-                    elif "was not admitted" not in error.text:
-                        # What cites another function's proof fails with it, whatever its own body is.
-                        refused.add(path)
-                        clauses.update(said.clauses(path, place.function, error))
+    refused, clauses, unread = refusals(edit, said, places)
     seen = f"{', '.join(sorted(refused))}: {', '.join(sorted(clauses))}"
     if unread and not set(edit.clauses) & clauses:
         return Outcome("BAD", f"a proof names what the edit takes away: {unread[0]}; refused is {seen}", is_final=True)

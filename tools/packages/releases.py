@@ -22,20 +22,16 @@ WANTED = 6
 # The last line of a gate, and the moment of a commit.
 GATE, MOMENT = "9 passed, 0 failed", "1700000000"
 ARCHIVE = f"fimolavand-{VERSION}.tar.gz"
-# What SPDX 2.3 asks of a document, of packages whose files are not listed, and of relations: the forms of all values.
-IDENTIFIER, LICENSE = r"SPDXRef-[A-Za-z0-9.-]+", r"Apache-2\.0 OR BSD-3-Clause"
-SPDX = {
-    "spdxVersion": r"SPDX-2\.3", "dataLicense": r"CC0-1\.0", "SPDXID": r"SPDXRef-DOCUMENT", "name": r".+",
-    "documentNamespace": r"[a-z]+:[^#\s]+",
-    "creationInfo": {"created": r"\d{4}-\d\d-\d\dT\d\d:\d\d:\d\dZ",
-                     "creators": [r"Organization: .+|Tool: .+-\d+\.\d+\.\d+"]},
-    "packages": [{"SPDXID": IDENTIFIER, "name": r".+", "versionInfo": r"\d+\.\d+\.\d+", "packageFileName": r".+",
-                  "downloadLocation": r"NOASSERTION", "supplier": r"Organization: .+", "copyrightText": r".+",
-                  "licenseConcluded": LICENSE, "licenseDeclared": LICENSE, "filesAnalyzed": r"False",
-                  "checksums": [{"algorithm": r"SHA256", "checksumValue": r"[0-9a-f]{64}"}]}],
-    "relationships": [{"spdxElementId": IDENTIFIER, "relatedSpdxElement": IDENTIFIER,
-                       "relationshipType": r"DESCRIBES|GENERATED_FROM"}],
-}
+# The forms of the values of a package in SPDX 2.3 whose files are not listed, and of a document of such packages.
+LICENSE = r"Apache-2\.0 OR BSD-3-Clause"
+PACKAGE = {"SPDXID": r"SPDXRef-[A-Za-z0-9.-]+", "downloadLocation": "NOASSERTION", "supplier": r"Organization: .+",
+           "copyrightText": r".+", "licenseConcluded": LICENSE, "licenseDeclared": LICENSE, "filesAnalyzed": "False"}
+CREATION = {"created": r"\d{4}-\d\d-\d\dT\d\d:\d\d:\d\dZ",
+            "creators": r"\['Organization: .+', 'Tool: .+-\d+\.\d+\.\d+'\]"}
+SPDX = {"spdxVersion": r"SPDX-2\.3", "dataLicense": r"CC0-1\.0", "SPDXID": "SPDXRef-DOCUMENT", "name": r".+",
+        "documentNamespace": r"[a-z]+:[^#\s]+"}
+PROVENANCE = {"commit": r"[0-9a-f]{40}", "commitDate": MOMENT, "gate": GATE, "version": re.escape(VERSION), "abi": ABI,
+              "prebuilt": r"\[('[0-9a-f]{64}  [^']+'(, |\]))+"}
 
 
 def checkout(folder):
@@ -67,37 +63,33 @@ def check_refusals(tally, tree, folder):
         tally.check(ran.returncode == 1 and says in ran.stdout and not (folder / "refused").exists(), ran.stdout)
 
 
-def misfits(found, form, place=""):
-    """The places where a value has another form. A list has values of one form, and a text stands for a pattern."""
-    if isinstance(form, dict) and isinstance(found, dict):
-        yield from (f"{place}.{name}" for name in form.keys() ^ found.keys())
-        for name in form.keys() & found.keys():
-            yield from misfits(found[name], form[name], f"{place}.{name}")
-    elif isinstance(form, list) and isinstance(found, list):
-        for number, it in enumerate(found):
-            yield from misfits(it, form[0], f"{place}[{number}]")
-    elif not isinstance(form, str) or not re.fullmatch(form, str(found)):
-        yield f"{place}: {found}"
+def misfits(found, forms):
+    """The values, shown as texts, that have another form, are missing, or have none."""
+    return [f"{name}: {found.get(name)}" for name in {**found, **forms}
+            if name not in found or not re.fullmatch(forms.get(name, "(?!)"), str(found[name]))]
 
 
 def check_spdx(tally, made, listed):
     """Counts whether the list of contents is what SPDX asks for, and has the sum of each file."""
     spdx = json.loads((made / f"superio-{VERSION}.spdx.json").read_text(encoding="utf-8"))
-    wrong = list(misfits(spdx, SPDX))
-    if not tally.check(not wrong, f"SPDX: {wrong}"):
-        return
-    sums = {it["packageFileName"]: it["checksums"][0]["checksumValue"] for it in spdx["packages"]}
-    wanted = {name: digest(made / name) for name in listed if not name.endswith(".json")}
-    tally.check(len(sums) >= WANTED and sums == wanted, f"SPDX has {sums}")
-    versions = all(f"-{it['versionInfo']}" in it["name"] == it["packageFileName"] for it in spdx["packages"])
-    tally.check(versions and all(len(it["checksums"]) == 1 for it in spdx["packages"]), f"SPDX: {spdx['packages']}")
-    names = {it["SPDXID"]: it["name"] for it in spdx["packages"]}
+    packages, relations = spdx.pop("packages"), spdx.pop("relationships")
+    wrong = misfits(spdx.pop("creationInfo"), CREATION) + misfits(spdx, SPDX)
+    for it in packages:
+        name = f".+-{re.escape(it.get('versionInfo', ''))}.*"
+        sums = [{"algorithm": "SHA256", "checksumValue": digest(made / it.get("name"))}]
+        forms = {"name": name, "packageFileName": re.escape(it.get("name")), "versionInfo": r"\d+\.\d+\.\d+",
+                 "checksums": re.escape(str(sums))}
+        wrong += misfits(it, {**PACKAGE, **forms})
+    tally.check(not wrong, f"SPDX: {wrong}")
+    names = {it["SPDXID"]: it["name"] for it in packages}
+    wanted = sorted(name for name in listed if not name.endswith(".json"))
+    tally.check(len(wanted) >= WANTED and sorted(names.values()) == wanted and len(names) == len(packages),
+                f"SPDX has {names}")
     source = next(identifier for identifier, name in names.items() if name == ARCHIVE)
-    related = sorted((it["spdxElementId"], it["relationshipType"], it["relatedSpdxElement"])
-                     for it in spdx["relationships"])
+    related = sorted((it["spdxElementId"], it["relationshipType"], it["relatedSpdxElement"]) for it in relations)
     told = [*(("SPDXRef-DOCUMENT", "DESCRIBES", it) for it in names),
             *((it, "GENERATED_FROM", source) for it in names if it != source)]
-    tally.check(len(names) == len(spdx["packages"]) and related == sorted(told), f"SPDX: {spdx['relationships']}")
+    tally.check(related == sorted(told), f"SPDX: {relations}")
 
 
 def check_provenance(tally, made):
@@ -106,11 +98,10 @@ def check_provenance(tally, made):
     compiled = (line.split("  ") for line in lines_of(PREBUILT / "SOURCES"))
     sources = {ARCHIVE: digest(made / ARCHIVE), **{what: value for value, what in compiled}}
     kit = re.search(r"rattle-kit-\S+ logic [0-9a-f]+", (ROOT / "README.md").read_text(encoding="utf-8"))
-    for name, form in {"sources": sources, "kit": re.escape(kit[0]), "commit": r"[0-9a-f]{40}", "commitDate": MOMENT,
-                       "gate": GATE, "version": re.escape(VERSION), "abi": ABI, "prebuilt": [r"[0-9a-f]{64}  .+"],
-                       "tools": dict.fromkeys(("python", "git", "tar", "cargo", "npm"), r".+")}.items():
-        wrong = list(misfits(found.pop(name, None), form, name))
-        tally.check(not wrong, f"provenance: {wrong}")
+    tally.check(found.pop("sources") == sources, "provenance: other sources")
+    wrong = misfits(found.pop("tools"), dict.fromkeys(("python", "git", "tar", "cargo", "npm"), r".+"))
+    wrong += misfits(found, {**PROVENANCE, "kit": re.escape(kit[0])})
+    tally.check(not wrong, f"provenance: {wrong}")
 
 
 def check_signature(tally, made, folder):

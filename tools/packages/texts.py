@@ -55,7 +55,7 @@ def check_addresses(tally):
     texts = {path: path.read_bytes() for path in files_of(ROOT) if ROOT / "tools" / "test" not in path.parents}
     texts = {path: text.decode(errors="replace") for path, text in texts.items() if b"\0" not in text}
     found = [f"{path}: {it[0]}" for path, text in texts.items() for it in PLACEHOLDER.finditer(text)]
-    tally.check(len(texts) > 500, f"addresses were looked for in only {len(texts)} files")
+    tally.check(len(texts) > 300, f"addresses were looked for in only {len(texts)} files")
     tally.check(not found, "\n".join(["addresses that only stand for one:", *found]))
 
 

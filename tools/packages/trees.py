@@ -3,7 +3,7 @@ import os
 import sys
 from pathlib import Path
 
-from libraries import NEEDS_KIT, PREBUILT, ROOT, SHARED, TARGETS, host_target
+from libraries import PREBUILT, ROOT, SHARED, TARGETS, host_target
 from machines import machines
 from objects import symbols
 from tally import run
@@ -142,9 +142,6 @@ def check_make(tally, tree, target):
 def check_trees(tally, folder):
     """Counts what programs make of the trees that an installation writes."""
     install = [sys.executable, ROOT / "tools" / "install"]
-    ran = run([*install, "--prove", folder / "prefix"], env={**os.environ, "PATH": ""})
-    tally.check((ran.returncode, ran.stdout) == (1, f"tools/install: {NEEDS_KIT}\n"),
-                f"tools/install --prove without rt: status {ran.returncode}\n{ran.stdout}")
     for machine in machines():
         tree, place = folder / machine.target / "tree", folder / machine.target
         tally.run(f"tools/install for {machine.target}",

@@ -44,6 +44,13 @@ CHECKS = [
     ("echo 'not tried: cases'; echo '3 passed, 0 failed'", {"cases": 3}, (3, 1, 0), "nothing counts as skipped"),
     ("echo 'not tried: cases'; echo '3 passed, 0 failed, 0 skipped'", {"cases": 3}, (3, 1, 0), "nothing counts as"),
     ("echo 'not tried: cases'; echo '3 passed, 0 failed, 2 skipped'", {"cases": 3}, (3, 0, 2), ""),
+    # A row for several kinds has their sum, and how many they are; one of its own counts for a kind alone.
+    (f"{THREE}echo 'tried: 1 cases'; echo 'tried: 2 of c'; echo 'tried: 9 of d'; echo '3 passed, 0 failed'",
+     {"cases": 4, "of *": 11, "kinds: of *": 2}, (3, 0, 0), ""),
+    (f"{THREE}echo 'tried: 9 of d'; echo '3 passed, 0 failed'", {"cases": 3, "of *": 9, "kinds: of *": 2}, (3, 1, 0),
+     "kinds: of *: 1 tried, of 2 at least"),
+    (f"{THREE}echo 'tried: 9 of d'; echo '3 passed, 0 failed'", {"cases": 3, "of *": 0, "of d": 10}, (3, 1, 0),
+     "of d: 9 tried, of 10 at least"),
     # The other kinds keep their floors.
     (f"{THREE}echo 'not tried: pastes'; echo '3 passed, 0 failed, 1 skipped'", {"cases": 4, "pastes": 8}, (3, 1, 1),
      FEW),
@@ -68,11 +75,6 @@ TESTS = [
         TEST.format("self.assertTrue(1); self._outcome.result.stop()"), TEST.format("raise OSError()"),
         "import nowhere", *(TEST.replace("    def", "    @expectedFailure\n    def").format(body)
                             for body in ("self.fail()", "pass"))))]
-
-
-class Terminal(io.StringIO):
-    def isatty(self):
-        return True
 
 
 class Running(FolderTest):
@@ -119,7 +121,8 @@ class Running(FolderTest):
         for place in range(3):
             scripts = [good.replace("1 passed, 0", "0 passed, 1") if number == place else good for number in range(3)]
             self.assertEqual(self.run_all(scripts, floors), (1, "5 passed, 1 failed, 3 skipped"))
-        for wrong in ({"ci": {"cases": 2}}, {"ci": {"cases": 1, "more": 1}}, {}, {"ci": {"cases": 1}, "1": {"cases": 1}}):
+        one = {"cases": 1}
+        for wrong in ({"ci": {"cases": 2}}, {"ci": {**one, "more": 1}}, {}, {"ci": one, "1": one}):
             self.assertEqual(self.run_all([good], wrong)[0], 1)
 
     def test_what_needs_what_ci_builds_begins_after_it(self):
@@ -243,10 +246,3 @@ class StatusLines(unittest.TestCase):
         last = [it for it in log.getvalue().splitlines() if "30 of 165" in it][-1]
         self.assertEqual(last, "tools/it 0:00 | 2 passed, 0 failed | a crate: 30 of 165 functions")
         self.assertTrue(check.STATUS.match(last))
-
-    def test_a_terminal_has_one_line_that_is_gone_at_the_end(self):
-        terminal = Terminal()
-        with mock.patch.dict("os.environ", {"TERM": "xterm"}), status.Status("tools/it", terminal) as line, \
-                line.task("a crate"):
-            pass
-        self.assertRegex(terminal.getvalue(), r"a crate[^\n]*\r\x1b\[K\Z")

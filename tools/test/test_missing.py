@@ -7,8 +7,7 @@ import sys
 import unittest
 from pathlib import Path
 
-import tiny
-from repository import NOTHING_ELSE, ROOT, CopyTest, module_of, program, sum_of
+from repository import NOTHING_ELSE, ROOT, CopyTest, make_tiny, module_of, program, sum_of
 from tally import Tried, read_floors, shortfalls
 
 check = module_of("check")
@@ -21,13 +20,11 @@ SAVED, SOME = "docs/SAVED-STATES.md", "some"
 # line of it ends, and what it passes and fails.
 MISSING = [
     ("checks/calls", [CAT], [], "calls/line.txt is not there", (0, SOME)),
-    ("checks/excerpts", [], [], "nothing was checked", (0, SOME)),
+    ("checks/links", [], [], "SAVED-STATES.md: no document links to it", (0, SOME)),
     ("checks/failing_io", [CAT], [], "tests/scripts.txt: No such file or directory", (0, SOME)),
     ("replay", [CAT], [], "boot.recording.xz: No such file or directory", (0, SOME)),
     ("checks/scripts", [CAT], [], "tests/clock.txt is not there", (0, SOME)),
     ("checks/transcripts", [CAT], [], "nothing was checked", (0, SOME)),
-    ("checks/excerpts", [], ["README.md", "docs", "examples/c", "bindings/rust/tests"], "No such file or directory",
-     (SOME, 1)),
     *((f"checks/{name}", ["/nowhere/at/all"], [], NONE, (0, SOME)) for name in ("scripts", "hostile")),
     ("checks/calls", ["/nowhere/at/all"], ["tests/calls/line.txt"], NONE, (SOME, SOME)),
     ("checks/saved_forms", [CAT, "--random", "0"], ["include"], "returned non-zero exit status 1.", (0, 1)),
@@ -73,7 +70,7 @@ class MissingFiles(CopyTest):
         self.judge_sums("rust/check", says=f"{DEVICE} is not there", sums=(SOME, SOME), env=path)
 
     def test_wrong_bodies_without_the_prover(self):
-        tiny.make(self.root, [("one", "same", "ensures", "    number", "    0")])
+        make_tiny(self.root, [("one", "same", "ensures", "    number", "    0")])
         self.judge_sums("checks/wrong_bodies", "--root", self.root, says="No such file or directory: 'rt'", sums=(0, 1),
                         env=NOTHING_ELSE)
 
@@ -105,8 +102,7 @@ class MissingPrograms(CopyTest):
                     (self.bin / path.name).symlink_to(path)
         # A short recording in place of one of 200,000 calls.
         self.floors = read_floors()
-        self.floors["calls"]["calls of calls.txt.xz"] = self.floors["calls"]["calls of line.txt"]
-        self.floors["calls"]["different calls of a file"] = 1
+        self.floors["calls"].update({"calls of *": 1000, "different calls of a file": 1})
         self.write(CALLS_OF, lzma.compress((ROOT / "tests" / "calls" / "line.txt").read_bytes()))
 
     def check_each(self, wanted):

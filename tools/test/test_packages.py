@@ -5,16 +5,14 @@ import shutil
 import subprocess
 import sys
 import unittest
-from unittest import mock
 
 import texts
-from repository import ROOT, CopyTest, tally_of
+from repository import ROOT, CopyTest
 
 TARGETS = ("aarch64-linux", "x86_64-linux")
 HEADER, TABLE, CHANGES = "include/superio.h", "include/superio.abi", "CHANGELOG.md"
 # Runs a program without the rights of root, even for root.
 ANOTHER_USER = ["unshare", "--user"]
-MOUNTING = [*ANOTHER_USER, "--map-root-user", "--mount"]
 SHARED = next((ROOT / "prebuilt" / TARGETS[0]).glob("libsuperio.so.*")).name
 # Texts, and how many addresses that lead nowhere each has.
 ADDRESSES = [("input.invalid, for example // an example.", 0), ("https://example-works.com/", 0), *(
@@ -52,21 +50,13 @@ INSTALLED = {**{name: "0o644" for name in f"""
     "lib/libsuperio.so": SHARED, f"lib/{SHARED}": "0o755"}
 
 
-def can_mount():
-    return bool(shutil.which("unshare")) and subprocess.run([*MOUNTING, "true"], capture_output=True).returncode == 0
+def has_another_user():
+    return shutil.which("unshare") and not subprocess.run([*ANOTHER_USER, "true"], capture_output=True).returncode
 
 
 class Addresses(unittest.TestCase):
     def test_what_leads_nowhere(self):
         self.assertEqual([(text, len(texts.PLACEHOLDER.findall(text))) for text, _ in ADDRESSES], ADDRESSES)
-
-
-class Versions(unittest.TestCase):
-    def test_each_place_is_compared(self):
-        for name, form, wanted in texts.PLACES:
-            with mock.patch.object(texts, "PLACES", [(name, form, f"9{wanted}")]):
-                tally = tally_of(texts.check_versions)
-            self.assertEqual((tally.passed, tally.failed), (1, 1), name)
 
 
 class Interface(CopyTest):
@@ -89,32 +79,26 @@ class Interface(CopyTest):
         rest = (self.root / CHANGES).read_text(encoding="utf-8")
         self.write(CHANGES, f"### Binary interface {number}\n\n{text}\n{rest}")
 
-    def assert_said(self, option, status, *says):
-        ended, printed, said = self.run_tool("tools/packages/abi", option)
-        self.assertEqual((ended, printed, [text for text in says if text not in said]), (status, "", []), said)
-        self.assertEqual(bool(said), bool(says))
-
-    def assert_written(self):
-        self.assert_said("--write", 0)
-        self.assert_said("--check", 0)
-
-    def assert_refused(self, *says):
-        self.assert_said("--write", 1, *says)
-        self.assert_said("--check", 1, *says)
+    def assert_said(self, *says, options=(["--write"], [])):
+        """What the tool says of the table, or nothing."""
+        for option in options:
+            ended, printed, said = self.run_tool("tools/packages/abi", *option)
+            self.assertEqual((ended, printed, [text for text in says if text not in said]), (bool(says), "", []), said)
+            self.assertEqual(bool(said), bool(says))
 
     def assert_needs_number(self, lost, name):
-        self.assert_refused(f"SUPERIO_ABI may not stay {self.number}\n", f"lost: {lost}")
+        self.assert_said(f"SUPERIO_ABI may not stay {self.number}\n", f"lost: {lost}")
         self.give_number(self.number + 1)
-        self.assert_refused(f"CHANGELOG.md has no heading 'Binary interface {self.number + 1}'")
+        self.assert_said(f"CHANGELOG.md has no heading 'Binary interface {self.number + 1}'")
         self.tell(self.number + 1, "- **Changed**: `superio_other`.\n")
-        self.assert_refused(f"'Binary interface {self.number + 1}' changed in {name}\n")
+        self.assert_said(f"'Binary interface {self.number + 1}' changed in {name}\n")
         self.change(CHANGES, "`superio_other`", f"`{name}`")
-        self.assert_written()
+        self.assert_said()
         self.assertIn(f"abi {self.number + 1}\n", self.kept())
 
     def test_a_change_that_breaks_needs_a_number(self):
         before = self.kept()
-        self.assert_written()
+        self.assert_said()
         self.assertEqual(self.kept(), before)
         for changes, lost, name in BREAKING:
             with self.subTest(lost):
@@ -123,39 +107,35 @@ class Interface(CopyTest):
                 self.assert_needs_number(lost, name)
                 self.take("include", CHANGES)
         self.give_number(self.number - 1)
-        self.assert_refused(f"the number {self.number - 1} is less than {self.number}, which was there\n")
+        self.assert_said(f"the number {self.number - 1} is less than {self.number}, which was there\n")
 
     def test_a_new_function_and_another_name_of_a_parameter(self):
         """Programs that were compiled before go on."""
-        self.change(HEADER, "uint32_t superio_abi(void);",
-                    "uint32_t superio_abi(void);\nuint8_t superio_new(uint8_t value);")
+        self.change(HEADER, "superio_abi(void);", "superio_abi(void);\nuint8_t superio_new(uint8_t value);")
         self.change(HEADER, "superio_rtc_line(const superio_rtc *clock)", "superio_rtc_line(const superio_rtc *it)")
         before = self.kept()
-        self.assert_said("--check", 1, "run tools/packages/abi --write")
-        self.assert_written()
+        self.assert_said("run tools/packages/abi --write", options=[[]])
+        self.assert_said()
         self.assertEqual(self.kept().replace("function uint8_t superio_new(uint8_t)\n", ""), before)
 
     def test_another_meaning(self):
-        """CHANGELOG.md tells it, and the header shows nothing of it."""
+        """CHANGELOG.md tells it, and the header shows nothing of it. What it tells of has to be there."""
         text = "- **Another meaning**: `superio_rtc_due` and `superio_rtc_line`: `superio_abi` is the same.\n"
-        before = self.kept()
+        before, new = self.kept(), [f"meaning {{}} superio_rtc_{name}" for name in ("due", "line")]
         self.tell(self.number, text)
-        new = [f"meaning {{}} superio_rtc_{name}" for name in ("due", "line")]
-        self.assert_refused(f"may not stay {self.number}\n", *(f"new: {it.format(self.number)}\n" for it in new))
+        self.assert_said(f"may not stay {self.number}\n", *(f"new: {it.format(self.number)}\n" for it in new))
         self.give_number(self.number + 1)
-        self.change(CHANGES, f"### Binary interface {self.number}\n\n{text}",
-                    f"### Binary interface {self.number + 1}\n\n{text}")
-        self.assert_written()
+        self.change(CHANGES, f"interface {self.number}\n\n{text}", f"interface {self.number + 1}\n\n{text}")
+        self.assert_said()
         added = {f"abi {self.number + 1}", *(it.format(self.number + 1) for it in new)}
         self.assertEqual(added, set(self.kept().splitlines()) - set(before.splitlines()))
-
-    def test_what_changelog_tells_has_to_be_there(self):
+        self.take("include", CHANGES)
         self.give_number(self.number + 1)
         self.tell(self.number + 1, "- **Another meaning**: `superio_gone`.\n")
-        self.assert_said("--write", 0)
-        self.assert_said("--check", 1, "not there: {'superio_gone'}")
+        self.assert_said(options=[["--write"]])
+        self.assert_said("not there: {'superio_gone'}", options=[[]])
         self.tell(self.number + 2, "- **Gone**: `superio_gone`.\n")
-        self.assert_said("--check", 1, "the last has to be")
+        self.assert_said("the last has to be", options=[[]])
 
     @unittest.skipUnless(shutil.which("git"), "git is not there")
     def test_the_last_release_counts(self):
@@ -167,7 +147,7 @@ class Interface(CopyTest):
         self.change(TABLE, "INVALID_ARMED 7", "INVALID_ARMED 8")
         self.assert_needs_number(*BREAKING[-1][1:])
         self.change(HEADER, ARMED.format(8), ARMED.format(9))
-        self.assert_written()
+        self.assert_said()
 
 
 class Installing(CopyTest):
@@ -252,19 +232,7 @@ class Installing(CopyTest):
         (self.prefix / HEADER).mkdir(parents=True)
         self.assert_refused("superio.h is a folder")
 
-    @unittest.skipUnless(can_mount(), "no user of another namespace can be made")
-    def test_a_full_disk(self):
-        """Wherever it ends: it has room for some files, or for all but the last."""
-        self.prefix.mkdir()
-        for size in (4, 16, 48):
-            script = f'mount -t tmpfs -o size={size}k none "$1" && shift && "$@"; echo "$?"; find "$0" -mindepth 1'
-            ran = subprocess.run([*MOUNTING, "sh", "-c", script, self.prefix, self.prefix, *self.words],
-                                 capture_output=True, text=True)
-            self.assertIn("No space left on device", ran.stderr)
-            self.assertEqual(ran.stdout, "1\n", f"{size} kB: what is left")
-        self.assertEqual(list(self.state()), [self.prefix])
-
-    @unittest.skipUnless(can_mount(), "no user of another namespace can be made")
+    @unittest.skipUnless(has_another_user(), "no user of another namespace can be made")
     def test_a_normal_user(self):
         """One who owns the folder, and has no right beyond that."""
         for mode, status, says in ((0o755, 0, ""), (0o555, 1, "tools/install: [Errno 13] Permission denied")):

@@ -8,9 +8,9 @@ from unittest import mock
 
 import cargo
 from libraries import host_target
-from planted import Bug, read_bugs
+from planted import Bug
 from repository import FolderTest, ended, module_of, tally_of
-from toolchains import is_too_old, toolchains
+from toolchains import is_too_old
 
 counts, random_calls, targets = map(module_of, ("bench/counts", "rust/random_calls", "rust/targets"))
 SERIAL = "src/serial.rs"
@@ -47,32 +47,14 @@ class Counts(FolderTest):
             crate, limit = map(int, table[name][1:])
             self.assertIn(limit, (crate - 1, crate + 1, crate + 2, crate * 6 // 5), name)
 
-    def test_rows_of_the_table_are_read(self):
-        rows = {row.name: row for row in counts.ROWS}
-        loopback, many = rows["loopback: THR write, RBR read"], rows["64 bytes in and out"]
-        self.assertEqual((loopback.prepared, loopback.length, loopback.units), (1, 2, 300))
-        self.assertEqual(loopback.accesses[:12], b"w\x04\x10w\x00\x41r\x00\x00w\x00\x41")
-        self.assertEqual((many.prepared, many.length, many.units), (0, 65, 9))
-        self.assertEqual(many.accesses, 9 * (b"e\x00\x40" + 64 * b"r\x00\x00"))
 
-
-class Targets(FolderTest):
+class Targets(unittest.TestCase):
     def test_the_tests_of_all_programs_are_tried_and_none_is_a_failure(self):
         """A run that fails passed no test."""
         good = "test result: ok. 12 passed; 0 failed\ntest result: ok. 8 passed; 0 failed\n"
         for status, printed, wanted in ((0, good, (1, 0, 20)), (0, "", (0, 1, 0)), (101, good, (0, 1, 0))):
             tally = tally_of(targets.count_tests, "the tests", ended(status, printed))
             self.assertEqual((tally.passed, tally.failed, sum(tally.tried.counts.values())), wanted)
-
-    @unittest.skipUnless(shutil.which("cargo"), "needs cargo")
-    def test_each_target_is_built_or_named(self):
-        built = [next(toolchains())] + [None] * (len(targets.BUILT) - 1)
-        ran = mock.Mock(**{"run.return_value": ended(101, "use of undeclared crate `std`")})
-        with mock.patch.object(targets, "toolchain_for", side_effect=built), \
-                mock.patch.object(targets, "Cargo", return_value=ran):
-            tally = tally_of(targets.check_builds, self.folder)
-        self.assertEqual((tally.passed, tally.failed, tally.skipped), (0, 1, len(targets.BUILT) - 1))
-        self.assertEqual([target for target in targets.BUILT if target not in tally.printed], [])
 
 
 @unittest.skipIf(host_target() is None, "needs a library for this processor")
@@ -103,9 +85,3 @@ class RandomCalls(unittest.TestCase):
             tally = tally_of(random_calls.check_calls, self.comparison, 100_000, 1)
         self.assertEqual((tally.passed > 0, tally.failed), (True, 1))
         self.assertIn(f"cases that came too seldom: {random_calls.CASES[1].pattern}, ", tally.printed)
-
-    def test_each_edit_is_tried_as_one_of_its_kind(self):
-        with mock.patch.object(random_calls, "check_wrong_shell") as tries:
-            tally = tally_of(random_calls.check_wrong_shells, self.comparison)
-        self.assertEqual((tries.call_count, tally.kind),
-                         (len(list(read_bugs(random_calls.WRONG))), random_calls.WRONG_SHELLS))

@@ -16,12 +16,11 @@ import demo
 import misuse
 import programs
 import texts
-import tiny
 import without_kvm
 from failing import Call, Ran
 from machines import machines
-from repository import (NOTHING_ELSE, OF_CALLS, ROOT, CopyTest, FolderTest, ended, module_of, program, silently,
-                        sum_of, tally_of)
+from repository import (NOTHING_ELSE, OF_CALLS, ROOT, CopyTest, FolderTest, ended, make_tiny, module_of, program,
+                        silently, sum_of, tally_of)
 from tally import run
 from toolchains import Toolchain
 
@@ -222,17 +221,10 @@ class Runs(FolderTest):
     def test_first_crate(self):
         def proves(printed, status=0):
             with mock.patch("subprocess.run", return_value=ended(status, printed)):
-                return first_crate.unproved(self.folder) is None
+                return faults_in(silently(first_crate.check)[0]) == 0
         whole = "\n".join(first_crate.PROVED)
         self.assertEqual([proves(whole), proves(whole, 1)], [True, False])
         self.assertFalse(any(proves(whole.replace(text, "")) for text in first_crate.PROVED))
-        with mock.patch.multiple(first_crate, unproved=str, links_out=str, steps=str):
-            self.assertTrue(all(message for _, message in silently(first_crate.check)[0]))
-        library = self.folder / "library"
-        library.mkdir()
-        for link, is_good in (("README.md", True), ("lost.md", False), ("../..", False)):
-            (library / "README.md").write_text(f"[a link]({link})\n", encoding="ascii")
-            self.assertEqual(first_crate.links_out(library) is None, is_good)
 
     def test_a_tally(self):
         for command, expected, is_good in ((["echo", "a"], "a\n", True), (["echo", "a"], "b\n", False),
@@ -303,8 +295,9 @@ class Runs(FolderTest):
     def test_a_monitor_over_a_library_of_another_interface(self):
         """It has to end itself, and to say why."""
         said = demo.SAYS
+        compiler = machines()[0].compilers[0]
         for module, monitor, status, right in (
-                (demo, lambda: demo.over_others(machines()[0].compilers[0], demo.SOURCE, self.folder), 1, said),
+                (demo, lambda: demo.over_others(compiler, demo.SOURCE, self.folder), 1, said),
                 (without_kvm, without_kvm.Build(self.folder).over_others, 1, "another interface")):
             for got, errors in ((status, right), (0, right), (-6, ""), (status, "it")):
                 ran = mock.Mock(returncode=got, stdout="", stderr=errors)
@@ -400,7 +393,7 @@ class Proving(CopyTest):
     parts = ("tools", "docs/SAVED-STATES.md")
 
     def test_ci_runs_all_in_a_copy_and_ends_as_it_does(self):
-        tiny.make(self.root, [])
+        make_tiny(self.root, [])
         program(self.root / "rt", 'echo "rt $* in $PWD"\nexit 3')
         status, printed, _ = self.run_tool("tools/checks/ci", env={"PATH": f"{self.root}:/usr/bin:/bin"})
         self.assertEqual(status, 3)

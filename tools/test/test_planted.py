@@ -1,8 +1,9 @@
-"""Tests that the checks of documents find planted faults: in tables, each with what has to be said of it."""
+"""Tests that checks find planted faults of documents, declarations and packages: in tables, each with what has to be
+said of it. They need no compiler, browser or kit."""
 import re
 from unittest import mock
 
-from repository import ROOT, CopyTest, ended, module_of
+from repository import NOTHING_ELSE, ROOT, CopyTest, ended, module_of
 
 with mock.patch("documents.run"):
     names = module_of("checks/names")
@@ -10,7 +11,7 @@ PROOFS, BODIES, USING, DEVICES, RELEASE = (
     f"docs/{name}.md" for name in ("PROOFS", "WRONG-BODIES", "USING", "DEVICES", "RELEASE"))
 CALLING, DIFFERENCES, HEADER = "crates/vm_superio/CALLING.md", "docs/DIFFERENCES.md", "include/superio.h"
 SPECS, PYTHON, I8042 = "crates/superio_core/specs", "bindings/python/superio", "crates/vm_superio/src/i8042.rt"
-JS, README = "bindings/js", "README.md"
+JS, README, MODULE, ICON = "bindings/js", "README.md", "wasm32/superio.wasm", '<link rel="icon" href="{}">'
 # A row of each table has a file, a text of it, the one in its place, and what the check says.
 LINKS = [(USING, "", text, f"{USING}: {says}") for text, says in (
     ("[one](two.md)", "two.md is not there"), ("[one](DEVICES.md#another)", "DEVICES.md#another is no heading"),
@@ -21,7 +22,8 @@ LINKS = [(USING, "", text, f"{USING}: {says}") for text, says in (
     ("[1](one.md 'a' b)", "](one.md 'a' b) is no link"), ("[up](../../README.md)", "../../README.md is not there"),
     ("## Same\n\n## Same\n\n[second](#same-1), [third](#same-2)", "#same-2 is no heading"),
     ("```text\n[not a link](nowhere.md)\n```\n\n[eight](eight.md)", "eight.md is not there"))]
-LINKS.append(("docs/lost.md", None, "# Lost\n", "docs/lost.md: no document links to it"))
+LINKS += [("docs/lost.md", None, "# Lost\n", "docs/lost.md: no document links to it"),
+          (CALLING, "", "[c](../../docs/c.md)", f"{CALLING}: ../../docs/c.md leads out of what is copied")]
 NAMES = [
     (PROOFS, "`Serial::read: data, ", "`Serial::read: date, ",
      f"{PROOFS}: vm_superio::serial::Serial::read has no clause date",
@@ -154,13 +156,40 @@ NAMES_OF_VM_SUPERIO = [
     (I8042, "pub fn reset_evt(&self)", "pub fn lent(&self)",
      f"{DIFFERENCES}: I8042Device::reset_evt is not in the row 'not here'",
      f"{DIFFERENCES}: I8042Device::lent is not in the row 'new'")]
-EXCERPTS = [
+# Excerpts. Lines in another order are missing, too.
+LINKS += [
     ("docs/one.c", None, "one;\nanother;\nmore;\n"),
     ("docs/c.md", "return done.byte;", "return done.bytes;",
      "docs/c.md: monitor.c has no line 'return done.bytes;' there"),
     (USING, "", "Of [it](one.c):\n\n```c\nmore;\none;\n```\n", f"{USING}: one.c has no line 'one;' there"),
     (USING, "", "Of [it](one.c):\n\n```c\none;\none;\n```\n", f"{USING}: one.c has no line 'one;' there"),
     (USING, "", "Of [it](one.c):\n\n```c\none;\n    more;\n```\n")]
+DECLARATIONS = [
+    (HEADER, "superio_serial_new(void) SUPERIO_MUST_USE;", "superio_serial_new(void);",
+     "superio_serial_new: the header has the attributes []"),
+    (HEADER, "bool superio_rtc_line(const superio_rtc *clock)", "bool superio_rtc_line(superio_rtc *clock)",
+     "superio_rtc_line: the header has the attributes ['SUPERIO_ACCESS(read_only, 1)', "),
+    (HEADER, "#define SUPERIO_ABI 3", "#define SUPERIO_ABI 4", "SUPERIO_ABI is not ['3'], the library's"),
+    ("tools/c/tests/replay.c", "superio_i8042_read((uint8_t)number(1))", "0",
+     "replay.c does not call ['superio_i8042_read']"),
+    # After this one the others are not compared.
+    (HEADER, "superio_abi(void);", "superio_abi(void), superio_zero(void);", "tools/c/header.py does not know")]
+OF_JS = [
+    ("bindings/rust/capi/src/lib.rs", "const NEVER: u64 = u64::MAX;", "const NEVER: u64 = 0;",
+     "the module was built from other sources"),
+    (f"{JS}/registers.mjs", "", "[].toSorted();", "registers.mjs has .toSorted(, which Node 18 lacks"),
+    (f"{JS}/superio.mjs", "", "'i'.toLocaleUpperCase();",
+     "superio.mjs has toLocale, which differs with the user's language"),
+    ("bindings/python/superio/registers.py", '"ICR", 0x01C', '"ICR", 0x020', "module.mjs has other bytes or tables"),
+    (f"prebuilt/{MODULE}", None, (ROOT / "prebuilt" / MODULE).read_bytes()[:-1],
+     f"prebuilt/SHA256SUMS has another sum than {MODULE}", "module.mjs has other bytes")]
+OF_PAGE = [
+    ("docs/try.html", '<h2 id="why-heading">Why</h2>', '<h2 id="why-heading">Why so</h2>',
+     "try.html is not what its sources make"),
+    ("docs/DEVICES.md", "### The character timeout", "### A timeout",
+     "DEVICES.md#the-character-timeout leads nowhere"),
+    ("docs/try.html", ICON.format("data:,"), ICON.format("https://example.invalid/icon.png"),
+     "asks the network for ['href=\"https://example.invalid/icon.png']")]
 
 
 class Planted(CopyTest):
@@ -188,6 +217,21 @@ class Planted(CopyTest):
     def test_differences(self):
         self.judge("tools/checks/differences", NAMES_OF_VM_SUPERIO)
 
-    def test_excerpts(self):
-        """Lines in another order are missing, too."""
-        self.judge("tools/checks/excerpts", EXCERPTS)
+    def test_declarations_of_c(self):
+        self.assertNotIn("the header has", self.run_tool("tools/c/check", env=NOTHING_ELSE)[1])
+        for changes in (DECLARATIONS[:-1], DECLARATIONS[-1:]):
+            for *change, _ in changes:
+                self.change(*change)
+            printed = self.run_tool("tools/c/check", env=NOTHING_ELSE)[1]
+            self.assertEqual([says for *_, says in changes if says not in printed], [])
+
+    def test_the_packages_of_javascript_and_what_cannot_run(self):
+        printed = self.judge("tools/js/check", OF_JS, env=NOTHING_ELSE)
+        for missing in ("node", "deno", "rustc"):
+            self.assertRegex(printed, f"skipped: .*{missing}.* not there")
+        self.assertRegex(printed, r", 5 skipped\n$")
+
+    def test_the_page_without_a_browser(self):
+        printed = self.judge("tools/page/check", OF_PAGE, env=NOTHING_ELSE)
+        self.assertIn("skipped: chromium is not there", printed)
+        self.assertRegex(printed, r", 7 skipped\n$")
