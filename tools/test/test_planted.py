@@ -131,8 +131,8 @@ FACTS = [
     (BODIES, "length above 300", "length above 400", "lists is [(400,)], and [(300,)]"),
     (BODIES, "first twelve", "first eleven", "allocations is [('eleven',)], and [(12,)]"),
     (BODIES, "At least 3 of", "At least 5 of", "cases is [(5, 500, 3, 500)], and [(3, 500, 3, 500)]"),
-    (BODIES, "`vm_superio` and `superio_script` that", "`vm_superio` and `superio_core` that",
-     "crates is [('vm_superio', 'superio_core')], and [('vm_superio', 'superio_script')]"),
+    (BODIES, "`vm_superio` that takes", "`superio_core` that takes",
+     "crates is [('superio_core',)], and [('vm_superio',)]"),
     # Another definition may have another number of turns.
     (BODIES, "621 turns", "612 turns", "turns is [(612,)], and [("),
     ("docs/SCRIPT.md", "at most 65,536 bytes", "at most 65,535 bytes", "bytes is [(65535,), (65536,)]"),
