@@ -29,6 +29,8 @@ VIEWS = [
         ("λ it. first (both it.inner)", False), ("λ it. first both it.inner", False))),
     (INNER + "impl Model for Inner { ghost view = { λ it. record { kept = it.kept; past = it.kept; all = it.past } }; }"
      " pub struct Counter { inner: Inner }", "λ it. record { kept = it.inner.kept; past = it.inner.past }", False),
+    (INNER + "impl Model for Inner { ghost view = { λ it. record { kept = it.kept; past = it.past } }; }"
+     " pub struct Counter { inner: Inner }", "λ it. record { kept = it.inner.kept; past = it.inner.past }", True),
     ("use crate::hidden::Log as ArrayVec; pub struct Counter { log: ArrayVec<u8, 8> }", "λ it. it.log.items", False),
     ("pub struct Counter where u8: Fn() { count: u64, calls: u64 }", "λ it. it.count", False),
     ("pub enum Counter { None, Some(u64) }", "λ it. it.0", False),

@@ -16,7 +16,7 @@ use Rattle.superio_core.specs.Rtc.{Access, read, write, clock_register_at, host_
 use Rattle.superio_core.specs.Bits.{with_bits, without_bits}
 use Rattle.superio_core.specs.Rtc.Step.{guest_time_in, after_alarm, after_write, clock_step, clock_response, state_after_accesses, is_alarm_reached}
 use Rattle.vm_superio.specs.Rtc.History.{Setting, load, reset, setting_of, load_by, counter_by, newest_found, value_written, clock_of_history, clock_history_response, counter, cleared_bits, cleared_by, guest_time_at, match_value, match_written, is_alarm_set, is_match_passed, is_armed, is_alarm_raised}
-use Rattle.vm_superio.specs.Rtc.{ReadsByHistory, GoesOnByHistory, is_cleared, RaisesAt, RaisesNothingAt, AlarmDueByHistory, SetTimeLaw}
+use Rattle.vm_superio.specs.Rtc.{ClockIsHistory, ReadsByHistory, GoesOnByHistory, is_cleared, RaisesAt, RaisesNothingAt, AlarmDueByHistory, SetTimeLaw}
 use Rattle.superio_core.proofs.Lemmas.{bit_at-without, without-twice, without-of-or, or-twice}
 
 -- ---- the alarm at an access
@@ -224,6 +224,15 @@ begins start =
 pub states : (start : RtcState) (trace : List Access) → state_after_accesses start trace ≡ clock_of_history start trace
 states start [] = begins start
 states start (access ∷ trace) = ap (λ state. clock_step state access) (states start trace) ∙ goes_on start trace access
+
+pub clock_is_history : ClockIsHistory
+clock_is_history = record {
+  response_follows = λ state access start trace same. ap (λ state. clock_response state access) same ∙ answers start trace access;
+  state_follows = λ state access start trace same. ap (λ state. clock_step state access) same ∙ goes_on start trace access;
+  all_responses = λ start trace access. ap (λ state. clock_response state access) (states start trace) ∙ answers start trace access;
+  offset_is = counter-offset;
+  all_states = states;
+}
 
 -- a bit is cleared if some access cleared it
 bit_at-cleared : (trace : List Access) (bit : ℕ) → bit_at (cleared_bits trace) bit ≡ (if is_cleared trace bit then 1 else 0)

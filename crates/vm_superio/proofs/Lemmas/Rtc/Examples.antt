@@ -39,6 +39,9 @@ by_history start trace (one ∷ later) = clock_history_response start trace one.
 abbrev Row : Type 0
 Row = RtcState × List Answered × List RtcEvent
 
+abbrev row : RtcState → List Answered → List RtcEvent → Row
+row start accesses events = (start, accesses, events)
+
 abbrev answers : Row → List (Option ℕ)
 answers row = map (λ (one : Answered). one.1) row.1
 
@@ -70,35 +73,35 @@ raised = record { lr = 0; offset = pos 0; mr = 0; imsc = 1; ris = 1; armed = fal
 
 registers : Given (
     -- each register of a fresh clock, and the bytes that identify a PL031
-    (fresh_clock, shows 0x000 1000 1000 ∷ shows 0x004 1000 0 ∷ shows 0x008 1000 0 ∷ shows 0x00C 1000 1 ∷ shows 0x010 1000 0
-    ∷ shows 0x014 1000 0 ∷ shows 0x018 1000 0 ∷ shows 0xFE0 1000 0x31 ∷ shows 0xFE4 1000 0x10 ∷ shows 0xFE8 1000 0x04
-    ∷ shows 0xFEC 1000 0x00 ∷ shows 0xFF0 1000 0x0D ∷ shows 0xFF4 1000 0xF0 ∷ shows 0xFF8 1000 0x05
-    ∷ shows 0xFFC 1000 0xB1 ∷ [], [])
+    row fresh_clock (shows 0x000 1000 1000 ∷ shows 0x004 1000 0 ∷ shows 0x008 1000 0 ∷ shows 0x00C 1000 1
+    ∷ shows 0x010 1000 0 ∷ shows 0x014 1000 0 ∷ shows 0x018 1000 0 ∷ shows 0xFE0 1000 0x31 ∷ shows 0xFE4 1000 0x10
+    ∷ shows 0xFE8 1000 0x04 ∷ shows 0xFEC 1000 0x00 ∷ shows 0xFF0 1000 0x0D ∷ shows 0xFF4 1000 0xF0
+    ∷ shows 0xFF8 1000 0x05 ∷ shows 0xFFC 1000 0xB1 ∷ []) []
     -- a load sets guest time
-    ∷ (fresh_clock, set 0x008 100 1000 ∷ shows 0x000 1007 107 ∷ [], [])
+    ∷ row fresh_clock (set 0x008 100 1000 ∷ shows 0x000 1007 107 ∷ []) []
     -- guest time does not wrap
-    ∷ (fresh_clock, set 0x008 4294967295 1000 ∷ shows 0x000 1000 4294967295 ∷ shows 0x000 1001 1001
-    ∷ shows 0x008 1001 4294967295 ∷ [], [])
+    ∷ row fresh_clock (set 0x008 4294967295 1000 ∷ shows 0x000 1000 4294967295 ∷ shows 0x000 1001 1001
+    ∷ shows 0x008 1001 4294967295 ∷ []) []
     -- before its first second it is the host's time, and so it is for a sum past 64 bits
-    ∷ (fresh_clock, set 0x008 5 1000 ∷ shows 0x000 996 1 ∷ shows 0x000 995 0 ∷ shows 0x000 994 994 ∷ [], [])
-    ∷ (far_ahead, shows 0x000 65172 65172 ∷ shows 0x000 4294967301 5 ∷ [], [])
+    ∷ row fresh_clock (set 0x008 5 1000 ∷ shows 0x000 996 1 ∷ shows 0x000 995 0 ∷ shows 0x000 994 994 ∷ []) []
+    ∷ row far_ahead (shows 0x000 65172 65172 ∷ shows 0x000 4294967301 5 ∷ []) []
     -- only a control write of 1 resets
-    ∷ (fresh_clock, set 0x008 100 1000 ∷ set 0x00C 2 1001 ∷ shows 0x000 1007 107 ∷ set 0x00C 1 1008
-    ∷ shows 0x000 1009 1009 ∷ shows 0x008 1009 0 ∷ shows 0x00C 1009 1 ∷ [], [])
+    ∷ row fresh_clock (set 0x008 100 1000 ∷ set 0x00C 2 1001 ∷ shows 0x000 1007 107 ∷ set 0x00C 1 1008
+    ∷ shows 0x000 1009 1009 ∷ shows 0x008 1009 0 ∷ shows 0x00C 1009 1 ∷ []) []
     -- the low 32 bits of a moment count
-    ∷ (fresh_clock, set 0x008 5 4294967297 ∷ shows 0x000 3 7 ∷ [], [])
+    ∷ row fresh_clock (set 0x008 5 4294967297 ∷ shows 0x000 3 7 ∷ []) []
     -- the mask is one bit, and a clear takes bits away
-    ∷ (raised, shows 0x014 1000 1 ∷ shows 0x018 1000 1 ∷ set 0x010 2 1000 ∷ shows 0x010 1000 0 ∷ shows 0x018 1000 0
-    ∷ set 0x01C 1 1000 ∷ shows 0x014 1000 0 ∷ [], [])
+    ∷ row raised (shows 0x014 1000 1 ∷ shows 0x018 1000 1 ∷ set 0x010 2 1000 ∷ shows 0x010 1000 0 ∷ shows 0x018 1000 0
+    ∷ set 0x01C 1 1000 ∷ shows 0x014 1000 0 ∷ []) []
     -- the match register shows what was written
-    ∷ (fresh_clock, set 0x004 123 1000 ∷ shows 0x004 1000 123 ∷ shows 0x014 1000 0 ∷ [], [])
+    ∷ row fresh_clock (set 0x004 123 1000 ∷ shows 0x004 1000 123 ∷ shows 0x014 1000 0 ∷ []) []
     -- an invalid read answers nothing and is reported
-    ∷ (fresh_clock, fails 0x01C 1000 ∷ shows 0xFE5 1000 0x10 ∷ shows 0xFFF 1000 0xB1 ∷ fails 0x1003 1000 ∷ [],
-    invalid_read ∷ invalid_read ∷ [])
+    ∷ row fresh_clock (fails 0x01C 1000 ∷ shows 0xFE5 1000 0x10 ∷ shows 0xFFF 1000 0xB1 ∷ fails 0x1003 1000 ∷ [])
+    (invalid_read ∷ invalid_read ∷ [])
     -- an invalid write changes nothing and is reported
-    ∷ (raised, set 0x000 7 1000 ∷ set 0x014 0 1000 ∷ set 0x018 0 1000 ∷ set 0xFE0 7 1000 ∷ set 0x009 7 1000
-    ∷ shows 0x018 1000 1 ∷ shows 0x000 1000 1000 ∷ [],
-    invalid_write ∷ invalid_write ∷ invalid_write ∷ invalid_write ∷ invalid_write ∷ [])
+    ∷ row raised (set 0x000 7 1000 ∷ set 0x014 0 1000 ∷ set 0x018 0 1000 ∷ set 0xFE0 7 1000 ∷ set 0x009 7 1000
+    ∷ shows 0x018 1000 1 ∷ shows 0x000 1000 1000 ∷ [])
+    (invalid_write ∷ invalid_write ∷ invalid_write ∷ invalid_write ∷ invalid_write ∷ [])
     ∷ [])
 unfolding with_bits
 registers = record { steps = refl; history = refl; reports = refl }
@@ -118,15 +121,15 @@ matching armed = record { lr = 0; offset = pos 0; mr = 105; imsc = 1; ris = 0; a
 
 alarms : Given (
     -- a match to come raises once
-    (fresh_clock, set 0x004 105 100 ∷ shows 0x014 104 0 ∷ shows 0x014 105 1 ∷ shows 0x018 105 0 ∷ set 0x010 1 105
-    ∷ shows 0x018 105 1 ∷ set 0x01C 1 106 ∷ shows 0x014 107 0 ∷ [], [])
+    row fresh_clock (set 0x004 105 100 ∷ shows 0x014 104 0 ∷ shows 0x014 105 1 ∷ shows 0x018 105 0 ∷ set 0x010 1 105
+    ∷ shows 0x018 105 1 ∷ set 0x01C 1 106 ∷ shows 0x014 107 0 ∷ []) []
     -- an invalid access finds the alarm
-    ∷ (fresh_clock, set 0x004 200 100 ∷ fails 0x020 200 ∷ shows 0x014 150 1 ∷ [], invalid_read ∷ [])
+    ∷ row fresh_clock (set 0x004 200 100 ∷ fails 0x020 200 ∷ shows 0x014 150 1 ∷ []) (invalid_read ∷ [])
     -- guest time is loaded back, and reaches a restored match later
-    ∷ (matching true, set 0x008 50 101 ∷ shows 0x014 155 0 ∷ shows 0x014 156 1 ∷ [], [])
+    ∷ row (matching true) (set 0x008 50 101 ∷ shows 0x014 155 0 ∷ shows 0x014 156 1 ∷ []) []
     -- a reset would put guest time past the match, and before another access finds that, the moment goes back
-    ∷ (matching true, set 0x008 50 100 ∷ set 0x00C 1 110 ∷ shows 0x014 104 0 ∷ shows 0x014 4294967400 0
-    ∷ shows 0x014 4294967401 1 ∷ [], [])
+    ∷ row (matching true) (set 0x008 50 100 ∷ set 0x00C 1 110 ∷ shows 0x014 104 0 ∷ shows 0x014 4294967400 0
+    ∷ shows 0x014 4294967401 1 ∷ []) []
     ∷ [])
 unfolding with_bits
 alarms = record { steps = refl; history = refl; reports = refl }

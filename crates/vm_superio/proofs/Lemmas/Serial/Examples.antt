@@ -5,23 +5,11 @@ use Rattle.std.proofs.lemmas.Bool.{false≢true}
 use Rattle.std.specs.Bool.{beq}
 use Rattle.std.specs.List.{list_all}
 use Rattle.std.specs.declared.io.Error.{Error}
-use Rattle.superio_core.specs.Bits.{has_bits, only_bits, with_bits}
-use Rattle.superio_core.specs.Serial.Port.{Coherent}
-use Rattle.superio_core.specs.Serial.{State, fresh_state}
-use Rattle.superio_core.specs.declared.trace.Asked.{Asked}
+use Rattle.vm_superio.specs.Serial.{Memory, Port, has_bits, only_bits, with_bits, Coherent, State, fresh_state, Asked, Sent, Op, Trace, IerWrite, ThrWrite, is_iir_read, is_rbr_read, Event, buffer_read, in_buffer_empty, out_byte, tx_lost_byte, Read, Write, Enqueue, CharacterTimeout, Restore, TraceEntry, Response, ByteRead, WriteOk, NoResponse, EnqueueOk, TimeoutOk, TriggerRefused, WriterFailed, FifoFull, ends_in_refusal, Condition, Rda, Thre, is_dlab, is_loopback, step_response, step, step_events, step_calls, is_admissible, is_line_up, restore_calls}
 use Rattle.superio_core.specs.declared.trace.Asked.TheVariants.{Nothing, Took, Refused, TookTook, TookRefused}
-use Rattle.superio_core.specs.declared.trace.Sent.{Sent}
 use Rattle.superio_core.specs.declared.trace.Sent.TheVariants as sent
-use Rattle.superio_core.specs.Serial.Operations.{Op, Trace, IerWrite, ThrWrite, is_iir_read, is_rbr_read, Event, buffer_read, in_buffer_empty, out_byte, tx_lost_byte, Read, Write, Enqueue, CharacterTimeout, Restore, TraceEntry, Response, ByteRead, WriteOk, NoResponse, EnqueueOk, TimeoutOk, TriggerRefused, WriterFailed, FifoFull, ends_in_refusal}
-use Rattle.superio_core.specs.declared.serial.registers.Condition.{Condition}
-use Rattle.superio_core.specs.declared.serial.registers.Condition.TheVariants.{Rda, Thre}
-use Rattle.superio_core.specs.Serial.RegisterMap.{is_dlab, is_loopback}
-use Rattle.superio_core.specs.Serial.Step.{step_response, step, step_events}
-use Rattle.superio_core.specs.Serial.Step.Admissible.{step_calls, is_admissible}
-use Rattle.superio_core.specs.Serial.Step.Raising.{is_line_up, restore_calls}
 use Rattle.vm_superio.specs.Claims.{is_fresh, shows_data, is_outside, is_inside, is_masked}
 use Rattle.vm_superio.specs.Links.{Link, TriggerAnswer, Put, Flush, ObjectCall, ToTrigger, ToOut, ToEvents}
-use Rattle.vm_superio.specs.Serial.{Memory, Port}
 use Rattle.vm_superio.specs.Serial.History.{history_response}
 use Rattle.vm_superio.specs.Serial.History.Interrupts.{op_kinds, shows_waiting_bytes, is_well_formed_entry, restore_calls_due}
 use Rattle.vm_superio.specs.Serial.History.Registers.{held_bytes, taken_bytes}
@@ -422,33 +410,36 @@ module _ {E : Type 0} (refusal : E) (fault : Error) where
   abbrev holds_one : State
   holds_one = record holds { in_buffer = 0x62 ∷ [] }
 
+  abbrev row : State → Op → Sending → Asked → Option E → List (ObjectCall E) → Row
+  row s op sending asked refusal calls = (s, op, sending, asked, refusal, calls)
+
   in_order : Made (
       -- the byte goes first, then its report, then the interrupt, and a refused interrupt changes nothing before it
-      (sends, Write 0 0x41, Taken, Took, None, ToOut (Put 0x41 (Ok tt)) ∷ ToOut (Flush (Ok tt)) ∷ ToEvents out_byte
-      ∷ ToTrigger (Ok tt) ∷ [])
-      ∷ (sends, Write 0 0x41, Taken, Refused, Some refusal, ToOut (Put 0x41 (Ok tt)) ∷ ToOut (Flush (Ok tt))
-      ∷ ToEvents out_byte ∷ ToTrigger (Err refusal) ∷ [])
+      row sends (Write 0 0x41) Taken Took None
+      (ToOut (Put 0x41 (Ok tt)) ∷ ToOut (Flush (Ok tt)) ∷ ToEvents out_byte ∷ ToTrigger (Ok tt) ∷ [])
+      ∷ row sends (Write 0 0x41) Taken Refused (Some refusal)
+      (ToOut (Put 0x41 (Ok tt)) ∷ ToOut (Flush (Ok tt)) ∷ ToEvents out_byte ∷ ToTrigger (Err refusal) ∷ [])
       -- a byte that the output did not take is not flushed; the guest is interrupted all the same
-      ∷ (sends, Write 0 0x41, NotPut fault, Took, None, ToOut (Put 0x41 (Err fault)) ∷ ToEvents tx_lost_byte
-      ∷ ToTrigger (Ok tt) ∷ [])
+      ∷ row sends (Write 0 0x41) (NotPut fault) Took None
+      (ToOut (Put 0x41 (Err fault)) ∷ ToEvents tx_lost_byte ∷ ToTrigger (Ok tt) ∷ [])
       -- a byte that was not flushed counts as lost
-      ∷ (sends, Write 0 0x41, NotFlushed fault, Took, None, ToOut (Put 0x41 (Ok tt)) ∷ ToOut (Flush (Err fault))
-      ∷ ToEvents tx_lost_byte ∷ ToTrigger (Ok tt) ∷ [])
-      ∷ (sends, Write 0 0x41, NotPut fault, Refused, Some refusal, ToOut (Put 0x41 (Err fault)) ∷ ToEvents tx_lost_byte
-      ∷ ToTrigger (Err refusal) ∷ [])
+      ∷ row sends (Write 0 0x41) (NotFlushed fault) Took None
+      (ToOut (Put 0x41 (Ok tt)) ∷ ToOut (Flush (Err fault)) ∷ ToEvents tx_lost_byte ∷ ToTrigger (Ok tt) ∷ [])
+      ∷ row sends (Write 0 0x41) (NotPut fault) Refused (Some refusal)
+      (ToOut (Put 0x41 (Err fault)) ∷ ToEvents tx_lost_byte ∷ ToTrigger (Err refusal) ∷ [])
       -- an RBR read that leaves a byte reports only itself
-      ∷ (holds, Read 0, NotSent, Nothing, None, ToEvents buffer_read ∷ [])
+      ∷ row holds (Read 0) NotSent Nothing None (ToEvents buffer_read ∷ [])
       -- one that leaves none reports that first, as vm-superio does: what is fed then is there when the read returns
-      ∷ (holds_one, Read 0, NotSent, Nothing, None, ToEvents in_buffer_empty ∷ ToEvents buffer_read ∷ [])
-      ∷ (fresh_state, Read 0, NotSent, Nothing, None, ToEvents in_buffer_empty ∷ ToEvents buffer_read ∷ [])
+      ∷ row holds_one (Read 0) NotSent Nothing None (ToEvents in_buffer_empty ∷ ToEvents buffer_read ∷ [])
+      ∷ row fresh_state (Read 0) NotSent Nothing None (ToEvents in_buffer_empty ∷ ToEvents buffer_read ∷ [])
       -- an IER write asks for RDA and then for THRE; a refusal ends it
-      ∷ (holds, Write 1 0x03, NotSent, TookTook, None, ToTrigger (Ok tt) ∷ ToTrigger (Ok tt) ∷ [])
-      ∷ (holds, Write 1 0x03, NotSent, Refused, Some refusal, ToTrigger (Err refusal) ∷ [])
-      ∷ (holds, Write 1 0x03, NotSent, TookRefused, Some refusal, ToTrigger (Ok tt) ∷ ToTrigger (Err refusal) ∷ [])
+      ∷ row holds (Write 1 0x03) NotSent TookTook None (ToTrigger (Ok tt) ∷ ToTrigger (Ok tt) ∷ [])
+      ∷ row holds (Write 1 0x03) NotSent Refused (Some refusal) (ToTrigger (Err refusal) ∷ [])
+      ∷ row holds (Write 1 0x03) NotSent TookRefused (Some refusal) (ToTrigger (Ok tt) ∷ ToTrigger (Err refusal) ∷ [])
       -- received bytes ask once, and reach neither the output nor the events object
-      ∷ (receives, Enqueue (0x61 ∷ 0x62 ∷ []), NotSent, Refused, Some refusal, ToTrigger (Err refusal) ∷ [])
+      ∷ row receives (Enqueue (0x61 ∷ 0x62 ∷ [])) NotSent Refused (Some refusal) (ToTrigger (Err refusal) ∷ [])
       -- in loopback a THR write reaches neither
-      ∷ (record receives { modem_control = 0x18 }, Write 0 0x41, NotSent, Took, None, ToTrigger (Ok tt) ∷ [])
+      ∷ row (record receives { modem_control = 0x18 }) (Write 0 0x41) NotSent Took None (ToTrigger (Ok tt) ∷ [])
       ∷ [])
   unfolding has_bits only_bits with_bits
   in_order = record { admissible = refl; refused = refl; calls = refl }

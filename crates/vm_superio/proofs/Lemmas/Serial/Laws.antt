@@ -12,19 +12,10 @@ use Rattle.std.proofs.Common.{rules, ◌≡◌, ℕ, zero, suc, Bool, true, fals
 use Rattle.std.proofs.lemmas.Bool.Decides.{eqb_tells}
 use Rattle.std.specs.Option.{option_or, option_map_or}
 use Rattle.std.proofs.Math.Seq.{drop-append-add}
-use Rattle.superio_core.specs.declared.trace.Asked.{Asked}
-use Rattle.superio_core.specs.Serial.Operations.{Op, Read, Write, Enqueue, CharacterTimeout, Restore, TraceEntry, OpKind, kind_of, RbrRead, IirRead, Arrival}
-use Rattle.superio_core.specs.Serial.{State, not_empty}
-use Rattle.superio_core.specs.Bits.{only_bits, has_bits, without_bits}
-use Rattle.superio_core.specs.declared.serial.registers.Register.{Register}
-use Rattle.superio_core.specs.declared.serial.registers.Register.TheVariants.{RbrThr, Iir, Unassigned}
-use Rattle.superio_core.specs.Serial.RegisterMap.{register_at, is_dlab, is_loopback}
-use Rattle.superio_core.specs.Serial.Step.Raising.{receive_bytes, enqueued_bytes, bytes_that_fit}
-use Rattle.superio_core.specs.Serial.Step.{step, read_step, write_step, thr_write, character_timeout}
+use Rattle.vm_superio.specs.Serial.{Asked, Op, Read, Write, Enqueue, CharacterTimeout, Restore, TraceEntry, OpKind, kind_of, RbrRead, IirRead, Arrival, State, not_empty, only_bits, has_bits, without_bits, Register, RbrThr, Iir, Unassigned, register_at, is_dlab, is_loopback, receive_bytes, enqueued_bytes, bytes_that_fit, step, read_step, write_step, thr_write, character_timeout, kind_in_state}
 use Rattle.vm_superio.specs.Serial.History.Registers.{value_written_at, last_found, dlab, kind_at, accepted_by, taken_by, remaining_bytes, accepted_bytes, taken_bytes, held_bytes}
 use Rattle.vm_superio.specs.Serial.History.{state_of_history, with_data_ready, line_status}
 use Rattle.vm_superio.specs.Serial.Laws.{RegisterLaw, state_after, HeldBytesLaw, LineStatusLaw}
-use Rattle.superio_core.specs.Serial.Step.Admissible.{kind_in_state}
 use Rattle.superio_core.proofs.Lemmas.Serial.Step.{SameBytes, by_kind, next_by_kind}
 use Rattle.vm_superio.specs.Serial.Laws.Consequences.{TakenThenHeldLaw}
 use Rattle.vm_superio.proofs.Lemmas.{data_ready_right, data_ready_twice}

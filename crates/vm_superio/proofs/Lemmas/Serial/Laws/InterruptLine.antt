@@ -2,14 +2,7 @@
 use Rattle.std.proofs.Common.{arith, ◌≡◌, ℕ, ◌+◌, Bool, true, false, not, ◌==◌, ◌&&◌, ◌||◌, List, [], ◌∷◌, length, inl, inr, refl, ap, sym, ◌∙◌, subst, ◌⊎◌, if◌then◌else◌, IsTrue}
 use Rattle.std.proofs.lemmas.Bool.{and_parts, eqb-true}
 use Rattle.std.specs.Bool.{IsFalse}
-use Rattle.superio_core.specs.declared.trace.Asked.{Asked}
-use Rattle.superio_core.specs.Serial.Operations.{is_refused_at_once, count_if, answer_count, OpKind, RbrRead, IirRead, IerWrite, ThrWrite, Arrival, Timeout, Other}
-use Rattle.superio_core.specs.Serial.{State, not_empty}
-use Rattle.superio_core.specs.Bits.{has_bits, only_bits, without_bits}
-use Rattle.superio_core.specs.declared.serial.registers.Condition.TheVariants.{Rda, Thre}
-use Rattle.superio_core.specs.Serial.Step.Raising.{becomes_pending, raise, bytes_that_fit, receive_bytes, is_line_up}
-use Rattle.superio_core.specs.Serial.Step.Admissible.{kind_in_state, kind_calls, step_calls, answers_all}
-use Rattle.superio_core.specs.Serial.Step.{step}
+use Rattle.vm_superio.specs.Serial.{Asked, is_refused_at_once, count_if, answer_count, OpKind, RbrRead, IirRead, IerWrite, ThrWrite, Arrival, Timeout, Other, State, not_empty, has_bits, only_bits, without_bits, Rda, Thre, becomes_pending, raise, bytes_that_fit, receive_bytes, is_line_up, kind_in_state, kind_calls, step_calls, answers_all, step}
 use Rattle.superio_core.proofs.Lemmas.{and-without, and-without-apart}
 use Rattle.superio_core.proofs.Lemmas.Serial.Step.{by_kind, next_by_kind, rda_asked, one_or_both, up_while_due}
 use Rattle.vm_superio.specs.Serial.Laws.{state_after}
@@ -28,13 +21,6 @@ stays enabled old new e = grind arith
 
 is_raised : (enabled old new : Bool) → new ≡ (enabled || old) → IsOnlyRaised enabled old new
 is_raised enabled old new e = grind arith
-
--- after it the bit is set and enabled if it was turned, or set and enabled before
-asserted : (enabled old new : Bool) → IsOnlyRaised enabled old new
-    → (new && enabled) ≡ ((not old && new) || (old && enabled))
-asserted enabled old new e = grind arith
-
--- ---- both bits
 
 -- ---- the calls that lower nothing
 
@@ -186,11 +172,6 @@ up_after_call s op asked sent fit called =
     line_after_law s op asked sent fit
     ∙ up_by_kind (kind_in_state s op) asked s (and_parts (answers_all (step_calls s op) asked) _ fit).0 called
 
-enables : (value : ℕ) (s : State) (asked : Asked) → IsTrue (is_called asked) ⊎ IsTrue (is_line_up_under value s)
-    → IsTrue (is_called asked) ⊎ EnablesPending (IerWrite value) s
-enables value s asked (inl called) = inl called
-enables value s asked (inr up) = inr (value, refl, up)
-
 goes_up_by_kind : (k : OpKind) (asked : Asked) (s : State) → IsFalse (is_line_up s)
     → IsTrue (line_after k (is_called asked) s) → IsTrue (is_called asked) ⊎ EnablesPending k s
 goes_up_by_kind k asked s was_down up = grind arith
@@ -198,10 +179,6 @@ goes_up_by_kind k asked s was_down up = grind arith
 pub goes_up : GoesUpLaw
 goes_up s op asked sent fit was_down up =
     goes_up_by_kind (kind_in_state s op) asked s was_down (sym (line_after_law s op asked sent fit) ∙ up)
-
-or_true : (bit : Bool) → (bit || true) ≡ true
-or_true true = refl
-or_true false = refl
 
 stays_up_by_kind : (k : OpKind) (called : Bool) (s : State) → IsFalse (may_lower_line k) → IsTrue (is_line_up s)
     → IsTrue (line_after k called s)

@@ -2,15 +2,8 @@
 use Rattle.std.proofs.Common.{arith, ◌≡◌, Bool, List, [], ◌∷◌, ◌++◌, refl, ap, sym, ◌∙◌, append_assoc, append-nil, ℕ, true, false, ◌==◌, subst, IsTrue, not, ◌&&◌, ◌||◌, length, drop}
 use Rattle.std.proofs.lemmas.Bool.{and_parts, false≢true, eqb-true}
 use Rattle.std.specs.Cmp.Derive.{both_true}
-use Rattle.superio_core.specs.declared.trace.Asked.{Asked}
-use Rattle.superio_core.specs.declared.trace.Sent.{Sent}
-use Rattle.superio_core.specs.Serial.Operations.{Op, Read, Write, Enqueue, CharacterTimeout, Restore, TraceEntry, OpKind, Response, is_rbr_read}
-use Rattle.superio_core.specs.Serial.{State, not_empty}
+use Rattle.vm_superio.specs.Serial.{Asked, Sent, Op, Read, Write, Enqueue, CharacterTimeout, Restore, TraceEntry, OpKind, Response, is_rbr_read, State, not_empty, Rda, Thre, register_read, register_at, is_dlab, identification_of, step, kind_in_state, has_bits}
 use Rattle.vm_superio.specs.Serial.History.{with_data_ready, state_of_history, history_response, byte_read, bytes_read, guest_read, ResponsesAre}
-use Rattle.superio_core.specs.declared.serial.registers.Condition.TheVariants.{Rda, Thre}
-use Rattle.superio_core.specs.Serial.RegisterMap.{register_read, register_at, is_dlab, identification_of}
-use Rattle.superio_core.specs.Serial.Step.{step}
-use Rattle.superio_core.specs.Serial.Step.Admissible.{kind_in_state}
 use Rattle.vm_superio.specs.Serial.History.Registers.{held_bytes, interrupt_enable, kind_at, taken_by, taken_bytes, accepted_by}
 use Rattle.vm_superio.specs.Serial.History.Interrupts.{is_pending}
 use Rattle.vm_superio.specs.Serial.Laws.{state_after}
@@ -18,7 +11,6 @@ use Rattle.vm_superio.specs.Serial.Laws.Consequences.{SameReadsLaw, op_and_asked
 use Rattle.vm_superio.proofs.Lemmas.Serial.Laws.{same_kind, register_law, state_of_history-by_state, held_bytes_law, taken_then_held, held_more}
 use Rattle.vm_superio.proofs.Lemmas.Serial.Laws.Interrupts.{thre_next, rda_next}
 use Rattle.vm_superio.specs.Serial.Run.{trace_after}
-use Rattle.superio_core.specs.Bits.{has_bits}
 use Rattle.superio_core.proofs.Lemmas.Serial.{data_ready_set, data_ready_cleared}
 use Rattle.superio_core.specs.declared.trace.Sent.TheVariants as sent
 

@@ -2,14 +2,8 @@
 use Rattle.std.proofs.Common.{arith, add-zero, zero-add, ◌≡◌, ℕ, ◌+◌, Bool, true, false, not, ◌==◌, ◌&&◌, ◌||◌, List, [], ◌∷◌, refl, ap, sym, ◌∙◌, if◌then◌else◌, IsTrue}
 use Rattle.std.proofs.lemmas.Bool.{and_parts, eqb-true}
 use Rattle.std.proofs.Math.Bool.{and-true, and-false}
-use Rattle.superio_core.specs.declared.trace.Asked.{Asked}
-use Rattle.superio_core.specs.Serial.Operations.{is_refused_at_once, count_if, answer_count, OpKind, RbrRead, IirRead, IerWrite, ThrWrite, Arrival, Timeout, Other}
-use Rattle.superio_core.specs.Serial.{State, not_empty}
-use Rattle.superio_core.specs.Bits.{has_bits, only_bits, with_bits, without_bits}
-use Rattle.superio_core.specs.declared.serial.registers.Condition.TheVariants.{Rda, Thre}
+use Rattle.vm_superio.specs.Serial.{Asked, is_refused_at_once, count_if, answer_count, OpKind, RbrRead, IirRead, IerWrite, ThrWrite, Arrival, Timeout, Other, State, not_empty, has_bits, only_bits, with_bits, without_bits, Rda, Thre, kind_in_state, arrival_calls, kind_calls, step_calls, answers_all, bytes_that_fit, becomes_pending, raise, receive_bytes}
 use Rattle.vm_superio.specs.Serial.Step.{turns_on}
-use Rattle.superio_core.specs.Serial.Step.Admissible.{kind_in_state, arrival_calls, kind_calls, step_calls, answers_all}
-use Rattle.superio_core.specs.Serial.Step.Raising.{bytes_that_fit, becomes_pending, raise, receive_bytes}
 use Rattle.vm_superio.specs.Serial.Laws.OneCall.{TurnedBitsLaw}
 use Rattle.superio_core.proofs.Lemmas.Serial.Step.{answers_counted, rda_asked, by_kind, next_by_kind}
 use Rattle.superio_core.proofs.Lemmas.{and-without, and-without-apart}

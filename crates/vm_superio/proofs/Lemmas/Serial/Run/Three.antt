@@ -3,12 +3,7 @@ use Rattle.std.proofs.Common.{arith, ◌≡◌, ℕ, map, List, [], ◌∷◌, �
 use Rattle.std.specs.Cmp.Derive.{both_true}
 use Rattle.vm_superio.specs.Serial.Run.{Call, Reply, Restored, NotRestored, Done, act_of, op_of, entry_of, entries_of, refusal_in_reply, RecordsOf}
 use Rattle.vm_superio.specs.declared.run.Call.TheVariants.{Read, Write, Enqueue, CharacterTimeout, Restore}
-use Rattle.vm_superio.specs.Serial.{Error, Three, WriterOut, Port}
-use Rattle.superio_core.specs.declared.serial.registers.Condition.{Condition}
-use Rattle.superio_core.specs.Serial.{State}
-use Rattle.superio_core.specs.Serial.Operations.{Op, Event, TraceEntry}
-use Rattle.superio_core.specs.Serial.Port.{Coherent}
-use Rattle.superio_core.specs.Serial.Step.Admissible.{is_admissible}
+use Rattle.vm_superio.specs.Serial.{Error, Three, WriterOut, Port, Condition, State, Op, Event, TraceEntry, Coherent, is_admissible, step}
 use Rattle.vm_superio.specs.Links.{Link, TriggerAnswer, answers_of, all_ok, RefusesOwnState, ObjectCall, ToTrigger, answers_in, out_calls_in, raised, WriterCalls}
 use Rattle.vm_superio.specs.Links.Three.{ThreeLink, answers_in-append, out_calls_in-append}
 use Rattle.vm_superio.specs.Links.Writer.{WriterLink, bytes_sent, outcome_of, AreSendings}
@@ -17,7 +12,6 @@ use Rattle.vm_superio.specs.Serial.History.{history_events, outcomes}
 use Rattle.vm_superio.specs.Serial.History.Interrupts.{is_well_formed, restore_calls_due}
 use Rattle.vm_superio.specs.Serial.Laws.Consequences.{recorded_output}
 use Rattle.superio_core.specs.Serial.Operations as operation
-use Rattle.superio_core.specs.Serial.Step.{step}
 use Rattle.vm_superio.specs.Serial.Laws.{state_after, StepsFollow}
 use Rattle.vm_superio.specs.Serial.Run.HistoryTheorem.{calls_at, ObjectSegment, ObjectAtRestore, next_object_segment, ObjectsAre}
 use Rattle.vm_superio.specs.Serial.Run.Three.{WriterSegment, OutputIs, KnownOutputIs, OutputAtRestore, next_writer_segment, OutputsAre, TriggerSegment, TriggerAtRestore, next_trigger_segment, TriggersAre, ThreeHistory}
