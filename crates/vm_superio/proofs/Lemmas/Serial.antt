@@ -3,17 +3,17 @@ pub mod Examples
 pub mod Laws
 pub mod Run
 pub mod Step
-use Rattle.std.proofs.Common.{◌≡◌, length, Option, Some, None, refl, ap, sym, ◌∙◌, ◌≤◌, arith, ℕ, map, List, [], ◌∷◌, ◌++◌, Bool, true, false, ◌&&◌, IsTrue, Result, subst, is_some, if◌then◌else◌}
+use Rattle.std.proofs.Common.{◌≡◌, length, Option, refl, ap, sym, ◌∙◌, arith, ℕ, map, List, [], ◌∷◌, ◌++◌, Bool, true, false, ◌&&◌, IsTrue, Result, subst, is_some, if◌then◌else◌}
 use Rattle.std.specs.Bool.{beq}
 use Rattle.std.specs.declared.io.Error.{Error as Fault}
-use Rattle.vm_superio.specs.Serial.{Port, write_response, refusal_in_result, fault_in_result, Error, Trigger, IOError, FullFifo, Memory, Three, WriterOut, Asked, Sent, Op, Response, ends_in_refusal, answer_count, Read, Write, Enqueue, CharacterTimeout, Restore, Event, is_sent, Other, Arrival, sent_by, read_kind, State, not_empty, restore_calls, Register, RbrThr, Iir, register_at, is_dlab, is_loopback, is_admissible, sends_byte, step_events}
-use Rattle.superio_core.specs.declared.trace.Asked.TheVariants.{Nothing, Took, Refused, TookTook, TookRefused}
-use Rattle.vm_superio.specs.Links.{answers_of, Link, TriggerAnswer, RefusesOwnState, OutCall, WriterCalls, ObjectCall, ToTrigger, ToOut, ToEvents, answers_in, out_calls_in, events_in}
+use Rattle.vm_superio.specs.Serial.{Port, write_response, refusal_in_result, fault_in_result, Error, Three, WriterOut, Asked, Sent, Op, Response, ends_in_refusal, answer_count, Read, Write, Enqueue, CharacterTimeout, Restore, Event, is_sent, Other, Arrival, sent_by, read_kind, State, not_empty, Register, register_at, is_dlab, is_loopback, is_admissible, sends_byte, step_events}
+use Rattle.superio_core.specs.declared.trace.Asked.TheVariants.{Nothing}
+use Rattle.vm_superio.specs.Links.{answers_of, Link, TriggerAnswer, OutCall, WriterCalls, ObjectCall, ToTrigger, ToOut, ToEvents, answers_in, out_calls_in, events_in}
 use Rattle.vm_superio.specs.Links.Writer.{PortLinks, WriterLink, port_links, bytes_sent, outcome_of, AreSendings}
-use Rattle.vm_superio.specs.Serial.Step.{turned_on_count, IsPortStep, RefusesRestore, IsRecordedWrite}
+use Rattle.vm_superio.specs.Serial.Step.{turned_on_count, IsPortStep, IsRecordedWrite}
 use Rattle.vm_superio.proofs.Lemmas.Serial.Laws.TurnedBits.{turned_bits_law}
 use Rattle.vm_superio.specs.Links.Three.{ThreeLink}
-use Rattle.vm_superio.specs.Serial.Step.ObjectStep.{Sending, NotSent, Taken, NotPut, NotFlushed, sent_in, byte_calls, out_calls, OnePort, IsObjectStep, port_of}
+use Rattle.vm_superio.specs.Serial.Step.ObjectStep.{Sending, NotSent, sent_in, byte_calls, out_calls, OnePort, IsObjectStep, port_of}
 use Rattle.vm_superio.specs.declared.serial.errors.Error as failure
 
 -- a record stands for as many answers as it counts, if it has the refusal that it ends in

@@ -1,6 +1,6 @@
 -- Worked examples: of words that laws and contracts only assume, or bound by, since with a wrong one they would say less;
 -- and of calls with their answers, by the steps and by the history.
-use Rattle.std.proofs.Common.{◌≡◌, ℕ, zero, suc, ◌≤◌, true, false, [], ◌∷◌, List, ◌++◌, length, refl, sym, ap, ◌∙◌, replicate, arith, count_by, Bool, map, Option, Some, None, Ok, Err, IsTrue, is_some}
+use Rattle.std.proofs.Common.{◌≡◌, ℕ, zero, suc, ◌≤◌, true, false, ◌∷◌, List, [], ◌++◌, length, refl, sym, ap, ◌∙◌, replicate, arith, count_by, Bool, map, Option, Some, None, Ok, Err, IsTrue, is_some}
 use Rattle.std.proofs.lemmas.Bool.{false≢true}
 use Rattle.std.specs.Bool.{beq}
 use Rattle.std.specs.List.{list_all}

@@ -1,7 +1,7 @@
 -- One call of a run.
 pub mod Three
-use Rattle.std.proofs.Common.{arith, ◌≡◌, List, ◌∷◌, sym, subst, Ok, Err, ℕ, map, false, not, [], ◌++◌, refl, ap, ◌∙◌, Option, Result, IfOk, ◌↔◌, IsTrue}
-use Rattle.std.proofs.lemmas.Bool.{cond_both, false≢true}
+use Rattle.std.proofs.Common.{arith, ◌≡◌, List, [], ◌∷◌, sym, subst, Ok, Err, ℕ, map, false, not, ◌++◌, refl, ap, ◌∙◌, Option, Result, IfOk, ◌↔◌, IsTrue}
+use Rattle.std.proofs.lemmas.Bool.{cond_both}
 use Rattle.std.specs.declared.io.Error as io
 use Rattle.vm_superio.specs.Serial.Run.{Call, Done, act_of, IsReplyTo, RecordsOf, op_of, is_restore, entry_of, response_of, entries_of, trace_of, without_restores, ReadIs, ReadsAre, Act, Reply, Byte, Wrote, Enqueued, TimedOut, Restored, NotRestored}
 use Rattle.vm_superio.specs.Links.{Link, ObjectCall, answers_of, all_ok, RefusesOwnState, ToTrigger, ToOut, ToEvents, raised}

@@ -1,6 +1,6 @@
 -- What a port calls, and in which order: its output first, then its events object, then its trigger. The start, the
 -- operations and the objects' answers decide every call.
-use Rattle.std.specs.Prelude.{map, List, ◌++◌, Option, ◌≡◌, ℕ, IsTrue, Some, None, Result, is_some, [], ◌∷◌}
+use Rattle.std.specs.Prelude.{map, List, [], ◌++◌, Option, ◌≡◌, ℕ, IsTrue, Some, None, Result, is_some, ◌∷◌}
 use Rattle.std.specs.declared.io.Error as io
 use Rattle.vm_superio.specs.Serial.{Error, Three, WriterOut, Port, write_response, enqueue_response, timeout_response, refusal_in_result, fault_in_result, Asked, Sent, Op, Read, Write, Enqueue, CharacterTimeout, Response, ByteRead, ends_in_refusal, State, step_events, step, step_response, sent_events, is_admissible, restore_calls}
 pub use Rattle.vm_superio.specs.Links.{Sending, NotSent, Taken, NotPut, NotFlushed, sent_in, byte_calls, out_calls}

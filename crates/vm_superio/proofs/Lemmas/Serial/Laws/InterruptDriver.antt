@@ -1,5 +1,5 @@
 -- A character timeout raises RDA while bytes are held.
-use Rattle.std.proofs.Common.{◌≡◌, ◌+◌, false, ◌&&◌, ◌||◌, [], ◌∷◌, ◌++◌, refl, ap, ◌∙◌, subst, arith, ℕ, zero, suc, ◌≤◌, ◌<◌, List, length, sym, append_assoc, append-nil, length-append, not, IsTrue, take, drop}
+use Rattle.std.proofs.Common.{◌≡◌, ◌+◌, false, ◌&&◌, ◌||◌, ◌∷◌, ◌++◌, refl, ap, ◌∙◌, subst, arith, ℕ, zero, suc, ◌≤◌, ◌<◌, List, [], length, sym, append_assoc, append-nil, length-append, not, IsTrue, take, drop}
 use Rattle.std.proofs.lemmas.Bool.{and_parts, eqb-true}
 use Rattle.std.specs.Cmp.Derive.{both_true}
 use Rattle.std.proofs.lemmas.List.{take-append-drop, take-append-le}

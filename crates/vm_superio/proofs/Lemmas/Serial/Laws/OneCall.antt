@@ -10,7 +10,7 @@ use Rattle.vm_superio.specs.Serial.Laws.OneCall.{OneCallLaw, ReceivedLaw, OneRea
 use Rattle.superio_core.proofs.Lemmas.Serial.{data_ready_cleared}
 use Rattle.superio_core.proofs.Lemmas.Serial.Step.{by_kind, next_by_kind}
 use Rattle.superio_core.specs.declared.trace.Asked.TheVariants.{Nothing}
-use Rattle.superio_core.specs.declared.trace.Sent.TheVariants.{Nothing, Out, Lost}
+use Rattle.superio_core.specs.declared.trace.Sent.TheVariants.{Nothing, Out}
 use Rattle.superio_core.specs.declared.trace.Sent.TheVariants as sent
 
 -- ---- bytes taken and accepted

@@ -1,5 +1,5 @@
 -- A call that was made goes from the run that is left to the run so far. From a coherent start it is a history.
-use Rattle.std.proofs.Common.{◌∷◌, [], refl, append_assoc, append-nil, arith}
+use Rattle.std.proofs.Common.{◌∷◌, refl, append_assoc, append-nil, arith, []}
 use Rattle.std.proofs.lemmas.List.{nil_from_length}
 use Rattle.vm_superio.proofs.Lemmas.Serial.Run.{IsRun-step, HistoryTheorem-run}
 use Rattle.vm_superio.proofs.serial.port.Port.run.Goals as goal
