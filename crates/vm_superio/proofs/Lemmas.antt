@@ -7,11 +7,9 @@ use Rattle.std.proofs.lemmas.Bool.{false≢true, eqb-true}
 use Rattle.std.specs.Int.Bits.{and_mask, or_add_and}
 use Rattle.std.specs.List.{list_all}
 use Rattle.std.specs.Io.KnownBytes.{Keeps, Appends}
-use Rattle.superio_core.specs.Bits.{has_bits, with_bits}
+use Rattle.vm_superio.specs.Serial.{has_bits, with_bits, Sent, is_lost}
 use Rattle.vm_superio.specs.Serial.History.{with_data_ready}
 use Rattle.superio_core.proofs.Lemmas.{or-twice, or-without, without-or, without-twice}
-use Rattle.superio_core.specs.declared.trace.Sent.{Sent}
-use Rattle.superio_core.specs.Serial.Operations.{is_lost}
 use Rattle.superio_core.specs.declared.trace.Sent.TheVariants.{Out, Lost}
 use Rattle.vm_superio.specs.Links.{OutCall, Put, Flush, WriterCalls}
 use Rattle.vm_superio.specs.Links.Writer.{AreSendings, KnownOutputLaw}

@@ -9,11 +9,7 @@ use Rattle.std.specs.Option.{option_map, option_to_list}
 use Rattle.std.proofs.Common.{sym, subst}
 use Rattle.std.specs.declared.io.Error.{Error}
 use Rattle.std.specs.Io.KnownBytes.{Keeps, Appends}
-use Rattle.superio_core.specs.declared.trace.Asked.{Asked}
-use Rattle.superio_core.specs.declared.trace.Sent.{Sent}
-use Rattle.superio_core.specs.Serial.Operations.{Event, Op, Write}
-use Rattle.vm_superio.specs.Serial.{Error as Failure, Trigger, Memory}
-use Rattle.superio_core.specs.declared.serial.registers.Condition.{Condition}
+use Rattle.vm_superio.specs.Serial.{Error as Failure, Trigger, Memory, Asked, Sent, Event, Op, Write, Condition}
 
 -- the relation that the type of a trigger, or of an events object, states: its value before some calls, what the calls
 -- answered (a trigger) or reported (an events object), in order, and its value after them

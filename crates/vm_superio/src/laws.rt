@@ -7,13 +7,12 @@ ghost use Rattle.vm_superio.specs.Serial.Laws.{RegisterLaw, HeldBytesLaw, LineSt
 ghost use Rattle.vm_superio.specs.Serial.Laws.Consequences.{PendingByPrefixesLaw, TriggerBoundLaw, WaitingBytesLaw, SameReadsLaw, TakenThenHeldLaw, ReadsAreTakenLaw, ReadThenHeldLaw, OutputLaw, PollingDriverLaw, DriverGetsAllLaw, PollsAfterDataReadyLaw};
 ghost use Rattle.vm_superio.specs.Serial.Laws.Line.{NoByteWaitsLaw, TimeoutCallsLaw, TimeoutsShowLaw, OwedAfterRunLaw, TakenAfterRunsLaw, LineAfterLaw, UpAfterCallLaw, GoesUpLaw, StaysUpLaw, LineOfHistoryLaw};
 ghost use Rattle.vm_superio.specs.Links.Writer.{KnownOutputLaw};
+ghost use Rattle.vm_superio.specs.Rtc.{ClockIsHistory, RawBitsByHistory, AlarmDueByHistory, SetTimeLaw};
 ghost use Rattle.vm_superio.specs.Serial.Laws.PortRun.{PortRunLaw, PortOutputLaw, PortBoundLaw};
 ghost use Rattle.vm_superio.specs.Serial.Laws.OneCall.{OneCallLaw, OneReadLaw, ReceivedLaw, RbrReadLaw, RbrDataReadyLaw, ThrWriteLaw, OutcomeEventsLaw, TurnedBitsLaw};
 
-mod clock;
 pub mod saved;
 
-pub use clock::{alarm_due_by_history, clock_is_history, raw_bits_by_history, set_time};
 use std::io::Write;
 
 /// From any start, each register that stores writes holds its last effective one, and MSR never changes.
@@ -210,4 +209,33 @@ pub fn outcome_events()
 #[tactic(auto, using(crate::proofs::Lemmas::Serial::Laws::TurnedBits::turned_bits_law))]
 pub fn turned_bits()
     ensures { TurnedBitsLaw }
+{}
+
+// ---- the clock
+
+/// The clock is its history: from any state and over any accesses, a search of the accesses so far gives its states and
+/// answers.
+#[tactic(auto, using(crate::proofs::Lemmas::Rtc::clock_is_history))]
+pub fn clock_is_history()
+    ensures { ClockIsHistory }
+{}
+
+/// A raw interrupt bit is set if the start has it and no access so far cleared it. Bit 0 is also set if the alarm
+/// raised it and no access cleared it then or later. No other bit is set.
+#[tactic(auto, using(crate::proofs::Lemmas::Rtc::raw_bits))]
+pub fn raw_bits_by_history()
+    ensures { RawBitsByHistory }
+{}
+
+/// By the history, an alarm due in some seconds raises the interrupt at any access at that moment. No earlier access
+/// does, unless it writes a match itself. An earlier read changes nothing.
+#[tactic(auto, using(crate::proofs::Lemmas::Rtc::alarm_due_law))]
+pub fn alarm_due_by_history()
+    ensures { AlarmDueByHistory }
+{}
+
+/// From any state, a clock that was set by a write of RTCLR shows the value written and as many seconds more as have passed
+/// since, if 32 bits hold both times.
+pub fn set_time()
+    ensures { SetTimeLaw }
 {}

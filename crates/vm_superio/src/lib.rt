@@ -15,7 +15,6 @@ pub mod rtc_pl031;
 pub mod run;
 pub mod saved;
 pub mod serial;
-mod trace;
 
 /// A push button towards the monitor: an interrupt line or a reset event.
 ///

@@ -1,7 +1,7 @@
 //! Runs: a list of calls to a serial port, with a record of each. [`Serial::run`](crate::Serial::run) and
 //! [`Port::run`](crate::serial::Port::run) make them.
 use crate::serial::{Error, Objects, RefusedObject};
-pub use crate::trace::{Asked, Sent};
+pub use superio_core::trace::{Asked, Sent};
 
 /// A call to a serial port, with the object of a restore. A [`Serial`](crate::Serial) has its three objects in one, by
 /// [`Three::with_writer`](crate::serial::Three::with_writer).

@@ -10,30 +10,23 @@ ghost use Rattle.vm_superio.specs.Serial.Step.{RefusesRestore};
 mod errors;
 mod events;
 mod objects;
-mod out;
 mod port;
-mod recorded;
-mod restoring;
 mod running;
 pub mod saved_form;
 mod state;
 
 use crate::Trigger;
-use crate::fifo::Fifo;
 use crate::run::{Call, Done};
 pub use errors::{Error, Refused};
 pub use events::{NoEvents, SerialEvents};
-pub use objects::{Objects, Three};
-pub use out::{SerialOut, WriterOut};
+pub use objects::{Objects, SerialOut, Three, WriterOut};
+use port::reassert;
 pub use port::{Port, RefusedObject};
-use restoring::{reassert, restored};
-use running::run_with;
 pub use state::SerialState;
 use std::alloc::{AllocError, Global};
 use std::io::Write;
 use std::marker::Model;
-use superio_core::fifo::{FIFO_SIZE, ReceiveFifo};
-use superio_core::serial::registers::Registers;
+use superio_core::fifo::FIFO_SIZE;
 pub use superio_core::serial::registers::{Condition, Register};
 pub use superio_core::serial::{EnqueueEffects, ReadEffects, RxRing, SerialPort, WriteEffects};
 
@@ -43,22 +36,19 @@ pub use superio_core::serial::{EnqueueEffects, ReadEffects, RxRing, SerialPort, 
 /// Contracts see the port as its state and the three objects that it owns.
 #[derive(Drop)]
 pub struct Serial<T: Trigger, EV: SerialEvents, W: Write> {
-    registers: Registers,
-    in_buffer: Fifo,
-    objects: Three<T, EV, WriterOut<W>>,
+    port: Port<Three<T, EV, WriterOut<W>>>,
 }
 
 impl<T: Trigger, EV: SerialEvents, W: Write> Model for Serial<T, EV, W> {
     ghost use Rattle.vm_superio.specs.Serial.{Port};
-    ghost use Rattle.superio_core.specs.Serial.{state_with};
 
     ghost Value = { Port T EV W };
 
     ghost view = { λ serial. record {
-      state = state_with serial.registers serial.in_buffer;
-      trigger = serial.objects.trigger;
-      events = serial.objects.events;
-      out = serial.objects.out.writer;
+      state = serial.port.state;
+      trigger = serial.port.objects.trigger;
+      events = serial.port.objects.events;
+      out = serial.port.objects.out.writer;
     } };
 }
 
@@ -134,19 +124,10 @@ impl<T: Trigger, EV: SerialEvents, W: Write> Serial<T, EV, W> {
         ensures events_back { IfErr result (λ refused. refused.events ≡ serial_evts) }
         ensures out_back { IfErr result (λ refused. refused.out ≡ out) }
     {
-        let Ok(in_buffer) = Fifo::new(alloc) else {
-            return Err(Refused {
-                error: Error::Memory,
-                trigger,
-                events: serial_evts,
-                out,
-            });
-        };
-        Ok(Serial {
-            registers: Registers::new(),
-            in_buffer,
-            objects: Three::with_writer(trigger, serial_evts, out),
-        })
+        match Port::new(alloc, Three::with_writer(trigger, serial_evts, out)) {
+            Ok(port) => Ok(Serial { port }),
+            Err(objects) => Err(Refused::with_objects(Error::Memory, objects)),
+        }
     }
 
     /// Makes a serial port from a saved state, taken unchanged, and new objects. Calls the trigger once for each
@@ -179,19 +160,9 @@ impl<T: Trigger, EV: SerialEvents, W: Write> Serial<T, EV, W> {
         ensures events_back { IfErr result (λ refused. refused.events ≡ serial_evts) }
         ensures out_back { IfErr result (λ refused. refused.out ≡ out) }
     {
-        let mut objects = Three::with_writer(trigger, serial_evts, out);
-        match restored(alloc, state, &mut objects) {
-            Ok((registers, in_buffer)) => Ok(Serial {
-                registers,
-                in_buffer,
-                objects,
-            }),
-            Err(error) => Err(Refused {
-                error,
-                trigger: objects.trigger,
-                events: objects.events,
-                out: objects.out.writer,
-            }),
+        match Port::from_state(alloc, state, Three::with_writer(trigger, serial_evts, out)) {
+            Ok(port) => Ok(Serial { port }),
+            Err(refused) => Err(Refused::with_objects(refused.error, refused.objects)),
         }
     }
 
@@ -205,15 +176,14 @@ impl<T: Trigger, EV: SerialEvents, W: Write> Serial<T, EV, W> {
         ensures at_most_64 { length self.now.state.in_buffer ≤ 64 }
         ensures coherent { IfOk result (λ saved. Coherent self.now.state → Coherent (state_of saved)) }
     {
-        let in_buffer = self.in_buffer.to_vec(alloc)?;
-        Ok(SerialState::of(&self.registers, in_buffer))
+        self.port.state(alloc)
     }
 
     /// The writer.
     pub fn writer(&self) -> &W
         ensures { result.now ≡ self.now.out }
     {
-        &self.objects.out.writer
+        &self.port.objects.out.writer
     }
 
     /// The writer, mutably. Nothing else in the port changes.
@@ -223,7 +193,7 @@ impl<T: Trigger, EV: SerialEvents, W: Write> Serial<T, EV, W> {
             self.entry result (with_writer self.old)) }
         ensures value { result.now ≡ self.old.out }
     {
-        &mut self.objects.out.writer
+        &mut self.port.objects.out.writer
     }
 
     /// Returns the writer unchanged. Drops the trigger and the events object.
@@ -233,7 +203,7 @@ impl<T: Trigger, EV: SerialEvents, W: Write> Serial<T, EV, W> {
         EV: Drop,
         ensures { result ≡ self.out }
     {
-        let objects = self.objects;
+        let objects = self.port.objects;
         let out = objects.out;
         out.writer
     }
@@ -244,7 +214,7 @@ impl<T: Trigger, EV: SerialEvents, W: Write> Serial<T, EV, W> {
         ensures events { result.1 ≡ self.events }
         ensures out { result.2 ≡ self.out }
     {
-        let objects = self.objects;
+        let objects = self.port.objects;
         (objects.trigger, objects.events, objects.out.writer)
     }
 
@@ -252,7 +222,7 @@ impl<T: Trigger, EV: SerialEvents, W: Write> Serial<T, EV, W> {
     pub fn interrupt_evt(&self) -> &T
         ensures { result.now ≡ self.now.trigger }
     {
-        &self.objects.trigger
+        &self.port.objects.trigger
     }
 
     /// The trigger, mutably. Nothing else in the port changes.
@@ -262,14 +232,14 @@ impl<T: Trigger, EV: SerialEvents, W: Write> Serial<T, EV, W> {
             self.entry result (with_trigger self.old)) }
         ensures value { result.now ≡ self.old.trigger }
     {
-        &mut self.objects.trigger
+        &mut self.port.objects.trigger
     }
 
     /// The events object.
     pub fn events(&self) -> &EV
         ensures { result.now ≡ self.now.events }
     {
-        &self.objects.events
+        &self.port.objects.events
     }
 
     /// The events object, mutably. Nothing else in the port changes.
@@ -279,7 +249,7 @@ impl<T: Trigger, EV: SerialEvents, W: Write> Serial<T, EV, W> {
             self.entry result (with_events self.old)) }
         ensures value { result.now ≡ self.old.events }
     {
-        &mut self.objects.events
+        &mut self.port.objects.events
     }
 
     /// Writes `value` at `offset`, as a guest does.
@@ -302,7 +272,7 @@ impl<T: Trigger, EV: SerialEvents, W: Write> Serial<T, EV, W> {
         ensures fate { IfErr result (λ error. WriteFate offset value error self.old.state self.new.state) }
         ensures coherent { Coherent self.old.state → Coherent self.new.state }
     {
-        self.recorded_write(offset, value).reply
+        self.port.recorded_write(offset, value).reply
     }
 
     /// Whether a write at `offset` sends its byte, as a THR write outside loopback does. Changes nothing: an event loop may
@@ -311,8 +281,8 @@ impl<T: Trigger, EV: SerialEvents, W: Write> Serial<T, EV, W> {
         ensures { (value : ℕ) → sent_by (kind_in_state self.now.state (Write offset value))
             ≡ (if result then value ∷ [] else []) }
     {
-        match self.registers.at(offset) {
-            Register::RbrThr => !self.registers.is_loopback(),
+        match self.port.registers.at(offset) {
+            Register::RbrThr => !self.port.registers.is_loopback(),
             _ => false,
         }
     }
@@ -331,7 +301,7 @@ impl<T: Trigger, EV: SerialEvents, W: Write> Serial<T, EV, W> {
         ensures out { self.new.out ≡ self.old.out }
         ensures coherent { Coherent self.old.state → Coherent self.new.state }
     {
-        let byte = self.recorded_read(offset).reply;
+        let byte = self.port.recorded_read(offset).reply;
         prove!(self.fifo_capacity() <= FIFO_SIZE);
         byte
     }
@@ -355,7 +325,7 @@ impl<T: Trigger, EV: SerialEvents, W: Write> Serial<T, EV, W> {
         ensures step { IsRetryStep T.link EV.link (WriterCalls W.contents) self.old self.new }
         ensures coherent { Coherent self.old.state → Coherent self.new.state }
     {
-        reassert(&self.registers, &mut self.objects)
+        reassert(&self.port.registers, &mut self.port.objects)
     }
 
     /// How many interrupts are due, 0 to 2: the conditions that are both pending and enabled. A retry calls the trigger
@@ -364,14 +334,14 @@ impl<T: Trigger, EV: SerialEvents, W: Write> Serial<T, EV, W> {
         ensures calls { result ≡ length (restore_calls self.now.state) }
         ensures at_most_2 { result ≤ 2 }
     {
-        self.registers.interrupts_due()
+        self.port.registers.interrupts_due()
     }
 
     /// IER, as `state` has it. A driver that has tested the port and wants input leaves it with 0x01 and without 0x02.
     pub fn interrupt_enable(&self) -> u8
         ensures { result ≡ self.now.state.interrupt_enable }
     {
-        self.registers.interrupt_enable
+        self.port.registers.interrupt_enable
     }
 
     /// Whether the interrupt line is up: while a condition is pending and enabled. For a controller that takes levels,
@@ -380,7 +350,7 @@ impl<T: Trigger, EV: SerialEvents, W: Write> Serial<T, EV, W> {
         ensures line { result ≡ is_line_up self.now.state }
         ensures due { result ≡ not (length (restore_calls self.now.state) == 0) }
     {
-        self.registers.interrupt_line()
+        self.port.registers.interrupt_line()
     }
 
     /// How many bytes may still be enqueued: 64 minus the number of held bytes.
@@ -389,7 +359,7 @@ impl<T: Trigger, EV: SerialEvents, W: Write> Serial<T, EV, W> {
         ensures bound { length self.now.state.in_buffer ≤ 64 }
         ensures room_plus_held { result + length self.now.state.in_buffer ≡ 64 }
     {
-        FIFO_SIZE - self.in_buffer.len()
+        self.port.fifo_capacity()
     }
 
     /// Receives as many bytes for the guest as fit, first ones first. Returns how many.
@@ -411,7 +381,7 @@ impl<T: Trigger, EV: SerialEvents, W: Write> Serial<T, EV, W> {
         ensures out { self.new.out ≡ self.old.out }
         ensures coherent { Coherent self.old.state → Coherent self.new.state }
     {
-        self.recorded_enqueue(input).reply
+        self.port.recorded_enqueue(input).reply
     }
 
     /// Tells the port that the time of a few characters has passed without a read or a new byte: it raises RDA again if
@@ -432,7 +402,7 @@ impl<T: Trigger, EV: SerialEvents, W: Write> Serial<T, EV, W> {
         ensures out { self.new.out ≡ self.old.out }
         ensures coherent { Coherent self.old.state → Coherent self.new.state }
     {
-        self.recorded_timeout().reply
+        self.port.recorded_timeout().reply
     }
 
     /// Makes the calls in order, and returns a record of each.
@@ -463,12 +433,6 @@ impl<T: Trigger, EV: SerialEvents, W: Write> Serial<T, EV, W> {
             ThreeHistory T.link EV.link W.contents self.old calls.items done.items self.new) }
         ensures refused { OnErr result (self.new ≡ self.old) }
     {
-        run_with(
-            alloc,
-            &mut self.registers,
-            &mut self.in_buffer,
-            &mut self.objects,
-            calls,
-        )
+        self.port.run(alloc, calls)
     }
 }

@@ -11,12 +11,12 @@ use Rattle.std.proofs.lemmas.Nat.{and_comm, from_le_bytes-to_le_bytes_4}
 use Rattle.std.proofs.lemmas.Nat.Bits.{bit_at_or, bit_at_ones_above, bit_at-lt, bit_at-zero, shr_and_one}
 use Rattle.superio_core.specs.declared.rtc_pl031.state.RtcState.{RtcState}
 use Rattle.superio_core.specs.declared.rtc_pl031.registers.ClockRegister.{ClockRegister}
-use Rattle.superio_core.specs.declared.rtc_pl031.registers.ClockRegister.TheVariants.{Dr, Mr, Lr, Cr, Imsc, Ris, Mis, Icr, Id, Reserved}
+use Rattle.superio_core.specs.declared.rtc_pl031.registers.ClockRegister.TheVariants.{Dr, Mr, Lr, Cr, Imsc, Icr}
 use Rattle.superio_core.specs.Rtc.{Access, read, write, clock_register_at, host_time, guest_time, clock_register_read, bytes_left, moment_of, fresh_clock}
 use Rattle.superio_core.specs.Bits.{with_bits, without_bits}
 use Rattle.superio_core.specs.Rtc.Step.{guest_time_in, after_alarm, after_write, clock_step, clock_response, state_after_accesses, is_alarm_reached}
 use Rattle.vm_superio.specs.Rtc.History.{Setting, load, reset, setting_of, load_by, counter_by, newest_found, value_written, clock_of_history, clock_history_response, counter, cleared_bits, cleared_by, guest_time_at, match_value, match_written, is_alarm_set, is_match_passed, is_armed, is_alarm_raised}
-use Rattle.vm_superio.specs.Rtc.{ReadsByHistory, GoesOnByHistory, is_cleared, RaisesAt, RaisesNothingAt, AlarmDueByHistory, SetTimeLaw}
+use Rattle.vm_superio.specs.Rtc.{ClockIsHistory, ReadsByHistory, GoesOnByHistory, is_cleared, RaisesAt, RaisesNothingAt, AlarmDueByHistory, SetTimeLaw}
 use Rattle.superio_core.proofs.Lemmas.{bit_at-without, without-twice, without-of-or, or-twice}
 
 -- ---- the alarm at an access
@@ -80,16 +80,18 @@ record Means (access : Access) (register : ClockRegister) (value time : ℕ) : T
   cleared : cleared_by access ≡ clear_by register value
 
 means : (offset value now : ℕ) (register : ClockRegister) → clock_register_at offset ≡ register → Means (write offset value now) register value (host_time now)
-means offset value now Dr at = record { setting = grind (arith, common_steps); matched = grind (arith, common_steps); masked = grind (arith, common_steps); cleared = grind (arith, common_steps) }
-means offset value now Mr at = record { setting = grind (arith, common_steps); matched = grind (arith, common_steps); masked = grind (arith, common_steps); cleared = grind (arith, common_steps) }
-means offset value now Lr at = record { setting = grind (arith, common_steps); matched = grind (arith, common_steps); masked = grind (arith, common_steps); cleared = grind (arith, common_steps) }
-means offset value now Cr at = record { setting = grind (arith, common_steps); matched = grind (arith, common_steps); masked = grind (arith, common_steps); cleared = grind (arith, common_steps) }
-means offset value now Imsc at = record { setting = grind (arith, common_steps); matched = grind (arith, common_steps); masked = grind (arith, common_steps); cleared = grind (arith, common_steps) }
-means offset value now Ris at = record { setting = grind (arith, common_steps); matched = grind (arith, common_steps); masked = grind (arith, common_steps); cleared = grind (arith, common_steps) }
-means offset value now Mis at = record { setting = grind (arith, common_steps); matched = grind (arith, common_steps); masked = grind (arith, common_steps); cleared = grind (arith, common_steps) }
-means offset value now Icr at = record { setting = grind (arith, common_steps); matched = grind (arith, common_steps); masked = grind (arith, common_steps); cleared = grind (arith, common_steps) }
-means offset value now (Id byte) at = record { setting = grind (arith, common_steps); matched = grind (arith, common_steps); masked = grind (arith, common_steps); cleared = grind (arith, common_steps) }
-means offset value now Reserved at = record { setting = grind (arith, common_steps); matched = grind (arith, common_steps); masked = grind (arith, common_steps); cleared = grind (arith, common_steps) }
+means offset value now Dr at = record {
+  setting = grind (arith, common_steps);
+  matched = grind (arith, common_steps);
+  masked = grind (arith, common_steps);
+  cleared = grind (arith, common_steps);
+}
+means offset value now register at = record {
+  setting = grind (arith, common_steps);
+  matched = grind (arith, common_steps);
+  masked = grind (arith, common_steps);
+  cleared = grind (arith, common_steps);
+}
 
 -- the history of a longer trace, by what its newest access is
 abbrev longer : (start : RtcState) (trace : List Access) (setting : Option Setting) (matched masked : Option ℕ) (clears guest : ℕ) → RtcState
@@ -159,7 +161,6 @@ by_register : (start : RtcState) (trace : List Access) (offset value now : ℕ) 
     after_write (clock_of_history start (read offset now ∷ trace)) register value (host_time now)
     ≡ longer start trace (setting_by register value (host_time now)) (match_by register value) (mask_by register value) (clear_by register value)
     (guest_time_at start trace (write offset value now))
-by_register start trace offset value now Dr = refl
 by_register start trace offset value now Mr =
     let found = clock_of_history start (read offset now ∷ trace) in
     let guest = guest_time_at start trace (write offset value now) in
@@ -173,15 +174,11 @@ by_register start trace offset value now Lr =
     let whole : value ≡ value + 0 = omega arith in
     ap (λ n. record (clock_of_history start (read offset now ∷ trace)) { lr = value; offset = pos n -ℤ pos (host_time now) }) whole
 by_register start trace offset value now Cr = reset-or-not start trace offset now (value == 1)
-by_register start trace offset value now Imsc = refl
-by_register start trace offset value now Ris = refl
-by_register start trace offset value now Mis = refl
 by_register start trace offset value now Icr =
     let found = clock_of_history start (read offset now ∷ trace) in
     ap (λ ris. record found { ris = ris }) (cleared-raised start.ris (cleared_bits trace) value
     ((is_armed start trace && nat_le (match_value start trace) (guest_time_at start trace (write offset value now))) || is_alarm_raised start trace))
-by_register start trace offset value now (Id byte) = refl
-by_register start trace offset value now Reserved = refl
+by_register start trace offset value now _ = refl
 
 -- an access continues the history
 pub goes_on : (start : RtcState) (trace : List Access) (access : Access) → clock_step (clock_of_history start trace) access ≡ clock_of_history start (access ∷ trace)
@@ -224,6 +221,15 @@ begins start =
 pub states : (start : RtcState) (trace : List Access) → state_after_accesses start trace ≡ clock_of_history start trace
 states start [] = begins start
 states start (access ∷ trace) = ap (λ state. clock_step state access) (states start trace) ∙ goes_on start trace access
+
+pub clock_is_history : ClockIsHistory
+clock_is_history = record {
+  response_follows = λ state access start trace same. ap (λ state. clock_response state access) same ∙ answers start trace access;
+  state_follows = λ state access start trace same. ap (λ state. clock_step state access) same ∙ goes_on start trace access;
+  all_responses = λ start trace access. ap (λ state. clock_response state access) (states start trace) ∙ answers start trace access;
+  offset_is = counter-offset;
+  all_states = states;
+}
 
 -- a bit is cleared if some access cleared it
 bit_at-cleared : (trace : List Access) (bit : ℕ) → bit_at (cleared_bits trace) bit ≡ (if is_cleared trace bit then 1 else 0)

@@ -3,27 +3,17 @@ pub mod Examples
 pub mod Laws
 pub mod Run
 pub mod Step
-use Rattle.std.proofs.Common.{◌≡◌, length, Option, Some, None, refl, ap, sym, ◌∙◌, ◌≤◌, arith, ℕ, map, List, [], ◌∷◌, ◌++◌, Bool, true, false, ◌&&◌, IsTrue, Result, subst, is_some, if◌then◌else◌}
+use Rattle.std.proofs.Common.{◌≡◌, length, Option, refl, ap, sym, ◌∙◌, arith, ℕ, map, List, [], ◌∷◌, ◌++◌, Bool, true, false, ◌&&◌, IsTrue, Result, subst, is_some, if◌then◌else◌}
 use Rattle.std.specs.Bool.{beq}
 use Rattle.std.specs.declared.io.Error.{Error as Fault}
-use Rattle.superio_core.specs.declared.trace.Asked.{Asked}
-use Rattle.superio_core.specs.declared.trace.Sent.{Sent}
-use Rattle.superio_core.specs.Serial.Operations.{Op, Response, ends_in_refusal, answer_count, Read, Write, Enqueue, CharacterTimeout, Restore, Event, is_sent, Other, Arrival, sent_by, read_kind}
-use Rattle.superio_core.specs.declared.trace.Asked.TheVariants.{Nothing, Took, Refused, TookTook, TookRefused}
-use Rattle.vm_superio.specs.Links.{answers_of, Link, TriggerAnswer, RefusesOwnState, OutCall, WriterCalls, ObjectCall, ToTrigger, ToOut, ToEvents, answers_in, out_calls_in, events_in}
+use Rattle.vm_superio.specs.Serial.{Port, write_response, refusal_in_result, fault_in_result, Error, Three, WriterOut, Asked, Sent, Op, Response, ends_in_refusal, answer_count, Read, Write, Enqueue, CharacterTimeout, Restore, Event, is_sent, Other, Arrival, sent_by, read_kind, State, not_empty, Register, register_at, is_dlab, is_loopback, is_admissible, sends_byte, step_events}
+use Rattle.superio_core.specs.declared.trace.Asked.TheVariants.{Nothing}
+use Rattle.vm_superio.specs.Links.{answers_of, Link, TriggerAnswer, OutCall, WriterCalls, ObjectCall, ToTrigger, ToOut, ToEvents, answers_in, out_calls_in, events_in}
 use Rattle.vm_superio.specs.Links.Writer.{PortLinks, WriterLink, port_links, bytes_sent, outcome_of, AreSendings}
-use Rattle.vm_superio.specs.Serial.{Port, write_response, refusal_in_result, fault_in_result, Error, Trigger, IOError, FullFifo, Memory, Three, WriterOut}
-use Rattle.vm_superio.specs.Serial.Step.{turned_on_count, IsPortStep, RefusesRestore, IsRecordedWrite}
+use Rattle.vm_superio.specs.Serial.Step.{turned_on_count, IsPortStep, IsRecordedWrite}
 use Rattle.vm_superio.proofs.Lemmas.Serial.Laws.TurnedBits.{turned_bits_law}
-use Rattle.superio_core.specs.Serial.{State, not_empty}
-use Rattle.superio_core.specs.Serial.Step.Raising.{restore_calls}
-use Rattle.superio_core.specs.declared.serial.registers.Register.{Register}
-use Rattle.superio_core.specs.declared.serial.registers.Register.TheVariants.{RbrThr, Iir}
-use Rattle.superio_core.specs.Serial.RegisterMap.{register_at, is_dlab, is_loopback}
-use Rattle.superio_core.specs.Serial.Step.Admissible.{is_admissible, sends_byte}
-use Rattle.superio_core.specs.Serial.Step.{step_events}
 use Rattle.vm_superio.specs.Links.Three.{ThreeLink}
-use Rattle.vm_superio.specs.Serial.Step.ObjectStep.{Sending, NotSent, Taken, NotPut, NotFlushed, sent_in, byte_calls, out_calls, OnePort, IsObjectStep, port_of}
+use Rattle.vm_superio.specs.Serial.Step.ObjectStep.{Sending, NotSent, sent_in, byte_calls, out_calls, OnePort, IsObjectStep, port_of}
 use Rattle.vm_superio.specs.declared.serial.errors.Error as failure
 
 -- a record stands for as many answers as it counts, if it has the refusal that it ends in
@@ -38,8 +28,6 @@ pub length-answers_of-step :
 length-answers_of-step links op asked sent answered refusal old new h =
     length-answers_of asked refusal h.refused ∙ turned_bits_law old.state op asked sent h.admissible
     ∙ ap (turned_on_count old.state) (sym h.state)
-
--- ---- a port's own state is refused only for a refusal of the trigger or of memory
 
 -- ---- a step of a port with one object is, for three objects, a step of the port with each of them
 

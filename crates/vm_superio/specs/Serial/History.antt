@@ -4,13 +4,7 @@ pub mod Interrupts
 pub mod Registers
 use Rattle.std.specs.Prelude.{◌≡◌, ⊤, ℕ, Bool, not, ◌==◌, ◌||◌, nat_le, if◌then◌else◌, List, [], ◌∷◌, ◌++◌, length}
 use Rattle.std.specs.List.{list_all}
-use Rattle.superio_core.specs.Bits.{with_bits, without_bits}
-use Rattle.superio_core.specs.Serial.{lsr_dr_bit, State, not_empty}
-use Rattle.superio_core.specs.declared.serial.registers.Condition.TheVariants.{Rda, Thre}
-use Rattle.superio_core.specs.Serial.RegisterMap.{register_at, identification_of, register_read}
-use Rattle.superio_core.specs.declared.trace.Asked.{Asked}
-use Rattle.superio_core.specs.declared.trace.Sent.{Sent}
-use Rattle.superio_core.specs.Serial.Operations.{Op, Read, Write, Enqueue, CharacterTimeout, Restore, TraceEntry, Response, ByteRead, EnqueueOk, TimeoutOk, TriggerRefused, FifoFull, NoResponse, is_refused_at_once, is_lost, recorded_write_response, Trace, OpKind, RbrRead, sent_by, Event, buffer_read, out_byte, tx_lost_byte, in_buffer_empty}
+use Rattle.vm_superio.specs.Serial.{with_bits, without_bits, lsr_dr_bit, State, not_empty, Rda, Thre, register_at, identification_of, register_read, Asked, Sent, Op, Read, Write, Enqueue, CharacterTimeout, Restore, TraceEntry, Response, ByteRead, EnqueueOk, TimeoutOk, TriggerRefused, FifoFull, NoResponse, is_refused_at_once, is_lost, recorded_write_response, Trace, OpKind, RbrRead, sent_by, Event, buffer_read, out_byte, tx_lost_byte, in_buffer_empty}
 use Rattle.vm_superio.specs.Links.Writer.{outcome_of}
 use Rattle.vm_superio.specs.Serial.History.Registers.{kind_at, dlab, loopback, with_last_writes, accepted_by, held_bytes}
 use Rattle.vm_superio.specs.Serial.History.Interrupts.{is_pending, trigger_calls}

@@ -4,17 +4,8 @@ pub mod Line
 pub mod OneCall
 pub mod PortRun
 use Rattle.std.specs.Prelude.{◌≡◌, Bool, List, [], ◌∷◌, IsTrue}
-use Rattle.superio_core.specs.declared.trace.Asked.{Asked}
-use Rattle.superio_core.specs.declared.trace.Sent.{Sent}
-use Rattle.superio_core.specs.Serial.Operations.{Op, Restore, TraceEntry, Response, NoResponse, Trace, sent_by}
-use Rattle.superio_core.specs.Bits.{has_bits}
-use Rattle.superio_core.specs.Serial.{lsr_dr_bit, State, not_empty}
-use Rattle.superio_core.specs.Serial.RegisterMap.{identification_of}
-use Rattle.superio_core.specs.Serial.Port.{Coherent}
+use Rattle.vm_superio.specs.Serial.{Asked, Sent, Op, Restore, TraceEntry, Response, NoResponse, Trace, sent_by, has_bits, lsr_dr_bit, State, not_empty, identification_of, Coherent, step, step_response, step_events, step_calls, is_admissible, restore_calls}
 use Rattle.vm_superio.specs.Links.Writer.{bytes_sent}
-use Rattle.superio_core.specs.Serial.Step.{step, step_response, step_events}
-use Rattle.superio_core.specs.Serial.Step.Admissible.{step_calls, is_admissible}
-use Rattle.superio_core.specs.Serial.Step.Raising.{restore_calls}
 pub use Rattle.vm_superio.specs.Serial.History.Registers.{RegistersAgree}
 use Rattle.vm_superio.specs.Serial.History.Registers.{kind_at, held_bytes}
 use Rattle.vm_superio.specs.Serial.History.Interrupts.{is_well_formed_entry, is_well_formed, restore_calls_due}

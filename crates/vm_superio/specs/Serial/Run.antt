@@ -9,9 +9,7 @@ pub use Rattle.vm_superio.specs.declared.run.Reply.{Reply}
 pub use Rattle.vm_superio.specs.declared.run.Reply.TheVariants.{Byte, Wrote, Enqueued, TimedOut, Restored, NotRestored}
 pub use Rattle.vm_superio.specs.declared.run.Call.{Call}
 pub use Rattle.vm_superio.specs.declared.run.Done.{Done}
-use Rattle.superio_core.specs.Serial.Operations.{Op, Read, Write, Enqueue, CharacterTimeout, Restore, TraceEntry, Response, ByteRead, NoResponse, Trace}
-use Rattle.vm_superio.specs.Serial.{write_response, enqueue_response, timeout_response, refusal_in_result, fault_in_result}
-use Rattle.superio_core.specs.Serial.{State}
+use Rattle.vm_superio.specs.Serial.{write_response, enqueue_response, timeout_response, refusal_in_result, fault_in_result, Op, Read, Write, Enqueue, CharacterTimeout, Restore, TraceEntry, Response, ByteRead, NoResponse, Trace, State}
 use Rattle.vm_superio.specs.Serial.History.{guest_read}
 
 abbrev pub op_of : (act : Act) → Op

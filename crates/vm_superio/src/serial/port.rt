@@ -1,32 +1,27 @@
 //! A serial port with one object for all three roles: its contract states the order of the calls.
-ghost use Rattle.std.specs.Prelude.{◌≡◌, ◌≤◌, ◌+◌, ◌==◌, not, List, Result, length, map, [], ◌∷◌, is_some, IsTrue, IfOk, IfErr, OnOk, OnErr};
+ghost use Rattle.std.specs.Prelude.{◌≡◌, ◌≤◌, ◌+◌, ◌==◌, not, List, Result, length, map, [], ◌∷◌, if◌then◌else◌, is_some, IsTrue, IfOk, IfErr, OnOk};
 ghost use Rattle.superio_core.specs.Serial.Port.{Coherent};
-ghost use Rattle.superio_core.specs.Serial.{fresh_state};
-ghost use Rattle.vm_superio.specs.Serial.Step.ObjectStep.{IsRun, IsObjectStep, SendsThenReports, LosesByte, port_with, Taken, byte_calls};
-ghost use Rattle.vm_superio.specs.Serial.Run.HistoryTheorem.{HistoryTheorem};
+ghost use Rattle.superio_core.specs.Serial.{fresh_state, state_with};
+ghost use Rattle.vm_superio.specs.Serial.Step.ObjectStep.{IsObjectStep, SendsThenReports, LosesByte, Taken, byte_calls};
 ghost use Rattle.superio_core.specs.Serial.Step.Raising.{is_line_up, restore_calls};
 ghost use Rattle.vm_superio.specs.Saved.{state_of};
 ghost use Rattle.vm_superio.specs.Serial.Step.{RefusesRestore};
-ghost use Rattle.superio_core.specs.Serial.Operations.{Read, Write, Enqueue, CharacterTimeout, ByteRead, is_sent, is_lost, ends_in_refusal, out_byte, tx_lost_byte, events_of_read};
+ghost use Rattle.superio_core.specs.Serial.Operations.{Read, Write, Enqueue, CharacterTimeout, ByteRead, WriteOk, TriggerRefused, WriterFailed, is_sent, is_lost, ends_in_refusal, out_byte, tx_lost_byte, events_of_read};
 ghost use Rattle.vm_superio.specs.Links.{ToTrigger, ToOut, ToEvents, raised, answers_of, all_ok, StopsAtRefusal, RefusesOwnState};
 ghost use Rattle.vm_superio.specs.Serial.{write_response, enqueue_response, timeout_response, refusal_in_result, fault_in_result};
 ghost use Rattle.superio_core.specs.Serial.Step.Admissible.{answers_all};
 
 use super::errors::Error;
 use super::objects::Objects;
-use super::recorded::reply;
-use super::restoring::{reassert, restored};
-use super::running::run_with;
 use super::state::SerialState;
 use crate::fifo::Fifo;
-use crate::run::{Call, Done};
-use crate::trace::{Asked, Recorded, Sent};
 use std::alloc::{AllocError, Global};
 use std::io;
 use std::marker::Model;
 use superio_core::fifo::{FIFO_SIZE, ReceiveFifo};
 use superio_core::serial::effects::ReadEffects;
 use superio_core::serial::registers::Registers;
+use superio_core::trace::{Asked, Sent};
 
 /// A serial port over one object that plays all three roles: it raises the interrupt, takes the bytes and hears the
 /// events. Each call's contract states all calls of the object, in order.
@@ -34,9 +29,9 @@ use superio_core::serial::registers::Registers;
 /// Contracts see the port as its state and the object.
 #[derive(Drop)]
 pub struct Port<O: Objects> {
-    registers: Registers,
-    in_buffer: Fifo,
-    objects: O,
+    pub(super) registers: Registers,
+    pub(super) in_buffer: Fifo,
+    pub(super) objects: O,
 }
 
 impl<O: Objects> Model for Port<O> {
@@ -60,6 +55,14 @@ pub struct RefusedObject<O: Objects> {
     pub error: Error<O::E>,
     /// The object, as left by the calls made.
     pub objects: O,
+}
+
+/// A reply, with the trigger's answers and the outcome of the byte.
+#[derive(Drop)]
+pub(super) struct Recorded<R> {
+    pub(super) reply: R,
+    pub(super) asked: Asked,
+    pub(super) sent: Sent,
 }
 
 impl<O: Objects> Port<O> {
@@ -97,7 +100,7 @@ impl<O: Objects> Port<O> {
     pub fn from_state(
         alloc: Global,
         state: &SerialState,
-        mut objects: O,
+        objects: O,
     ) -> Result<Self, RefusedObject<O>>
         ensures state { IfOk result (λ port. port.state ≡ state_of state.now) }
         ensures called { IfOk result (λ port.
@@ -106,13 +109,29 @@ impl<O: Objects> Port<O> {
         ensures refused { IfErr result (λ refused.
             RefusesRestore (raised O.link) (state_of state.now) refused.error objects refused.objects) }
     {
-        match restored(alloc, state, &mut objects) {
-            Ok((registers, in_buffer)) => Ok(Port {
-                registers,
-                in_buffer,
+        if state.in_buffer.len() > FIFO_SIZE {
+            return Err(RefusedObject {
+                error: Error::FullFifo,
                 objects,
+            });
+        }
+        let Ok(in_buffer) = Fifo::from_slice(alloc, &state.in_buffer) else {
+            return Err(RefusedObject {
+                error: Error::Memory,
+                objects,
+            });
+        };
+        let mut port = Port {
+            registers: state.registers(),
+            in_buffer,
+            objects,
+        };
+        match port.retry_interrupts() {
+            Ok(()) => Ok(port),
+            Err(refusal) => Err(RefusedObject {
+                error: Error::Trigger(refusal),
+                objects: port.objects,
             }),
-            Err(error) => Err(RefusedObject { error, objects }),
         }
     }
 
@@ -222,46 +241,8 @@ impl<O: Objects> Port<O> {
         self.recorded_timeout().reply
     }
 
-    /// Makes the calls in order, and returns a record of each.
-    ///
-    /// Nothing stops a run early: a refused interrupt, a failure of the output or a refused restore is recorded with
-    /// its call, and the run goes on. A restore makes the port again from its own state, with another object in place
-    /// of its own. If it is refused, the old object stays.
-    ///
-    /// From a coherent start the records are a trace: the start, the calls and the object's answers determine all calls
-    /// of the object, in order, each byte read, every other response and the final state.
-    ///
-    /// # Errors
-    ///
-    /// Returns `AllocError` if allocating all records fails. It then makes no call and drops the calls.
-    pub fn run(&mut self, alloc: Global, calls: Vec<Call<O>>) -> Result<Vec<Done<O>>, AllocError>
-    where
-        O: Drop,
-        ensures run { IfOk result (λ done. IsRun O.link self.old calls.items done.items self.new) }
-        ensures history { IfOk result (λ done. Coherent self.old.state →
-            HistoryTheorem O.link self.old calls.items done.items self.new) }
-        ensures refused { OnErr result (self.new ≡ self.old) }
-    {
-        run_with(
-            alloc,
-            &mut self.registers,
-            &mut self.in_buffer,
-            &mut self.objects,
-            calls,
-        )
-    }
-
-    /// `character_timeout`, with the trigger's answers.
-    pub(crate) fn recorded_timeout(&mut self) -> Recorded<Result<(), Error<O::E>>>
-        ensures no_byte { result.sent ≡ Sent.Nothing }
-        ensures step { IsObjectStep O.link CharacterTimeout result.asked result.sent
-            (timeout_response result.reply) (refusal_in_result result.reply) None self.old self.new }
-    {
-        timeout_with(&mut self.registers, &self.in_buffer, &mut self.objects)
-    }
-
     /// `write`, with the trigger's answers and the outcome of its byte.
-    pub(crate) fn recorded_write(
+    pub(super) fn recorded_write(
         &mut self,
         offset: u8,
         value: u8,
@@ -269,154 +250,102 @@ impl<O: Objects> Port<O> {
         ensures { IsObjectStep O.link (Write offset value) result.asked result.sent (write_response result.reply)
             (refusal_in_result result.reply) (fault_in_result result.reply) self.old self.new }
     {
-        write_with(
-            &mut self.registers,
-            &mut self.in_buffer,
-            &mut self.objects,
-            offset,
-            value,
-        )
+        let register = self.registers.at(offset);
+        let effects = self.registers.write(&mut self.in_buffer, register, value);
+        let (sent, fault) = send_where_due(&mut self.objects, effects.sends, value);
+        let (asked, refusal) = call_trigger(&mut self.objects, effects.interrupts);
+        self.registers.take_back(effects.interrupts, asked);
+        Recorded {
+            reply: reply(refusal, fault),
+            asked,
+            sent,
+        }
     }
 
     /// `read`, which calls no trigger and sends no byte.
-    pub(crate) fn recorded_read(&mut self, offset: u8) -> Recorded<u8>
+    pub(super) fn recorded_read(&mut self, offset: u8) -> Recorded<u8>
         ensures no_call { result.asked ≡ Asked.Nothing }
         ensures no_byte { result.sent ≡ Sent.Nothing }
         ensures step { IsObjectStep O.link (Read offset) result.asked result.sent
             (ByteRead result.reply) None None self.old self.new }
     {
-        read_with(
-            &mut self.registers,
-            &mut self.in_buffer,
-            &mut self.objects,
-            offset,
-        )
+        let register = self.registers.at(offset);
+        let effects = self.registers.read(&mut self.in_buffer, register);
+        report_read(&mut self.objects, effects);
+        Recorded {
+            reply: effects.byte,
+            asked: Asked::Nothing,
+            sent: Sent::Nothing,
+        }
     }
 
     /// `enqueue_raw_bytes`, with the trigger's answers.
-    pub(crate) fn recorded_enqueue(&mut self, input: &[u8]) -> Recorded<Result<usize, Error<O::E>>>
+    pub(super) fn recorded_enqueue(&mut self, input: &[u8]) -> Recorded<Result<usize, Error<O::E>>>
         ensures no_byte { result.sent ≡ Sent.Nothing }
         ensures step { IsObjectStep O.link (Enqueue input.now) result.asked result.sent
             (enqueue_response result.reply) (refusal_in_result result.reply) None self.old self.new }
     {
-        enqueue_with(
-            &mut self.registers,
-            &mut self.in_buffer,
-            &mut self.objects,
-            input,
-        )
-    }
-}
-
-/// A write on a port's parts.
-pub(super) fn write_with<O: Objects>(
-    registers: &mut Registers,
-    in_buffer: &mut Fifo,
-    objects: &mut O,
-    offset: u8,
-    value: u8,
-) -> Recorded<Result<(), Error<O::E>>>
-    ensures { IsObjectStep O.link (Write offset value) result.asked result.sent
-        (write_response result.reply) (refusal_in_result result.reply) (fault_in_result result.reply)
-        (port_with registers.old in_buffer.old objects.old) (port_with registers.new in_buffer.new objects.new) }
-{
-    let register = registers.at(offset);
-    let effects = registers.write(in_buffer, register, value);
-    let (sent, fault) = send_where_due(objects, effects.sends, value);
-    let (asked, refusal) = call_trigger(objects, effects.interrupts);
-    registers.take_back(effects.interrupts, asked);
-    Recorded {
-        reply: reply(refusal, fault),
-        asked,
-        sent,
-    }
-}
-
-/// A read on a port's parts.
-pub(super) fn read_with<O: Objects>(
-    registers: &mut Registers,
-    in_buffer: &mut Fifo,
-    objects: &mut O,
-    offset: u8,
-) -> Recorded<u8>
-    ensures no_call { result.asked ≡ Asked.Nothing }
-    ensures no_byte { result.sent ≡ Sent.Nothing }
-    ensures step { IsObjectStep O.link (Read offset) result.asked result.sent (ByteRead result.reply) None None
-        (port_with registers.old in_buffer.old objects.old) (port_with registers.new in_buffer.new objects.new) }
-{
-    let register = registers.at(offset);
-    let effects = registers.read(in_buffer, register);
-    report_read(objects, effects);
-    Recorded {
-        reply: effects.byte,
-        asked: Asked::Nothing,
-        sent: Sent::Nothing,
-    }
-}
-
-/// An enqueue on a port's parts.
-pub(super) fn enqueue_with<O: Objects>(
-    registers: &mut Registers,
-    in_buffer: &mut Fifo,
-    objects: &mut O,
-    input: &[u8],
-) -> Recorded<Result<usize, Error<O::E>>>
-    ensures no_byte { result.sent ≡ Sent.Nothing }
-    ensures step { IsObjectStep O.link (Enqueue input.now) result.asked result.sent
-        (enqueue_response result.reply) (refusal_in_result result.reply) None
-        (port_with registers.old in_buffer.old objects.old) (port_with registers.new in_buffer.new objects.new) }
-{
-    if registers.is_loopback() || input.is_empty() {
-        return Recorded {
-            reply: Ok(0),
-            asked: Asked::Nothing,
+        if self.registers.is_loopback() || input.is_empty() {
+            return Recorded {
+                reply: Ok(0),
+                asked: Asked::Nothing,
+                sent: Sent::Nothing,
+            };
+        }
+        if self.in_buffer.len() == FIFO_SIZE {
+            return Recorded {
+                reply: Err(Error::FullFifo),
+                asked: Asked::Nothing,
+                sent: Sent::Nothing,
+            };
+        }
+        let (count, asks) = self.registers.receive(&mut self.in_buffer, input);
+        let (asked, refusal) = call_trigger(&mut self.objects, u8::from(asks));
+        Recorded {
+            reply: match refusal {
+                Some(refusal) => Err(Error::Trigger(refusal)),
+                None => Ok(count),
+            },
+            asked,
             sent: Sent::Nothing,
-        };
+        }
     }
-    if in_buffer.len() == FIFO_SIZE {
-        return Recorded {
-            reply: Err(Error::FullFifo),
-            asked: Asked::Nothing,
+
+    /// `character_timeout`, with the trigger's answers.
+    pub(super) fn recorded_timeout(&mut self) -> Recorded<Result<(), Error<O::E>>>
+        ensures no_byte { result.sent ≡ Sent.Nothing }
+        ensures step { IsObjectStep O.link CharacterTimeout result.asked result.sent
+            (timeout_response result.reply) (refusal_in_result result.reply) None self.old self.new }
+    {
+        let due = self.registers.character_timeout(&self.in_buffer);
+        let (asked, refusal) = call_trigger(&mut self.objects, due);
+        Recorded {
+            reply: match refusal {
+                Some(refusal) => Err(Error::Trigger(refusal)),
+                None => Ok(()),
+            },
+            asked,
             sent: Sent::Nothing,
-        };
-    }
-    let (count, asks) = registers.receive(in_buffer, input);
-    let (asked, refusal) = call_trigger(objects, u8::from(asks));
-    Recorded {
-        reply: match refusal {
-            Some(refusal) => Err(Error::Trigger(refusal)),
-            None => Ok(count),
-        },
-        asked,
-        sent: Sent::Nothing,
+        }
     }
 }
 
-/// A character timeout on a port's parts.
-pub(super) fn timeout_with<O: Objects>(
-    registers: &mut Registers,
-    in_buffer: &Fifo,
-    objects: &mut O,
-) -> Recorded<Result<(), Error<O::E>>>
-    ensures no_byte { result.sent ≡ Sent.Nothing }
-    ensures step { IsObjectStep O.link CharacterTimeout result.asked result.sent
-        (timeout_response result.reply) (refusal_in_result result.reply) None
-        (port_with registers.old in_buffer.now objects.old) (port_with registers.new in_buffer.now objects.new) }
+/// Raises the interrupt once for each condition that is pending and enabled, up to the first refusal.
+pub(super) fn reassert<O: Objects>(registers: &Registers, objects: &mut O) -> Result<(), O::E>
+    ensures accepted { OnOk result
+        (raised O.link objects.old (all_ok (restore_calls (state_with registers.now []))) objects.new) }
+    ensures refused { IfErr result (λ refusal. (answers : List (Result (Unit {0}) O.E))
+        × StopsAtRefusal (restore_calls (state_with registers.now [])) refusal answers
+        × raised O.link objects.old answers objects.new) }
 {
-    let due = registers.character_timeout(in_buffer);
-    let (asked, refusal) = call_trigger(objects, due);
-    Recorded {
-        reply: match refusal {
-            Some(refusal) => Err(Error::Trigger(refusal)),
-            None => Ok(()),
-        },
-        asked,
-        sent: Sent::Nothing,
+    match call_trigger(objects, registers.interrupts_due()).1 {
+        None => Ok(()),
+        Some(refusal) => Err(refusal),
     }
 }
 
 /// Raises the interrupt `due` times, up to the first refusal. Returns the answers and the refusal.
-pub(super) fn call_trigger<O: Objects>(objects: &mut O, due: u8) -> (Asked, Option<O::E>)
+fn call_trigger<O: Objects>(objects: &mut O, due: u8) -> (Asked, Option<O::E>)
     requires { due ≤ 2 }
     ensures asked { IsTrue (answers_all due result.0) }
     ensures refused { is_some result.1 ≡ ends_in_refusal result.0 }
@@ -482,5 +411,19 @@ fn put_and_flush<O: Objects>(objects: &mut O, byte: u8) -> io::Result<()>
             Ok(()) => Ok(()),
             Err(unflushed) => Err(unflushed),
         },
+    }
+}
+
+/// The reply to a write: the trigger's refusal before the writer's failure.
+fn reply<E>(refusal: Option<E>, fault: Option<io::Error>) -> Result<(), Error<E>>
+    ensures refusal { refusal_in_result result ≡ refusal }
+    ensures fault { fault_in_result result ≡ (if is_some refusal then None else fault) }
+    ensures answer { write_response result
+        ≡ (if is_some refusal then TriggerRefused else (if is_some fault then WriterFailed else WriteOk)) }
+{
+    match (refusal, fault) {
+        (Some(refusal), _) => Err(Error::Trigger(refusal)),
+        (None, Some(fault)) => Err(Error::IOError(fault)),
+        (None, None) => Ok(()),
     }
 }

@@ -8,27 +8,16 @@ pub mod Reads
 pub mod StepsOfHistory
 pub mod TurnedBits
 pub mod WholeRunsOfPorts
-use Rattle.std.proofs.Common.{rules, ◌≡◌, ℕ, zero, suc, Bool, true, false, eqb, List, [], ◌∷◌, Option, Some, None, refl, ap, sym, ◌∙◌, ⊎_elim, ◌<◌, lit<, arith, subst, ◌++◌, length, drop, append_assoc, append-nil, length-append, if◌then◌else◌, unwrap_or}
-use Rattle.std.proofs.lemmas.Bool.Decides.{eqb_tells}
+use Rattle.std.proofs.Common.{rules, ◌≡◌, ℕ, Bool, List, [], ◌∷◌, Option, Some, None, refl, ap, sym, ◌∙◌, arith, subst, ◌++◌, length, drop, append_assoc, append-nil, length-append, if◌then◌else◌, unwrap_or}
 use Rattle.std.specs.Option.{option_or, option_map_or}
 use Rattle.std.proofs.Math.Seq.{drop-append-add}
-use Rattle.superio_core.specs.declared.trace.Asked.{Asked}
-use Rattle.superio_core.specs.Serial.Operations.{Op, Read, Write, Enqueue, CharacterTimeout, Restore, TraceEntry, OpKind, kind_of, RbrRead, IirRead, Arrival}
-use Rattle.superio_core.specs.Serial.{State, not_empty}
-use Rattle.superio_core.specs.Bits.{only_bits, has_bits, without_bits}
-use Rattle.superio_core.specs.declared.serial.registers.Register.{Register}
-use Rattle.superio_core.specs.declared.serial.registers.Register.TheVariants.{RbrThr, Iir, Unassigned}
-use Rattle.superio_core.specs.Serial.RegisterMap.{register_at, is_dlab, is_loopback}
-use Rattle.superio_core.specs.Serial.Step.Raising.{receive_bytes, enqueued_bytes, bytes_that_fit}
-use Rattle.superio_core.specs.Serial.Step.{step, read_step, write_step, thr_write, character_timeout}
+use Rattle.vm_superio.specs.Serial.{Asked, Op, TraceEntry, OpKind, kind_of, State, not_empty, only_bits, has_bits, is_dlab, is_loopback, step, kind_in_state}
 use Rattle.vm_superio.specs.Serial.History.Registers.{value_written_at, last_found, dlab, kind_at, accepted_by, taken_by, remaining_bytes, accepted_bytes, taken_bytes, held_bytes}
 use Rattle.vm_superio.specs.Serial.History.{state_of_history, with_data_ready, line_status}
 use Rattle.vm_superio.specs.Serial.Laws.{RegisterLaw, state_after, HeldBytesLaw, LineStatusLaw}
-use Rattle.superio_core.specs.Serial.Step.Admissible.{kind_in_state}
 use Rattle.superio_core.proofs.Lemmas.Serial.Step.{SameBytes, by_kind, next_by_kind}
 use Rattle.vm_superio.specs.Serial.Laws.Consequences.{TakenThenHeldLaw}
 use Rattle.vm_superio.proofs.Lemmas.{data_ready_right, data_ready_twice}
-use Rattle.superio_core.proofs.Lemmas.Serial.Coherence.{not_empty-append}
 use Rattle.vm_superio.proofs.Lemmas.Serial.Laws.OneCall.{taken_first, left_by_kind}
 
 -- ---- one call
@@ -44,144 +33,16 @@ pub record Steps (dlab : Bool) (op : Op) (s new : State) : Type 0 where
   pub modem_status : new.modem_status ≡ s.modem_status
   pub scratch : new.scratch ≡ unwrap_or (value_written_at 7 op) s.scratch
 
--- the new state has the old one's registers
-SameRegisters : State → State → Type 0
-SameRegisters s new = new ≡ record s {
-  interrupt_identification = new.interrupt_identification;
-  line_status = new.line_status;
-  in_buffer = new.in_buffer;
-}
-
--- the operation writes nothing that a register keeps
-WritesNothing : Bool → Op → Type 0
-WritesNothing dlab op =
-    ((if dlab then value_written_at 0 op else None) ≡ None)
-    × ((if dlab then value_written_at 1 op else None) ≡ None)
-    × ((if dlab then None else value_written_at 1 op) ≡ None)
-    × (value_written_at 3 op ≡ None)
-    × (value_written_at 4 op ≡ None)
-    × (value_written_at 7 op ≡ None)
-
-kept : (dlab : Bool) (op : Op) (s new : State) → WritesNothing dlab op → SameRegisters s new → Steps dlab op s new
-unfolding WritesNothing SameRegisters
-kept dlab op s new nothing same = record {
-  divisor_low = rw nothing.0 (ap (λ (t : State). t.baud_divisor_low) same);
-  divisor_high = rw nothing.1 (ap (λ (t : State). t.baud_divisor_high) same);
-  interrupt_enable = rw nothing.2 (ap (λ (t : State). t.interrupt_enable) same);
-  line_control = rw nothing.3 (ap (λ (t : State). t.line_control) same);
-  modem_control = rw nothing.4 (ap (λ (t : State). t.modem_control) same);
-  modem_status = ap (λ (t : State). t.modem_status) same;
-  scratch = rw nothing.5 (ap (λ (t : State). t.scratch) same);
-}
-
-received : (bytes : List ℕ) (s : State) → SameRegisters s (receive_bytes bytes s)
-unfolding SameRegisters
-received [] s = refl
-received (byte ∷ bytes) s = refl
-
-read_done : (r : Register) (s : State) → SameRegisters s (read_step r s)
-unfolding SameRegisters
-read_done r s = grind arith
-
-data_written : (value : ℕ) (loopback : Bool) (s : State) → is_loopback s.modem_control ≡ loopback
-    → SameRegisters s (thr_write value s)
-unfolding SameRegisters
-data_written value true s e = rw e (received (bytes_that_fit s.in_buffer (value ∷ [])) s)
-data_written value false s e = rw e refl
-
-none_either : (b : Bool) → ◌≡◌ {A = Option ℕ} (if b then None else None) None
-none_either true = refl
-none_either false = refl
-
-reads_nothing : (dlab : Bool) (offset : ℕ) → WritesNothing dlab (Read offset)
-unfolding WritesNothing
-reads_nothing dlab offset = (none_either dlab, none_either dlab, none_either dlab, refl, refl, refl)
-
-enqueues_nothing : (dlab : Bool) (bytes : List ℕ) → WritesNothing dlab (Enqueue bytes)
-unfolding WritesNothing
-enqueues_nothing dlab bytes = (none_either dlab, none_either dlab, none_either dlab, refl, refl, refl)
-
-times_out_nothing : (dlab : Bool) → WritesNothing dlab CharacterTimeout
-unfolding WritesNothing
-times_out_nothing dlab = (none_either dlab, none_either dlab, none_either dlab, refl, refl, refl)
-
-restores_nothing : (dlab : Bool) → WritesNothing dlab Restore
-unfolding WritesNothing
-restores_nothing dlab = (none_either dlab, none_either dlab, none_either dlab, refl, refl, refl)
-
-timed_out : (s : State) → SameRegisters s (character_timeout s)
-unfolding SameRegisters
-timed_out s = refl
-
-all_kept : (s : State) → SameRegisters s s
-unfolding SameRegisters
-all_kept s = refl
-
--- there is no register from offset 8 on
-apart : (n k : ℕ) → k < 8 → eqb (suc (suc (suc (suc (suc (suc (suc (suc n)))))))) k ≡ false
-apart n k below =
-    ⊎_elim (λ same. let e : suc (suc (suc (suc (suc (suc (suc (suc n))))))) ≡ k =
-    same.1 in absurd (omega arith)) (λ other. other.0)
-    (eqb_tells (suc (suc (suc (suc (suc (suc (suc (suc n)))))))) k)
-
-unknown : (dlab : Bool) (n : ℕ) → register_at dlab (suc (suc (suc (suc (suc (suc (suc (suc n)))))))) ≡ Unassigned
-unknown dlab n =
-    simp (
-      apart n 0 (lit< tt),
-      apart n 1 (lit< tt),
-      apart n 2 (lit< tt),
-      apart n 3 (lit< tt),
-      apart n 4
-          (lit< tt),
-      apart n 5 (lit< tt),
-      apart n 6 (lit< tt),
-      apart n 7 (lit< tt),
-    )
-
-nothing_there : (dlab : Bool) (n value : ℕ)
-    → WritesNothing dlab (Write (suc (suc (suc (suc (suc (suc (suc (suc n)))))))) value)
-unfolding WritesNothing
-nothing_there true n value =
-    simp (apart n 0 (lit< tt), apart n 1 (lit< tt), apart n 3 (lit< tt), apart n 4 (lit< tt), apart n 7 (lit< tt))
-    (refl, refl, refl, refl, refl, refl)
-nothing_there false n value =
-    simp (apart n 1 (lit< tt), apart n 3 (lit< tt), apart n 4 (lit< tt), apart n 7 (lit< tt))
-    (refl, refl, refl, refl, refl, refl)
-
--- a write, offset by offset
-write_done : (dlab : Bool) (offset value : ℕ) (asked : Asked) (s : State)
-    → Steps dlab (Write offset value) s (write_step (register_at dlab offset) value asked s)
-unfolding WritesNothing SameRegisters
-write_done true zero value asked s = search rules
-write_done false zero value asked s =
-    kept false (Write 0 value) s (thr_write value s) (refl, refl, refl, refl, refl, refl)
-    (data_written value _ s refl)
-write_done true (suc zero) value asked s = search rules
-write_done false (suc zero) value asked s = search rules
-write_done true (suc (suc zero)) value asked s = search rules
-write_done false (suc (suc zero)) value asked s = search rules
-write_done true (suc (suc (suc zero))) value asked s = search rules
-write_done false (suc (suc (suc zero))) value asked s = search rules
-write_done true (suc (suc (suc (suc zero)))) value asked s = search rules
-write_done false (suc (suc (suc (suc zero)))) value asked s = search rules
-write_done true (suc (suc (suc (suc (suc zero))))) value asked s = search rules
-write_done false (suc (suc (suc (suc (suc zero))))) value asked s = search rules
-write_done true (suc (suc (suc (suc (suc (suc zero)))))) value asked s = search rules
-write_done false (suc (suc (suc (suc (suc (suc zero)))))) value asked s = search rules
-write_done true (suc (suc (suc (suc (suc (suc (suc zero))))))) value asked s = search rules
-write_done false (suc (suc (suc (suc (suc (suc (suc zero))))))) value asked s = search rules
-write_done dlab (suc (suc (suc (suc (suc (suc (suc (suc n)))))))) value asked s =
-    rw (unknown dlab n)
-    (kept dlab (Write (suc (suc (suc (suc (suc (suc (suc (suc n)))))))) value) s s (nothing_there dlab n value) refl)
-
 pub call_done : (s : State) (op : Op) (asked : Asked) → Steps (is_dlab s.line_control) op s (step s op asked)
-call_done s (Read offset) asked =
-    kept _ (Read offset) s _ (reads_nothing _ offset) (read_done (register_at (is_dlab s.line_control) offset) s)
-call_done s (Write offset value) asked = write_done _ offset value asked s
-call_done s (Enqueue bytes) asked =
-    kept _ (Enqueue bytes) s _ (enqueues_nothing _ bytes) (received (enqueued_bytes s bytes) s)
-call_done s CharacterTimeout asked = kept _ CharacterTimeout s _ (times_out_nothing _) (timed_out s)
-call_done s Restore asked = kept _ Restore s s (restores_nothing _) (all_kept s)
+call_done s op asked = record {
+  divisor_low = grind arith;
+  divisor_high = grind arith;
+  interrupt_enable = grind arith;
+  line_control = grind arith;
+  modem_control = grind arith;
+  modem_status = grind arith;
+  scratch = grind arith;
+}
 
 -- ---- any trace
 

@@ -1,20 +1,13 @@
 -- One call of a run.
 pub mod Three
-use Rattle.std.proofs.Common.{arith, ◌≡◌, List, ◌∷◌, sym, subst, Ok, Err, ℕ, map, false, not, [], ◌++◌, refl, ap, ◌∙◌, Option, Result, IfOk, ◌↔◌, IsTrue}
-use Rattle.std.proofs.lemmas.Bool.{cond_both, false≢true}
+use Rattle.std.proofs.Common.{arith, ◌≡◌, List, [], ◌∷◌, sym, subst, Ok, Err, ℕ, map, false, not, ◌++◌, refl, ap, ◌∙◌, Option, Result, IfOk, ◌↔◌, IsTrue}
+use Rattle.std.proofs.lemmas.Bool.{cond_both}
 use Rattle.std.specs.declared.io.Error as io
 use Rattle.vm_superio.specs.Serial.Run.{Call, Done, act_of, IsReplyTo, RecordsOf, op_of, is_restore, entry_of, response_of, entries_of, trace_of, without_restores, ReadIs, ReadsAre, Act, Reply, Byte, Wrote, Enqueued, TimedOut, Restored, NotRestored}
 use Rattle.vm_superio.specs.Links.{Link, ObjectCall, answers_of, all_ok, RefusesOwnState, ToTrigger, ToOut, ToEvents, raised}
 use Rattle.vm_superio.specs.Serial.Step.ObjectStep.{OnePort, IsCallStep, IsRun, Sending, NotSent, sent_in, out_calls, calls_of, IsObjectStep}
-use Rattle.superio_core.specs.declared.trace.Asked.{Asked}
-use Rattle.superio_core.specs.declared.trace.Sent.{Sent}
-use Rattle.superio_core.specs.Serial.Operations.{Op, TraceEntry, Response, ByteRead}
+use Rattle.vm_superio.specs.Serial.{Asked, Sent, Op, TraceEntry, Response, ByteRead, State, Coherent, step, step_response, step_events, is_admissible, restore_calls}
 use Rattle.vm_superio.specs.declared.run.Call.TheVariants.{Read, Write, Enqueue, CharacterTimeout, Restore}
-use Rattle.superio_core.specs.Serial.{State}
-use Rattle.superio_core.specs.Serial.Port.{Coherent}
-use Rattle.superio_core.specs.Serial.Step.{step, step_response, step_events}
-use Rattle.superio_core.specs.Serial.Step.Admissible.{is_admissible}
-use Rattle.superio_core.specs.Serial.Step.Raising.{restore_calls}
 use Rattle.vm_superio.specs.Serial.History.Registers.{taken_bytes}
 use Rattle.vm_superio.specs.Serial.History.Interrupts.{restore_calls_due}
 use Rattle.vm_superio.specs.Serial.History.{ResponsesAre, history_response, bytes_read, state_of_history}

@@ -3,22 +3,9 @@ use Rattle.std.proofs.Common.{◌≡◌, ℕ, ◌+◌, Bool, true, false, ◌&&�
 use Rattle.std.specs.Bool.{beq}
 use Rattle.std.specs.List.{list_all}
 use Rattle.std.proofs.lemmas.List.{length-take, take_min}
-use Rattle.vm_superio.specs.Serial.{Error, Port, write_response, enqueue_response, timeout_response, failure_response, refusal_in_error, refusal_in_result, Trigger, IOError, FullFifo, Memory}
-use Rattle.superio_core.specs.declared.trace.Asked.{Asked}
-use Rattle.superio_core.specs.declared.trace.Sent.{Sent}
-use Rattle.superio_core.specs.Serial.Operations.{Op, Response, Read, Write, Enqueue, CharacterTimeout, Restore, count_if, is_sent, is_lost, ends_in_refusal, WriteOk, TriggerRefused, WriterFailed, OpKind, Other, Arrival, sent_by, read_kind, write_kind, EnqueueOk, TimeoutOk, FifoFull, OutOfMemory, is_refused_at_once}
+use Rattle.vm_superio.specs.Serial.{Error, Port, write_response, enqueue_response, timeout_response, failure_response, refusal_in_error, refusal_in_result, Trigger, IOError, FullFifo, Memory, Asked, Sent, Op, Response, Read, Write, Enqueue, CharacterTimeout, Restore, count_if, is_sent, is_lost, ends_in_refusal, WriteOk, TriggerRefused, WriterFailed, OpKind, Other, Arrival, sent_by, read_kind, write_kind, EnqueueOk, TimeoutOk, FifoFull, OutOfMemory, is_refused_at_once, has_bits, only_bits, State, not_empty, SameSettings, Register, RbrThr, Ier, Condition, Rda, Thre, register_at, is_dlab, is_loopback, becomes_pending, rda_becomes_pending, raise_rda_while_held, receive_bytes, bytes_that_fit, enqueued_bytes, kind_calls, step_calls, kind_in_state, arrival_calls, answers_all, sends_byte, step, write_step}
 use Rattle.superio_core.specs.declared.trace.Asked.TheVariants.{Nothing}
-use Rattle.superio_core.specs.Bits.{has_bits, only_bits}
 use Rattle.vm_superio.specs.Links.{answers_of, OutCall}
-use Rattle.superio_core.specs.Serial.{State, not_empty, SameSettings}
-use Rattle.superio_core.specs.declared.serial.registers.Register.{Register}
-use Rattle.superio_core.specs.declared.serial.registers.Register.TheVariants.{RbrThr, Ier}
-use Rattle.superio_core.specs.declared.serial.registers.Condition.{Condition}
-use Rattle.superio_core.specs.declared.serial.registers.Condition.TheVariants.{Rda, Thre}
-use Rattle.superio_core.specs.Serial.RegisterMap.{register_at, is_dlab, is_loopback}
-use Rattle.superio_core.specs.Serial.Step.Raising.{becomes_pending, rda_becomes_pending, raise_rda_while_held, receive_bytes, bytes_that_fit, enqueued_bytes}
-use Rattle.superio_core.specs.Serial.Step.Admissible.{kind_calls, step_calls, kind_in_state, arrival_calls, answers_all, sends_byte}
-use Rattle.superio_core.specs.Serial.Step.{step, write_step}
 use Rattle.vm_superio.specs.Links.Writer.{PortLinks, bytes_sent, outcome_of, AreSendings, taken_calls}
 use Rattle.vm_superio.specs.Serial.Step.{IsPortStep, ShowsMore, WriteFate, EnqueueFate, TimeoutFate}
 use Rattle.vm_superio.proofs.Lemmas.Serial.Laws.OneCall.{received_bytes}

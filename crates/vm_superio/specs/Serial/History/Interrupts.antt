@@ -1,12 +1,7 @@
 -- The history of interrupts: conditions raised and pending, trigger calls due, and well-formed traces.
 use Rattle.std.specs.Prelude.{◌≡◌, ℕ, ◌+◌, ◌*◌, ◌≤◌, Bool, true, false, not, ◌==◌, ◌&&◌, ◌||◌, List, [], ◌∷◌, ◌++◌, sum_by, count_by, IsTrue}
 use Rattle.std.specs.Bool.{beq, IsFalse}
-use Rattle.superio_core.specs.Bits.{has_bits}
-use Rattle.superio_core.specs.Serial.{State, not_empty}
-use Rattle.superio_core.specs.declared.serial.registers.Condition.{Condition}
-use Rattle.superio_core.specs.declared.serial.registers.Condition.TheVariants.{Rda, Thre}
-use Rattle.superio_core.specs.Serial.RegisterMap.{ier_bit, iir_bit, pending_in_order}
-use Rattle.superio_core.specs.Serial.Operations.{CharacterTimeout, TraceEntry, is_refused_at_once, is_sent, answer_count, count_if, Trace, OpKind, IerWrite, ThrWrite, Timeout, sent_by, is_iir_read, is_rbr_read}
+use Rattle.vm_superio.specs.Serial.{has_bits, State, not_empty, Condition, Rda, Thre, ier_bit, iir_bit, pending_in_order, CharacterTimeout, TraceEntry, is_refused_at_once, is_sent, answer_count, count_if, Trace, OpKind, IerWrite, ThrWrite, Timeout, sent_by, is_iir_read, is_rbr_read}
 use Rattle.vm_superio.specs.Serial.History.Registers.{accepted_by, kind_at, interrupt_enable, held_bytes}
 
 -- ---- raised, acknowledged and pending

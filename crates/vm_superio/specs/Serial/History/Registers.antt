@@ -2,10 +2,7 @@
 -- is kept along a trace: each definition searches the start and the trace. Restores change nothing.
 use Rattle.std.specs.Prelude.{◌≡◌, ℕ, ◌-◌, Bool, ◌==◌, if◌then◌else◌, List, [], ◌∷◌, ◌++◌, length, take, drop, Option, Some, None, unwrap_or}
 use Rattle.std.specs.Option.{option_or, option_map_or}
-use Rattle.superio_core.specs.Bits.{only_bits}
-use Rattle.superio_core.specs.Serial.{ier_bits, State}
-use Rattle.superio_core.specs.Serial.RegisterMap.{is_dlab, is_loopback}
-use Rattle.superio_core.specs.Serial.Operations.{Op, Write, Trace, OpKind, RbrRead, Arrival, kind_of}
+use Rattle.vm_superio.specs.Serial.{only_bits, ier_bits, State, is_dlab, is_loopback, Op, Write, Trace, OpKind, RbrRead, Arrival, kind_of}
 
 -- ---- the last effective write to a register
 

@@ -1,11 +1,6 @@
 -- The laws that follow from the history alone, from any start.
 use Rattle.std.specs.Prelude.{◌≡◌, ◌↔◌, ◌⊎◌, ℕ, List, [], ◌∷◌, ◌++◌, IsTrue, Bool, true, false, not, ◌==◌, ◌&&◌, ◌||◌}
-use Rattle.superio_core.specs.declared.trace.Asked.{Asked}
-use Rattle.superio_core.specs.Serial.Operations.{Op, Restore, TraceEntry, Response, Trace, Read, ByteRead, OpKind, RbrRead, is_rbr_read}
-use Rattle.superio_core.specs.Bits.{has_bits}
-use Rattle.superio_core.specs.Serial.{State, lsr_dr_bit}
-use Rattle.superio_core.specs.declared.serial.registers.Condition.{Condition}
-use Rattle.superio_core.specs.Serial.RegisterMap.{iir_bit}
+use Rattle.vm_superio.specs.Serial.{Asked, Op, Restore, TraceEntry, Response, Trace, Read, ByteRead, OpKind, RbrRead, is_rbr_read, has_bits, State, lsr_dr_bit, Condition, iir_bit}
 use Rattle.vm_superio.specs.Links.Writer.{bytes_sent}
 use Rattle.vm_superio.specs.Serial.History.Registers.{accepted_bytes, taken_bytes, held_bytes, kind_at}
 use Rattle.vm_superio.specs.Serial.History.Interrupts.{acknowledges, is_raised, is_pending, is_well_formed, NoneAcknowledges, IsWithinBound, WaitingBytesShow}

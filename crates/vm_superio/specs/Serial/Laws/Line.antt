@@ -1,19 +1,9 @@
 -- The laws of a character timeout: after it no byte waits without an interrupt.
 use Rattle.std.specs.Prelude.{◌≡◌, false, ◌∷◌, IsTrue, ℕ, zero, suc, ◌≤◌, ◌<◌, List, ◌++◌, length, ◌⊎◌, Bool, true, not, ◌==◌, ◌&&◌, ◌||◌}
 use Rattle.std.specs.Bool.{IsFalse}
-use Rattle.superio_core.specs.declared.trace.Asked.{Asked}
-use Rattle.superio_core.specs.declared.trace.Sent.{Sent}
-use Rattle.superio_core.specs.Serial.Operations.{CharacterTimeout, TraceEntry, Trace, IirRead, Op, answer_count, OpKind, RbrRead, IerWrite}
-use Rattle.superio_core.specs.Bits.{has_bits, only_bits}
-use Rattle.superio_core.specs.Serial.{State, not_empty, ier_bits}
-use Rattle.superio_core.specs.declared.serial.registers.Condition.TheVariants.{Rda, Thre}
-use Rattle.superio_core.specs.declared.serial.registers.Condition.{Condition}
-use Rattle.superio_core.specs.Serial.RegisterMap.{ier_bit, identification_of}
+use Rattle.vm_superio.specs.Serial.{Asked, Sent, CharacterTimeout, TraceEntry, Trace, IirRead, Op, answer_count, OpKind, RbrRead, IerWrite, has_bits, only_bits, State, not_empty, ier_bits, Rda, Thre, Condition, ier_bit, identification_of, step, kind_in_state, is_admissible, is_asserted, is_line_up}
 use Rattle.vm_superio.specs.Serial.History.Registers.{interrupt_enable, held_bytes, kind_at, taken_bytes}
 use Rattle.vm_superio.specs.Serial.History.Interrupts.{is_pending, is_call_due, is_well_formed, TimeoutsShow}
-use Rattle.superio_core.specs.Serial.Step.{step}
-use Rattle.superio_core.specs.Serial.Step.Admissible.{kind_in_state, is_admissible}
-use Rattle.superio_core.specs.Serial.Step.Raising.{is_asserted, is_line_up}
 use Rattle.vm_superio.specs.Serial.Laws.{state_after}
 
 abbrev pub timeout_entry : (asked : Asked) → TraceEntry

@@ -1,15 +1,6 @@
 -- The laws of one call, in any state.
 use Rattle.std.specs.Prelude.{◌≡◌, ℕ, Bool, true, false, List, ◌∷◌, ◌++◌, ◌<◌, ◌&&◌, length, count_by, IsTrue}
-use Rattle.superio_core.specs.declared.trace.Asked.{Asked}
-use Rattle.superio_core.specs.declared.trace.Sent.{Sent}
-use Rattle.superio_core.specs.Serial.Operations.{Op, Read, Write, Response, ByteRead, WriteOk, Event, out_byte, tx_lost_byte, answer_count, is_sent, sent_by}
-use Rattle.superio_core.specs.Bits.{has_bits}
-use Rattle.superio_core.specs.Serial.{lsr_dr_bit, State, not_empty}
-use Rattle.superio_core.specs.declared.serial.registers.Condition.TheVariants.{Thre}
-use Rattle.superio_core.specs.Serial.RegisterMap.{is_dlab, is_loopback}
-use Rattle.superio_core.specs.Serial.Step.Raising.{raise, receive_bytes}
-use Rattle.superio_core.specs.Serial.Step.{step, step_response, step_events}
-use Rattle.superio_core.specs.Serial.Step.Admissible.{kind_in_state, is_admissible}
+use Rattle.vm_superio.specs.Serial.{Asked, Sent, Op, Read, Write, Response, ByteRead, WriteOk, Event, out_byte, tx_lost_byte, answer_count, is_sent, sent_by, has_bits, lsr_dr_bit, State, not_empty, Thre, is_dlab, is_loopback, raise, receive_bytes, step, step_response, step_events, kind_in_state, is_admissible}
 use Rattle.vm_superio.specs.Serial.Step.{turned_on_count}
 use Rattle.vm_superio.specs.Serial.History.Registers.{accepted_by, taken_by}
 use Rattle.vm_superio.specs.Serial.History.{byte_read}

@@ -1,16 +1,7 @@
 -- The laws by which a port without objects and the history agree. What the caller finds when it carries out the effects
 -- changes nothing, so the start and the operations alone determine every read, interrupt, event and byte sent.
 use Rattle.std.specs.Prelude.{◌≡◌, ⊤, ℕ, ◌+◌, ◌*◌, ◌≤◌, not, ◌==◌, ◌&&◌, ◌||◌, nat_le, if◌then◌else◌, List, [], ◌∷◌, ◌++◌, length, count_by}
-use Rattle.superio_core.specs.declared.trace.Asked.{Asked}
-use Rattle.superio_core.specs.declared.trace.Sent.{Sent}
-use Rattle.superio_core.specs.Serial.Operations.{events_of_read, Read, Write, Enqueue, CharacterTimeout, Restore, TraceEntry, Trace, Op, sent_by, is_iir_read, is_rbr_read}
-use Rattle.superio_core.specs.declared.serial.effects.ReadEffects.{ReadEffects}
-use Rattle.superio_core.specs.declared.serial.effects.WriteEffects.{WriteEffects}
-use Rattle.superio_core.specs.declared.serial.effects.EnqueueEffects.{EnqueueEffects}
-use Rattle.superio_core.specs.Serial.{State, not_empty}
-use Rattle.superio_core.specs.Serial.Port.{Coherent}
-use Rattle.superio_core.specs.Serial.Step.Raising.{restore_calls}
-use Rattle.superio_core.specs.Serial.Step.Admissible.{IsPortRead, IsPortWrite, IsPortEnqueue, IsPortTimeout}
+use Rattle.vm_superio.specs.Serial.{Asked, Sent, events_of_read, Read, Write, Enqueue, CharacterTimeout, Restore, TraceEntry, Trace, Op, sent_by, is_iir_read, is_rbr_read, ReadEffects, WriteEffects, EnqueueEffects, State, not_empty, Coherent, restore_calls, IsPortRead, IsPortWrite, IsPortEnqueue, IsPortTimeout}
 use Rattle.vm_superio.specs.Serial.History.Registers.{kind_at, loopback, accepted_by, held_bytes}
 use Rattle.vm_superio.specs.Serial.History.Interrupts.{restore_calls_due, op_kinds}
 use Rattle.vm_superio.specs.Serial.History.{calls_due, history_events, guest_read, output, state_of_history}

@@ -3,10 +3,7 @@ use Rattle.std.specs.Prelude.{ℕ, not, List, [], ◌∷◌, ◌++◌, ⊤, IsTr
 use Rattle.std.specs.List.{list_all}
 use Rattle.std.specs.Io.KnownBytes.{Appends}
 use Rattle.vm_superio.specs.declared.run.Call.TheVariants.{Restore}
-use Rattle.vm_superio.specs.Serial.{Three, WriterOut, Port, one_port}
-use Rattle.superio_core.specs.Serial.{State}
-use Rattle.superio_core.specs.declared.trace.Asked.{Asked}
-use Rattle.superio_core.specs.Serial.Operations.{Event, TraceEntry, Trace, is_lost}
+use Rattle.vm_superio.specs.Serial.{Three, WriterOut, Port, one_port, State, Asked, Event, TraceEntry, Trace, is_lost}
 use Rattle.vm_superio.specs.Links.{Link, TriggerAnswer, answers_of, all_ok, RefusesOwnState, OutCall, WriterCalls}
 use Rattle.vm_superio.specs.Links.Three.{ThreeLink}
 use Rattle.vm_superio.specs.Links.Writer.{WriterLink, OutLink}

@@ -1,21 +1,13 @@
 -- What a port calls, and in which order: its output first, then its events object, then its trigger. The start, the
 -- operations and the objects' answers decide every call.
-use Rattle.std.specs.Prelude.{map, List, ◌++◌, Option, ◌≡◌, ℕ, IsTrue, Some, None, Result, is_some, [], ◌∷◌}
+use Rattle.std.specs.Prelude.{map, List, [], ◌++◌, Option, ◌≡◌, ℕ, IsTrue, Some, None, Result, is_some, ◌∷◌}
 use Rattle.std.specs.declared.io.Error as io
-use Rattle.superio_core.specs.declared.trace.Asked.{Asked}
-use Rattle.superio_core.specs.declared.trace.Sent.{Sent}
-use Rattle.superio_core.specs.Serial.Operations.{Op, Read, Write, Enqueue, CharacterTimeout, Response, ByteRead, ends_in_refusal}
-use Rattle.superio_core.specs.declared.serial.registers.Registers.{Registers}
-use Rattle.superio_core.specs.Serial.{State, state_with}
-use Rattle.superio_core.specs.Serial.Step.{step_events, step, step_response, sent_events}
+use Rattle.vm_superio.specs.Serial.{Error, Three, WriterOut, Port, write_response, enqueue_response, timeout_response, refusal_in_result, fault_in_result, Asked, Sent, Op, Read, Write, Enqueue, CharacterTimeout, Response, ByteRead, ends_in_refusal, State, step_events, step, step_response, sent_events, is_admissible, restore_calls}
 pub use Rattle.vm_superio.specs.Links.{Sending, NotSent, Taken, NotPut, NotFlushed, sent_in, byte_calls, out_calls}
 use Rattle.vm_superio.specs.Links.{answers_of, ObjectCall, ToTrigger, ToOut, ToEvents, Link, all_ok, RefusesOwnState, raised}
-use Rattle.vm_superio.specs.Serial.{Error, Three, WriterOut, Port, write_response, enqueue_response, timeout_response, refusal_in_result, fault_in_result}
 use Rattle.vm_superio.specs.Links.Writer.{AnsweredFault}
 pub use Rattle.vm_superio.specs.Serial.{OnePort, one_port}
-use Rattle.superio_core.specs.Serial.Step.Admissible.{is_admissible}
 use Rattle.vm_superio.specs.Serial.Run.{Call, Reply, Byte, Wrote, Enqueued, TimedOut, Restored, NotRestored, Done, act_of}
-use Rattle.superio_core.specs.Serial.Step.Raising.{restore_calls}
 
 -- the calls of one operation in a state. `is_admissible` says which answers there are: an outcome exactly if a byte
 -- goes to the output, and an answer for each condition that becomes pending, up to the first refusal
@@ -28,10 +20,6 @@ calls_of s op sending asked refusal =
     ++ map ToTrigger (answers_of asked refusal)
 
 -- ---- one call of a port over one object, as its contract states it: what it calls, in order
-
--- the port of these parts
-abbrev pub port_with : {O : Type 0} → (registers : Registers) (held : List ℕ) (objects : O) → OnePort O
-port_with registers held objects = record { state = state_with registers held; objects = objects }
 
 -- a call takes a port from `old` to `new` by one step, and calls its object as `calls_of` says. A fault that is
 -- returned is the one that the output answered

@@ -4,19 +4,10 @@ use Rattle.std.proofs.lemmas.Bool.{and_parts, false≢true, eqb-true}
 use Rattle.std.specs.Bool.{IsFalse, beq}
 use Rattle.std.proofs.lemmas.List.Sums.{sum_by-cons}
 use Rattle.std.specs.Cmp.Derive.{both_true}
-use Rattle.superio_core.specs.Serial.{State, not_empty}
-use Rattle.superio_core.specs.Bits.{has_bits}
-use Rattle.superio_core.specs.declared.trace.Asked.{Asked}
-use Rattle.superio_core.specs.declared.trace.Sent.{Sent}
-use Rattle.superio_core.specs.Serial.Operations.{TraceEntry, OpKind, count_if, answer_count, RbrRead, IirRead, is_iir_read, is_rbr_read, IerWrite, ThrWrite, Arrival, Timeout, Other, Op, is_sent, read_kind, kind_of, sent_by}
+use Rattle.vm_superio.specs.Serial.{State, not_empty, has_bits, Asked, Sent, TraceEntry, OpKind, count_if, answer_count, RbrRead, IirRead, is_iir_read, is_rbr_read, IerWrite, ThrWrite, Arrival, Timeout, Other, Op, is_sent, read_kind, kind_of, sent_by, Condition, Rda, Thre, Register, iir_bit, receive_bytes, bytes_that_fit}
 use Rattle.vm_superio.specs.Serial.History.Registers.{kind_at, held_bytes, interrupt_enable, dlab, loopback}
-use Rattle.superio_core.specs.declared.serial.registers.Condition.{Condition}
-use Rattle.superio_core.specs.declared.serial.registers.Condition.TheVariants.{Rda, Thre}
-use Rattle.superio_core.specs.declared.serial.registers.Register.{Register}
-use Rattle.superio_core.specs.Serial.RegisterMap.{iir_bit}
 use Rattle.vm_superio.specs.Serial.History.Interrupts.{pending_since, is_raised, acknowledges, NoneAcknowledges, trigger_calls, is_pending, is_well_formed_entry, is_well_formed, op_kinds, shows_waiting_bytes}
 use Rattle.vm_superio.specs.Serial.Laws.Consequences.{PendingByPrefixesLaw, TriggerBoundLaw, WaitingBytesLaw, OutputLaw}
-use Rattle.superio_core.specs.Serial.Step.Raising.{receive_bytes, bytes_that_fit}
 use Rattle.vm_superio.specs.Serial.Laws.{state_after}
 use Rattle.superio_core.proofs.Lemmas.Serial.{enables_rda}
 use Rattle.superio_core.proofs.Lemmas.Serial.Step.{by_kind}

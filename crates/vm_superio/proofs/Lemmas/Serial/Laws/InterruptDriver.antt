@@ -1,12 +1,10 @@
 -- A character timeout raises RDA while bytes are held.
-use Rattle.std.proofs.Common.{◌≡◌, ◌+◌, false, ◌&&◌, ◌||◌, [], ◌∷◌, ◌++◌, refl, ap, ◌∙◌, subst, arith, ℕ, zero, suc, ◌≤◌, ◌<◌, List, length, sym, append_assoc, append-nil, length-append, not, IsTrue, take, drop}
+use Rattle.std.proofs.Common.{◌≡◌, ◌+◌, false, ◌&&◌, ◌||◌, ◌∷◌, ◌++◌, refl, ap, ◌∙◌, subst, arith, ℕ, zero, suc, ◌≤◌, ◌<◌, List, [], length, sym, append_assoc, append-nil, length-append, not, IsTrue, take, drop}
 use Rattle.std.proofs.lemmas.Bool.{and_parts, eqb-true}
 use Rattle.std.specs.Cmp.Derive.{both_true}
 use Rattle.std.proofs.lemmas.List.{take-append-drop, take-append-le}
 use Rattle.std.proofs.Math.Seq.{take-append_seam}
-use Rattle.superio_core.specs.declared.serial.registers.Condition.TheVariants.{Rda, Thre}
-use Rattle.superio_core.specs.Serial.{State, not_empty}
-use Rattle.superio_core.specs.Serial.Operations.{CharacterTimeout, TraceEntry, Trace, is_refused_at_once, answer_count, count_if, Timeout, OpKind, IirRead}
+use Rattle.vm_superio.specs.Serial.{Rda, Thre, State, not_empty, CharacterTimeout, TraceEntry, Trace, is_refused_at_once, answer_count, count_if, Timeout, OpKind, IirRead}
 use Rattle.vm_superio.specs.Serial.History.Registers.{kind_at, interrupt_enable, held_bytes, accepted_bytes, taken_bytes}
 use Rattle.vm_superio.specs.Serial.History.Interrupts.{acknowledges, raises_rda, raises_thre, rda_raised, rda_pending, is_raised, is_pending, is_call_due, trigger_calls, is_well_formed_entry, is_well_formed, has_waiting_bytes}
 use Rattle.vm_superio.specs.Serial.Laws.Line.{timeout_entry, NoByteWaitsLaw, TimeoutCallsLaw, TimeoutsShowLaw, OwedAfterRunLaw, RunsAtInterrupts, TakenAfterRunsLaw}

@@ -2,14 +2,7 @@
 use Rattle.std.proofs.Common.{arith, ◌≡◌, ℕ, ◌+◌, zero-add, add-zero, Bool, false, not, ◌==◌, ◌&&◌, ◌||◌, List, [], ◌∷◌, refl, ap, sym, ◌∙◌}
 use Rattle.std.specs.Bool.{beq}
 use Rattle.std.proofs.Math.Bool.{and-true}
-use Rattle.superio_core.specs.declared.trace.Asked.{Asked}
-use Rattle.superio_core.specs.Serial.Operations.{TraceEntry, is_refused_at_once, is_sent, count_if, answer_count, OpKind, RbrRead, IirRead, IerWrite, ThrWrite, Arrival, Timeout, Other, sent_by, is_iir_read}
-use Rattle.superio_core.specs.Serial.{State, not_empty}
-use Rattle.superio_core.specs.Bits.{has_bits, only_bits}
-use Rattle.superio_core.specs.declared.serial.registers.Condition.TheVariants.{Thre, Rda}
-use Rattle.superio_core.specs.Serial.RegisterMap.{identification_of, pending_in_order}
-use Rattle.superio_core.specs.Serial.Step.Raising.{raise_rda_while_held, becomes_pending, rda_becomes_pending, bytes_that_fit, restore_calls}
-use Rattle.superio_core.specs.Serial.Step.Admissible.{arrival_calls, kind_calls, answers_all, step_calls, is_admissible}
+use Rattle.vm_superio.specs.Serial.{Asked, TraceEntry, is_refused_at_once, is_sent, count_if, answer_count, OpKind, RbrRead, IerWrite, ThrWrite, Arrival, Timeout, sent_by, is_iir_read, State, not_empty, has_bits, only_bits, Thre, Rda, identification_of, pending_in_order, raise_rda_while_held, becomes_pending, rda_becomes_pending, bytes_that_fit, restore_calls, arrival_calls, kind_calls, answers_all, step_calls, is_admissible, Coherent}
 use Rattle.vm_superio.specs.Serial.History.Registers.{kind_at, held_bytes}
 use Rattle.vm_superio.specs.Serial.History.Interrupts.{raises_rda, acknowledges, is_pending, raises_thre, is_well_formed_entry, restore_calls_due}
 use Rattle.vm_superio.specs.Serial.History.{interrupt_identification}
@@ -17,7 +10,6 @@ use Rattle.vm_superio.specs.Serial.Laws.{state_after, InterruptLaw}
 use Rattle.superio_core.proofs.Lemmas.Serial.Step.{rda_bit, thre_bit, rda_new, thre_new, ier_write_raises_rda, ier_write_raises_thre, timeout_raises_rda, answers_counted, by_kind}
 use Rattle.superio_core.proofs.Lemmas.Serial.Coherence.{pending_by_kind as pending_after, coherence_law}
 use Rattle.vm_superio.proofs.Lemmas.Serial.Laws.{next_at_point, same_kind, register_law, held_bytes_law}
-use Rattle.superio_core.specs.Serial.Port.{Coherent}
 
 -- ---- one operation
 
@@ -41,12 +33,7 @@ pending_by_kind : (k : OpKind) (asked : Asked) (s : State) (thre rda : Bool)
     ≡ identification_of (thre_next k s.in_buffer s.interrupt_enable asked thre rda)
     (rda_next k s.in_buffer s.interrupt_enable rda)
 pending_by_kind RbrRead asked s thre rda e = pending_after RbrRead asked s thre rda e
-pending_by_kind IirRead asked s thre rda e = pending_after IirRead asked s thre rda e
-pending_by_kind (IerWrite value) asked s thre rda e = pending_after (IerWrite value) asked s thre rda e
-pending_by_kind (ThrWrite value) asked s thre rda e = pending_after (ThrWrite value) asked s thre rda e
-pending_by_kind (Arrival bytes) asked s thre rda e = pending_after (Arrival bytes) asked s thre rda e
-pending_by_kind Timeout asked s thre rda e = pending_after Timeout asked s thre rda e
-pending_by_kind Other asked s thre rda e = pending_after Other asked s thre rda e
+pending_by_kind k asked s thre rda e = pending_after k asked s thre rda e
 
 received_due : (new : List ℕ) (s : State) (thre rda : Bool)
     → s.interrupt_identification ≡ identification_of thre rda
@@ -80,7 +67,6 @@ due_is (Arrival bytes) s thre rda e = received_due (bytes_that_fit s.in_buffer b
 due_is Timeout s thre rda e =
     ap (λ old. count_if (rda_becomes_pending s.in_buffer s.interrupt_enable old)) e
     ∙ ap count_if (timeout_raises_rda s.in_buffer s.interrupt_enable thre rda) ∙ sym (add-zero _)
-due_is RbrRead s thre rda e = refl
 due_is _ s thre rda e = refl
 
 -- only an IER write may end before THRE

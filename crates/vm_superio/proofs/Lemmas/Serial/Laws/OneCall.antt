@@ -3,25 +3,14 @@ use Rattle.std.proofs.Common.{◌≡◌, ℕ, Bool, true, List, [], ◌∷◌, �
 use Rattle.std.proofs.Math.Bool.{and-true, and-false}
 use Rattle.std.specs.Bool.{beq}
 use Rattle.std.proofs.lemmas.Bool.{and_parts}
-use Rattle.superio_core.specs.declared.trace.Asked.{Asked}
-use Rattle.superio_core.specs.declared.trace.Sent.{Sent}
-use Rattle.superio_core.specs.Serial.Operations.{Op, Read, Write, Enqueue, Response, ByteRead, WriteOk, WriterFailed, TriggerRefused, is_sent, is_lost, ends_in_refusal, OpKind, RbrRead, IirRead, Arrival, read_kind, write_kind, kind_of, sent_by}
-use Rattle.superio_core.specs.Serial.{State, not_empty}
-use Rattle.superio_core.specs.Bits.{has_bits, without_bits}
+use Rattle.vm_superio.specs.Serial.{Asked, Sent, Op, Read, Write, Enqueue, Response, ByteRead, WriteOk, WriterFailed, TriggerRefused, is_sent, is_lost, ends_in_refusal, OpKind, RbrRead, IirRead, Arrival, read_kind, write_kind, kind_of, sent_by, State, not_empty, has_bits, without_bits, receive_bytes, bytes_that_fit, raise, kind_in_state, answers_all, step_calls, sends_byte, step, read_step, step_response, write_step, read_events, sent_events, step_events, Register, RbrThr, Thre, register_at, is_dlab, is_loopback, register_read}
 use Rattle.vm_superio.specs.Serial.History.{line_status, byte_read}
-use Rattle.superio_core.specs.Serial.Step.Raising.{receive_bytes, bytes_that_fit, raise}
-use Rattle.superio_core.specs.Serial.Step.Admissible.{kind_in_state, answers_all, step_calls, sends_byte}
 use Rattle.vm_superio.specs.Serial.History.Registers.{accepted_by, taken_by}
-use Rattle.superio_core.specs.Serial.Step.{step, read_step, step_response, write_step, read_events, sent_events, step_events}
 use Rattle.vm_superio.specs.Serial.Laws.OneCall.{OneCallLaw, ReceivedLaw, OneReadLaw, RbrReadLaw, RbrDataReadyLaw, ThrWriteLaw, OutcomeEventsLaw, reports_outcome}
 use Rattle.superio_core.proofs.Lemmas.Serial.{data_ready_cleared}
 use Rattle.superio_core.proofs.Lemmas.Serial.Step.{by_kind, next_by_kind}
 use Rattle.superio_core.specs.declared.trace.Asked.TheVariants.{Nothing}
-use Rattle.superio_core.specs.declared.serial.registers.Register.{Register}
-use Rattle.superio_core.specs.declared.serial.registers.Register.TheVariants.{RbrThr}
-use Rattle.superio_core.specs.declared.serial.registers.Condition.TheVariants.{Thre}
-use Rattle.superio_core.specs.Serial.RegisterMap.{register_at, is_dlab, is_loopback, register_read}
-use Rattle.superio_core.specs.declared.trace.Sent.TheVariants.{Nothing, Out, Lost}
+use Rattle.superio_core.specs.declared.trace.Sent.TheVariants.{Nothing, Out}
 use Rattle.superio_core.specs.declared.trace.Sent.TheVariants as sent
 
 -- ---- bytes taken and accepted

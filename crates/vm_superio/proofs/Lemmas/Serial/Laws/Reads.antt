@@ -2,15 +2,8 @@
 use Rattle.std.proofs.Common.{arith, ◌≡◌, Bool, List, [], ◌∷◌, ◌++◌, refl, ap, sym, ◌∙◌, append_assoc, append-nil, ℕ, true, false, ◌==◌, subst, IsTrue, not, ◌&&◌, ◌||◌, length, drop}
 use Rattle.std.proofs.lemmas.Bool.{and_parts, false≢true, eqb-true}
 use Rattle.std.specs.Cmp.Derive.{both_true}
-use Rattle.superio_core.specs.declared.trace.Asked.{Asked}
-use Rattle.superio_core.specs.declared.trace.Sent.{Sent}
-use Rattle.superio_core.specs.Serial.Operations.{Op, Read, Write, Enqueue, CharacterTimeout, Restore, TraceEntry, OpKind, Response, is_rbr_read}
-use Rattle.superio_core.specs.Serial.{State, not_empty}
+use Rattle.vm_superio.specs.Serial.{Asked, Sent, Op, Read, Restore, TraceEntry, OpKind, Response, is_rbr_read, State, not_empty, Rda, Thre, register_read, register_at, is_dlab, identification_of, step, kind_in_state, has_bits}
 use Rattle.vm_superio.specs.Serial.History.{with_data_ready, state_of_history, history_response, byte_read, bytes_read, guest_read, ResponsesAre}
-use Rattle.superio_core.specs.declared.serial.registers.Condition.TheVariants.{Rda, Thre}
-use Rattle.superio_core.specs.Serial.RegisterMap.{register_read, register_at, is_dlab, identification_of}
-use Rattle.superio_core.specs.Serial.Step.{step}
-use Rattle.superio_core.specs.Serial.Step.Admissible.{kind_in_state}
 use Rattle.vm_superio.specs.Serial.History.Registers.{held_bytes, interrupt_enable, kind_at, taken_by, taken_bytes, accepted_by}
 use Rattle.vm_superio.specs.Serial.History.Interrupts.{is_pending}
 use Rattle.vm_superio.specs.Serial.Laws.{state_after}
@@ -18,7 +11,6 @@ use Rattle.vm_superio.specs.Serial.Laws.Consequences.{SameReadsLaw, op_and_asked
 use Rattle.vm_superio.proofs.Lemmas.Serial.Laws.{same_kind, register_law, state_of_history-by_state, held_bytes_law, taken_then_held, held_more}
 use Rattle.vm_superio.proofs.Lemmas.Serial.Laws.Interrupts.{thre_next, rda_next}
 use Rattle.vm_superio.specs.Serial.Run.{trace_after}
-use Rattle.superio_core.specs.Bits.{has_bits}
 use Rattle.superio_core.proofs.Lemmas.Serial.{data_ready_set, data_ready_cleared}
 use Rattle.superio_core.specs.declared.trace.Sent.TheVariants as sent
 
@@ -98,15 +90,8 @@ one_unsent : (start : State) (trace : List TraceEntry) (calls : List (Op × Aske
     → SameView start (record { op = op; asked = asked; sent = outcome } ∷ trace)
     (unsent (op_and_asked op asked ++ calls))
 unfolding unsent
-one_unsent start trace calls (Read offset) asked outcome same =
-    more start trace (unsent calls) (Read offset) asked outcome sent.Nothing same
-one_unsent start trace calls (Write offset value) asked outcome same =
-    more start trace (unsent calls) (Write offset value) asked outcome sent.Nothing same
-one_unsent start trace calls (Enqueue bytes) asked outcome same =
-    more start trace (unsent calls) (Enqueue bytes) asked outcome sent.Nothing same
-one_unsent start trace calls CharacterTimeout asked outcome same =
-    more start trace (unsent calls) CharacterTimeout asked outcome sent.Nothing same
 one_unsent start trace calls Restore asked outcome same = restored start trace (unsent calls) asked outcome same
+one_unsent start trace calls op asked outcome same = more start trace (unsent calls) op asked outcome sent.Nothing same
 
 -- every trace shows what its operations and the trigger's answers show
 as_unsent : (start : State) (trace : List TraceEntry) → SameView start trace (unsent (ops_and_asked trace))
@@ -244,10 +229,7 @@ shown start trace (Read offset) asked sent reply is shows =
     (subst (λ reply. IsTrue (shows_data_ready (Read offset) reply)) is shows) in
     sym (read_of_lsr start trace)
     ∙ ap (λ at. has_bits (guest_read start trace at) 0x01) (sym (eqb-true offset 5 both.0)) ∙ both.1
-shown start trace (Write offset value) asked sent reply is shows = absurd (false≢true shows)
-shown start trace (Enqueue bytes) asked sent reply is shows = absurd (false≢true shows)
-shown start trace CharacterTimeout asked sent reply is shows = absurd (false≢true shows)
-shown start trace Restore asked sent reply is shows = absurd (false≢true shows)
+shown start trace _ asked sent reply is shows = absurd (false≢true shows)
 
 -- no other operation takes a byte
 none_taken : (kind : OpKind) (held : List ℕ) → IsTrue (not (is_rbr_read kind)) → taken_by kind held ≡ []

@@ -4,24 +4,14 @@ use Rattle.std.proofs.Math.Bool.{and-false}
 use Rattle.std.proofs.lemmas.Bool.{and_parts}
 use Rattle.std.specs.Bool.{beq}
 use Rattle.std.specs.Cmp.Derive.{both_true}
-use Rattle.superio_core.specs.declared.trace.Asked.{Asked}
-use Rattle.superio_core.specs.declared.trace.Sent.{Sent}
-use Rattle.superio_core.specs.Serial.Operations.{Op, Read, Write, Enqueue, CharacterTimeout, Restore, TraceEntry, Arrival, Other, NoResponse, is_sent, count_if, OpKind, Timeout, read_kind, write_kind, kind_of, sent_by, Response}
-use Rattle.superio_core.specs.Serial.{State, not_empty}
-use Rattle.superio_core.specs.Serial.Step.Raising.{restore_calls}
+use Rattle.vm_superio.specs.Serial.{Asked, Sent, Op, Read, Write, Enqueue, CharacterTimeout, Restore, TraceEntry, Arrival, Other, NoResponse, is_sent, count_if, OpKind, Timeout, read_kind, write_kind, kind_of, sent_by, Response, State, not_empty, restore_calls, step_response, step, read_step, read_events, sent_events, step_events, Register, Rda, Thre, register_at, answers_all, step_calls, sends_byte, is_admissible, Coherent}
 use Rattle.vm_superio.specs.Serial.History.Registers.{loopback, held_bytes, kind_at, dlab, interrupt_enable}
-use Rattle.superio_core.specs.Serial.Step.{step_response, step, read_step, read_events, sent_events, step_events}
 use Rattle.vm_superio.specs.Serial.History.{history_response, state_of_history, calls_due, kind_events, history_events}
 use Rattle.vm_superio.specs.Serial.Laws.{state_after, StateLaw, ResponseLaw, StepLaw, CallLaw, RetryLaw, StepsFollow, RunAgrees, WholeRunLaw}
 use Rattle.vm_superio.proofs.Lemmas.Serial.Laws.{state_of_history-by_state, held_bytes_law, line_status_law}
 use Rattle.vm_superio.proofs.Lemmas.Serial.Laws.Interrupts.{interrupt_law, due_is, coherent_after}
-use Rattle.superio_core.specs.declared.serial.registers.Register.{Register}
-use Rattle.superio_core.specs.declared.serial.registers.Condition.TheVariants.{Rda, Thre}
-use Rattle.superio_core.specs.Serial.RegisterMap.{register_at}
-use Rattle.superio_core.specs.Serial.Step.Admissible.{answers_all, step_calls, sends_byte, is_admissible}
 use Rattle.vm_superio.specs.Serial.History.Interrupts.{raises_rda, is_pending, raises_thre, is_well_formed}
 use Rattle.vm_superio.proofs.Lemmas.Serial.Laws.Consequences.{call_written}
-use Rattle.superio_core.specs.Serial.Port.{Coherent}
 use Rattle.superio_core.specs.declared.trace.Sent.TheVariants as sent
 
 pub state_law : StateLaw

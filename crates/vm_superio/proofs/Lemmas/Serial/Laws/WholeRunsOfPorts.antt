@@ -2,15 +2,7 @@
 use Rattle.std.proofs.Common.{◌≡◌, ℕ, ◌&&◌, Bool, true, false, List, [], ◌∷◌, ◌++◌, length, refl, sym, ap, ◌∙◌, subst, append_assoc, append-nil, arith, ◌+◌, if◌then◌else◌, not, ◌==◌, ◌||◌, nat_le, IsTrue}
 use Rattle.std.specs.Bool.{beq}
 use Rattle.superio_core.specs.declared.trace.Asked.TheVariants.{Nothing}
-use Rattle.superio_core.specs.declared.trace.Sent.{Sent}
-use Rattle.superio_core.specs.Serial.Operations.{Other, Arrival, read_kind, sent_by, Write, Enqueue, CharacterTimeout, Response, ByteRead, Trace, is_sent, Op, Read}
-use Rattle.superio_core.specs.Serial.{State, not_empty}
-use Rattle.superio_core.specs.declared.serial.registers.Register.{Register}
-use Rattle.superio_core.specs.Serial.RegisterMap.{is_dlab, is_loopback, register_at, register_read}
-use Rattle.superio_core.specs.Serial.Port.{Coherent}
-use Rattle.superio_core.specs.Serial.Step.Raising.{bytes_that_fit, restore_calls}
-use Rattle.superio_core.specs.Serial.Step.{step, step_events}
-use Rattle.superio_core.specs.Serial.Step.Admissible.{kind_calls, step_calls, sends_byte, answers_all}
+use Rattle.vm_superio.specs.Serial.{Sent, Other, Arrival, read_kind, sent_by, Write, Enqueue, CharacterTimeout, Response, ByteRead, Trace, is_sent, Op, Read, State, not_empty, Register, is_dlab, is_loopback, register_at, register_read, Coherent, bytes_that_fit, restore_calls, step, step_events, kind_calls, step_calls, sends_byte, answers_all}
 use Rattle.vm_superio.specs.Serial.History.Registers.{kind_at, loopback, accepted_by, held_bytes}
 use Rattle.vm_superio.specs.Serial.History.{output, state_of_history, calls_due}
 use Rattle.vm_superio.specs.Serial.Laws.PortRun.{PortCall, PortRead, PortWrite, PortEnqueue, PortTimeout, PortRestore, IsPortCall, PortCallsFollow, op_of_call, ops_of_calls, unasked, trace_with, EffectsAre, AllEffectsAre, PortRunLaw, told_by, bytes_told, PortOutputLaw, interrupts_of, interrupts_told, PortBoundLaw}

@@ -1,15 +1,10 @@
 -- What the calls of three objects in one list show of each of them.
-use Rattle.std.proofs.Common.{arith, ◌≡◌, ℕ, map, List, [], ◌∷◌, ◌++◌, Option, refl, sym, ap, ◌∙◌, subst, append-nil, ◌↔◌, IsTrue}
+use Rattle.std.proofs.Common.{arith, ◌≡◌, ℕ, List, [], ◌∷◌, ◌++◌, Option, refl, sym, ap, ◌∙◌, subst, append-nil, ◌↔◌, IsTrue}
 use Rattle.std.specs.Cmp.Derive.{both_true}
 use Rattle.vm_superio.specs.Serial.Run.{Call, Reply, Restored, NotRestored, Done, act_of, op_of, entry_of, entries_of, refusal_in_reply, RecordsOf}
-use Rattle.vm_superio.specs.declared.run.Call.TheVariants.{Read, Write, Enqueue, CharacterTimeout, Restore}
-use Rattle.vm_superio.specs.Serial.{Error, Three, WriterOut, Port}
-use Rattle.superio_core.specs.declared.serial.registers.Condition.{Condition}
-use Rattle.superio_core.specs.Serial.{State}
-use Rattle.superio_core.specs.Serial.Operations.{Op, Event, TraceEntry}
-use Rattle.superio_core.specs.Serial.Port.{Coherent}
-use Rattle.superio_core.specs.Serial.Step.Admissible.{is_admissible}
-use Rattle.vm_superio.specs.Links.{Link, TriggerAnswer, answers_of, all_ok, RefusesOwnState, ObjectCall, ToTrigger, answers_in, out_calls_in, raised, WriterCalls}
+use Rattle.vm_superio.specs.declared.run.Call.TheVariants.{Restore}
+use Rattle.vm_superio.specs.Serial.{Error, Three, WriterOut, Port, Condition, State, Event, TraceEntry, Coherent, is_admissible, step}
+use Rattle.vm_superio.specs.Links.{Link, TriggerAnswer, answers_of, all_ok, RefusesOwnState, ObjectCall, answers_in, out_calls_in, raised, WriterCalls}
 use Rattle.vm_superio.specs.Links.Three.{ThreeLink, answers_in-append, out_calls_in-append}
 use Rattle.vm_superio.specs.Links.Writer.{WriterLink, bytes_sent, outcome_of, AreSendings}
 use Rattle.vm_superio.specs.Serial.Step.ObjectStep.{Sending, sent_in, out_calls, one_port, IsRun}
@@ -17,7 +12,6 @@ use Rattle.vm_superio.specs.Serial.History.{history_events, outcomes}
 use Rattle.vm_superio.specs.Serial.History.Interrupts.{is_well_formed, restore_calls_due}
 use Rattle.vm_superio.specs.Serial.Laws.Consequences.{recorded_output}
 use Rattle.superio_core.specs.Serial.Operations as operation
-use Rattle.superio_core.specs.Serial.Step.{step}
 use Rattle.vm_superio.specs.Serial.Laws.{state_after, StepsFollow}
 use Rattle.vm_superio.specs.Serial.Run.HistoryTheorem.{calls_at, ObjectSegment, ObjectAtRestore, next_object_segment, ObjectsAre}
 use Rattle.vm_superio.specs.Serial.Run.Three.{WriterSegment, OutputIs, KnownOutputIs, OutputAtRestore, next_writer_segment, OutputsAre, TriggerSegment, TriggerAtRestore, next_trigger_segment, TriggersAre, ThreeHistory}
@@ -26,15 +20,6 @@ use Rattle.vm_superio.proofs.Lemmas.Serial.Laws.Consequences.{output_law}
 use Rattle.vm_superio.proofs.Lemmas.Serial.Laws.Interrupts.{interrupt_law}
 use Rattle.vm_superio.proofs.Lemmas.Serial.Run.{StepsFollow-run, HistoryTheorem-run}
 use Rattle.vm_superio.proofs.Lemmas.Serial.{answers_in_order, out_in_order, sendings_of}
-
--- the answers of interrupts alone
-answers_raised : {E : Type 0} (answers : List (TriggerAnswer E)) → answers_in (map ToTrigger answers) ≡ answers
-answers_raised [] = refl
-answers_raised (answer ∷ answers) = ap (λ rest. answer ∷ rest) (answers_raised answers)
-
-out_raised : {E : Type 0} (answers : List (TriggerAnswer E)) → out_calls_in (map ToTrigger answers) ≡ []
-out_raised [] = refl
-out_raised (answer ∷ answers) = out_raised answers
 
 -- a call of one of the three was refused as the trigger's was
 RefusesOwnState-three :
@@ -150,10 +135,6 @@ module _
     Output-call :
         (call : Call Object) (reply : Reply Object E) → entry.op ≡ op_of (act_of call) →
         ObjectAtRestore link start (newest ++ before) segment call reply → Output-next before newest s segment call entry sending reply
-    Output-call (Read offset) reply op at = Output-extend (Read offset) reply tt refl refl
-    Output-call (Write offset value) reply op at = Output-extend (Write offset value) reply tt refl refl
-    Output-call (Enqueue bytes) reply op at = Output-extend (Enqueue bytes) reply tt refl refl
-    Output-call CharacterTimeout reply op at = Output-extend CharacterTimeout reply tt refl refl
     Output-call (Restore object) (Restored old) op at = record {
       next_before = entry ∷ newest ++ before;
       next_newest = [];
@@ -163,7 +144,7 @@ module _
       is = record {
         state = ap (λ s. step s entry.op entry.asked) is.state;
         well_formed = well_formed-step (newest ++ before) s entry is.state admissible is.well_formed;
-        sends = subst (λ calls. AreSendings [] [] calls) (sym (out_raised (all_ok (restore_calls_due start (newest ++ before))))) tt;
+        sends = subst (λ calls. AreSendings [] [] calls) (sym (out_in_order [] [] (all_ok (restore_calls_due start (newest ++ before))))) tt;
       };
     }
     Output-call (Restore object) _ op at = record {
@@ -174,6 +155,7 @@ module _
       same = refl;
       is = IsSegmentOf-kept op;
     }
+    Output-call call reply op at = Output-extend call reply tt refl refl
 
   OutputsAre-objects :
       (before newest : List TraceEntry) (s end : State) (segment : ObjectSegment Object E) (calls : List (Call Object)) (records : List (Done Object E)) (now : Object) →
@@ -198,7 +180,7 @@ module _
   called segment = record { initial = segment.initial.trigger; answers = answers_in segment.calls }
 
   raised_trigger : (old new : Object) (answers : List (TriggerAnswer E)) → raised link old answers new → trigger old.trigger answers new.trigger
-  raised_trigger old new answers linked = subst (λ answers. trigger old.trigger answers new.trigger) (answers_raised answers) linked.trigger_linked
+  raised_trigger old new answers linked = subst (λ answers. trigger old.trigger answers new.trigger) (answers_in_order [] [] answers) linked.trigger_linked
 
   -- a call adds to the segment of the trigger, or ends it
   record Trigger-next
@@ -222,15 +204,11 @@ module _
   Trigger-call :
       (trace : List TraceEntry) (segment : ObjectSegment Object E) (call : Call Object) (entry : TraceEntry) (sending : Sending)
       (reply : Reply Object E) → ObjectAtRestore link start trace segment call reply → Trigger-next trace segment call entry sending reply
-  Trigger-call trace segment (Read offset) entry sending reply at = record { at_restore = tt; same = answers_extend trace segment entry sending (refusal_in_reply reply) }
-  Trigger-call trace segment (Write offset value) entry sending reply at = record { at_restore = tt; same = answers_extend trace segment entry sending (refusal_in_reply reply) }
-  Trigger-call trace segment (Enqueue bytes) entry sending reply at = record { at_restore = tt; same = answers_extend trace segment entry sending (refusal_in_reply reply) }
-  Trigger-call trace segment CharacterTimeout entry sending reply at = record { at_restore = tt; same = answers_extend trace segment entry sending (refusal_in_reply reply) }
   Trigger-call trace segment (Restore object) entry sending (Restored old) at =
       let due = all_ok (restore_calls_due start trace) in
       record {
         at_restore = (at.0.trigger_linked, (at.1.0.trigger, raised_trigger object at.1.0 due at.1.1));
-        same = ap (λ answers. record { initial = object.trigger; answers = answers }) (sym (answers_raised due));
+        same = ap (λ answers. record { initial = object.trigger; answers = answers }) (sym (answers_in_order [] [] due));
       }
   Trigger-call trace segment (Restore object) entry sending (NotRestored refused) at = record {
     at_restore =
@@ -239,6 +217,7 @@ module _
     same = refl;
   }
   Trigger-call trace segment (Restore object) entry sending _ at = record { at_restore = tt; same = refl }
+  Trigger-call trace segment call entry sending reply at = record { at_restore = tt; same = answers_extend trace segment entry sending (refusal_in_reply reply) }
 
   TriggersAre-objects :
       (trace : List TraceEntry) (segment : ObjectSegment Object E) (calls : List (Call Object)) (records : List (Done Object E)) (now : Object) →

@@ -1,12 +1,9 @@
 -- A step keeps a coherent state coherent, and an RBR read gives the oldest byte.
-use Rattle.superio_core.specs.Serial.Operations.{Read, ByteRead}
-use Rattle.superio_core.specs.Serial.Step.{step, step_response}
+use Rattle.vm_superio.specs.Serial.{Read, ByteRead, step, step_response, State, register_at, is_dlab}
 use Rattle.superio_core.proofs.Lemmas.Serial.Coherence.{coherence_law}
 use Rattle.vm_superio.proofs.Lemmas.Serial.Laws.OneCall.{rbr_read, kept}
 use Rattle.vm_superio.proofs.serial.Serial.read.Goals as goal
 use Rattle.std.proofs.Common.{◌≡◌, ℕ, ◌<◌, false, length, ap, ◌∙◌, ◌∷◌}
-use Rattle.superio_core.specs.Serial.{State}
-use Rattle.superio_core.specs.Serial.RegisterMap.{register_at, is_dlab}
 use Rattle.superio_core.specs.declared.trace.Asked.TheVariants as Asked
 use Rattle.superio_core.specs.declared.trace.Sent.TheVariants as Sent
 
@@ -18,15 +15,17 @@ oldest offset old new byte first hidden some made response =
     ∙ (rbr_read old byte hidden some (response ∙ ap (λ n. step_response old (Read n) Asked.Nothing Sent.Nothing) first)).bytes
 
 pub returns-clause-data : goal.returns-clause-data
-returns-clause-data g c = λ first hidden some.
-    let made = c.recorded_read-byte.ensures in
-    oldest c.args.offset c.args.self.now.state _ c.recorded_read-byte.result.reply first hidden some made.state made.response
+returns-clause-data g c =
+    let made = c.recorded_read-byte.ensures.step in
+    rw (← c.self.view_is) (λ first hidden some.
+    oldest c.args.offset c.self.inside.port.state _ c.recorded_read-byte.result.reply first hidden some made.state made.response)
 
 pub returns-clause-settings : goal.returns-clause-settings
 returns-clause-settings g c =
-    let made = c.recorded_read-byte.ensures in
-    rw made.state (kept (register_at (is_dlab c.args.self.now.state.line_control) c.args.offset) c.args.self.now.state)
+    let old = c.self.inside.port.state in
+    rw (← c.self.view_is, c.recorded_read-byte.ensures.step.state) (kept (register_at (is_dlab old.line_control) c.args.offset) old)
 
 pub returns-clause-coherent : goal.returns-clause-coherent
-returns-clause-coherent g c = λ before.
-    rw c.recorded_read-byte.ensures.state (coherence_law c.args.self.now.state (Read c.args.offset) c.recorded_read-byte.result.asked before)
+returns-clause-coherent g c =
+    rw (← c.self.view_is) (λ before.
+    rw c.recorded_read-byte.ensures.step.state (coherence_law _ (Read c.args.offset) c.recorded_read-byte.result.asked before))

@@ -12,6 +12,6 @@ returns-clause-history g c =
     let contents = g.W.Write.contents in
     let no_call = ThreeLink-nil trigger events (WriterLink contents) g.met.T.Trigger.no_call g.met.EV.SerialEvents.no_event (WriterLink-nil contents) in
     let joined = ThreeLink-append trigger events (WriterLink contents) g.met.T.Trigger.joined g.met.EV.SerialEvents.joined (WriterLink-append contents) in
-    rw (← c.self.view_is) (ok_follows _ _ c.run_with.result
+    rw (← c.self.view_is) (ok_follows _ _ c.run.result
     (λ done run. ThreeHistory-run trigger events contents no_call joined _ c.args.calls.items done.items _ run)
-    c.run_with.ensures.run)
+    c.run.ensures.run)

@@ -1,9 +1,34 @@
--- The run from a coherent start is a history.
-use Rattle.vm_superio.proofs.Lemmas.Serial.Run.{HistoryTheorem-run, ok_follows}
+-- A call that was made goes from the run that is left to the run so far. From a coherent start it is a history.
+use Rattle.std.proofs.Common.{◌∷◌, refl, append_assoc, append-nil, arith, []}
+use Rattle.std.proofs.lemmas.List.{nil_from_length}
+use Rattle.vm_superio.proofs.Lemmas.Serial.Run.{IsRun-step, HistoryTheorem-run}
 use Rattle.vm_superio.proofs.serial.port.Port.run.Goals as goal
+
+pub loop-call-init : goal.loop-call-init
+loop-call-init g c = record {
+  room = omega (arith, c.in_ok-done.ensures.len, c.in_ok-done.ensures.exact, c.len.ensures, c.from_vec-calls.ensures.len);
+  whole = λ later end h. rw (c.in_ok-done.ensures.items, ← c.from_vec-calls.ensures.items) h;
+}
+
+pub loop-call-preserved : goal.loop-call-preserved
+loop-call-preserved g c =
+    let before = c.loop-call.invariant in
+    let done = c.make.result in
+    let next = c.make.new.self in
+    record {
+      room = omega (arith, before.room, c.push_reserved.ensures.len, c.push_reserved.ensures.capacity, c.in-Some.ensures.cases);
+      whole = λ later end h.
+          let step = IsRun-step g.O.Objects.link c.in-Some.call c.pop_front.new.self.items c.loop-call.calls.items done later _ next end
+          c.in-Some.ensures.items c.make.ensures.act c.make.ensures.made h in
+          rw (c.push_reserved.ensures.items, append_assoc) (before.whole (done ∷ later) end step);
+    }
+
+pub returns-clause-run : goal.returns-clause-run
+returns-clause-run g c =
+    let before = c.loop-call.invariant in
+    let none = nil_from_length c.loop-call.calls.items (omega (arith, c.in_default.ensures.cases, c.loop-call.calls.ok.0)) in
+    rw (← append-nil c.loop-call.done.items) (before.whole [] _ (rw none refl))
 
 pub returns-clause-history : goal.returns-clause-history
 returns-clause-history g c =
-    rw (← c.self.view_is) (ok_follows _ _ c.run_with.result
-    (λ done run. HistoryTheorem-run g.O.Objects.link g.met.O.Objects.no_call g.met.O.Objects.joined _ c.args.calls.items done.items _ run)
-    c.run_with.ensures.run)
+    HistoryTheorem-run g.O.Objects.link g.met.O.Objects.no_call g.met.O.Objects.joined _ c.args.calls.items c.loop-call.done.items _ (returns-clause-run g c)

@@ -1,12 +1,11 @@
 -- The step of the registers, with THRE taken back if the first of two calls was refused; and the calls in order.
 use Rattle.std.proofs.Common.{◌≡◌, Bool, true, false, Option, None, List, rules, refl, ap, ◌∙◌, subst, sym, if◌then◌else◌}
 use Rattle.std.specs.declared.io.Error.{Error}
-use Rattle.superio_core.specs.Serial.{state_with}
-use Rattle.superio_core.specs.Serial.Step.{write_step}
+use Rattle.vm_superio.specs.Serial.{state_with, write_step}
 use Rattle.superio_core.proofs.Lemmas.Serial.FirstRefused.{write_step-settled}
 use Rattle.vm_superio.specs.Links.{OutCall}
 use Rattle.vm_superio.specs.Links.Writer.{AnsweredFault}
-use Rattle.vm_superio.proofs.serial.port.write_with.Goals as goal
+use Rattle.vm_superio.proofs.serial.port.Port.recorded_write.Goals as goal
 
 -- a refusal hides the output's fault
 answered_unless : (refused : Bool) (fault returned : Option Error) (calls : List OutCall)
@@ -19,8 +18,9 @@ returns g c =
     let value = c.args.value in
     let asked = c.call_trigger-asked.result.0 in
     let effects = c.write-effects in
-    let before = state_with c.args.registers.now c.args.in_buffer.now in
+    let before = state_with c.self.inside.registers c.self.inside.in_buffer in
     let made = c.send_where_due-sent.ensures.calls in
+    rw (← c.self.view_is) (
     record {
       admissible = search rules;
       response = search rules;
@@ -34,4 +34,4 @@ returns g c =
       outcome = made.outcome;
       answered = answered_unless _ _ _ _ c.reply.ensures.fault made.answered;
       linked = rw c.reply.ensures.refusal (g.met.O.Objects.joined _ _ _ _ _ made.linked c.call_trigger-asked.ensures.calls);
-    }
+    })

@@ -1,21 +1,18 @@
 -- What continues the run so far makes the whole run. The calls that are left get fewer.
 use Rattle.std.proofs.Common.{◌≤◌, ◌+◌, List, ◌++◌, vec_len, vec_capacity}
 use Rattle.std.specs.VecDeque.{deque_len}
-use Rattle.vm_superio.specs.Serial.Step.ObjectStep.{OnePort, port_with, IsRun}
+use Rattle.vm_superio.specs.Serial.Step.ObjectStep.{OnePort, IsRun}
 use Rattle.vm_superio.specs.declared.run.Done.{Done}
-use Rattle.vm_superio.proofs.serial.running.run_with.Given as goal
+use Rattle.vm_superio.proofs.serial.port.Port.run.Given as goal
 
 abbrev pub invariant-loop-call : goal.invariant-loop-call
 invariant-loop-call g l =
     let O = g.row.O.Denot in
     let E = g.row.O-E.Denot in
-    let link = g.O.Objects.link in
-    let start = l.initial in
     record {
       room : vec_len l.done + deque_len l.calls ≤ vec_capacity l.done;
-      whole : (later : List (Done O E)) (end : OnePort O) →
-          IsRun link (port_with l.registers l.in_buffer l.objects) l.calls.items later end →
-          IsRun link (port_with start.registers start.in_buffer start.objects) l.fn.calls.items (l.done.items ++ later) end;
+      whole : (later : List (Done O E)) (end : OnePort O) → IsRun g.O.Objects.link l.self l.calls.items later end →
+          IsRun g.O.Objects.link l.initial.self l.fn.calls.items (l.done.items ++ later) end;
     }
 
 abbrev pub decreases-loop-call : goal.decreases-loop-call
