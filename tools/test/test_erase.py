@@ -11,18 +11,20 @@ BRACKETS = ("{}", "()", "[]")
 # Each form that is dropped: a source, and what is left of it.
 FORMS = {
     "a clause": ("pub fn f(a: u8) -> u8\n    ensures { result ≡ a }\n{\n    a\n}\n",
-                 "// Clauses in source/lib.rt: returns.\npub fn f(a: u8) -> u8\n{\n    a\n}\n"),
+                 "// Clauses in source/lib.rt: returns.\npub fn f(a: u8) -> u8 {\n    a\n}\n"),
     "named clauses of several lines": (
         "pub fn f(a: &mut u8) -> u8\n    requires small { a.old ≤ 3 }\n    ensures value { let x' = 1 in\n"
         "        result ≡ x' }\n"
         "    ensures* loan { result ≡ [ { x = 1; } ] }\n{\n    *a\n}\n",
-        "// Clauses in source/lib.rt: requires small, value, loan.\npub fn f(a: &mut u8) -> u8\n{\n    *a\n}\n"),
+        "// Clauses in source/lib.rt: requires small, value, loan.\npub fn f(a: &mut u8) -> u8 {\n    *a\n}\n"),
     "a header of several lines": (
         "pub fn f<T: Copy>(\n    a: [u8; 4],\n    b: T,\n) -> [u8; 4]\nwhere\n    T: Ord,\n"
         "    ensures { result ≡ a }\n{\n    a\n}\n",
         "// Clauses in source/lib.rt: returns.\npub fn f<T: Copy>(\n    a: [u8; 4],\n    b: T,\n) -> [u8; 4]\n"
         "where\n    T: Ord,\n{\n    a\n}\n"),
-    "a function that is not public": ("fn f(a: u8)\n    ensures { a ≡ a }\n{\n}\n", "fn f(a: u8)\n{\n}\n"),
+    "a function that is not public": ("fn f(a: u8)\n    ensures { a ≡ a }\n{\n}\n", "fn f(a: u8) {\n}\n"),
+    "a comment behind a header": (
+        "fn f() -> u8 // why\n    ensures { 1 }\n{\n    1\n}\n", "fn f() -> u8 // why\n{\n    1\n}\n"),
     "a trait": (
         "pub trait Fifo {\n    /// The bytes.\n    ghost held: { Self → List ℕ };\n\n    /// How many.\n"
         "    fn len(&self) -> usize\n"
@@ -165,15 +167,21 @@ class Erasing(CopyTest):
 
 
 def code_of(source):
-    """The lines of code and their documentation. A contract ends with the line that closes its brackets."""
-    kept, documentation, opened = [], [], 0
+    """The lines of code and their documentation. A contract ends with the line that closes its brackets, and the `{`
+    behind it goes to the header."""
+    kept, documentation, opened, is_after = [], [], 0, False
     for line in source.split("\n"):
         if opened or CONTRACT.match(line):
             opened += sum(line.count(opening) - line.count(closing) for opening, closing in BRACKETS)
             documentation = [] if "ghost" in line else documentation
-        elif line.lstrip().startswith("///"):
+            is_after = True
+            continue
+        if line.lstrip().startswith("///"):
             documentation.append(line)
+        elif line.strip() == "{" and is_after and not kept[-1].endswith(","):
+            kept[-1] += " {"
         elif line.strip() and line != ERROR_TEXT:
             kept += [*documentation, line]
             documentation = []
+        is_after = False
     return kept

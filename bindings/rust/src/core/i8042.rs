@@ -12,7 +12,6 @@ const CMD_RESET_CPU: u8 = 0xFE;
 /// trigger.
 #[inline(always)]
 // Clauses in crates/superio_core/src/i8042.rt: returns.
-pub fn is_reset_command(offset: u8, value: u8) -> bool
-{
+pub fn is_reset_command(offset: u8, value: u8) -> bool {
     offset == COMMAND_OFFSET && value == CMD_RESET_CPU
 }

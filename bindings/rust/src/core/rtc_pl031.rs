@@ -35,8 +35,7 @@ pub struct Clock {
 impl Clock {
     /// A fresh clock: it shows the host's time and has no alarm.
     // Clauses in crates/superio_core/src/rtc_pl031.rt: returns.
-    pub fn new() -> Clock
-    {
+    pub fn new() -> Clock {
         Clock {
             lr: 0,
             mr: 0,
@@ -49,8 +48,7 @@ impl Clock {
 
     /// The clock of this state.
     // Clauses in crates/superio_core/src/rtc_pl031.rt: returns.
-    pub fn from_state(state: &RtcState) -> Clock
-    {
+    pub fn from_state(state: &RtcState) -> Clock {
         Clock {
             lr: state.lr,
             mr: state.mr,
@@ -63,8 +61,7 @@ impl Clock {
 
     /// A snapshot; `from_state` recreates the clock.
     // Clauses in crates/superio_core/src/rtc_pl031.rt: returns.
-    pub fn state(&self) -> RtcState
-    {
+    pub fn state(&self) -> RtcState {
         RtcState {
             lr: self.lr,
             offset: self.offset,
@@ -78,8 +75,7 @@ impl Clock {
     /// Begins an access at the moment `now` and returns the host's time. Any access, even an invalid one, may fire the
     /// alarm before its own effect.
     #[inline(always)]
-    fn begin_access(&mut self, now: u64) -> u32
-    {
+    fn begin_access(&mut self, now: u64) -> u32 {
         let time = (now % (1 << 32)) as u32;
         if self.armed != 0 && guest_time(self.offset, time) >= self.mr {
             self.ris |= 1;
@@ -90,8 +86,7 @@ impl Clock {
 
     /// The value read from `register` at the host's time `time`, or `None` if it is not readable.
     #[inline(always)]
-    fn read_register(&self, register: ClockRegister, time: u32) -> Option<u32>
-    {
+    fn read_register(&self, register: ClockRegister, time: u32) -> Option<u32> {
         match register {
             ClockRegister::Dr => Some(guest_time(self.offset, time)),
             ClockRegister::Mr => Some(self.mr),
@@ -108,8 +103,7 @@ impl Clock {
     /// Stores a match. Sets the alarm if guest time has yet to reach it, and raises the interrupt at once if guest time
     /// equals it.
     #[inline(always)]
-    fn write_match(&mut self, value: u32, time: u32)
-    {
+    fn write_match(&mut self, value: u32, time: u32) {
         let guest_time = guest_time(self.offset, time);
         self.mr = value;
         self.armed = u64::from(guest_time < value);
@@ -121,8 +115,7 @@ impl Clock {
     /// Writes `value` to `register` at the host's time `time`, and returns whether the register takes a write. If not,
     /// nothing changes.
     #[inline(always)]
-    fn store(&mut self, register: ClockRegister, value: u32, time: u32) -> bool
-    {
+    fn store(&mut self, register: ClockRegister, value: u32, time: u32) -> bool {
         match register {
             ClockRegister::Mr => self.write_match(value, time),
             ClockRegister::Lr => {
@@ -146,8 +139,7 @@ impl Clock {
     /// low 32 bits of `now` count. Returns the value read, or `None` if the read is invalid.
     #[inline(always)]
     // Clauses in crates/superio_core/src/rtc_pl031.rt: response, state.
-    pub fn read(&mut self, offset: u16, now: u64) -> Option<u32>
-    {
+    pub fn read(&mut self, offset: u16, now: u64) -> Option<u32> {
         let time = self.begin_access(now);
         self.read_register(ClockRegister::at(offset), time)
     }
@@ -156,24 +148,21 @@ impl Clock {
     /// offset takes a write.
     #[inline(always)]
     // Clauses in crates/superio_core/src/rtc_pl031.rt: taken, state.
-    pub fn write(&mut self, offset: u16, value: u32, now: u64) -> bool
-    {
+    pub fn write(&mut self, offset: u16, value: u32, now: u64) -> bool {
         let time = self.begin_access(now);
         self.store(ClockRegister::at(offset), value, time)
     }
 
     /// Whether the interrupt line is up: bit 0 of RTCMIS, the raw interrupt status under the mask.
     // Clauses in crates/superio_core/src/rtc_pl031.rt: returns.
-    pub fn interrupt_line(&self) -> bool
-    {
+    pub fn interrupt_line(&self) -> bool {
         self.ris & self.imsc & 1 == 1
     }
 
     /// The seconds from the moment `now` until the alarm is due if the guest makes no access; see
     /// `Rtc::alarm_due`.
     // Clauses in crates/superio_core/src/rtc_pl031.rt: due, bound.
-    pub fn alarm_due(&self, now: u64) -> Option<u64>
-    {
+    pub fn alarm_due(&self, now: u64) -> Option<u64> {
         if self.armed == 0 {
             return None;
         }

@@ -40,8 +40,7 @@ pub enum Error {
 }
 
 /// The header of a state of this kind, before `length` bytes.
-pub(crate) fn header(kind: u8, length: u16) -> [u8; 8]
-{
+pub(crate) fn header(kind: u8, length: u16) -> [u8; 8] {
     let [m0, m1, m2, m3] = MAGIC;
     let [low, high] = length.to_le_bytes();
     [m0, m1, m2, m3, kind, VERSION, low, high]
@@ -53,8 +52,7 @@ pub(crate) fn header(kind: u8, length: u16) -> [u8; 8]
 ///
 /// The first header check that fails: [`Error::TooShort`], [`Error::NotASavedState`], [`Error::OtherDevice`],
 /// [`Error::UnknownVersion`] or [`Error::WrongLength`].
-pub(crate) fn contents_of(kind: u8, bytes: &[u8]) -> Result<&[u8], Error>
-{
+pub(crate) fn contents_of(kind: u8, bytes: &[u8]) -> Result<&[u8], Error> {
     match bytes {
         [
             m0,

@@ -30,8 +30,7 @@ pub struct SerialPort {
 impl SerialPort {
     /// A fresh port: divisor 12, 8 bits a character, OUT2 set, and nothing enabled, pending or held.
     // Clauses in crates/superio_core/src/serial.rt: state, coherent.
-    pub fn new() -> SerialPort
-    {
+    pub fn new() -> SerialPort {
         SerialPort {
             registers: Registers::new(),
             in_buffer: RxRing::new(),
@@ -41,8 +40,7 @@ impl SerialPort {
     /// Reads at `offset`, as a guest does. Asks for no interrupt.
     #[inline(always)]
     // Clauses in crates/superio_core/src/serial.rt: step, coherent.
-    pub fn read(&mut self, offset: u8) -> ReadEffects
-    {
+    pub fn read(&mut self, offset: u8) -> ReadEffects {
         let register = self.registers.at(offset);
         self.registers.read(&mut self.in_buffer, register)
     }
@@ -51,8 +49,7 @@ impl SerialPort {
     /// a lost byte nor a refusal changes the port.
     #[inline(always)]
     // Clauses in crates/superio_core/src/serial.rt: step, at_most_2, coherent.
-    pub fn write(&mut self, offset: u8, value: u8) -> WriteEffects
-    {
+    pub fn write(&mut self, offset: u8, value: u8) -> WriteEffects {
         let register = self.registers.at(offset);
         self.registers.write(&mut self.in_buffer, register, value)
     }
@@ -60,8 +57,7 @@ impl SerialPort {
     /// How many bytes may still be enqueued: 64 minus the number of held bytes.
     #[inline(always)]
     // Clauses in crates/superio_core/src/serial.rt: value, bound.
-    pub fn fifo_capacity(&self) -> usize
-    {
+    pub fn fifo_capacity(&self) -> usize {
         FIFO_SIZE - self.in_buffer.len()
     }
 
@@ -69,8 +65,7 @@ impl SerialPort {
     /// the bytes even if the interrupt is then refused.
     #[inline(always)]
     // Clauses in crates/superio_core/src/serial.rt: step, at_most_1, coherent.
-    pub fn enqueue_raw_bytes(&mut self, input: &[u8]) -> EnqueueEffects
-    {
+    pub fn enqueue_raw_bytes(&mut self, input: &[u8]) -> EnqueueEffects {
         if self.registers.is_loopback() || input.is_empty() {
             return EnqueueEffects {
                 taken: 0,
@@ -97,16 +92,14 @@ impl SerialPort {
     /// bytes are held. Returns how often to ask for the interrupt: 0 or 1 times. A refusal does not change the port.
     #[inline(always)]
     // Clauses in crates/superio_core/src/serial.rt: step, at_most_1, pending, coherent.
-    pub fn character_timeout(&mut self) -> u8
-    {
+    pub fn character_timeout(&mut self) -> u8 {
         self.registers.character_timeout(&self.in_buffer)
     }
 
     /// How often to ask for the interrupt after a restore or a refusal: once for each condition that is pending and
     /// enabled.
     // Clauses in crates/superio_core/src/serial.rt: calls, at_most_2.
-    pub fn interrupts_due(&self) -> u8
-    {
+    pub fn interrupts_due(&self) -> u8 {
         self.registers.interrupts_due()
     }
 
@@ -114,16 +107,14 @@ impl SerialPort {
     /// set your line to it after every call.
     #[inline(always)]
     // Clauses in crates/superio_core/src/serial.rt: line, due.
-    pub fn interrupt_line(&self) -> bool
-    {
+    pub fn interrupt_line(&self) -> bool {
         self.registers.interrupt_line()
     }
 
     /// Whether the port is coherent, as `new` makes it: `len` is at most 64, data ready shows whether bytes are held,
     /// and IIR is 1, 2, 4 or 6, with RDA pending only while bytes are held.
     // Clauses in crates/superio_core/src/serial.rt: returns.
-    pub fn is_coherent(&self) -> bool
-    {
+    pub fn is_coherent(&self) -> bool {
         usize::from(self.in_buffer.len) <= FIFO_SIZE
             && self.registers.is_coherent(!self.in_buffer.is_empty())
     }

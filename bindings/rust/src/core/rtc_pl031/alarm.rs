@@ -4,8 +4,7 @@
 
 /// Guest time at the host's time `time`.
 #[inline(always)]
-pub(super) fn guest_time(offset: i64, time: u32) -> u32
-{
+pub(super) fn guest_time(offset: i64, time: u32) -> u32 {
     match i64::from(time).checked_add(offset) {
         Some(counter) if 0 <= counter && counter < 1 << 32 => counter as u32,
         _ => time,
@@ -14,8 +13,7 @@ pub(super) fn guest_time(offset: i64, time: u32) -> u32
 
 /// The first host's time, from `from` up to the largest, at which guest time is `value` or more. Guest time reaches the
 /// value when the counter does or, while the counter does not fit in 32 bits, when the host's time does.
-fn first_time(offset: i64, value: u32, from: u32) -> Option<u32>
-{
+fn first_time(offset: i64, value: u32, from: u32) -> Option<u32> {
     if guest_time(offset, from) >= value {
         return Some(from);
     }
@@ -37,8 +35,7 @@ fn first_time(offset: i64, value: u32, from: u32) -> Option<u32>
 
 /// The seconds from the moment `now` until guest time is `value` or more, or `None` if it never is. The host's time
 /// wraps to 0.
-pub(super) fn seconds_until(offset: i64, value: u32, now: u64) -> Option<u64>
-{
+pub(super) fn seconds_until(offset: i64, value: u32, now: u64) -> Option<u64> {
     let time = (now % (1 << 32)) as u32;
     if let Some(first) = first_time(offset, value, time) {
         return Some(u64::from(first - time));

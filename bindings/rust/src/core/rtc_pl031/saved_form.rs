@@ -17,8 +17,7 @@ impl RtcState {
     /// They are a header of eight bytes, `lr`, `mr`, `imsc` and `ris` of four bytes each, `offset` of eight, and 1 if
     /// an alarm is set, else 0. Numbers are little-endian.
     // Clauses in crates/superio_core/src/rtc_pl031/saved_form.rt: returns.
-    pub fn to_bytes(&self) -> [u8; SAVED_SIZE]
-    {
+    pub fn to_bytes(&self) -> [u8; SAVED_SIZE] {
         let [m0, m1, m2, m3, kind, version, low, high] = header(CLOCK_KIND, CONTENTS_SIZE as u16);
         let [lr0, lr1, lr2, lr3] = self.lr.to_le_bytes();
         let [mr0, mr1, mr2, mr3] = self.mr.to_le_bytes();
@@ -39,14 +38,12 @@ impl RtcState {
     ///
     /// Returns the first check that fails, in the order of [`Error`]: any case but [`Error::TooManyBytes`].
     // Clauses in crates/superio_core/src/rtc_pl031/saved_form.rt: form, read, fault.
-    pub fn from_bytes(bytes: &[u8]) -> Result<RtcState, Error>
-    {
+    pub fn from_bytes(bytes: &[u8]) -> Result<RtcState, Error> {
         Self::parse(bytes)
     }
 
     /// As `from_bytes`.
-    fn parse(bytes: &[u8]) -> Result<RtcState, Error>
-    {
+    fn parse(bytes: &[u8]) -> Result<RtcState, Error> {
         let contents = contents_of(CLOCK_KIND, bytes)?;
         if contents.len() != CONTENTS_SIZE {
             return Err(Error::WrongLength);
@@ -73,15 +70,13 @@ impl RtcState {
 }
 
 /// The number in the first four bytes, and the bytes after it.
-fn split_number(bytes: &[u8]) -> (u32, &[u8])
-{
+fn split_number(bytes: &[u8]) -> (u32, &[u8]) {
     let number = u32::from_le_bytes([bytes[0], bytes[1], bytes[2], bytes[3]]);
     (number, &bytes[4..])
 }
 
 /// The signed number in the first eight bytes, and the bytes after it.
-fn split_offset(bytes: &[u8]) -> (i64, &[u8])
-{
+fn split_offset(bytes: &[u8]) -> (i64, &[u8]) {
     let number = i64::from_le_bytes([
         bytes[0], bytes[1], bytes[2], bytes[3], bytes[4], bytes[5], bytes[6], bytes[7],
     ]);

@@ -26,8 +26,7 @@ pub struct RtcState {
 impl RtcState {
     /// A state with these five fields, as saved by a clock without an alarm. No alarm is set.
     // Clauses in crates/superio_core/src/rtc_pl031/state.rt: returns.
-    pub fn from_five(lr: u32, offset: i64, mr: u32, imsc: u32, ris: u32) -> RtcState
-    {
+    pub fn from_five(lr: u32, offset: i64, mr: u32, imsc: u32, ris: u32) -> RtcState {
         RtcState {
             lr,
             offset,
@@ -40,23 +39,20 @@ impl RtcState {
 
     /// Whether the interrupt line is up; see [`Clock::interrupt_line`].
     // Clauses in crates/superio_core/src/rtc_pl031/state.rt: returns.
-    pub fn interrupt_line(&self) -> bool
-    {
+    pub fn interrupt_line(&self) -> bool {
         Clock::from_state(self).interrupt_line()
     }
 
     /// The seconds from the moment `now` until the alarm is due; see [`Clock::alarm_due`].
     // Clauses in crates/superio_core/src/rtc_pl031/state.rt: due, bound.
-    pub fn alarm_due(&self, now: u64) -> Option<u64>
-    {
+    pub fn alarm_due(&self, now: u64) -> Option<u64> {
         Clock::from_state(self).alarm_due(now)
     }
 
     /// Reads at `offset` as [`Clock::read`] does, for a monitor that keeps the state itself. Returns the value read, or
     /// `None` if the read is invalid.
     // Clauses in crates/superio_core/src/rtc_pl031/state.rt: response, state.
-    pub fn read(&mut self, offset: u16, now: u64) -> Option<u32>
-    {
+    pub fn read(&mut self, offset: u16, now: u64) -> Option<u32> {
         let mut clock = Clock::from_state(self);
         let shown = clock.read(offset, now);
         *self = clock.state();
@@ -66,8 +62,7 @@ impl RtcState {
     /// Writes `value` at `offset` as [`Clock::write`] does, for a monitor that keeps the state itself. Returns whether
     /// this offset takes a write.
     // Clauses in crates/superio_core/src/rtc_pl031/state.rt: taken, state.
-    pub fn write(&mut self, offset: u16, value: u32, now: u64) -> bool
-    {
+    pub fn write(&mut self, offset: u16, value: u32, now: u64) -> bool {
         let mut clock = Clock::from_state(self);
         let is_taken = clock.write(offset, value, now);
         *self = clock.state();

@@ -77,28 +77,24 @@ pub(super) const DEFAULT_MODEM_STATUS: u8 = 0xB0;
 
 /// Whether all these bits are set.
 #[inline(always)]
-pub(super) fn has_bits(byte: u8, bits: u8) -> bool
-{
+pub(super) fn has_bits(byte: u8, bits: u8) -> bool {
     byte & bits == bits
 }
 
 /// The byte with these bits set.
 #[inline(always)]
-pub(super) fn with_bits(byte: u8, bits: u8) -> u8
-{
+pub(super) fn with_bits(byte: u8, bits: u8) -> u8 {
     byte | bits
 }
 
 /// The byte with only these bits.
 #[inline(always)]
-pub(super) fn only_bits(byte: u8, bits: u8) -> u8
-{
+pub(super) fn only_bits(byte: u8, bits: u8) -> u8 {
     byte & bits
 }
 
 /// The byte with these bits cleared.
 #[inline(always)]
-pub(super) fn without_bits(byte: u8, bits: u8) -> u8
-{
+pub(super) fn without_bits(byte: u8, bits: u8) -> u8 {
     byte & !bits
 }

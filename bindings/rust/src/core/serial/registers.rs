@@ -50,8 +50,7 @@ pub enum Condition {
 impl Condition {
     /// The bit of IER that enables it.
     #[inline(always)]
-    pub(super) fn ier_bit(self) -> u8
-    {
+    pub(super) fn ier_bit(self) -> u8 {
         match self {
             Condition::Rda => IER_RDA_BIT,
             Condition::Thre => IER_THR_EMPTY_BIT,
@@ -60,8 +59,7 @@ impl Condition {
 
     /// The bit of IIR that shows it pending.
     #[inline(always)]
-    pub(super) fn iir_bit(self) -> u8
-    {
+    pub(super) fn iir_bit(self) -> u8 {
         match self {
             Condition::Rda => IIR_RDA_BIT,
             Condition::Thre => IIR_THR_EMPTY_BIT,
@@ -99,8 +97,7 @@ pub struct Registers {
 impl Registers {
     /// The registers of a fresh port.
     // Clauses in crates/superio_core/src/serial/registers.rt: returns.
-    pub fn new() -> Registers
-    {
+    pub fn new() -> Registers {
         Registers {
             baud_divisor_low: DEFAULT_BAUD_DIVISOR_LOW,
             baud_divisor_high: 0,
@@ -115,8 +112,7 @@ impl Registers {
     }
 
     /// The registers with these bytes.
-    pub(super) fn from_array(bytes: [u8; REGISTER_COUNT]) -> Registers
-    {
+    pub(super) fn from_array(bytes: [u8; REGISTER_COUNT]) -> Registers {
         let [dll, dlm, ier, iir, lcr, lsr, mcr, msr, scr] = bytes;
         Registers {
             baud_divisor_low: dll,
@@ -134,8 +130,7 @@ impl Registers {
     /// The register that an offset reaches.
     #[inline(always)]
     // Clauses in crates/superio_core/src/serial/registers.rt: returns.
-    pub fn at(&self, offset: u8) -> Register
-    {
+    pub fn at(&self, offset: u8) -> Register {
         match offset {
             DATA_OFFSET if self.is_divisor_shown() => Register::Dll,
             DATA_OFFSET => Register::RbrThr,
@@ -153,32 +148,28 @@ impl Registers {
 
     /// Whether LCR's DLAB puts the divisor latch at offsets 0 and 1.
     #[inline(always)]
-    fn is_divisor_shown(&self) -> bool
-    {
+    fn is_divisor_shown(&self) -> bool {
         has_bits(self.line_control, LCR_DLAB_BIT)
     }
 
     /// Whether loopback is on.
     #[inline(always)]
     // Clauses in crates/superio_core/src/serial/registers.rt: returns.
-    pub fn is_loopback(&self) -> bool
-    {
+    pub fn is_loopback(&self) -> bool {
         has_bits(self.modem_control, MCR_LOOP_BIT)
     }
 
     /// Whether a port with these registers is coherent, given whether it holds bytes and that it holds at most 64: data
     /// ready shows whether it does, and IIR is 1, 2, 4 or 6, with RDA pending only while bytes are held.
     // Clauses in crates/superio_core/src/serial/registers.rt: returns.
-    pub fn is_coherent(&self, holds_bytes: bool) -> bool
-    {
+    pub fn is_coherent(&self, holds_bytes: bool) -> bool {
         has_bits(self.line_status, LSR_DATA_READY_BIT) == holds_bytes
             && shows_conditions(self.interrupt_identification, holds_bytes)
     }
 
     /// MSR as read. In loopback its high four bits show MCR's outputs: DTR as DSR, RTS as CTS, OUT1 as RI and OUT2 as
     /// DCD.
-    pub(super) fn read_msr(&self) -> u8
-    {
+    pub(super) fn read_msr(&self) -> u8 {
         if !self.is_loopback() {
             return self.modem_status;
         }
@@ -190,8 +181,7 @@ impl Registers {
     }
 
     /// What an input of MSR shows in loopback: its bit, if the output of MCR that feeds it is set.
-    fn shown(&self, output: u8, input: u8) -> u8
-    {
+    fn shown(&self, output: u8, input: u8) -> u8 {
         if has_bits(self.modem_control, output) {
             input
         } else {
@@ -201,8 +191,7 @@ impl Registers {
 }
 
 /// Whether IIR is 1, 2, 4 or 6, with RDA pending only while bytes are held.
-fn shows_conditions(identification: u8, holds_bytes: bool) -> bool
-{
+fn shows_conditions(identification: u8, holds_bytes: bool) -> bool {
     match identification {
         0x01 => true,
         0x02 => true,

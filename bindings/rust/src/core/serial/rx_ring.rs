@@ -19,8 +19,7 @@ pub struct RxRing {
 
 impl RxRing {
     /// An empty FIFO.
-    pub(super) fn new() -> RxRing
-    {
+    pub(super) fn new() -> RxRing {
         RxRing {
             head: 0,
             len: 0,
@@ -30,15 +29,13 @@ impl RxRing {
 
     /// How many bytes are held, at most 64.
     #[inline(always)]
-    fn count(&self) -> usize
-    {
+    fn count(&self) -> usize {
         usize::from(self.len).min(FIFO_SIZE)
     }
 
     /// The place at this distance from the oldest byte.
     #[inline(always)]
-    fn place(&self, distance: usize) -> usize
-    {
+    fn place(&self, distance: usize) -> usize {
         (usize::from(self.head) + distance) % FIFO_SIZE
     }
 }

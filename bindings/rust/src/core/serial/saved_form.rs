@@ -18,8 +18,7 @@ impl SerialPort {
     /// Writes the port's saved form to the start of `form`, and returns its length. The other bytes do not change. Any
     /// struct has a form: a port never holds more than 64 bytes. The form has no byte the guest has read.
     // Clauses in crates/superio_core/src/serial/saved_form.rt: count, at_most_81, form.
-    pub fn to_bytes(&self, form: &mut [u8; SAVED_MAX]) -> usize
-    {
+    pub fn to_bytes(&self, form: &mut [u8; SAVED_MAX]) -> usize {
         let (held, count) = held_array(self.in_buffer);
         self.registers.write_form(&held[..count], form)
     }
@@ -31,8 +30,7 @@ impl SerialPort {
     ///
     /// Returns the first check that fails, in the order of [`Error`]: any case but [`Error::InvalidArmed`].
     // Clauses in crates/superio_core/src/serial/saved_form.rt: form, at_most_64, read, fault.
-    pub fn from_bytes(bytes: &[u8]) -> Result<SerialPort, Error>
-    {
+    pub fn from_bytes(bytes: &[u8]) -> Result<SerialPort, Error> {
         let (registers, held) = registers_of(bytes)?;
         let mut in_buffer = RxRing::new();
         in_buffer.fill(held);
@@ -44,8 +42,7 @@ impl SerialPort {
 }
 
 /// The held bytes, oldest first, at the start of an array, and their number.
-fn held_array(mut held: RxRing) -> ([u8; FIFO_SIZE], usize)
-{
+fn held_array(mut held: RxRing) -> ([u8; FIFO_SIZE], usize) {
     let mut bytes = [0; FIFO_SIZE];
     let mut count = 0;
     while let Some(byte) = held.take_first() {
@@ -59,8 +56,7 @@ impl Registers {
     /// Writes the form of a port with these registers and received bytes to the start of `form`, and returns its
     /// length. The other bytes do not change.
     // Clauses in crates/superio_core/src/serial/saved_form.rt: requires, count, form.
-    pub fn write_form(&self, held: &[u8], form: &mut [u8; SAVED_MAX]) -> usize
-    {
+    pub fn write_form(&self, held: &[u8], form: &mut [u8; SAVED_MAX]) -> usize {
         let (start, rest) = form.split_at_mut(SAVED_MIN);
         start.copy_from_slice(&self.begin_form(held.len()));
         rest[..held.len()].copy_from_slice(held);
@@ -68,8 +64,7 @@ impl Registers {
     }
 
     /// The start of the form of a port with these registers and `held` received bytes.
-    fn begin_form(&self, held: usize) -> [u8; SAVED_MIN]
-    {
+    fn begin_form(&self, held: usize) -> [u8; SAVED_MIN] {
         let [m0, m1, m2, m3, kind, version, low, high] = header(
             SERIAL_KIND,
             (REGISTER_COUNT + held) as u16,
@@ -102,8 +97,7 @@ impl Registers {
 ///
 /// As for [`SerialPort::from_bytes`].
 // Clauses in crates/superio_core/src/serial/saved_form.rt: form, at_most_64, fault.
-pub fn registers_of(bytes: &[u8]) -> Result<(Registers, &[u8]), Error>
-{
+pub fn registers_of(bytes: &[u8]) -> Result<(Registers, &[u8]), Error> {
     match contents_of(SERIAL_KIND, bytes)? {
         [dll, dlm, ier, iir, lcr, lsr, mcr, msr, scr, in_buffer @ ..] => {
             if in_buffer.len() > FIFO_SIZE {

@@ -17,8 +17,7 @@ impl Registers {
     /// Raises a condition: if it is enabled and not pending, it becomes pending. Returns whether to call the trigger,
     /// once.
     #[inline(always)]
-    fn raise(&mut self, condition: Condition) -> bool
-    {
+    fn raise(&mut self, condition: Condition) -> bool {
         if !has_bits(self.interrupt_enable, condition.ier_bit())
             || has_bits(self.interrupt_identification, condition.iir_bit())
         {
@@ -31,8 +30,7 @@ impl Registers {
 
     /// Lowers a condition: it is no longer pending.
     #[inline(always)]
-    fn lower(&mut self, condition: Condition)
-    {
+    fn lower(&mut self, condition: Condition) {
         let others = without_bits(self.interrupt_identification, condition.iir_bit());
         self.interrupt_identification = if others == 0 { IIR_NONE_BIT } else { others };
     }
@@ -40,8 +38,7 @@ impl Registers {
     /// An IER write: stores the low four bits, raises RDA if bytes are held, then raises THRE. Returns how often to
     /// call the trigger.
     #[inline(always)]
-    fn write_ier<F: ReceiveFifo>(&mut self, fifo: &F, value: u8) -> u8
-    {
+    fn write_ier<F: ReceiveFifo>(&mut self, fifo: &F, value: u8) -> u8 {
         self.interrupt_enable = only_bits(value, IER_UART_VALID_BITS);
         if !fifo.is_empty() && self.raise(Condition::Rda) {
             if self.raise(Condition::Thre) { 2 } else { 1 }
@@ -54,8 +51,7 @@ impl Registers {
 
     /// Lowers THRE if the first of two trigger calls was refused: a refusal ends an IER write before it raises THRE.
     // Clauses in crates/superio_core/src/serial/steps.rt: registers.
-    pub fn take_back(&mut self, due: u8, asked: Asked)
-    {
+    pub fn take_back(&mut self, due: u8, asked: Asked) {
         if due == 2 && matches!(asked, Asked::Refused) {
             self.lower(Condition::Thre);
         }
@@ -63,8 +59,7 @@ impl Registers {
 
     /// Notes received bytes: sets data ready and raises RDA.
     #[inline(always)]
-    fn note_received(&mut self) -> bool
-    {
+    fn note_received(&mut self) -> bool {
         self.line_status = with_bits(self.line_status, LSR_DATA_READY_BIT);
         self.raise(Condition::Rda)
     }
@@ -73,8 +68,7 @@ impl Registers {
     /// to call the trigger.
     #[inline(always)]
     // Clauses in crates/superio_core/src/serial/steps.rt: count, due, state, canonical.
-    pub fn receive<F: ReceiveFifo>(&mut self, fifo: &mut F, bytes: &[u8]) -> (usize, bool)
-    {
+    pub fn receive<F: ReceiveFifo>(&mut self, fifo: &mut F, bytes: &[u8]) -> (usize, bool) {
         let count = fifo.fill(bytes);
         if count == 0 {
             return (0, false);
@@ -85,15 +79,13 @@ impl Registers {
     /// A character timeout: raises RDA if bytes are held. Returns how often to call the trigger.
     #[inline(always)]
     // Clauses in crates/superio_core/src/serial/steps.rt: due, at_most_1, state.
-    pub fn character_timeout<F: ReceiveFifo>(&mut self, fifo: &F) -> u8
-    {
+    pub fn character_timeout<F: ReceiveFifo>(&mut self, fifo: &F) -> u8 {
         u8::from(!fifo.is_empty() && self.raise(Condition::Rda))
     }
 
     /// An RBR read: lowers RDA, then takes the oldest byte or gives 0.
     #[inline(always)]
-    fn read_rbr<F: ReceiveFifo>(&mut self, fifo: &mut F) -> ReadEffects
-    {
+    fn read_rbr<F: ReceiveFifo>(&mut self, fifo: &mut F) -> ReadEffects {
         self.lower(Condition::Rda);
         let byte = fifo.take_first().unwrap_or(0);
         let in_buffer_empty = fifo.is_empty();
@@ -110,8 +102,7 @@ impl Registers {
     /// Reads a register.
     #[inline(always)]
     // Clauses in crates/superio_core/src/serial/steps.rt: value, state, events, canonical.
-    pub fn read<F: ReceiveFifo>(&mut self, fifo: &mut F, register: Register) -> ReadEffects
-    {
+    pub fn read<F: ReceiveFifo>(&mut self, fifo: &mut F, register: Register) -> ReadEffects {
         let byte = match register {
             Register::RbrThr => return self.read_rbr(fifo),
             Register::Dll => self.baud_divisor_low,
@@ -145,8 +136,7 @@ impl Registers {
         fifo: &mut F,
         register: Register,
         value: u8,
-    ) -> WriteEffects
-    {
+    ) -> WriteEffects {
         let mut sends = false;
         let mut interrupts = 0;
         match register {
@@ -169,24 +159,21 @@ impl Registers {
     }
 
     /// Whether a condition is pending and enabled.
-    fn is_asserted(&self, condition: Condition) -> bool
-    {
+    fn is_asserted(&self, condition: Condition) -> bool {
         has_bits(self.interrupt_identification, condition.iir_bit())
             && has_bits(self.interrupt_enable, condition.ier_bit())
     }
 
     /// How often a restore calls the trigger: once for each condition that is pending and enabled.
     // Clauses in crates/superio_core/src/serial/steps.rt: calls, at_most_2.
-    pub fn interrupts_due(&self) -> u8
-    {
+    pub fn interrupts_due(&self) -> u8 {
         u8::from(self.is_asserted(Condition::Thre)) + u8::from(self.is_asserted(Condition::Rda))
     }
 
     /// Whether the interrupt line is up: a condition is pending and enabled.
     #[inline(always)]
     // Clauses in crates/superio_core/src/serial/steps.rt: line, due.
-    pub fn interrupt_line(&self) -> bool
-    {
+    pub fn interrupt_line(&self) -> bool {
         self.is_asserted(Condition::Thre) || self.is_asserted(Condition::Rda)
     }
 }
