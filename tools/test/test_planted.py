@@ -120,7 +120,7 @@ FACTS = [
     ("docs/python.md", "Python 3.8", "Python 3.7", "Python is [(3, 7)], and [(3, 8)]"),
     (README, "[a 9 kB", "[a 90 kB", "libsuperio_c.a is [(90,)], and [(9,)]"),
     (RELEASE, "| shared library | 8 kB", "| shared library | 9 kB", "is [(9,)], and [(8,)]"),
-    (README, "none of 80 did", "none of 90 did", "pastes is [(90,)], and [(80,)]"),
+    (README, "0 of 80 with", "0 of 90 with", "pastes is [(1, 4, 5, 90)], and [(1, 4, 5, 80)]"),
     (README, "stops after 256", "stops after 255", "bytes is [(255,)], and [(256,)]"),
     (README, "0xc1 (none", "0xc2 (none", "IIR is [(196, 194, 196)], and [(196, 193, 196)]"),
     (PROOFS, "at most two interrupts at", "at most three interrupts at", "is [(3,)], and [(2,)]"),
