@@ -10,7 +10,7 @@ from itertools import islice
 
 from header import other_library, read_header
 from libraries import DEMO, ROOT, TESTS
-from chance import seed_of  # which `libraries` lets it find
+from program import seed_of  # which `libraries` lets it find
 from turns import turned
 from twin import COM1, Level, Monitor, different_scripts, random_cases, shown
 

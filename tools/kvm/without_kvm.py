@@ -6,7 +6,7 @@ import subprocess
 from dataclasses import dataclass
 from pathlib import Path
 
-from chance import seed_of
+from program import seed_of
 from header import other_library, read_header
 from hosted import command_of, differences_of, random_scripts
 from oracle import FIFO_SIZE

@@ -46,7 +46,7 @@ NAMES = [
      f"{CALLING}: vm_superio::serial::Serial::read has no clause date"),
     (PROOFS, "`Port::write: step` (`answered`)", "`Port::write: step` (`fault`)",
      f"{PROOFS}: no clause there has a part fault"),
-    (PROOFS, "`State`, `not_empty`\n", "`State`, `count_if`\n", f"{PROOFS}: Serial does not define count_if"),
+    (PROOFS, "`State`, `not_empty`\n", "`State`, `serial_form`\n", f"{PROOFS}: Serial does not define serial_form"),
     (BODIES, "- `writer`, `interrupt_evt`, `events`", "- `writer`, `interrupt_enable`, `events`",
      f"{BODIES}: interrupt_enable has an edit"),
     ("tests/forms.txt", None, None, *(f"{document}: tests/forms.txt is nowhere in the sources"
@@ -120,7 +120,7 @@ FACTS = [
     ("docs/python.md", "Python 3.8", "Python 3.7", "Python is [(3, 7)], and [(3, 8)]"),
     (README, "[a 9 kB", "[a 90 kB", "libsuperio_c.a is [(90,)], and [(9,)]"),
     (RELEASE, "| shared library | 8 kB", "| shared library | 9 kB", "is [(9,)], and [(8,)]"),
-    (README, "0 of 80 with", "0 of 90 with", "pastes is [(1, 4, 5, 90)], and [(1, 4, 5, 80)]"),
+    (README, "none of 80 with", "none of 90 with", "pastes is [(5, 90)], and [(5, 80)]"),
     (README, "stops after 256", "stops after 255", "bytes is [(255,)], and [(256,)]"),
     (README, "0xc1 (none", "0xc2 (none", "IIR is [(196, 194, 196)], and [(196, 193, 196)]"),
     (PROOFS, "at most two interrupts at", "at most three interrupts at", "is [(3,)], and [(2,)]"),
