@@ -137,7 +137,7 @@ def check_contents(tally, made):
     listed = {line.split("  ")[1] for line in lines_of(made / "SHA256SUMS")}
     tally.check(listed == {path.name for path in made.iterdir()} - {"SHA256SUMS"}, f"SHA256SUMS has {sorted(listed)}")
     with tarfile.open(made / ARCHIVE) as sources:
-        names = {member.name.partition("/")[2] for member in sources.getmembers() if member.isfile()}
+        names = {member.name.partition("/")[2] for member in sources.getmembers() if not member.isdir()}
     tally.check(names == {path.relative_to(ROOT).as_posix() for path in files_of(ROOT)}, "the sources are not whole")
     for target in TARGETS:
         library = (PREBUILT / target / SHARED).read_bytes()
