@@ -81,9 +81,8 @@ def add_crate(place, source):
 
 
 def files_of_crate():
-    """The names of the files of the crate, without what Cargo makes and the crate for C. Its licenses are a link."""
-    paths = [*BINDINGS.rglob("*"), *(BINDINGS / "LICENSES").iterdir()]
-    names = {path.relative_to(BINDINGS).as_posix() for path in paths if path.is_file()}
+    """The names of the files of the crate, without what Cargo makes and the crate for C."""
+    names = {path.relative_to(BINDINGS).as_posix() for path in BINDINGS.rglob("*") if path.is_file()}
     return sorted(name for name in names if name != "Cargo.lock" and not name.startswith(("target/", "capi/")))
 
 
