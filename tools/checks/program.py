@@ -1,14 +1,15 @@
 """What the tools share: the built program and its runs."""
 import os
+import re
 import subprocess
 import sys
 import tempfile
+import time
 from collections import Counter
 from concurrent.futures import ThreadPoolExecutor
 from pathlib import Path
 
-from status import Status, progress
-from tally import Tried
+from tally import Tried, sum_line
 
 CRATES = Path(__file__).resolve().parents[2] / "crates"
 # The programs, each with the crates whose sources it is built of, the lowest last.
@@ -22,6 +23,10 @@ IDLE = {"superio": [], "superio_harness": ["calls"]}
 
 # The longest that one run of the program may take, in seconds.
 TIMEOUT = 60
+
+# How far `rt` is, of which a reader sees a line now and then.
+PROGRESS = re.compile(r"checked .*, \d+ of \d+|so far: ")
+SECONDS_BETWEEN = 20
 
 
 class Skipped(str):
@@ -38,17 +43,20 @@ def is_current(built, sources):
     return built.exists() and built.stat().st_mtime >= max(path.stat().st_mtime for path in paths)
 
 
-def run_rt(crate, command, arguments, log, task):
+def run_rt(crate, command, arguments, log):
     """Runs a command of rt, with its options, in the folder of a crate, and returns its exit status. The arguments are
-    those of the program. `log` takes what it prints, `task` how far it is. A proof takes as many processors as RT_JOBS
-    says, or two: each reads the libraries anew, so that more cost much and save little time."""
-    task.name = f"proving {crate}"
+    those of the program. `log` takes what it prints. A proof takes as many processors as RT_JOBS says, or two: each
+    reads the libraries anew, so that more cost much and save little time."""
     words = ["rt", *command.split(), "--jobs", os.environ.get("RT_JOBS", "2")] + ["--", *arguments] * bool(arguments)
+    print(f"rt {command} in crates/{crate}", file=sys.stderr)
     with subprocess.Popen(words, cwd=CRATES / crate, stdin=subprocess.DEVNULL, stdout=subprocess.PIPE,
                           stderr=subprocess.STDOUT, text=True, errors="replace") as process:
+        said = time.monotonic()
         for line in process.stdout:
             log.write(line)
-            progress(task, line)
+            if PROGRESS.match(line) and time.monotonic() - said > SECONDS_BETWEEN:
+                said = time.monotonic()
+                print(f"    {line}", end="", file=sys.stderr)
     return process.returncode
 
 
@@ -58,11 +66,11 @@ def build(*steps):
     a file with what they printed."""
     crate = steps[-1][0]
     handle, name = tempfile.mkstemp(prefix=f"{crate}-", suffix=".log")
-    log = os.fdopen(handle, "w", encoding="utf-8")
-    with log, Status(f"building {crate}", counts=False) as status, status.task("starting") as task:
+    print(f"building {crate}:", file=sys.stderr)
+    with os.fdopen(handle, "w", encoding="utf-8") as log:
         for folder, command, *arguments in steps:
             try:
-                ended = run_rt(folder, command, arguments, log, task)
+                ended = run_rt(folder, command, arguments, log)
             except OSError as error:
                 raise NotBuilt(f"{crate} was not built: {error}") from error
             if ended != 0:
@@ -156,8 +164,8 @@ def report(results, generated=()):
     if not checks and not failed:
         print("nothing was checked")
         failed = 1
-    passed, skipped = max(0, sum(checks.values()) + faults - failed), len(tried.left_out)
-    print(*tried.lines(), f"{passed} passed, {failed} failed" + f", {skipped} skipped" * bool(skipped), sep="\n")
+    passed = max(0, sum(checks.values()) + faults - failed)
+    print(*tried.lines(), sum_line(passed, failed, len(tried.left_out)), sep="\n")
     return 1 if failed else 0
 
 

@@ -114,8 +114,8 @@ class Ran:
     memory: int
 
 
-def run(command, folder, on_line=None):
-    """Runs a command in a folder, and calls `on_line` with each line that it prints."""
+def run(command, folder):
+    """Runs a command in a folder."""
     lines = []
     try:
         process = subprocess.Popen(command, cwd=folder, stdin=subprocess.DEVNULL, stdout=subprocess.PIPE,
@@ -124,8 +124,6 @@ def run(command, folder, on_line=None):
         return Ran([str(error)], NOT_STARTED, 0, 0)
     for line in process.stdout:
         lines.append(line.rstrip("\n"))
-        if on_line:
-            on_line(lines[-1])
     _, status, used = os.wait4(process.pid, 0)
     process.returncode = os.WEXITSTATUS(status) if os.WIFEXITED(status) else -os.WTERMSIG(status)
     return Ran(lines, process.returncode, used.ru_utime + used.ru_stime, used.ru_maxrss * 1024)
