@@ -11,7 +11,7 @@ PROOFS, BODIES, USING, DEVICES, RELEASE = (
     f"docs/{name}.md" for name in ("PROOFS", "WRONG-BODIES", "USING", "DEVICES", "RELEASE"))
 CALLING, DIFFERENCES, HEADER = "crates/vm_superio/CALLING.md", "docs/DIFFERENCES.md", "include/superio.h"
 SPECS, PYTHON, I8042 = "crates/superio_core/specs", "bindings/python/superio", "crates/vm_superio/src/i8042.rt"
-JS, README, MODULE, ICON = "bindings/js", "README.md", "wasm32/superio.wasm", '<link rel="icon" href="{}">'
+JS, README, MODULE = "bindings/js", "README.md", "wasm32/superio.wasm"
 # A row of each table has a file, a text of it, the one in its place, and what the check says.
 LINKS = [(USING, "", text, f"{USING}: {says}") for text, says in (
     ("[one](two.md)", "two.md is not there"), ("[one](DEVICES.md#another)", "DEVICES.md#another is no heading"),
@@ -184,12 +184,9 @@ OF_JS = [
     (f"prebuilt/{MODULE}", None, (ROOT / "prebuilt" / MODULE).read_bytes()[:-1],
      f"prebuilt/SHA256SUMS has another sum than {MODULE}", "module.mjs has other bytes")]
 OF_PAGE = [
-    ("docs/try.html", '<h2 id="why-heading">Why</h2>', '<h2 id="why-heading">Why so</h2>',
-     "try.html is not what its sources make"),
+    (f"{JS}/page/why.mjs", "RBR gives the oldest byte", "RBR gives a byte", "try.html has packed other modules"),
     ("docs/DEVICES.md", "### The character timeout", "### A timeout",
-     "DEVICES.md#the-character-timeout leads nowhere"),
-    ("docs/try.html", ICON.format("data:,"), ICON.format("https://example.invalid/icon.png"),
-     "asks the network for ['href=\"https://example.invalid/icon.png']")]
+     "DEVICES.md#the-character-timeout leads nowhere")]
 
 
 class Planted(CopyTest):
