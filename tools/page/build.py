@@ -1,11 +1,10 @@
 #!/usr/bin/env python3
-"""Builds the page docs/try.html, one file that needs no network.
+"""Packs the modules of bindings/js and the recorded boots into the page docs/try.html, which then needs no network.
 
-    tools/page/build.py [FILE]
+    tools/page/build.py
 
-Writes FILE, or else docs/try.html, of bindings/js/page (the page, its styles and its modules), bindings/js (the
-package, with the module in base 64) and the recordings of examples/linux-boot, packed. It is the same on every
-machine, save how zlib packs.
+The page itself, its styles among it, is written by hand in docs/try.html. What is packed is the same on every machine,
+save how zlib packs it.
 """
 import base64
 import lzma
@@ -17,15 +16,14 @@ from pathlib import Path
 
 ROOT = Path(__file__).resolve().parent.parent.parent
 PACKAGE = ROOT / "bindings" / "js"
-PAGE = PACKAGE / "page"
 RECORDINGS = ROOT / "examples" / "linux-boot"
-MODULE = ROOT / "prebuilt" / "wasm32" / "superio.wasm"
-BUILT = ROOT / "docs" / "try.html"
+PAGE = ROOT / "docs" / "try.html"
 # In the order in which each finds what it takes from those before it.
 MODULES = ["module.mjs", "registers.mjs", "superio.mjs", "page/board.mjs", "page/why.mjs", "page/boot.mjs",
            "page/page.mjs"]
 # What a browser does without: imports and exports of names, comments that have lines of their own, and empty lines.
 LEFT_OUT = re.compile(r"^(?:import [^;]+;|export \{[^}]*\};| *//.*| */\*\*[\s\S]*?\*/)?\n", re.M)
+PACKED = re.compile(r'(<script type="text/plain" id="([\w-]+)">)([^<]*)')
 
 
 def one_script():
@@ -38,34 +36,29 @@ def one_script():
         names = ", ".join(re.findall(r"^export (?:async )?(?:const|class|function) (\w+)", text, flags=re.M))
         body = re.sub(r"^export ", "", text, flags=re.M)
         parts.append(f"const {{ {names} }} = await (async () => {{\n{body}return {{ {names} }};\n}})();\n")
-    return "\n".join(parts)
+    return "\n".join(parts).encode()
 
 
-def packed(recording):
-    """A recording in the form that browsers unpack."""
-    return "\n".join(textwrap.wrap(base64.b64encode(zlib.compress(recording, 9)).decode("ascii"), 120))
+def sources():
+    """What is packed, by the name of its element."""
+    boots = {f"{name}-recording": lzma.decompress((RECORDINGS / f"{name}.recording.xz").read_bytes())
+             for name in ("boot", "console")}
+    return {**boots, "modules": one_script()}
+
+
+def packed(source):
+    """Bytes in the form that browsers unpack."""
+    return "\n".join(textwrap.wrap(base64.b64encode(zlib.compress(source, 9)).decode("ascii"), 120))
 
 
 def unpacked(page):
-    """A page with its recordings as they unpack, since zlib's versions do not pack alike."""
-    return re.sub('(?<=-recording">)[^<]*',
-                  lambda found: zlib.decompress(base64.b64decode(found[0])).decode("ascii"), page)
-
-
-def build():
-    """The text of the page."""
-    parts = {
-        "CSS": (PAGE / "page.css").read_text(encoding="utf-8"),
-        **{name.upper(): packed(lzma.decompress((RECORDINGS / f"{name}.recording.xz").read_bytes()))
-           for name in ("boot", "console")},
-        "SCRIPT": one_script(),
-        "SIZE": f"{MODULE.stat().st_size / 1000:.1f}",
-    }
-    page = (PAGE / "page.html").read_text(encoding="utf-8")
-    return re.sub("@([A-Z]+)@", lambda found: parts[found[1]], page)
+    """What a page has packed, by the name of its element. zlib's versions do not pack alike."""
+    return {name: zlib.decompress(base64.b64decode(text)) for _, name, text in PACKED.findall(page)}
 
 
 if __name__ == "__main__":
-    if len(sys.argv) > 2:
+    if sys.argv[1:]:
         sys.exit(__doc__)
-    (Path(sys.argv[1]) if sys.argv[1:] else BUILT).write_text(build(), encoding="utf-8")
+    parts = sources()
+    page = PACKED.sub(lambda found: found[1] + packed(parts[found[2]]), PAGE.read_text(encoding="utf-8"))
+    PAGE.write_text(page, encoding="utf-8")

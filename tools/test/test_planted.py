@@ -75,8 +75,7 @@ OF_JS = [
     (f"{PYTHON}/registers.py", '"ICR", 0x01C', '"ICR", 0x020', "module.mjs has other bytes or tables"),
 ]
 OF_PAGE = [
-    ("docs/try.html", '<h2 id="why-heading">Why</h2>', '<h2 id="why-heading">Why so</h2>',
-     "try.html is not what its sources make"),
+    (f"{JS}/page/why.mjs", "RBR gives the oldest byte", "RBR gives a byte", "try.html has packed other modules"),
     (DEVICES, "### The character timeout", "### A timeout", "DEVICES.md#the-character-timeout leads nowhere"),
 ]
 # The lines of a document, and whether its blocks do what they show.

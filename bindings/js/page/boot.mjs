@@ -11,12 +11,6 @@ const CALLS_OF_BYTES = {
   received: (byte) => [["sr 05", "61"], ["sr 00", byte]],
 };
 
-/** A recording that the page holds deflated and in base 64. */
-export async function unpacked(text) {
-  const bytes = Uint8Array.from(atob(text), (character) => character.charCodeAt(0));
-  return new Response(new Blob([bytes]).stream().pipeThrough(new DecompressionStream("deflate"))).text();
-}
-
 /** The lines that a row stands for, each with its recorded reply. */
 function entriesOf(row) {
   const [, kind, quoted, reply] = /^([a-z]+) (".*")(?: {2}(\S+))?$/.exec(row) ?? [];

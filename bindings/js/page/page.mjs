@@ -1,7 +1,7 @@
 /** The page: what it shows of a board, and which call each control makes. */
 import { CLOCK, DLAB, SERIAL, serialRegister } from "../registers.mjs";
 import { Board, formOf, hex, hexOf, parse, runScript } from "./board.mjs";
-import { Boot, RECORDINGS, unpacked } from "./boot.mjs";
+import { Boot, RECORDINGS } from "./boot.mjs";
 import {
   CONDITIONS, WITHOUT_EFFECT, dateOf, lineFormat, plural, quoted, ruleOf, shownRegisters, storyOf, told,
 } from "./why.mjs";
@@ -378,7 +378,7 @@ function show() {
 
 /** The texts of the recordings, by their names. */
 const texts = Object.fromEntries(await Promise.all(Object.keys(RECORDINGS).map(async (name) =>
-  [name, await unpacked(id(`${name}-recording`).textContent)])));
+  [name, await window.unpacked(`${name}-recording`)])));
 
 /** The recordings that were opened, by their names. */
 const opened = {};
