@@ -130,9 +130,9 @@ class Comparison(Project):
             self.options = ["--no-default-features"]
             self.take(original)
 
-    def build(self, **environment):
+    def build(self, program="compare", **environment):
         """Returns what Cargo ended with."""
-        return self.run("build", "--release", "--quiet", *self.options, **environment)
+        return self.run("build", "--release", "--quiet", "--bin", program, *self.options, **environment)
 
 
 def count_tests(tally, what, ran):

@@ -8,7 +8,6 @@
 //! to [`Rtc::line`] after each access, and make an access when [`Rtc::due`] says so.
 use std::error::Error as StdError;
 use std::fmt;
-use std::ops::Range;
 use std::sync::Arc;
 use std::time::{SystemTime, UNIX_EPOCH};
 
@@ -21,8 +20,6 @@ const RTCDR: u16 = 0x000;
 const RTCMR: u16 = 0x004;
 /// The offset of RTCLR, which sets guest time.
 const RTCLR: u16 = 0x008;
-/// The offsets between the last register and the identification, at which the clock has nothing.
-const RESERVED: Range<u16> = 0x020..0xFE0;
 
 /// Receives a clock's invalid accesses. The clock calls it for nothing else. An `Arc` of an events object is one too.
 pub trait RtcEvents {
@@ -277,14 +274,8 @@ impl<EV: RtcEvents> Rtc<EV> {
     ///
     /// A write to an unwritable offset stores nothing and calls the events object's `invalid_write` once.
     pub fn write(&mut self, offset: u16, data: &[u8; 4]) {
-        if self.is_armed() {
-            return self.write_while_armed(offset, u32::from_le_bytes(*data));
-        }
-        match offset {
-            RTCMR => self.write_at(RTCMR, data, moment()),
-            RTCLR => self.write_at(RTCLR, data, moment()),
-            _ => self.write_at(offset, data, 0),
-        }
+        let needs_time = offset == RTCMR || offset == RTCLR || self.is_armed();
+        self.write_at(offset, data, if needs_time { moment() } else { 0 });
     }
 
     /// Writes as [`write`](Rtc::write) does, at the moment `now`, in seconds since 1970, instead of the host's time.
@@ -298,94 +289,29 @@ impl<EV: RtcEvents> Rtc<EV> {
     ///
     /// A read of an unreadable offset leaves `data` unchanged and calls the events object's `invalid_read` once.
     pub fn read(&mut self, offset: u16, data: &mut [u8; 4]) {
-        // These come first so that they cost no search of the registers.
-        if RESERVED.contains(&offset) {
-            if self.is_armed() {
-                self.read_while_armed(offset);
-            }
-            return self.events.invalid_read();
-        }
-        match offset {
-            RTCDR => self.read_at(RTCDR, data, moment()),
-            _ if self.is_armed() => {
-                let read = self.read_while_armed(offset);
-                self.show(read, data);
-            }
-            _ => self.read_at(offset, data, 0),
-        }
+        let needs_time = offset == RTCDR || self.is_armed();
+        self.read_at(offset, data, if needs_time { moment() } else { 0 });
     }
 
     /// Reads as [`read`](Rtc::read) does, at the moment `now`, in seconds since 1970, instead of the host's time.
     pub fn read_at(&mut self, offset: u16, data: &mut [u8; 4], now: u64) {
-        let read = self.clock.read(offset, now);
-        self.show(read, data);
-    }
-
-    fn show(&self, read: Option<u32>, data: &mut [u8; 4]) {
-        match read {
+        match self.clock.read(offset, now) {
             Some(value) => *data = value.to_le_bytes(),
             None => self.events.invalid_read(),
         }
-    }
-
-    #[cold]
-    #[inline(never)]
-    fn write_while_armed(&mut self, offset: u16, value: u32) {
-        self.write_at(offset, &value.to_le_bytes(), moment());
-    }
-
-    #[cold]
-    #[inline(never)]
-    fn read_while_armed(&mut self, offset: u16) -> Option<u32> {
-        self.clock.read(offset, moment())
     }
 }
 
 #[cfg(test)]
 mod tests {
-    use super::{moment, moment_of, Rtc, RtcEvents, RtcSnapshot, RtcState, RTCDR, UNIX_EPOCH};
-    use crate::values::Clock;
-    use std::cell::Cell;
+    use super::{moment_of, UNIX_EPOCH};
     use std::time::Duration;
 
     #[test]
     fn a_host_before_1970_has_the_moment_0() {
-        for before in [Duration::from_nanos(1), Duration::from_secs(1), Duration::from_secs(1 << 33)] {
+        for before in [Duration::from_nanos(1), Duration::from_secs(1 << 33)] {
             assert_eq!(moment_of(UNIX_EPOCH - before), 0);
         }
-        assert_eq!(moment_of(UNIX_EPOCH), 0);
         assert_eq!(moment_of(UNIX_EPOCH + Duration::from_millis(70_999)), 70);
-    }
-
-    /// Counts invalid reads.
-    #[derive(Default)]
-    struct Invalid(Cell<u32>);
-
-    impl RtcEvents for Invalid {
-        fn invalid_read(&self) {
-            self.0.set(self.0.get() + 1);
-        }
-
-        fn invalid_write(&self) {}
-    }
-
-    #[test]
-    fn a_read_at_any_offset_is_that_of_the_proved_clock() {
-        for armed in [false, true] {
-            let state = RtcState { lr: 7, imsc: 1, ..RtcState::default() };
-            let snapshot = RtcSnapshot { state, armed }; // the alarm is reached at any moment
-            for offset in 0..=u16::MAX {
-                let mut clock = Rtc::from_snapshot(&snapshot, Invalid::default());
-                let mut proved = Clock::from_state(&snapshot.value());
-                let mut data = *b"left";
-                clock.read(offset, &mut data);
-                let read = proved.read(offset, moment());
-                assert_eq!(clock.events().0.get(), u32::from(read.is_none()), "{offset:#x}");
-                if offset != RTCDR {
-                    assert_eq!(data, read.map_or(*b"left", u32::to_le_bytes), "{offset:#x}");
-                }
-                assert_eq!(clock.snapshot(), RtcSnapshot::of(proved.state()), "{offset:#x}");
-            }
-        }
     }
 }
