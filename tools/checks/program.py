@@ -14,11 +14,8 @@ CRATES = Path(__file__).resolve().parents[2] / "crates"
 # The programs, each with the crates whose sources it is built of, the lowest last.
 SOURCES = {
     "superio": ["superio", "superio_script", "vm_superio", "superio_core"],
-    "superio_harness": ["superio_harness", "superio_script", "vm_superio", "superio_core"],
+    "superio_harness": ["superio_harness", "vm_superio", "superio_core"],
 }
-
-# The arguments of a run without input that ends well.
-IDLE = {"superio": [], "superio_harness": ["calls"]}
 
 # The longest that one run of the program may take, in seconds.
 TIMEOUT = 60
@@ -38,12 +35,12 @@ def is_current(built, sources):
     return built.exists() and built.stat().st_mtime >= max(path.stat().st_mtime for path in paths)
 
 
-def run_rt(crate, command, arguments, log, task):
-    """Runs a command of rt, with its options, in the folder of a crate, and returns its exit status. The arguments are
-    those of the program. `log` takes what it prints, `task` how far it is. A proof takes as many processors as RT_JOBS
-    says, or two: each reads the libraries anew, so that more cost much and save little time."""
+def run_rt(crate, command, log, task):
+    """Runs a command of rt, with its options, in the folder of a crate, and returns its exit status. `log` takes what it
+    prints, `task` how far it is. A proof takes as many processors as RT_JOBS says, or two: each reads the libraries anew,
+    so that more cost much and save little time."""
     task.name = f"proving {crate}"
-    words = ["rt", *command.split(), "--jobs", os.environ.get("RT_JOBS", "2")] + ["--", *arguments] * bool(arguments)
+    words = ["rt", *command.split(), "--jobs", os.environ.get("RT_JOBS", "2")]
     with subprocess.Popen(words, cwd=CRATES / crate, stdin=subprocess.DEVNULL, stdout=subprocess.PIPE,
                           stderr=subprocess.STDOUT, text=True, errors="replace") as process:
         for line in process.stdout:
@@ -53,16 +50,15 @@ def run_rt(crate, command, arguments, log, task):
 
 
 def build(*steps):
-    """Builds a crate by commands of rt, each in a crate's folder and with arguments for the program, the lowest first:
-    rt passes over the sources of a crate once more if it has to build the libraries too. If one fails, the error names
-    a file with what they printed."""
+    """Builds a crate by commands of rt, each in a crate's folder, the lowest first: rt passes over the sources of a crate
+    once more if it has to build the libraries too. If one fails, the error names a file with what they printed."""
     crate = steps[-1][0]
     handle, name = tempfile.mkstemp(prefix=f"{crate}-", suffix=".log")
     log = os.fdopen(handle, "w", encoding="utf-8")
     with log, Status(f"building {crate}", counts=False) as status, status.task("starting") as task:
-        for folder, command, *arguments in steps:
+        for folder, command in steps:
             try:
-                ended = run_rt(folder, command, arguments, log, task)
+                ended = run_rt(folder, command, log, task)
             except OSError as error:
                 raise NotBuilt(f"{crate} was not built: {error}") from error
             if ended != 0:
@@ -85,7 +81,7 @@ def built_program(arguments=(), crate="superio"):
         return program
     program = CRATES / crate / "out" / crate
     if not is_current(program, SOURCES[crate]):
-        build(*libraries_of(crate), (crate, "run", *IDLE[crate]))
+        build(*libraries_of(crate), (crate, "run"))
     return program
 
 

@@ -159,7 +159,7 @@ class Runs(FolderTest):
                 reads = [Call("read", 1, 1)] * (number > 2 and "calls" not in more)
                 right = Ran(status, outputs[number - 1], errors, [Call("allocate", 1, -1), *reads])
             return replace(right, **{field: getattr(right, field) + some for field, some in more.items()})
-        return faults_in(refused_memory.program_results(mock.Mock(run=run)))
+        return faults_in(refused_memory.results(mock.Mock(run=run)))
 
     def test_refused_memory(self):
         counts = [len(outputs) for _, outputs in refused_memory.SCRIPTS]
@@ -167,40 +167,6 @@ class Runs(FolderTest):
         found = [self.refused(**more) for more in (
             {}, {"status": 1}, {"printed": b"0"}, {"errors": b"0"}, {"calls": []})]
         self.assertEqual(found, [0, every, every, every, sum(count - 2 for count in counts)])
-
-    def test_refused_memory_of_random_scripts(self):
-        """The runs end as they should, or all in one other way. No run differs that has all its memory."""
-        numbers, count = refused_memory.OF_A_RANDOM_SCRIPT, 5
-        status, _, errors = refused_memory.WITHOUT_MEMORY
-        refused = [[Call("allocate", 1, -1), *[Call("read", 1, 1)] * (number > 2)] for number in numbers]
-        rights = [Ran(status, b"", errors, calls) for calls in refused] * count
-        for right, wrong in ((rights, 0), ([replace(it, status=status + 1) for it in rights], len(rights)),
-                             ([replace(it, printed=b"0") for it in rights], len(rights)),
-                             ([replace(it, errors=b"") for it in rights], len(rights)),
-                             ([replace(it, calls=it.calls[:1]) for it in rights], len(rights) - 2 * count),
-                             ([None] * len(rights), len(rights)), ([Ran(9, b"", b"")] * len(rights), len(rights))):
-            failing = mock.Mock(**{"run_all.return_value": iter(right)})
-            with mock.patch.object(refused_memory, "RANDOM_SCRIPTS", count), \
-                    mock.patch.object(refused_memory, "random_script", lambda _: "ss\nsr 00\nss\n"):
-                self.assertEqual(faults_in(refused_memory.random_script_results(failing)), wrong)
-
-    def test_calls_in_any_state(self):
-        """A call says that memory was refused exactly if it was, and takes as much as it may. Each function is called."""
-        lines = [("+ more", 1), ("one: refused", -1), ("other: not refused", 1)]
-
-        def different(lines, status=0, functions=("one", "other")):
-            calls = [call for _, given in lines for call in (Call("allocate", 1, given), Call("write", 1, 1))]
-            ran = Ran(status, "".join(f"{line}\n" for line, _ in lines).encode(), b"", calls)
-            failing = mock.Mock(run_all=lambda cases: [ran for _ in cases])
-            with mock.patch.object(refused_memory, "functions_that_take_memory", lambda: functions):
-                return faults_in(silently(refused_memory.any_state_results, failing)[0])
-        runs = refused_memory.UNREFUSED + refused_memory.MOST_OF_A_CALL + len(refused_memory.LATER)
-        turned = [(line, -given if ":" in line else given) for line, given in lines]
-        self.assertEqual([different(lines), different(turned), different(lines, status=1),
-                          different(lines, functions=("one", "other", "third"))], [0, 2 * runs, 1, 1])
-        for most, faults in ((1, 0), (0, 1), (2, 1)):
-            with mock.patch.object(refused_memory, "MOST", {"other": most}):
-                self.assertEqual(different(lines), faults)
 
     def test_loads_through_a_player_and_through_scripts(self):
         """One load differs, or a status is never returned. The runs of all scripts but the first are right."""
