@@ -4,8 +4,6 @@
  *
  *   CALLS            the file that takes a line for each call: its name, the bytes asked for, the bytes given or -1
  *   FAIL_ALLOCATION  the number of the allocation that is refused
- *   FAIL_MARKED      the number of the one that is refused after each write that begins with '+', up to the next write.
- *                    If it is set, only the allocations there have a line
  *   FAIL_READ        the number of the read that fails, by the error FAULT
  *   FAIL_WRITE       the number of the write that fails, by the error FAULT
  *   FAIL_MESSAGES    if set, each write of standard error fails, by the error FAULT
@@ -27,13 +25,12 @@ void *__libc_malloc(size_t size);
 void *__libc_realloc(void *block, size_t size);
 
 static struct {
-    size_t fail_allocation, fail_marked, fail_read, fail_write, fail_messages;
+    size_t fail_allocation, fail_read, fail_write, fail_messages;
     size_t read_piece, read_lines, write_piece, write_room;
-    int has_marks, fault, calls;
+    int fault, calls;
 } set = {.calls = -1};
 
-static size_t allocations, marked, reads, writes, written;
-static int is_marked;
+static size_t allocations, reads, writes, written;
 
 static size_t number(const char *name, size_t otherwise)
 {
@@ -45,8 +42,6 @@ __attribute__((constructor)) static void prepare(void)
 {
     const char *calls = getenv("CALLS");
     set.fail_allocation = number("FAIL_ALLOCATION", 0);
-    set.has_marks = getenv("FAIL_MARKED") != NULL;
-    set.fail_marked = number("FAIL_MARKED", 0);
     set.fail_read = number("FAIL_READ", 0);
     set.fail_write = number("FAIL_WRITE", 0);
     set.fail_messages = number("FAIL_MESSAGES", 0);
@@ -71,14 +66,12 @@ static void note(const char *call, size_t asked, ssize_t given)
 
 static int is_refused(void)
 {
-    marked += (size_t)is_marked;
-    return ++allocations == set.fail_allocation || (is_marked && marked == set.fail_marked);
+    return ++allocations == set.fail_allocation;
 }
 
 static void *noted_block(size_t size, void *block)
 {
-    if (is_marked || !set.has_marks)
-        note("allocate", size, block ? (ssize_t)size : -1);
+    note("allocate", size, block ? (ssize_t)size : -1);
     if (!block)
         errno = ENOMEM;
     return block;
@@ -144,8 +137,6 @@ ssize_t write(int file, const void *bytes, size_t size)
         return fail();
     if (file != STDOUT_FILENO)
         return syscall(SYS_write, file, bytes, size);
-    is_marked = size && *(const char *)bytes == '+';
-    marked = 0;
     ssize_t taken = ++writes == set.fail_write ? fail() : write_piece(bytes, size);
     note("write", size, taken);
     return taken;

@@ -15,11 +15,8 @@ CRATES = Path(__file__).resolve().parents[2] / "crates"
 # The programs, each with the crates whose sources it is built of, the lowest last.
 SOURCES = {
     "superio": ["superio", "superio_script", "vm_superio", "superio_core"],
-    "superio_harness": ["superio_harness", "superio_script", "vm_superio", "superio_core"],
+    "superio_harness": ["superio_harness", "vm_superio", "superio_core"],
 }
-
-# The arguments of a run without input that ends well.
-IDLE = {"superio": [], "superio_harness": ["calls"]}
 
 # The longest that one run of the program may take, in seconds.
 TIMEOUT = 60
@@ -43,11 +40,11 @@ def is_current(built, sources):
     return built.exists() and built.stat().st_mtime >= max(path.stat().st_mtime for path in paths)
 
 
-def run_rt(crate, command, arguments, log):
-    """Runs a command of rt, with its options, in the folder of a crate, and returns its exit status. The arguments are
-    those of the program. `log` takes what it prints. A proof takes as many processors as RT_JOBS says, or two: each
-    reads the libraries anew, so that more cost much and save little time."""
-    words = ["rt", *command.split(), "--jobs", os.environ.get("RT_JOBS", "2")] + ["--", *arguments] * bool(arguments)
+def run_rt(crate, command, log):
+    """Runs a command of rt, with its options, in the folder of a crate, and returns its exit status. `log` takes what it
+    prints. A proof takes as many processors as RT_JOBS says, or two: each reads the libraries anew, so that more cost
+    much and save little time."""
+    words = ["rt", *command.split(), "--jobs", os.environ.get("RT_JOBS", "2")]
     print(f"rt {command} in crates/{crate}", file=sys.stderr)
     with subprocess.Popen(words, cwd=CRATES / crate, stdin=subprocess.DEVNULL, stdout=subprocess.PIPE,
                           stderr=subprocess.STDOUT, text=True, errors="replace") as process:
@@ -61,16 +58,15 @@ def run_rt(crate, command, arguments, log):
 
 
 def build(*steps):
-    """Builds a crate by commands of rt, each in a crate's folder and with arguments for the program, the lowest first:
-    rt passes over the sources of a crate once more if it has to build the libraries too. If one fails, the error names
-    a file with what they printed."""
+    """Builds a crate by commands of rt, each in a crate's folder, the lowest first: rt passes over the sources of a crate
+    once more if it has to build the libraries too. If one fails, the error names a file with what they printed."""
     crate = steps[-1][0]
     handle, name = tempfile.mkstemp(prefix=f"{crate}-", suffix=".log")
     print(f"building {crate}:", file=sys.stderr)
     with os.fdopen(handle, "w", encoding="utf-8") as log:
-        for folder, command, *arguments in steps:
+        for folder, command in steps:
             try:
-                ended = run_rt(folder, command, arguments, log)
+                ended = run_rt(folder, command, log)
             except OSError as error:
                 raise NotBuilt(f"{crate} was not built: {error}") from error
             if ended != 0:
@@ -93,7 +89,7 @@ def built_program(arguments=(), crate="superio"):
         return program
     program = CRATES / crate / "out" / crate
     if not is_current(program, SOURCES[crate]):
-        build(*libraries_of(crate), (crate, "run", *IDLE[crate]))
+        build(*libraries_of(crate), (crate, "run"))
     return program
 
 

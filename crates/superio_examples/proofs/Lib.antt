@@ -1,5 +1,3 @@
 pub mod InputLemmas
-pub mod InterruptDriverLemmas
 pub mod MonitorLemmas
 pub mod OutputLemmas
-pub mod RunLemmas

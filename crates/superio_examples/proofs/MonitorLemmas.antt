@@ -13,8 +13,8 @@ use Rattle.superio_core.specs.Serial.Step.{step, step_response}
 use Rattle.superio_core.specs.Serial.Step.Admissible.{kind_in_state}
 use Rattle.vm_superio.specs.Serial.History.{byte_read}
 use Rattle.vm_superio.specs.Serial.History.Registers.{accepted_by}
-use Rattle.superio_examples.specs.Interrupts.{shown_at, answers_none}
 use Rattle.superio_examples.specs.Output.{Waiting, after_sent, after_byte, IsSplit}
+use Rattle.superio_examples.specs.TimedRead.{shown_at, answers_none}
 use Rattle.superio_examples.specs.declared.monitor.Answer.TheVariants as answer
 use Rattle.superio_examples.specs.declared.monitor.Event.{Event}
 use Rattle.superio_examples.specs.declared.monitor.Event.TheVariants.{PortRead, PortWrite, MemoryRead, MemoryWrite, Typed, Moment, Timer, Refused}

@@ -1,10 +1,8 @@
 pub mod Bus
 pub mod Counter
 pub mod Input
-pub mod InterruptDriver
-pub mod Interrupts
-pub mod LastByte
 pub mod Mmio
 pub mod Monitor
 pub mod Output
 pub mod SavedMonitor
+pub mod TimedRead

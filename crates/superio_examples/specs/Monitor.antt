@@ -17,9 +17,9 @@ use Rattle.vm_superio.specs.Serial.History.{byte_read}
 use Rattle.vm_superio.specs.Serial.History.Registers.{accepted_by}
 use Rattle.superio_examples.specs.Bus.{serial_offset, other_byte, is_reset}
 use Rattle.superio_examples.specs.Input.{room_in, shows_ready}
-use Rattle.superio_examples.specs.Interrupts.{shown_at, state_after_read, calls_after_read}
 use Rattle.superio_examples.specs.Mmio.{is_inside}
 use Rattle.superio_examples.specs.Output.{Waiting, after_sent, IsSplit}
+use Rattle.superio_examples.specs.TimedRead.{shown_at, state_after_read, calls_after_read}
 use Rattle.superio_examples.specs.declared.bus.Keyboard.{Keyboard}
 use Rattle.superio_examples.specs.declared.monitor.Answer.{Answer}
 use Rattle.superio_examples.specs.declared.monitor.Answer.TheVariants as answer

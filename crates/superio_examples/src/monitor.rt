@@ -6,9 +6,9 @@ ghost use Rattle.std.specs.Prelude.{◌≡◌, ◌≤◌, map, OnOk, OnErr, IfOk
 
 use crate::bus::{COM1, I8042_COMMAND, I8042_DATA, serial_offset};
 use crate::input::{Input, shows_ready};
-use crate::interrupts::read_timed;
 use crate::mmio::offset_in;
 use crate::output::Output;
+use crate::timed_read::read_timed;
 use std::alloc::{AllocError, Global};
 use superio_core::fifo::FIFO_SIZE;
 use superio_core::{RtcState, SerialPort, is_reset_command};

@@ -1,6 +1,6 @@
-//! What neither a script nor `tools/checks/failing_io` shows of a run: when its writer is flushed, reads of no byte,
-//! and faults of kinds that no operating system reports.
-use crate::objects::{Log, Object, Writing, by_std, interruptions, plain_faults};
+//! What neither a script nor `tools/checks/failing_io` shows of a run: how often it calls its streams, and that a fault
+//! of the flush counts.
+use crate::objects::{Log, Object, Writing, by_std, faults, writings};
 use std::alloc::Global;
 use std::io;
 use std::io::Read;
@@ -60,70 +60,17 @@ fn a_script_calls_its_streams_no_more_than_it_has_to(rt: HostRuntime) -> Result<
     Ok(())
 }
 
-/// Scripts, and their replies.
-const SCRIPTS: [(&[u8], &[&[u8]]); 3] = [
-    (b"kr 04\nkw 04 fe\nkr 04\n", &[b"00\n", b"reset\n", b"00\n"]),
-    (b"refuse 0000000000000001\n", &[]),
-    (b"", &[]),
-];
-
-/// Whether a script writes each reply as by std's `write_all`, and then flushes all, over a writer that does this.
-fn is_written(alloc: Global, script: usize, writing: Writing) -> bool {
-    let (bytes, replies) = SCRIPTS[script];
-    let (result, [writes, flushes]) = by_std(writing, replies, true);
-    let reads = 1 + u64::from(!bytes.is_empty());
-    let expected = (
-        result.map_err(|_| ScriptFault::Io),
-        [reads, writes, flushes],
-    );
-    run_over(alloc, bytes, None, writing) == expected
-}
-
-/// A write fails at once by each fault. By each without a number, a read fails after any part of a script, a write
-/// between two bytes of a reply and after interruptions, and the flush, also of no reply. `tools/checks/failing_io` has
-/// the numbers there.
+/// A script writes each reply as by std's `write_all`, and then flushes all.
 #[test]
-fn a_fault_of_any_kind_is_io(rt: HostRuntime) -> Result<(), Fail> {
-    let alloc = rt.alloc();
-    let interruptions = interruptions(alloc)?;
-    for (place, fault) in plain_faults(alloc)?.iter().enumerate() {
-        let fails = Writing::failing(*fault);
-        assert!(rt; is_written(alloc, 0, fails), "{fault:?}");
-        if fault.raw_os_error().is_some() {
-            continue;
-        }
-        let (script, _) = SCRIPTS[0];
-        let read = &script[..place % (script.len() + 1)];
-        let reads = 1 + u64::from(!read.is_empty());
-        let run = run_over(alloc, read, Some(*fault), Writing::takes());
-        assert_eq!(rt; run, (Err(ScriptFault::Io), [reads, 0, 0]));
-        let later = Writing {
-            room: [1, 2, 4, 5, 6, 7, 8, 10, 11][place % 9],
-            interruptions: 1 + (place % 3) as u64,
-            interruption: interruptions[place % 8],
-            ..fails
-        };
-        assert!(rt; is_written(alloc, 0, later), "{fault:?}");
-        let unflushed = Writing {
-            flush: Some(*fault),
-            ..Writing::takes()
-        };
-        for script in 0..SCRIPTS.len() {
-            assert!(rt; is_written(alloc, script, unflushed), "{fault:?}");
+fn a_fault_of_a_stream_is_io(rt: HostRuntime) {
+    for fault in faults() {
+        let unread = run_over(rt.alloc(), b"kr 04\n", Some(fault), Writing::takes());
+        assert_eq!(rt; unread, (Err(ScriptFault::Io), [2, 0, 0]));
+        for writing in writings(fault) {
+            let (result, [writes, flushes]) = by_std(writing, &[b"00\n", b"reset\n"], true);
+            let end = result.map_err(|_| ScriptFault::Io);
+            let run = run_over(rt.alloc(), b"kr 04\nkw 04 fe\n", None, writing);
+            assert_eq!(rt; run, (end, [2, writes, flushes]), "{fault:?}");
         }
     }
-    for room in 0..12usize {
-        let takes_some = Writing {
-            room,
-            ..Writing::takes_none()
-        };
-        assert!(rt; is_written(alloc, 0, takes_some), "{room}");
-    }
-    let interrupted = Writing {
-        interruptions: 100_000,
-        ..Writing::takes()
-    };
-    let run = run_over(alloc, SCRIPTS[0].0, None, interrupted);
-    assert_eq!(rt; run, (Ok(()), [2, 100_003, 1]));
-    Ok(())
 }

@@ -5,8 +5,6 @@
 use crate::objects::{Log, Object, port};
 use std::test::Fail;
 use superio_examples::bus::{Bus, BusError, COM1, COM2, COM3, COM4, Keyboard};
-use superio_examples::interrupt_driver::Session;
-use superio_examples::interrupts::TimedPort;
 use superio_examples::mmio::ClockWindow;
 use superio_examples::monitor::Answer::{Done, Full, Reset, Shows};
 use superio_examples::monitor::Event::{
@@ -15,7 +13,6 @@ use superio_examples::monitor::Event::{
 use superio_examples::monitor::{Answer, Event, Monitor, Reply};
 use superio_examples::saved_monitor::{move_monitor, restore_monitor, save_monitor};
 use vm_superio::saved::{Error, Fault};
-use vm_superio::serial::SerialPort;
 use vm_superio::{I8042Device, Rtc};
 
 // ---- buses
@@ -177,70 +174,6 @@ fn an_alarm_is_found_when_the_timer_goes_off(rt: HostRuntime) {
     // It is cleared.
     clock.write(0x01C, &1u32.to_le_bytes(), 1_061);
     assert!(rt; alarm(&clock, 1_061) == (false, None));
-}
-
-// ---- handlers of interrupts
-
-/// The most bytes that a handler takes between two reads of IIR, how often it runs, the sizes of the arrivals before
-/// its reads, and which bytes the guest got, by hand: `ab` is held at first, and `cdef` arrives.
-type Runs = (usize, usize, &'static [usize], &'static [u8]);
-
-const RUNS: [Runs; 20] = [
-    // A run reads IIR, LSR, RBR and IIR, so each fourth arrival is between two runs.
-    (1, 0, &[1], b""),
-    (1, 1, &[], b"a"),
-    // The timeout after the first run asks for the second.
-    (1, 2, &[], b"ab"),
-    (1, 3, &[], b"ab"),
-    // Before LSR and before RBR, whose read ends RDA: the byte waits for the third run.
-    (1, 2, &[0, 1, 1], b"ab"),
-    (1, 3, &[0, 1, 1], b"abc"),
-    // Before the last read of IIR, which finds RDA: the run goes on.
-    (1, 1, &[0, 0, 0, 4], b"ab"),
-    (1, 3, &[0, 0, 0, 4], b"abcd"),
-    // Between the first two runs.
-    (1, 2, &[0, 0, 0, 0, 2], b"ab"),
-    (1, 4, &[0, 0, 0, 0, 2], b"abcd"),
-    // Between the second run, which leaves no byte, and the third.
-    (1, 3, &[0, 0, 0, 0, 0, 0, 0, 0, 2], b"abc"),
-    (1, 4, &[0, 0, 0, 0, 0, 0, 0, 0, 2], b"abcd"),
-    // A run of Linux's handler reads IIR, LSR and RBR for each byte, LSR, and IIR.
-    (256, 0, &[1], b""),
-    (256, 1, &[], b"ab"),
-    // Before the last read of LSR, which shows it, and before that of IIR, which finds RDA.
-    (256, 1, &[0, 0, 0, 0, 0, 2], b"abcd"),
-    (256, 1, &[0, 0, 0, 0, 0, 0, 2], b"abcd"),
-    // Between the first two runs.
-    (256, 1, &[0, 0, 0, 0, 0, 0, 0, 2], b"ab"),
-    (256, 2, &[0, 0, 0, 0, 0, 0, 0, 2], b"abcd"),
-    // Before the last read of IIR, and between the two runs.
-    (256, 1, &[0, 0, 0, 0, 0, 0, 1, 0, 0, 0, 0, 3], b"abc"),
-    (256, 2, &[0, 0, 0, 0, 0, 0, 1, 0, 0, 0, 0, 3], b"abcdef"),
-];
-
-#[test]
-fn a_handler_that_runs_again_gets_what_waited(rt: HostRuntime) -> Result<(), Fail> {
-    for (bound, runs, sizes, expected) in RUNS {
-        let mut port = SerialPort::new();
-        port.write(1, 0x01);
-        port.enqueue_raw_bytes(b"ab");
-        let timed = TimedPort::new(port);
-        let registers = timed.port.registers;
-        assert!(rt; registers.interrupt_enable & 0x01 == 0x01 && registers.line_control == 0x03);
-        assert!(rt; bound >= 1);
-        let mut session = Session {
-            timed,
-            rest: b"cdef",
-            sizes,
-            got: Vec::new(rt.alloc()),
-        };
-        session.handle_repeatedly(bound, runs)?;
-        assert!(rt;
-            session.got.as_slice() == expected,
-            "{bound}: {runs}, {sizes:?}"
-        );
-    }
-    Ok(())
 }
 
 // ---- a whole monitor

@@ -1,5 +1,5 @@
 //! The devices, and the calls that are made on them.
-use super::objects::{Log, Object, Refusal};
+use crate::objects::{Log, Object, Refusal};
 use hex::FromHex;
 use std::alloc::Global;
 use vm_superio::serial::Error;
@@ -87,7 +87,7 @@ fn bytes_of(alloc: Global, digits: &str) -> Option<Vec<u8>> {
 }
 
 /// The state of a port with these registers, in the order of its byte form, that holds these bytes.
-pub fn port_state(registers: [u8; 9], in_buffer: Vec<u8>) -> SerialState {
+fn port_state(registers: [u8; 9], in_buffer: Vec<u8>) -> SerialState {
     let [
         baud_divisor_low,
         baud_divisor_high,
