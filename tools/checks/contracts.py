@@ -1,6 +1,5 @@
-"""The functions of Rattle's and Rust's sources with their clauses, and the definitions that clauses use."""
+"""The functions of Rattle's and Rust's sources, with their clauses."""
 import re
-from collections import defaultdict
 from dataclasses import dataclass, replace
 
 from documents import ROOT
@@ -10,10 +9,6 @@ NO_CODE = re.compile(r'//[^\n]*|/\*.*?\*/|r(#*)".*?"\1|"(?:\\.|[^"\\])*"|\'(?:\\
 BLOCK = re.compile(r"^[ \t]*(?:pub )?(?:unsafe\s+)?(impl|trait)\b([^{;]*)\{", re.M)
 ENSURES = re.compile(r"\bensures\b(\*?)\s*(\w*)\s*\{")
 NESTED = re.compile(r"<[^<>]*>")
-# A definition is its head and the lines below that are further in, or a text without an empty line.
-RECORD = re.compile(r"^( *)(?:pub )?record (\w+)(.*(?:\n(?:\1 +\S.*)?(?=\n))*)", re.M)
-VALUE = re.compile(r"^ *(?:abbrev |unfoldable |pub )*(\w+) :(.*(?:\n.*\S.*)*)", re.M)
-FOLLOWED = re.compile(r"\b(?:[A-Z]\w*|\w+_\w+|step)\b")
 
 
 @dataclass(frozen=True)
@@ -122,27 +117,3 @@ def functions_of_crate(crate):
         modules = [part for part in path.relative_to(source).with_suffix("").parts if part not in ("lib", "main")]
         for function in functions_of(path.read_text(encoding="utf-8")):
             yield replace(function, path=(crate, *modules, *function.path))
-
-
-class Definitions:
-    """The definitions of the crates, by which a clause has parts: definitions that it uses, and the fields of records
-    among them. A short name may be a variable, so only types, names of several words and `step` are followed."""
-
-    def __init__(self, crates):
-        self.fields, self.uses, self.texts = defaultdict(set), defaultdict(set), {}
-        for path in sorted(it for crate in crates for it in (ROOT / "crates" / crate / "specs").rglob("*.antt")):
-            text = self.texts[str(path.relative_to(ROOT))] = path.read_text(encoding="utf-8")
-            for _, name, body in RECORD.findall(text):
-                self.fields[name] |= set(re.findall(r"^ +pub (\w+) :", body, re.M))
-                self.uses[name] |= set(FOLLOWED.findall(body))
-            for name, body in VALUE.findall(RECORD.sub("", text)):
-                self.uses[name] |= set(FOLLOWED.findall(body))
-
-    def parts(self, clause):
-        """The definitions that a clause uses, those that these use, and the fields of the records among them."""
-        seen, waiting = set(), set(FOLLOWED.findall(clause))
-        while waiting:
-            name = waiting.pop()
-            seen.add(name)
-            waiting |= self.uses.get(name, set()) - seen
-        return {name for name in seen if name in self.uses}.union(*(self.fields.get(name, set()) for name in seen))

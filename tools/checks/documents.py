@@ -14,9 +14,8 @@ BUILT = {"out", "target", "build", "__pycache__"}
 BLOCK = re.compile(r"^( *)```(\w*)[^\n]*\n(.*?)^\1```$", re.M | re.S)
 CODE = re.compile(r"(?<!`)(`+)(?!`)(.+?)(?<!`)\1(?!`)")
 HEADING = re.compile(r"^#+ +(.*?) *$", re.M)
-LINK = re.compile(r"(?:\[([^][\n]*))?\]\(([^()\s]+)(?: \"[^\"\n]*\"| '[^'\n]*')?\)")
-# Links other than those in brackets: definitions of labels, and those of tags.
-OTHER_LINK = re.compile(r"^ *\[[^]\n]+\]: *<?([^>\s]+)|\b(?:href|src)=[\"']?([^\"'\s>]+)", re.M)
+# Links in brackets, definitions of labels, and those of tags.
+LINK = re.compile(r"\]\(([^()\s]+)[^()\n]*\)|^ *\[[^]\n]+\]: *<?([^>\s]+)|\b(?:href|src)=[\"']?([^\"'\s>]+)", re.M)
 
 
 class Block(NamedTuple):
@@ -82,9 +81,8 @@ class Document:
 
     @property
     def links(self):
-        """The links outside code: the text in brackets, in which code has none, or nothing, and the target."""
-        return LINK.findall(CODE.sub(lambda code: re.sub(r"[][]", "", code[0]), self.prose)) \
-            + [("", "".join(targets)) for targets in OTHER_LINK.findall(CODE.sub("", self.prose))]
+        """The targets of the links outside code."""
+        return ["".join(targets) for targets in LINK.findall(CODE.sub("", self.prose))]
 
     @property
     def rows(self):

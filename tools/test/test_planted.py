@@ -28,7 +28,7 @@ NAMES = [
     (BODIES, "`byte_is_not_flushed`", "`byte_is_not_sent_on`", "byte_is_not_sent_on"),
     *((USING, "", text, says) for text, says in (
         ("`Rtc::enqueue_raw_bytes`", "Rtc::enqueue_raw_bytes"), ("`Serial<T, W>::read_all(2)?`", "Serial::read_all"),
-        ("`port = port.read_whole + 1`", "read_whole"), ("`monitor.cc`", "monitor.cc"), ("`rt prove`", "rt prove"),
+        ("`port = port.read_whole + 1`", "read_whole"), ("see PROOF.md", "PROOF.md"), ("`rt prove`", "rt prove"),
         ("`tools/check floors`", "tools/check has no floors"), ("`tools/proofs`", "tools/proofs"))),
     ("CONTRIBUTING.md", "", "`tools/checks/names --every`", "tools/checks/names has no --every"),
 ]
@@ -39,9 +39,9 @@ FACTS = [
     (HEADER, "0x01 is data ready", "0x02 is data ready", "LSR DR is 2, and 1"),
     (DEVICES, "| 1 | set | DLM", "| 1 | clear | DLM", "DLM is (1, False), and (1, True)"),
     (DEVICES, "0x0D 0xF0 0x05", "0x0D 0xF1 0x05", "5 is F1, and F0"),
-    (README, "At most 64 bytes", "At most 63 bytes", "bytes held is [(63,)], and [(64,)]"),
-    (README, "Rust 1.63+", "Rust 1.60+", "Rust is [(1, 60)], and [(1, 63)]"),
-    (PROOFS, "at most two interrupts at", "at most three interrupts at", "is [(3,)], and [(2,)]"),
+    (README, "At most 64 bytes", "At most 63 bytes", "room for bytes is [(63,)], and [(64,)]"),
+    (README, "Rust 1.63+", "Rust 1.60+", "oldest Rust is [(1, 60)], and [(1, 63)]"),
+    (PROOFS, "at most two interrupts at", "at most three interrupts at", "interrupts of a write is [(3,)], and [(2,)]"),
 ]
 NAMES_OF_VM_SUPERIO = [
     (DIFFERENCES, "`Rtc::alarm_due`", "`Rtc::alarm`", "Rtc::alarm_due is not in the row 'new'"),
