@@ -20,7 +20,7 @@ check = module_of("check")
 FLOORS = read_floors()
 # The commands of tools/ that no check is: they make something, or take hours.
 BY_HAND = {f"tools/{name}" for name in """
-    c/prebuild check erase install kvm/boots packages/abi release run
+    c/prebuild check erase packages/abi release run
     wrong_definitions""".split()}
 THREE, FEW = "echo 'tried: 3 cases'; ", "of 4 at least"
 NO_SUM, NO_ROW = "the last line is not 'N passed, M failed'", "the table of floors has no row of"
@@ -60,8 +60,7 @@ CHECKS = [
 LEAST = [
     ("kvm/check", "PASTED", 100_000), ("kvm/without_kvm.py", "TURNS", 30), ("checks/first_crate", "PROVED", 3),
     ("c/programs.py", "SANITIZERS", 4),
-    ("c/programs.py", "CALLS", 250_000), ("rust/random_calls", "CALLS", 2_000_000), ("c/demo.py", "OTHERS", 4),
-    ("kvm/without_kvm.py", "OTHERS", 3), ("kvm/without_kvm.py", "HELD", 3), ("kvm/hosted.py", "WAYS", 4),
+    ("c/programs.py", "CALLS", 250_000), ("rust/random_calls", "CALLS", 2_000_000), ("kvm/hosted.py", "WAYS", 4),
     ("kvm/hosted.py", "REFUSALS", 1000), ("kvm/hosted.py", "MOST_LINES", 60), ("c/twin.py", "MOST_LINES", 80),
 ]
 # The tests of a file, and what their last line is.

@@ -12,11 +12,7 @@ from pathlib import Path
 from unittest import mock
 
 import cases
-import demo
-import misuse
 import programs
-import texts
-import without_kvm
 from failing import Call, Ran
 from machines import machines
 from repository import (NOTHING_ELSE, OF_CALLS, ROOT, CopyTest, FolderTest, ended, make_tiny, module_of, program,
@@ -270,7 +266,7 @@ class Runs(FolderTest):
         """Each has to end with its status, and to say something."""
         def failed(change):
             def run(words, **_):
-                status = 0 if "--help" in words else 1 if "-m" in words else 2
+                status = 0 if "-h" in words else 1 if "-m" in words else 2
                 return ended(*change(status, *(("", "why") if status else ("usage", ""))))
             with mock.patch("subprocess.run", run):
                 tally = tally_of(kvm_check.check_usage, "monitor")
@@ -278,46 +274,6 @@ class Runs(FolderTest):
         self.assertEqual([failed(lambda *it: it), failed(lambda status, *said: (status + 1, *said)),
                           failed(lambda status, *said: (status, *said[::-1]))], [(0, 5), (5, 5), (5, 5)])
 
-    def test_a_monitor_without_kvm(self):
-        """It differs in each way, or no wrong one differs in any."""
-        wrong = len(list(without_kvm.read_bugs(without_kvm.HERE / "wrong-monitors.edits"))) + without_kvm.TURNS
-        ways = len(without_kvm.HELD) + 3
-        for number, (found, failed) in enumerate((([], wrong), (["it"], ways))):
-            snapshot = mock.Mock(changes=["it"], **{"differences.return_value": found})
-            (self.folder / str(number)).mkdir()
-            with mock.patch.multiple(without_kvm, has_sanitizers=lambda _: True, differences_of=lambda *_: found,
-                                     random_scripts=lambda *_: [], Snapshot=lambda *_: snapshot), \
-                    mock.patch.multiple(without_kvm.Build, program=lambda *_: "it", over_others=lambda _: found,
-                                        is_program=lambda _: True):
-                tally = tally_of(without_kvm.check_without_kvm, self.folder / str(number))
-            self.assertEqual((tally.failed, tally.passed), (failed, ways + wrong - failed))
-
-    def test_a_monitor_over_a_library_of_another_interface(self):
-        """It has to end itself, and to say why."""
-        said = demo.SAYS
-        compiler = machines()[0].compilers[0]
-        for module, monitor, status, right in (
-                (demo, lambda: demo.over_others(compiler, demo.SOURCE, self.folder), 1, said),
-                (without_kvm, without_kvm.Build(self.folder).over_others, 1, "another interface")):
-            for got, errors in ((status, right), (0, right), (-6, ""), (status, "it")):
-                ran = mock.Mock(returncode=got, stdout="", stderr=errors)
-                with mock.patch("subprocess.run", lambda *_, **__: ran):
-                    found = len(list(monitor()))
-                self.assertEqual(found, 0 if (got, errors) == (status, right) else len(module.OTHERS))
-
-    def test_warnings_of_misuse(self):
-        """A compiler warns of a right call, or not of a mistake."""
-        wanted = {misuse.RIGHT: [""] * len(misuse.COMPILERS), **{it: words for _, it, words in misuse.MISTAKES}}
-        places = [(number, it) for it, words in wanted.items() for number, text in enumerate(words) if text is not None]
-
-        def failed(at):
-            def warned(compiler, statements):
-                place = misuse.COMPILERS.index(compiler), statements
-                text = wanted[statements][place[0]] or ""
-                return text if place != at else "" if text else "a warning"
-            with mock.patch.object(misuse, "warned", warned):
-                return tally_of(misuse.check_misuse).failed
-        self.assertEqual([failed(at) for at in (None, *places)], [0] + [1] * len(places))
 
 
 def failing(command, **options):
@@ -338,7 +294,7 @@ class Failing(FolderTest):
     def test_with_a_tally(self):
         of_c = [(check, [machines()[0], self.folder]) for check in (programs.check_header, *OF_C)]
         for check, arguments in [*of_c, *((check, []) for check in (
-                texts.check_reuse, js_check.check_calls, js_check.check_tests))]:
+                js_check.check_calls, js_check.check_tests))]:
             tally = tally_of(check, *arguments)
             self.assertEqual((tally.passed, tally.skipped, tally.failed > 0), (0, 0, True), check.__name__)
 
@@ -353,17 +309,10 @@ class Failing(FolderTest):
                 return ended(0 if is_build else status)
             built.clear()
             with self.subTest(check.__name__, status=status), mock.patch("subprocess.run", builds), \
-                    mock.patch.object(programs, "drawn", lambda _: ("/dev/null", [])):
+                    mock.patch.object(programs, "drawn", lambda _: "/dev/null"):
                 tally = tally_of(check, machines()[0], self.folder)
                 self.assertEqual(tally.passed, len(built))
                 self.assertGreaterEqual(tally.failed, len(built))
-
-    def test_a_wrong_demo_that_differs_in_nothing(self):
-        with mock.patch.multiple(demo, differences=lambda *_: [], over_others=lambda *_: [], SAME=(),
-                                 random_cases=lambda *_: []), \
-                mock.patch("subprocess.run", lambda *_, **__: ended(0)):
-            tally = tally_of(demo.check_driven_demo, machines()[0], self.folder)
-        self.assertEqual((tally.failed, tally.tried.counts["wrong demos"]), (demo.TURNS, demo.TURNS))
 
     def test_of_rust(self):
         """But that an empty crate is no vm-superio."""
