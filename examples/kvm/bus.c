@@ -1,15 +1,13 @@
-/* The guest's accesses. Each goes to the device that is there. If none is, a read gives ones, and a write has no effect. */
+/* The guest's accesses. Each goes to the device that is there. If none is, a read gives ones, and a write has no
+ * effect. */
 #include "monitor.h"
 
 superio_serial serial;
 superio_rtc rtc;
 
-/* The devices of a machine that starts, or starts again after a reset: new ones. What the user has typed waits until the new
- * guest is ready for it, and the host's time goes on. */
-void bus_reset(void) {
+void bus_open(void) {
     serial = superio_serial_new();
     rtc = superio_rtc_new();
-    console_is_ready = false;
 }
 
 static uint8_t serial_read(uint8_t offset) {
@@ -34,14 +32,8 @@ static void serial_write(uint8_t offset, uint8_t value) {
 }
 
 static void controller_write(uint8_t offset, uint8_t value) {
-    if (!superio_i8042_write(offset, value).resets)
-        return;
-    if (machine_starts_again) {
-        bus_reset();
-        machine_reset();
-    } else {
+    if (superio_i8042_write(offset, value).resets)
         monitor_end(0, "the guest reset the machine");
-    }
 }
 
 /* A byte at a port. Of the ports from 0x60 to 0x64 the controller has the first and the last. */
@@ -57,8 +49,8 @@ void bus_port(uint16_t port, bool is_write, uint8_t *byte) {
         *byte = is_serial ? serial_read(offset) : is_controller ? superio_i8042_read(offset) : 0xFF;
 }
 
-/* The clock takes four bytes at a time. A narrower read shows a part of the four around it, as EDK II expects. A narrower
- * write, and whatever crosses two words, has no effect. */
+/* The clock takes four bytes at a time. A narrower read shows a part of the four around it, as EDK II expects. A
+ * narrower write, and whatever crosses two words, has no effect. */
 void bus_memory(uint64_t address, bool is_write, uint8_t *bytes, unsigned count) {
     uint16_t offset = (uint16_t)(address - CLOCK_BASE), within = count == 4 ? 0 : offset % 4;
     bool is_clock = address >= CLOCK_BASE && address < CLOCK_BASE + SUPERIO_RTC_WINDOW && within + count <= 4;

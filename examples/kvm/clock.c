@@ -1,5 +1,5 @@
-/* The clock's moments, interrupt line and alarm. Moments go on with CLOCK_BOOTTIME, which never goes back, from the time of
- * day at the start. */
+/* The clock's moments, interrupt line and alarm. Moments go on with CLOCK_BOOTTIME, which never goes back, from the
+ * time of day at the start. */
 #include "monitor.h"
 
 enum { RTCMIS = 0x018, SECOND = 1000000000 };
@@ -25,29 +25,12 @@ void clock_open(void) {
 }
 
 /* In seconds since 1970. */
-uint64_t clock_now(void) {
+static uint64_t clock_now(void) {
     return (uint64_t)((nanoseconds(CLOCK_BOOTTIME) + ahead) / SECOND);
 }
 
-/* Keeps a restored guest from seeing time go back, if this host's time of day is behind. */
-void clock_not_before(uint64_t moment) {
-    if (clock_now() < moment)
-        ahead = (int64_t)moment * SECOND - nanoseconds(CLOCK_BOOTTIME);
-}
-
-uint32_t clock_read(uint16_t offset) {
-    uint32_t value = superio_rtc_read(&rtc, offset, clock_now()).value;
-    clock_follow();
-    return value;
-}
-
-void clock_write(uint16_t offset, uint32_t value) {
-    superio_rtc_write(&rtc, offset, value, clock_now());
-    clock_follow();
-}
-
-/* After each access and a restore: the line is a level, and the timer goes off in the second in which the alarm is due. */
-void clock_follow(void) {
+/* After each access: the line is a level, and the timer goes off in the second in which the alarm is due. */
+static void follow(void) {
     KVM(machine.vm, KVM_IRQ_LINE, &((struct kvm_irq_level){.irq = CLOCK_IRQ, .level = superio_rtc_line(&rtc)}));
     struct itimerspec goes_off = {0}; /* which is never */
     uint64_t now = clock_now(), due = superio_rtc_due(&rtc, now);
@@ -56,4 +39,15 @@ void clock_follow(void) {
         goes_off.it_value = (struct timespec){.tv_sec = at / SECOND, .tv_nsec = at % SECOND};
     }
     timerfd_settime(timer, TFD_TIMER_ABSTIME, &goes_off, NULL);
+}
+
+uint32_t clock_read(uint16_t offset) {
+    uint32_t value = superio_rtc_read(&rtc, offset, clock_now()).value;
+    follow();
+    return value;
+}
+
+void clock_write(uint16_t offset, uint32_t value) {
+    superio_rtc_write(&rtc, offset, value, clock_now());
+    follow();
 }

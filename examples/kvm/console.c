@@ -1,4 +1,5 @@
-/* The console: the user's terminal, the input that waits for room in the FIFO, and the output that waits for the terminal. */
+/* The console: the user's terminal, the input that waits for room in the FIFO, and the output that waits for the
+ * terminal. */
 #include "monitor.h"
 
 #include <poll.h>
@@ -6,14 +7,19 @@
 #include <termios.h>
 
 /* The guest waits while the output queue is this full, but at most so long for a terminal that takes nothing. */
-enum { OUTPUT_LEVEL = QUEUE_SIZE - 4096, STALL_SECONDS = 1 };
+enum { QUEUE_SIZE = 65536, OUTPUT_LEVEL = QUEUE_SIZE - 4096, STALL_SECONDS = 1 };
 enum { CTRL_A = 0x01 };
 
-static const char HELP[] = "\r\nCtrl-A x leaves, Ctrl-A s writes a snapshot, Ctrl-A h shows this,\r\n"
-                           "Ctrl-A Ctrl-A sends Ctrl-A to the guest. %llu bytes of output were dropped\r\n";
+static const char HELP[] = "\r\nCtrl-A x leaves, Ctrl-A h shows this, Ctrl-A Ctrl-A sends Ctrl-A to the guest\r\n";
 
-struct queue console_input;
+/* Bytes that wait, the oldest first. */
+struct queue {
+    size_t count;
+    uint8_t bytes[QUEUE_SIZE];
+};
+
 bool console_is_early, console_is_ready;
+static struct queue input;  /* of the user, until the port takes it */
 static struct queue output; /* of the guest, until the terminal takes it */
 static unsigned long long dropped;
 static int in, out;
@@ -42,13 +48,13 @@ static void flush(void) {
     pthread_cond_broadcast(&changed);
 }
 
-/* Waits for room in the queue, before a byte of output. LSR always says that the transmitter is empty, so the guest is slowed
- * down only by waiting in its access. After a stall it waits no more until the terminal takes bytes again. */
+/* Waits for room in the queue, before a byte of output. LSR always says that the transmitter is empty, so the guest is
+ * slowed down only by waiting in its access. After a stall it waits no more until the terminal takes bytes again. */
 void console_await_room(void) {
     struct timespec until;
     clock_gettime(CLOCK_MONOTONIC, &until);
     until.tv_sec += STALL_SECONDS;
-    while (output.count >= OUTPUT_LEVEL && !is_stalled && !machine.run->immediate_exit && !has_ended)
+    while (output.count >= OUTPUT_LEVEL && !is_stalled && !has_ended)
         if (pthread_cond_clockwait(&changed, &lock, CLOCK_MONOTONIC, &until) == ETIMEDOUT)
             is_stalled = output.count >= OUTPUT_LEVEL;
 }
@@ -62,17 +68,6 @@ void console_send(uint8_t byte) {
     flush();
 }
 
-/* Tells the user something. */
-void console_say(const char *format, ...) {
-    char text[512];
-    va_list arguments;
-    va_start(arguments, format);
-    vsnprintf(text, sizeof text, format, arguments);
-    va_end(arguments);
-    for (const char *next = text; *next; next++)
-        console_send((uint8_t)*next);
-}
-
 /* A typed byte is for the guest, or a command after Ctrl-A. */
 static void typed(uint8_t byte) {
     bool is_second = is_after_ctrl_a;
@@ -80,19 +75,17 @@ static void typed(uint8_t byte) {
     if (is_second && byte == 'x') {
         monitor_end(0, "left by Ctrl-A x");
     } else if (is_second && byte == 'h') {
-        console_say(HELP, dropped);
-    } else if (is_second && byte == 's') {
-        console_feed(); /* what was typed before, so that what waits does so for the guest */
-        machine_snapshot();
+        for (const char *next = HELP; *next; next++)
+            console_send((uint8_t)*next);
     } else if (is_second == (byte == CTRL_A)) {
-        console_input.bytes[console_input.count++] = byte;
+        input.bytes[input.count++] = byte;
     }
 }
 
 /* Takes as much input as there is room for. The rest waits in the terminal. */
 static void read_input(void) {
     uint8_t bytes[4096];
-    size_t room = QUEUE_SIZE - console_input.count;
+    size_t room = QUEUE_SIZE - input.count;
     ssize_t count = read(in, bytes, room < sizeof bytes ? room : sizeof bytes);
     is_watched = false;
     has_input = count > 0 || (count < 0 && (errno == EAGAIN || errno == EINTR));
@@ -101,15 +94,15 @@ static void read_input(void) {
     console_feed();
 }
 
-/* Offers the input, and keeps what the port does not take: when input comes, when the guest has read the last byte of the
- * FIFO, and when it may have become ready or left loopback. If there is room then, one more read is due. */
+/* Offers the input, and keeps what the port does not take: when input comes, when the guest has read the last byte of
+ * the FIFO, and when it may have become ready or left loopback. If there is room then, one more read is due. */
 void console_feed(void) {
     if (console_is_ready || console_is_early) {
-        superio_serial_enqueue_effects done = superio_serial_enqueue(&serial, console_input.bytes, console_input.count);
-        drop(&console_input, done.taken);
+        superio_serial_enqueue_effects done = superio_serial_enqueue(&serial, input.bytes, input.count);
+        drop(&input, done.taken);
         interrupts_ask(done.interrupts);
     }
-    if (has_input && !is_watched && console_input.count < QUEUE_SIZE) {
+    if (has_input && !is_watched && input.count < QUEUE_SIZE) {
         is_watched = true;
         monitor_watch(in, EPOLLIN | EPOLLONESHOT, read_input);
     }
@@ -128,7 +121,7 @@ void console_open(void) {
     out = own(STDOUT_FILENO, "/proc/self/fd/1", O_WRONLY);
     monitor_watch(out, EPOLLOUT | EPOLLET, flush);
     has_input = true;
-    console_feed(); /* what waited in a snapshot, and has room now */
+    console_feed();
     if (tcgetattr(in, &before) < 0)
         return;
     struct termios raw = before;

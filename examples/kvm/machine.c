@@ -7,8 +7,6 @@ enum { CPUID_ENTRIES = 256, TSS_ADDRESS = 0xFFFBD000 };
 
 struct machine machine;
 static pthread_t thread;
-bool machine_starts_again;
-static bool is_snapshot_wanted, is_reset_wanted;
 
 static void *map(size_t size, int flags, int fd) {
     void *mapped = mmap(NULL, size, PROT_READ | PROT_WRITE, flags, fd, 0);
@@ -21,8 +19,9 @@ static void add_memory(uint32_t slot, uint64_t start, uint64_t end) {
     KVM(machine.vm, KVM_SET_USER_MEMORY_REGION, &region);
 }
 
-/* The processor is the host's, as far as KVM has it, with the number 0. A bit says that this is a virtual machine: without it
- * Linux does not ask for KVM's clock, and has to measure the processor's by a timer whose ticks may be late. */
+/* The processor is the host's, as far as KVM has it, with the number 0. A bit says that this is a virtual machine:
+ * without it Linux does not ask for KVM's clock, and has to measure the processor's by a timer whose ticks may be
+ * late. */
 static void set_cpuid(void) {
     static union {
         struct kvm_cpuid2 head;
@@ -80,41 +79,17 @@ static void serve(void) {
     }
 }
 
-/* Has the vCPU's thread start the machine again, when the guest's access is complete. The devices are new already. */
-void machine_reset(void) {
-    is_reset_wanted = true;
-    machine.run->immediate_exit = true;
-}
-
-/* A fresh machine with empty memory, and its guest. */
-static void start_again(void) {
-    must(madvise(machine.memory, machine.memory_size, MADV_DONTNEED), "memory");
-    snapshot_start_again();
-    monitor_boot();
-    clock_follow();
-}
-
-/* The vCPU's thread. An access is complete only when KVM_RUN is called again, and so is the vCPU's state. So a snapshot is
- * taken, and a machine starts again, after a call that ended at once. */
+/* The vCPU's thread. */
 static void *run_vcpu(void *nothing) {
     pthread_mutex_lock(&lock);
     while (!has_ended) {
         pthread_mutex_unlock(&lock);
         int result = ioctl(machine.vcpu, KVM_RUN, NULL), error = errno;
         pthread_mutex_lock(&lock);
-        if (result == 0) {
+        if (result == 0)
             serve();
-        } else if (error == EINTR && is_snapshot_wanted) {
-            snapshot_save();
-            machine.run->immediate_exit = is_snapshot_wanted = false;
-            pthread_cond_broadcast(&changed);
-        } else if (error == EINTR && is_reset_wanted) {
-            start_again();
-            is_reset_wanted = false;
-            machine.run->immediate_exit = has_ended;
-        } else if (error != EINTR && error != EAGAIN) {
+        else if (error != EINTR && error != EAGAIN)
             monitor_end(1, strerror(error));
-        }
     }
     pthread_mutex_unlock(&lock);
     return nothing;
@@ -129,24 +104,11 @@ void machine_start(void) {
     must(-(errno = pthread_create(&thread, NULL, run_vcpu, NULL)), "the vCPU's thread");
 }
 
-/* Takes the vCPU's thread out of what it waits for, also if it is only about to call KVM_RUN. */
-static void kick(void) {
+/* Waits for the thread of a machine that has ended, and takes it out of KVM_RUN, also if it is only about to call that.
+ * The caller holds the lock, and gives it up. */
+void machine_join(void) {
     machine.run->immediate_exit = true;
     pthread_kill(thread, SIGUSR1);
-    pthread_cond_broadcast(&changed);
-}
-
-/* Has the vCPU's thread write a snapshot, and waits for it. */
-void machine_snapshot(void) {
-    is_snapshot_wanted = true;
-    kick();
-    while (is_snapshot_wanted && !has_ended)
-        pthread_cond_wait(&changed, &lock);
-}
-
-/* Waits for the thread of a machine that has ended. The caller holds the lock, and gives it up. */
-void machine_join(void) {
-    kick();
     pthread_mutex_unlock(&lock);
     pthread_join(thread, NULL);
 }

@@ -1,17 +1,13 @@
 /* The monitor's start, event loop and end. */
 #include "monitor.h"
 
-#include <getopt.h>
 #include <sys/signalfd.h>
 
 static const char HELP[] =
     "usage: monitor -k KERNEL [-i INITRAMFS] [-c WORDS] [OPTION ..]   boots Linux, a bzImage\n"
-    "       monitor -f IMAGE [OPTION ..]                              starts an image at 0x7C00 in real mode\n"
-    "       monitor --restore SNAPSHOT [OPTION ..]                    goes on from a snapshot\n\n"
-    "  -m MEGABYTES       the guest's memory, 256 if not given\n"
-    "  -s FILE            what Ctrl-A s writes, monitor.snapshot if not given\n"
-    "  --reboot           starts the guest of -k or -f again when it resets the machine, and does not end\n"
-    "  --early-input      offers input before the guest has enabled its interrupt, as one that polls needs it\n\n"
+    "       monitor -f IMAGE [OPTION ..]                              starts an image at 0x7C00 in real mode\n\n"
+    "  -m MEGABYTES   the guest's memory, 256 if not given\n"
+    "  -e             offers input before the guest has enabled its interrupt, as one that polls needs it\n\n"
     "Ctrl-A h lists the keys.\n";
 
 pthread_mutex_t lock = PTHREAD_MUTEX_INITIALIZER;
@@ -27,7 +23,8 @@ int must(int result, const char *what) {
     return result;
 }
 
-/* Watches a file for events, from now on or again. What epoll does not watch, such as a file on a disk, never blocks. */
+/* Watches a file for events, from now on or again. What epoll does not watch, such as a file on a disk, never
+ * blocks. */
 void monitor_watch(int fd, uint32_t events, void (*serve)(void)) {
     struct epoll_event event = {.events = events, .data.ptr = (void *)serve};
     if (epoll_ctl(epoll, EPOLL_CTL_MOD, fd, &event) < 0)
@@ -90,32 +87,19 @@ static void run(void) {
 }
 
 /* What each option was given, by its letter. */
-static const char *given[128] = {['c'] = "console=ttyS0 reboot=k panic=1", ['m'] = "256", ['s'] = "monitor.snapshot"};
-static const struct option LONG[] = {{"restore", required_argument, NULL, 'r'},
-                                     {"reboot", no_argument, NULL, 'b'},
-                                     {"early-input", no_argument, NULL, 'e'},
-                                     {"help", no_argument, NULL, 'h'},
-                                     {0}};
+static const char *given[128] = {['c'] = "console=ttyS0 reboot=k panic=1", ['m'] = "256"};
 
 static void parse(int count, char **words) {
-    for (int letter; (letter = getopt_long(count, words, "k:i:c:f:m:s:", LONG, NULL)) != -1;) {
+    for (int letter; (letter = getopt(count, words, "k:i:c:f:m:eh")) != -1;) {
         if (letter == '?')
             exit(2);
         given[letter] = optarg ? optarg : "";
     }
-    bool is_right = !given['k'] + !given['f'] + !given['r'] == 2 && optind == count;
+    bool is_right = !given['k'] + !given['f'] == 1 && optind == count;
     if (given['h'] || !is_right) {
         fputs(HELP, given['h'] ? stdout : stderr);
         exit(given['h'] ? 0 : 2);
     }
-}
-
-/* Places the guest, unless it comes from a snapshot. */
-void monitor_boot(void) {
-    if (given['f'])
-        boot_flat(given['f']);
-    if (given['k'])
-        boot_linux(given['k'], given['i'], given['c']);
 }
 
 int main(int count, char **words) {
@@ -123,22 +107,16 @@ int main(int count, char **words) {
         errx(1, "the library has another interface than the header");
     parse(count, words);
     open_events();
-    bus_reset();
+    bus_open();
     clock_open();
-    if (given['r'])
-        snapshot_restore(given['r']);
+    machine_create(strtoull(given['m'], NULL, 10) << 20);
+    if (given['f'])
+        boot_flat(given['f']);
     else
-        machine_create(strtoull(given['m'], NULL, 10) << 20);
-    machine_starts_again = given['b'] && !given['r'];
-    console_is_early = given['e'];
-    if (machine_starts_again)
-        snapshot_keep_start();
-    monitor_boot();
-    snapshot_path = given['s'];
+        boot_linux(given['k'], given['i'], given['c']);
     interrupts_open();
+    console_is_early = given['e'];
     console_open();
-    interrupts_retry(); /* what a restored guest has not taken */
-    clock_follow();
     run();
     console_finish();
     warnx("%s", why);

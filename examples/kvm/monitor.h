@@ -1,8 +1,9 @@
 /*
  * A monitor that runs a PC with the devices of superio.h under KVM. docs/MONITOR.md shows how its files fit together.
  *
- * Two threads run: the vCPU's makes the guest's accesses, and the main one has the event loop. Each holds `lock`, except
- * while it waits: in KVM_RUN, in epoll_wait, or for `changed`. The lock guards whatever may change, here and in each file.
+ * Two threads run: the vCPU's makes the guest's accesses, and the main one has the event loop. Each holds `lock`,
+ * except while it waits: in KVM_RUN, in epoll_wait, or for `changed`. The lock guards whatever may change, here and in
+ * each file.
  */
 #ifndef MONITOR_H
 #define MONITOR_H
@@ -13,7 +14,6 @@
 #include <linux/kvm.h>
 #include <pthread.h>
 #include <signal.h>
-#include <stdarg.h>
 #include <stdbool.h>
 #include <stdio.h>
 #include <stdlib.h>
@@ -29,34 +29,23 @@
 /* Where the devices are. The clock is among a PC's adapters, where a guest in real mode reaches it too. */
 enum { COM1 = 0x3F8, SERIAL_IRQ = 4, CLOCK_BASE = 0xD0000, CLOCK_IRQ = 8, PAGE = 4096 };
 
-/* Bytes that wait, the oldest first. */
-enum { QUEUE_SIZE = 65536 };
-struct queue {
-    size_t count;
-    uint8_t bytes[QUEUE_SIZE];
-};
-
 /* main.c */
 extern pthread_mutex_t lock;
-extern pthread_cond_t changed; /* output went out, a snapshot was written, or the machine has ended */
+extern pthread_cond_t changed; /* output went out, or the machine has ended */
 extern bool has_ended;
 void monitor_watch(int fd, uint32_t events, void (*serve)(void));
 void monitor_end(int status, const char *reason);
-void monitor_boot(void);
 int must(int result, const char *what);
 /* machine.c */
 #define KVM(fd, request, argument) must(ioctl(fd, request, argument), #request)
 extern struct machine {
     int kvm, vm, vcpu;
-    struct kvm_run *run; /* whose `immediate_exit` is set while the vCPU's thread should come back */
+    struct kvm_run *run;
     uint8_t *memory;
     uint64_t memory_size;
 } machine;
-extern bool machine_starts_again; /* when the guest resets it */
 void machine_create(uint64_t memory_size);
 void machine_start(void);
-void machine_snapshot(void);
-void machine_reset(void);
 void machine_join(void);
 /* boot.c */
 void boot_flat(const char *path);
@@ -64,37 +53,25 @@ void boot_linux(const char *kernel, const char *initramfs, const char *words);
 /* bus.c */
 extern superio_serial serial;
 extern superio_rtc rtc;
-void bus_reset(void);
+void bus_open(void);
 void bus_port(uint16_t port, bool is_write, uint8_t *byte);
 void bus_memory(uint64_t address, bool is_write, uint8_t *bytes, unsigned count);
 /* console.c */
-extern struct queue console_input; /* of the user, until the port takes it */
 extern bool console_is_early;      /* input is offered before the guest is ready for it */
 extern bool console_is_ready;      /* the guest has enabled RDA and not THRE, as no test of the port does */
 void console_open(void);
 void console_feed(void);
 void console_await_room(void);
 void console_send(uint8_t byte);
-void console_say(const char *format, ...) __attribute__((format(printf, 1, 2)));
 void console_restore(void);
 void console_finish(void);
 /* interrupts.c */
 void interrupts_open(void);
 void interrupts_ask(unsigned times);
 void interrupts_character_timeout(void);
-void interrupts_retry(void);
 /* clock.c */
 void clock_open(void);
-uint64_t clock_now(void);
-void clock_not_before(uint64_t moment);
 uint32_t clock_read(uint16_t offset);
 void clock_write(uint16_t offset, uint32_t value);
-void clock_follow(void);
-/* snapshot.c */
-extern const char *snapshot_path; /* what Ctrl-A s writes */
-void snapshot_save(void);
-void snapshot_keep_start(void);
-void snapshot_start_again(void);
-void snapshot_restore(const char *path);
 
 #endif

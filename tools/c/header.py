@@ -4,18 +4,16 @@ from typing import Dict, List, NamedTuple, Union
 
 from libraries import HEADER
 
-COMMENT = re.compile(r"/\*(.*?)\*/", re.S)
+COMMENT = re.compile(r"/\*.*?\*/", re.S)
+CONSTANT = re.compile(r'^(?:#define| ) *(SUPERIO_\w+) (?:= )?(\d\w*|"[^"]*"|UINT64_MAX),?\s*$', re.M)
 DIRECTIVE = re.compile(r"^#(?:.*\\\n)*.*$", re.M)
-# What lets a compiler warn of a wrong call.
-ATTRIBUTE = re.compile(r"\s+(SUPERIO_(?:MUST_USE|NONNULL|COUNTED|ACCESS\([^)]*\)))")
-AT_LEAST = re.compile(r"SUPERIO_AT_LEAST\((\w+)\)")
-# Code in one line has only these, within the brackets of C++.
+# In code of one line.
 STRUCT = re.compile(r"typedef struct (\w+) \{(.*?)\} \1;")
-ENUM = re.compile(r"enum \w+ \{(.*?)\};")
-SIZE = re.compile(r"typedef char \w+ ?\[sizeof\((\w+)\) == (\d+)( \* sizeof\(size_t\))? \? 1 : -1\];")
-FUNCTION = re.compile(rf"((?:\w+ )+\*?)(superio_\w+)\(([^()]*)\)((?:{ATTRIBUTE.pattern})*);")
-DECLARED = re.compile(r"((?:const )?\w+ \*?)(\w+)(?:\[(\w+)\])?")
-CONSTANT = re.compile(r"(SUPERIO_\w+) = (\w+)")
+SIZE = re.compile(r"\[sizeof\((\w+)\) == (\d+)( \* sizeof\(size_t\))? \?")
+FUNCTION = re.compile(r"((?:\w+ )+\*?)(superio_\w+)\(([^()]*)\)([^;{}]*);")
+DECLARED = re.compile(r"\s*((?:const )?\w+ \*?)(\w+)(?:\[(\w+)\])?\s*")
+# What lets a compiler warn of a wrong call.
+ATTRIBUTE = re.compile(r"SUPERIO_(?:MUST_USE|NONNULL|COUNTED|ACCESS\([^)]*\))")
 # What these return may be ignored: a number, or events that leave nothing to do.
 MAY_BE_IGNORED = {"superio_abi", "superio_serial_read", "superio_rtc_read", "superio_rtc_write"}
 # The types of fields, with their sizes on processors of 64 bits.
@@ -43,12 +41,33 @@ class Header(NamedTuple):
     constants: Dict[str, Union[int, str]]
 
 
-def layout(fields, constants=()):
+def declared(text, end):
+    found = (DECLARED.fullmatch(part) for part in text.split(end) if part.strip() not in ("", "void"))
+    return [Declared(kind.strip(), name, length or "") for kind, name, length in (it.groups() for it in found)]
+
+
+def value(text):
+    return text.strip('"') if '"' in text else 2**64 - 1 if text == "UINT64_MAX" else int(text, 0)
+
+
+def read_header(word=8):
+    """The table, if a `size_t` has so many bytes."""
+    text = COMMENT.sub("", HEADER.read_text(encoding="ascii"))
+    code = re.sub(r"SUPERIO_AT_LEAST\((\w+)\)", r"\1", " ".join(DIRECTIVE.sub("", text).split()))
+    return Header(
+        {name: declared(fields, ";") for name, fields in STRUCT.findall(code)},
+        {name: int(count) * (word if words else 1) for name, count, words in SIZE.findall(code)},
+        {name: Function(returned.strip(), declared(parameters, ","), ATTRIBUTE.findall(attributes))
+         for returned, name, parameters, attributes in FUNCTION.findall(code)},
+        {name: value(number) for name, number in CONSTANT.findall(text)})
+
+
+def layout(fields, constants):
     """The place and the size of each field of a struct, and the size of all, by the rules of C: each field is aligned
     to its size. A length may be one of these constants."""
     places, end = [], 0
     for kind, _, length in fields:
-        start, size = end + -end % BYTES[kind], BYTES[kind] * int(dict(constants).get(length, length or 1))
+        start, size = end + -end % BYTES[kind], BYTES[kind] * int(constants.get(length, length or 1))
         places.append((start, size))
         end = start + size
     return places, end + -end % max(BYTES[kind] for kind, _, _ in fields)
@@ -78,44 +97,3 @@ def layout_assertions():
             found = f"offsetof({struct}, {field}) == {place} && sizeof((({struct} *)0)->{field}) == {count}"
             lines.append(f"_Static_assert({found}, \"{struct}.{field}\");")
     return "\n".join([*lines, ""])
-
-
-def parsed(pattern, text):
-    if found := pattern.fullmatch(text.strip()):
-        return [group.strip() for group in found.groups("")]
-    raise ValueError(f"{HEADER.name} has what tools/c/header.py does not know: {text}")
-
-
-def declared(text, end):
-    return [Declared(*parsed(DECLARED, part)) for part in text.split(end) if part.strip() not in ("", "void")]
-
-
-def value(text):
-    return text.strip('"') if '"' in text else 2**64 - 1 if text == "UINT64_MAX" else int(text, 0)
-
-
-def read_header(word=8):
-    """The table, if a `size_t` has so many bytes. Raises `ValueError` if the header has anything else."""
-    text = COMMENT.sub("", HEADER.read_text(encoding="ascii"))
-    code = AT_LEAST.sub(r"\1", " ".join(DIRECTIVE.sub("", text).split()))
-    found = [pattern.findall(code) for pattern in (STRUCT, ENUM, SIZE, FUNCTION)]
-    for pattern in (STRUCT, ENUM, SIZE, FUNCTION):
-        code = pattern.sub("", code)
-    parsed(re.compile(r'extern "C" \{\s*\}'), code)
-    structs, enums, sizes, functions = found
-    own = re.findall(r"^#undef (\w+)$", text, re.M)
-    constants = dict(re.findall(r"^#define (SUPERIO_\w+) (.+)$", text, re.M))
-    constants.update(parsed(CONSTANT, part) for body in enums for part in body.split(","))
-    return Header(
-        {name: declared(fields, ";") for name, fields in structs},
-        {name: int(count) * (word if words else 1) for name, count, words in sizes},
-        {name: Function(returned.strip(), declared(parameters, ","), ATTRIBUTE.findall(attributes))
-         for returned, name, parameters, attributes, *_ in functions},
-        {name: value(text.strip()) for name, text in constants.items() if name not in own})
-
-
-def other_library(number):
-    """The source of a library of another interface. A program must not call it, and each call but one ends it."""
-    calls = [name for name in read_header().functions if name != "superio_abi"]
-    return "\n".join(["unsigned superio_abi(void) {", f"    return {number}u;", "}", "void abort(void);",
-                      *(f"void {name}(void);\nvoid {name}(void) {{ abort(); }}" for name in calls), ""])

@@ -28,7 +28,7 @@ TARGETS = {
 }
 # The crates whose sources are compiled into the library.
 SOURCE_FOLDERS = ["crates/superio_c/src", "crates/superio_core/src"]
-NEEDS_KIT = "this needs the Rattle kit, whose command is `rt`. It is not public yet. The libraries in prebuilt need none"
+NEEDS_KIT = "this needs the Rattle kit (`rt`), which is not public yet. The libraries in prebuilt need none"
 
 
 def digest(path):

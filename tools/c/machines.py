@@ -1,4 +1,5 @@
 """The processors that the C library is for, and how programs for them are compiled and run here."""
+import platform
 from dataclasses import dataclass
 from pathlib import Path
 
@@ -7,6 +8,14 @@ from libraries import PREBUILT, ROOT, STATIC, TARGETS, host_target
 WARNINGS = ["-Wall", "-Wextra", "-Werror", "-pedantic"]
 C = ["-std=c99", "-xc"]
 CXX = ["-std=c++11", "-xc++"]
+OF_HOST = [("gcc", C), ("clang", C), ("g++", CXX), ("clang++", CXX)]
+# Beside each target of rustc the processor, as qemu names it, and the prefix of Debian's cross compiler.
+TARGETS_OF_RUST = {
+    "x86_64-unknown-linux-gnu": ("x86_64", "x86_64-linux-gnu"),
+    "aarch64-unknown-linux-gnu": ("aarch64", "aarch64-linux-gnu"),
+    "s390x-unknown-linux-gnu": ("s390x", "s390x-linux-gnu"),  # the highest byte first
+    "armv7-unknown-linux-gnueabihf": ("arm", "arm-linux-gnueabihf"),  # 32 bits
+}
 
 
 @dataclass
@@ -26,21 +35,19 @@ class Compiler:
 
 @dataclass
 class Machine:
-    """A processor: its folder of `prebuilt`, its compilers, and the words before a program that run it. The library is
-    that of the folder, unless another is named."""
+    """A processor: its name, its library, its compilers, and the words before a program that run it."""
     target: str
+    library: Path
     compilers: list
     runner: list
-    options: list
-    built: Path = None
 
     @property
     def is_host(self):
         return not self.runner
 
     @property
-    def library(self):
-        return self.built or PREBUILT / self.target / STATIC
+    def options(self):
+        return [] if self.is_host else ["-static"]
 
     def program(self, compiler, sources, to, options=()):
         """The words that compile and link a program with the static library."""
@@ -51,20 +58,15 @@ class Machine:
         return all(tally.has(tool, f"{what} for {self.target}") for tool in [compiler.name, *self.runner])
 
 
-def machine(target):
+def machine(target, rust, library):
     """This machine has its own compilers. For another there are Debian's cross compiler, and qemu's user mode."""
-    if target == host_target():
-        pairs = [("gcc", C), ("clang", C), ("g++", CXX), ("clang++", CXX)]
-        return Machine(target, [Compiler(*pair) for pair in pairs], [], [])
-    processor = target.split("-")[0]
-    return emulated(target, f"{processor}-linux-gnu-gcc", processor)
-
-
-def emulated(target, compiler, processor, built=None):
-    """A machine that qemu's user mode stands in for."""
-    return Machine(target, [Compiler(compiler, C)], [f"qemu-{processor}"], ["-static"], built)
+    processor, prefix = TARGETS_OF_RUST[rust]
+    if processor == platform.machine():
+        return Machine(target, library, [Compiler(*pair) for pair in OF_HOST], [])
+    return Machine(target, library, [Compiler(f"{prefix}-gcc", C)], [f"qemu-{processor}"])
 
 
 def machines():
-    """Every processor that the library is for, this one first."""
-    return [machine(target) for target in sorted(TARGETS, key=lambda target: target != host_target())]
+    """Every processor that a library is built for, this one first."""
+    return [machine(target, f"{target.split('-')[0]}-unknown-linux-gnu", PREBUILT / target / STATIC)
+            for target in sorted(TARGETS, key=lambda target: target != host_target())]

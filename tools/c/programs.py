@@ -3,55 +3,73 @@ import lzma
 import shutil
 from functools import lru_cache
 
-from libraries import DEMO, ROOT, TESTS
+from libraries import DEMO, ROOT, STATIC, TESTS
 from cases import every_answer
 from expected import recording_of
 from header import layout_assertions
-from machines import C
+from machines import C, TARGETS_OF_RUST, machine
 from program import seed_of
 from random_calls import write_calls
 from tally import run
+from toolchains import toolchain_for
 
-# What the example beside the monitor prints, also over a port that takes few bytes at a time.
-PASTES = [("paste", [], "1000 bytes in 16 pieces, in order\n"),
-          ("paste", [TESTS / "scant.c", "-Wl,--wrap=superio_serial_enqueue"], "1000 bytes in 45 pieces, in order\n")]
 CALLS = 250_000
 SANITIZERS = ["-g", "-O1", "-fsanitize=address,undefined", "-fno-sanitize-recover=all"]
+FROM_SOURCE = ROOT / "bindings" / "rust" / "capi" / "Cargo.toml"
 # The header, which may be read twice, and leaves none of the names that it uses for itself.
 ALONE = "#include <superio.h>\n#include <superio.h>\n" + "".join(
     f"#ifdef SUPERIO_{name}\n#error SUPERIO_{name}\n#endif\n"
     for name in ("HAS_ATTRIBUTE", "MUST_USE", "NONNULL", "ACCESS", "COUNTED", "AT_LEAST"))
-# Clang warns of this attribute, unless the header has turned that off for good.
-AFTERWARDS = """#include <superio.h>
-void never(int it) __attribute__((diagnose_if(it, "", "warning")));
+CALLER = """#include <superio.h>
+uint8_t make(superio_serial *port);
+uint8_t make(superio_serial *port) {{
+    superio_serial unset;
+    uint8_t few[80] = {{0}}, result = 0;
+    (void)few, (void)unset;
+    {}
+    return result;
+}}
 """
+# A mistake of each kind, and a part of the warning of gcc and of clang; `None` if the compiler cannot find it.
+MISTAKES = [
+    ("superio_serial_write(port, 0, 'x');", "unused-result", "unused-result"),
+    ("result = superio_serial_read(NULL, 0).byte;", "nonnull", "nonnull"),
+    ("result = (uint8_t)superio_serial_enqueue(port, NULL, 1).taken;", "nonnull", "bytes is NULL"),
+    ("result = superio_serial_read(&unset, 0).byte;", "uninitialized", None),
+    ("result = (uint8_t)superio_serial_save(port, few);", "stringop-overflow", "too small"),
+    ("superio_serial_read(port, 2); result = (uint8_t)superio_serial_load(port, few, sizeof few);", "", ""),
+]
 
 
 def check_header(tally, machine, folder):
     """Counts whether the header compiles by itself, and lays its structs out as tools/c/header.py says."""
-    alone, compared, afterwards = folder / "alone.c", folder / "compared.c", folder / "afterwards.c"
+    alone, compared = folder / "alone.c", folder / "compared.c"
     alone.write_text(ALONE, encoding="ascii")
     compared.write_text(layout_assertions(), encoding="ascii")
-    afterwards.write_text(AFTERWARDS, encoding="ascii")
     for compiler in machine.compilers:
         if tally.has(compiler.name, "the header"):
-            tally.run(f"the header under {compiler.title}", compiler.command([alone], ["-fsyntax-only"]))
             newer = ["-std=c11"] if compiler.language == C else ["-D_Static_assert=static_assert"]
+            tally.run(f"the header under {compiler.title}", compiler.command([alone], ["-fsyntax-only"]))
             tally.run(f"the header's layout under {compiler.title}",
                       compiler.command([compared], [*newer, "-fsyntax-only"]))
-            if compiler.name.startswith("clang"):
-                said = run(compiler.command([afterwards], ["-fsyntax-only"])).stdout
-                tally.check("[-Werror,-Wgcc-compat]" in said, f"the header silences {compiler.title}:\n{said}")
+
+
+def check_warnings(tally, machine, folder):
+    """Counts whether a compiler warns of each kind of mistake, and of nothing else."""
+    source = folder / "mistake.c"
+    for place, compiler in enumerate(machine.compilers[:2], 1):
+        if tally.has(compiler.name, "warnings of mistakes"):
+            for statement, *warnings in MISTAKES:
+                source.write_text(CALLER.format(statement), encoding="ascii")
+                said = run(compiler.command([source], ["-O1", "-Wno-error", "-c", "-o", "/dev/null"])).stdout
+                wanted = warnings[place - 1]
+                tally.check(wanted is None or (wanted in said if wanted else not said),
+                            f"{compiler.title} says of {statement}\n{said}")
 
 
 def compilers_of(tally, machine, what, is_c_alone=True):
     """The compilers of a machine whose programs can run here. Each of the others counts as skipped."""
     return [it for it in machine.compilers if (it.language == C or not is_c_alone) and machine.can(tally, it, what)]
-
-
-def watched(machine):
-    """The options of a long test. What is emulated has no sanitizers."""
-    return SANITIZERS if machine.is_host else ["-O2"]
 
 
 @lru_cache(maxsize=None)
@@ -69,8 +87,9 @@ def recorded(folder):
 
 @lru_cache(maxsize=None)
 def drawn(folder):
-    """A file of random calls, with a message for each kind of them that is too rare."""
-    return folder / "drawn", write_calls(folder / "drawn", CALLS, seed_of(ROOT))
+    """A file of random calls, others with each commit."""
+    write_calls(folder / "drawn", CALLS, seed_of(ROOT))
+    return folder / "drawn"
 
 
 def replay(tally, what, program, machine, calls, count, number=1):
@@ -89,27 +108,23 @@ def check_calls(tally, machine, folder):
 
 
 def check_random_calls(tally, machine, folder):
-    """Counts whether random calls, others with each commit, do what a search of the past says."""
+    """Counts whether random calls do what a search of the past says. What is emulated has no sanitizers."""
     compiler = next((it for it in machine.compilers if it.language == C and shutil.which(it.name)),
                     machine.compilers[0])
     if machine.can(tally, compiler, "random calls"):
-        build = machine.program(compiler, [TESTS / "replay.c"], folder / "random", watched(machine))
+        build = machine.program(compiler, [TESTS / "replay.c"], folder / "random",
+                                SANITIZERS if machine.is_host else ["-O2"])
         if tally.run("replay.c is built", build, number=0):
-            calls, rare = drawn(folder)
-            for message in rare:
-                tally.check(False, message, 0)
-            replay(tally, tally.kind, folder / "random", machine, calls, CALLS, CALLS)
+            replay(tally, tally.kind, folder / "random", machine, drawn(folder), CALLS, CALLS)
 
 
 def check_demos(tally, machine, folder):
-    """Counts whether a paste, which is more than the FIFO holds, reaches the guest whole; and whether the demo builds by
-    its Makefile, and prints what it should."""
+    """Counts whether a paste of more than the FIFO holds reaches the guest whole, and whether the demo builds by its
+    Makefile and prints what it should."""
     for compiler in compilers_of(tally, machine, "the demo"):
         what, place = f"for {machine.target} under {compiler.name}", folder / "demo"
-        for name, port, printed in PASTES:
-            build = machine.program(compiler, [DEMO / f"{name}.c", *port], folder / name, ["-O1"])
-            if tally.run(f"{name}.c {what} is built", build):
-                tally.run(f"{name}.c {what}", [*machine.runner, folder / name], printed)
+        if tally.run(f"paste.c {what} is built", machine.program(compiler, [DEMO / "paste.c"], folder / "paste")):
+            tally.run(f"paste.c {what}", [*machine.runner, folder / "paste"], "1000 bytes in 16 pieces, in order\n")
         if tally.has("make", "the demo"):
             shutil.rmtree(place, ignore_errors=True)
             shutil.copytree(DEMO, place, ignore=shutil.ignore_patterns("monitor"))
@@ -119,12 +134,27 @@ def check_demos(tally, machine, folder):
                           (DEMO / "expected").read_text(encoding="utf-8"), cwd=place)
 
 
-# What is checked on each machine, with its kind. All but the header is for a library from source too.
-CHECKS = {check_header: "checks of header", check_calls: "checks of calls", check_random_calls: "random calls",
-          check_demos: "checks of demos"}
-OF_SOURCE = {check: kind for check, kind in CHECKS.items() if check is not check_header}
+# What is checked of each library, with its kind.
+CHECKS = {check_calls: "checks of calls", check_random_calls: "random calls", check_demos: "checks of demos"}
 
 
-def check_machine(tally, machine, folder, checks=None):
-    for check, kind in (checks or CHECKS).items():
+def check_library(tally, machine, folder):
+    for check, kind in CHECKS.items():
         tally.carry_out(f"{kind} for {machine.target}", check, machine, folder)
+
+
+def check_source(tally, rust, folder):
+    """Counts whether the library that Cargo makes of bindings/rust/capi does the same, for a target of rustc."""
+    processor, toolchain = TARGETS_OF_RUST[rust][0], toolchain_for(rust) if shutil.which("cc") else None
+    one = machine(f"{processor} from source", rust, folder / "capi" / rust / "release" / STATIC)
+    tally.of(f"builds of bindings/rust/capi for {rust}")
+    if toolchain is None:
+        tally.skip(f"cc or a toolchain of Rust for {rust}", "the C library from source")
+    else:
+        command = [toolchain.cargo, "rustc", "--target", rust, "--crate-type", "staticlib", "--release", "--quiet",
+                   "--offline", "--manifest-path", FROM_SOURCE]
+        if tally.run(tally.kind, command, env=toolchain.environment(CARGO_TARGET_DIR=str(folder / "capi"))):
+            return check_library(tally, one, folder)
+    for kind in CHECKS.values():
+        tally.tried.leave_out(f"{kind} for {one.target}")
+    return None

@@ -1,8 +1,7 @@
 """Random calls of each function of the library, as lines for tests/replay.c, with what each does by the search of the
 past in oracle.py: those of cases.py, and between them the further calls that are C's own."""
 import random
-from collections import Counter
-from itertools import chain
+from itertools import chain, islice
 from multiprocessing import Pool
 
 from cases import clock_run, controller_run, load_clock, load_port, number, port_run, port_start
@@ -11,16 +10,7 @@ from oracle import FIFO_SIZE, start_fact
 from saved_bytes import CLOCK, CLOCK_CONTENTS, REGISTERS, SERIAL, form
 from twin import seconds_due
 
-RUNS = 100       # how many a process makes at a time
-RAREST = 2000    # of so many calls at least one is of each kind
-# The kinds of calls: the name, the first word of the reply, or two points if it is a number, and what else matters.
-KINDS = [
-    "sr ..", "sr .. e", "sw ok", "sw ok T", "sw ok T T", "sw trigger R", "sw io", "sq ..", "sq .. T", "sq full",
-    "sq trigger R", "si ok", "si ok T", "si trigger R", "sc ..", "sh ..", "sf 00", "sf 01", "sb ..", "sx ..", "sl ..",
-    "sl ok", "sl refused", "cr ..", "cr .. i", "cw ok", "cw ok j", "cs ..", "cb ..", "cl ..", "cl ok", "cl refused",
-    "cd ..", "cd never", "ch 00", "ch 01", "kr ..", "kw ok", "kw ok T", "kw trigger R"]
-WORDS = {"ok", "trigger", "io", "full", "never"}
-FLAGS = {"sf", "ch"}
+RUNS = 100  # how many a process makes at a time
 
 
 class Caller(Monitor):
@@ -109,32 +99,16 @@ def random_run(source):
             yield own(source)
 
 
-def kind_of(call, reply):
-    name, (first, *others) = call[:2], reply.split(" ")
-    if name in ("sl", "cl") and " " not in call[3:]:
-        return f"{name} {'ok' if first == 'ok' else 'refused'}"
-    shown = first if first in WORDS or name in FLAGS else ".."
-    return " ".join([name, shown, *(it for it in others if it in ("e", "i", "j", "T", "R"))])
-
-
 def some_calls(work):
-    """The calls of some runs with what they do, and how many there are of each kind."""
+    """The calls of some runs with what they do."""
     first, seed = work
-    caller, kinds = Caller(), Counter()
+    caller = Caller()
     calls = chain.from_iterable(random_run(random.Random(f"{first + place} {seed}")) for place in range(RUNS))
-    rows = [(call, caller.reply(call)) for call in calls]
-    kinds.update(kind_of(*row) for row in rows)
-    return [f"{call} = {reply}\n" for call, reply in rows], kinds
+    return [f"{call} = {caller.reply(call)}\n" for call in calls]
 
 
 def write_calls(path, count, seed):
-    """Writes so many calls into a file. Returns a message for each kind of call that is too rare."""
-    kinds, left = Counter(), count
+    """Writes so many calls into a file."""
     with Pool() as pool, open(path, "w", encoding="ascii") as file:
-        for rows, some in pool.imap(some_calls, ((first, seed) for first in range(0, count, RUNS))):
-            file.writelines(rows[:left])
-            kinds += some
-            left -= min(left, len(rows))
-            if not left:
-                break
-    return [f"only {kinds[kind]} of {count} calls are '{kind}'" for kind in KINDS if kinds[kind] < count // RAREST]
+        rows = chain.from_iterable(pool.imap(some_calls, ((first, seed) for first in range(0, count, RUNS))))
+        file.writelines(islice(rows, count))

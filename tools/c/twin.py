@@ -15,8 +15,6 @@ from oracle import CLOCK, SERIAL, Clock, Port, resets, start_fact
 COM1 = 0x3F8
 RBR, IER, IIR, MCR, LSR = (SERIAL[name].offset for name in ("RBR", "IER", "IIR", "MCR", "LSR"))
 MOST_INPUT, MOST_LINES, SCRIPTS_OF_A_RUN, LONG = 127, 80, 20, 60
-# How many bytes the handlers of Xen and of Linux take for each look at IIR.
-XEN, LINUX = 1, 256
 # How long a script may take, in seconds, and how much more it may print than it should, before the program is ended.
 LIMIT, MORE = 10, 4000
 IS_MASKED = CLOCK["MIS"].offset
@@ -170,18 +168,15 @@ class Monitor:
         self.ask(times)
 
     def h(self):
-        self.reply(f"received {self.handle(self.most).count(b'x')}")
+        self.reply(f"received {self.handle().count(b'x')}")
 
-    def p(self, most):
-        self.reply(f"received {self.handle(most).hex()}")
-
-    def handle(self, most):
+    def handle(self):
         """The guest's handler, while it is interrupted. Returns the bytes that it takes."""
         taken = b""
         while self.is_interrupted:
             self.is_interrupted = False
             while not self.read(COM1 + IIR) & 0x01:
-                for _ in range(most):
+                for _ in range(self.most):
                     if not self.read(COM1 + LSR) & 0x01:
                         break
                     taken += bytes([self.read(COM1 + RBR)])
@@ -263,7 +258,7 @@ class LastingEcho(Monitor):
 
     def h(self):
         self.is_interrupted, self.was_interrupted = self.is_interrupted or self.was_interrupted, False
-        self.handle(self.most)
+        self.handle()
 
 
 class Echo(LastingEcho):
@@ -341,7 +336,7 @@ class Script:
         return self.paste() if not self.random.randrange(4) else self.add("h")
 
     def paste(self):
-        """More than the FIFO holds comes in pieces, to a guest that takes many bytes for each look, or one."""
+        """More than the FIFO holds comes in pieces, to a guest that takes what interrupts it."""
         self.add("w", COM1 + MCR, 8)
         self.add("w", COM1 + IER, 1)
         self.add("d", 0)
@@ -351,7 +346,7 @@ class Script:
             if self.random.randrange(4) == 0:
                 self.add("r", COM1 + IIR)
                 self.add("t")
-            self.add("p", self.random.choice((XEN, LINUX, self.random.randrange(1, 100))))
+            self.add("h")
 
     def host(self):
         """The interrupt line takes nothing, or takes requests again; the machine moves; input comes early; or the guest
@@ -400,7 +395,7 @@ def random_cases(monitor, count, seed):
     scripts = [Script(chance, chance.randrange(MOST_LINES), monitor) for _ in range(count)]
     size = 1 if monitor.has_port_alone else SCRIPTS_OF_A_RUN
     runs = [scripts[place:place + size] for place in range(0, count, size)]
-    return [(f"run {number} of seed {seed}:\n{[it.lines for it in run]}",
+    return [(f"run {number} of seed {seed}: {[it.lines for it in run]}"[:2000],
              [line for it in run for line in ([*it.lines, "o"] if size > 1 else it.lines)],
              [line for it in run for line in it.monitor.printed], 0) for number, run in enumerate(runs)]
 

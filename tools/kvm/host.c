@@ -15,16 +15,12 @@
  *   n NANOSECONDS        the host sleeps for so long, and only CLOCK_MONOTONIC stands still
  *   t NANOSECONDS        CLOCK_MONOTONIC goes on by so much
  *   k SECONDS            the host's time of day is set back by so much
- *   g                    a snapshot is written, and its monitor takes the place of this one
- *   f CALL               a snapshot is asked for, and the opening (1) of its file, a write to it (2), its end (3) or
- *                        its name (4) fails
  *   x REASON             the vCPU gives up for a reason of KVM's, or, if it is 0, KVM fails
  *   q SIGNAL             the monitor is to end, or has a fault
  *
- * After each line the event loop comes to rest. A guest at its start shows its place, the first byte of its image, and
- * two bytes of its memory that it sets then. The terminal says when its settings change. It says for how long it has to
- * wait, and does so for no time. The first of
- * two KVM_RUN, waits for events or for room and reads fails, as it may at any time, and has to be made again.
+ * After each line the event loop comes to rest. A guest at its start shows its place and the first byte of its image.
+ * The terminal says when its settings change. A wait for room says how long it has to take, and takes no time. The first
+ * of two KVM_RUN, waits for events or for room and reads fails, as it may at any time, and has to be made again.
  */
 #include <err.h>
 #include <errno.h>
@@ -49,25 +45,23 @@
 #include <time.h>
 #include <unistd.h>
 
-enum { RUN_SIZE = 8192, DATA = 4096, IMAGE = 0x7C00, MARK = 0x600, CLOCK = 0xD0000, MOST = 1 << 17 };
-enum { TIMERS = 4, PATIENCE = 40000, STATES = 12 /* parts of a guest's */ };
+enum { RUN_SIZE = 8192, DATA = 4096, CLOCK = 0xD0000, MOST = 1 << 17, TIMERS = 4, PATIENCE = 40000 };
 enum { SECOND = 1000000000, MILLISECOND = 1000000 };
 /* What is known of threads is the monitor's lock alone. */
 #define UNSEEN __attribute__((no_sanitize("thread")))
 
-/* The script, what is seen, and the ends of what the monitor reads and writes, by their descriptors. */
-static int script, seen, keys, screen, vcpu;
+/* The script; what is seen, and the ends of what the monitor reads and writes, by their descriptors. */
+static FILE *script;
+static int seen, keys, screen, vcpu;
 static off_t shown;            /* how much of the output was */
 static size_t room = SIZE_MAX; /* for more of it */
 static int64_t down;           /* 0, or one more than the interrupt line still takes */
-static int given;              /* of a guest's state, a bit for each part */
-static int error, failing;     /* of the next write, and the call of a snapshot's file that fails */
-static bool is_early;          /* an option of the monitor */
+static int error;              /* of the next write */
 static struct kvm_run *run;
 static struct kvm_irqfd interrupt;
-static uint8_t *memory, *last;
-static uint64_t place; /* of the guest: one more for each access that is complete */
-static bool is_started, is_access, is_read, is_moving, is_up, is_running, is_again;
+static uint8_t *memory;
+static uint64_t place; /* where the guest starts */
+static bool is_started, is_read, is_up, is_running;
 static volatile unsigned long rests;  /* how often the event loop has found nothing to do */
 static volatile bool may_go, is_held; /* whether it may look, since the guest makes no access; it waits until it may */
 extern pthread_mutex_t lock;          /* of the monitor, as is this: */
@@ -88,10 +82,6 @@ int __real_ioctl(int fd, unsigned long request, ...);
 int __real_epoll_wait(int epoll, struct epoll_event *events, int most, int timeout);
 ssize_t __real_write(int fd, const void *bytes, size_t count);
 ssize_t __real_read(int fd, void *bytes, size_t count);
-FILE *__real_fopen(const char *path, const char *mode);
-size_t __real_fwrite(const void *bytes, size_t size, size_t count, FILE *file);
-int __real_fclose(FILE *file);
-int __real_rename(const char *from, const char *to);
 
 /* Prints bytes. */
 UNSEEN static void show(const char *what, const uint8_t *bytes, size_t count) {
@@ -118,22 +108,17 @@ static void fail(const char *what) {
     _exit(3);
 }
 
-/* Takes the place of standard input and output. A monitor of a snapshot gets them, and the host's time, from before. */
-__attribute__((constructor)) static void begin(int count, char **words) {
-    const char *before = getenv("HOST");
+/* Takes the place of standard input and output. */
+__attribute__((constructor)) static void begin(void) {
     int both[2];
-    is_again = before;
-    if (before)
-        sscanf(before, "%d %d %ld %ld %ld", &script, &seen, &now.awake, &now.since_start, &now.of_day);
-    else
-        script = dup(STDIN_FILENO), seen = dup(STDOUT_FILENO);
+    script = fdopen(dup(STDIN_FILENO), "r");
+    seen = dup(STDOUT_FILENO);
     screen = memfd_create("screen", MFD_CLOEXEC);
-    if (script < 0 || seen < 0 || screen < 0 || pipe2(both, O_CLOEXEC) < 0)
+    if (!script || seen < 0 || screen < 0 || pipe2(both, O_CLOEXEC) < 0)
         fail("the host cannot start");
     keys = both[1];
     dup2(both[0], STDIN_FILENO);
     dup2(screen, STDOUT_FILENO);
-    is_early = strcmp(words[count - 1], "--early-input") == 0;
 }
 
 /* What is left to see of the output. */
@@ -178,29 +163,6 @@ UNSEEN ssize_t __wrap_write(int fd, const void *bytes, size_t count) {
 UNSEEN ssize_t __wrap_read(int fd, void *bytes, size_t count) {
     static unsigned calls;
     return is_interrupted(&calls, EAGAIN) ? -1 : __real_read(fd, bytes, count);
-}
-
-/* Whether the calls of a snapshot's file that have this number fail. */
-UNSEEN static bool fails(int number) {
-    errno = failing == number ? ENOSPC : errno;
-    return failing == number;
-}
-
-FILE *__wrap_fopen(const char *path, const char *mode) {
-    return fails(1) ? NULL : __real_fopen(path, mode);
-}
-
-size_t __wrap_fwrite(const void *bytes, size_t size, size_t count, FILE *file) {
-    return fails(2) ? 0 : __real_fwrite(bytes, size, count, file);
-}
-
-int __wrap_fclose(FILE *file) {
-    int result = __real_fclose(file);
-    return fails(3) ? EOF : result;
-}
-
-int __wrap_rename(const char *from, const char *to) {
-    return fails(4) ? -1 : __real_rename(from, to);
 }
 
 /* The terminal, which is standard input too. */
@@ -325,17 +287,6 @@ UNSEEN static bool await_rest(void) {
     return !is_wanted;
 }
 
-/* Starts the monitor of the snapshot in place of this one. */
-UNSEEN static void move(void) {
-    char text[128];
-    snprintf(text, sizeof text, "%d %d %ld %ld %ld", script, seen, now.awake, now.since_start, now.of_day);
-    setenv("HOST", text, true);
-    show_output();
-    execl("/proc/self/exe", "monitor", "--restore", "snapshot", "-s", "snapshot", "--reboot",
-          is_early ? "--early-input" : NULL, NULL);
-    fail("the snapshot is not started");
-}
-
 /* Reads the bytes that are left of a line, and returns how many there are. */
 UNSEEN static unsigned bytes_of(const char *text, uint8_t *bytes) {
     unsigned count = 0;
@@ -387,28 +338,15 @@ UNSEEN static void serve(const char *line) {
     case 'n': now.since_start += number, now.of_day += number; break;
     case 't': now.awake += number; break;
     case 'k': now.of_day -= number * SECOND; break;
-    case 'f':
-        unlink("snapshot");
-        /* fall through */
-    case 'g':
-        syscall(SYS_write, keys, "\1s", 2);
-        failing = (int)number;
-        is_moving = *line == 'g';
-        break;
     default: fail("a word of no form");
     }
 }
 
-/* The next line, or none at the end, where the host ends too. What follows is left to another program. */
+/* The next line. At the end the host ends too. */
 UNSEEN static const char *next_line(void) {
     static char line[MOST];
-    ssize_t count = __real_read(script, line, sizeof line - 1);
-    line[count > 0 ? count : 0] = 0;
-    char *end = strchr(line, '\n');
-    if (!end)
+    if (!fgets(line, sizeof line, script))
         _exit(0);
-    lseek(script, end + 1 - (line + count), SEEK_CUR);
-    *end = 0;
     return line;
 }
 
@@ -416,10 +354,9 @@ UNSEEN static const char *next_line(void) {
 UNSEEN static void complete(void) {
     const uint8_t *bytes = run->exit_reason == KVM_EXIT_IO ? (uint8_t *)run + DATA : run->mmio.data;
     unsigned count = run->exit_reason == KVM_EXIT_IO ? run->io.count * run->io.size : run->mmio.len;
-    place += is_access;
-    if (is_access && is_read)
+    if (is_read)
         show("", bytes, count);
-    is_access = false;
+    is_read = false;
 }
 
 /* An exit of the vCPU that is no access, or none. */
@@ -438,27 +375,17 @@ UNSEEN static int run_guest(void) {
     if (run->immediate_exit || is_interrupted(&calls, EAGAIN))
         return -1;
     if (!is_started)
-        dprintf(seen, "starts %lx %02x %02x%02x\n", place, memory[IMAGE], memory[MARK], *last);
-    if (!is_started && is_again && given != (1 << STATES) - 1)
-        fail("a guest that starts again lacks a part of its state");
-    given = 0;
-    is_started = is_again = true;
-    memory[MARK] = *last = 0x5A;
+        dprintf(seen, "starts %lx %02x\n", place, memory[place]);
+    is_started = true;
     for (;;) {
         do
             if (!await_rest())
                 return errno = EINTR, -1;
         while (go_off());
         show_output();
-        if (is_moving)
-            move();
-        if (failing && access("snapshot", F_OK) == 0)
-            fail("a snapshot that could not be written is there");
-        failing = 0;
         const char *line = next_line();
         if (strchr("wrsl", *line)) {
             (strchr("wr", *line) ? access_port : access_memory)(strchr("ws", *line) != NULL, line);
-            is_access = true;
             is_read = strchr("rl", *line) != NULL;
             return 0;
         } else if (*line == 'x') {
@@ -468,26 +395,10 @@ UNSEEN static int run_guest(void) {
     }
 }
 
-/* What KVM says of itself and of the machine. Of the guest's state it knows the place, and makes up the rest. */
-UNSEEN static void get(unsigned long request, void *argument) {
-    if (_IOC_DIR(request) == _IOC_READ)
-        memset(argument, 0, _IOC_SIZE(request));
-    if (request == KVM_GET_SUPPORTED_CPUID) {
-        ((struct kvm_cpuid2 *)argument)->nent = 0;
-    } else if (request == KVM_GET_MSR_INDEX_LIST) {
-        ((struct kvm_msr_list *)argument)->nmsrs = 1;
-        ((struct kvm_msr_list *)argument)->indices[0] = 0x10;
-    } else if (request == KVM_GET_REGS) {
-        *(struct kvm_regs *)argument = (struct kvm_regs){.rip = place};
-    }
-}
-
 UNSEEN static void add_memory(const struct kvm_userspace_memory_region *region) {
-    uint8_t *start = (uint8_t *)region->userspace_addr;
     if (region->guest_phys_addr <= CLOCK && region->guest_phys_addr + region->memory_size > CLOCK)
         fail("memory where the clock is");
-    memory = region->guest_phys_addr ? memory : start;
-    last = start + region->memory_size - 1;
+    memory = region->guest_phys_addr ? memory : (uint8_t *)region->userspace_addr;
 }
 
 UNSEEN static void set_line(const struct kvm_irq_level *line) {
@@ -503,17 +414,14 @@ UNSEEN static void set_interrupt(const struct kvm_irqfd *line) {
         fail("a request before the guest starts");
 }
 
-/* What KVM is told of the machine. */
-UNSEEN static void set(unsigned long request, const void *argument) {
-    static const unsigned long requests[STATES] = {
-        KVM_SET_MP_STATE, KVM_SET_SREGS, KVM_SET_REGS, KVM_SET_XSAVE, KVM_SET_XCRS, KVM_SET_DEBUGREGS, KVM_SET_LAPIC,
-        KVM_SET_MSRS, KVM_SET_VCPU_EVENTS, KVM_SET_PIT2, KVM_SET_CLOCK, KVM_SET_IRQCHIP};
-    for (int i = 0; i < STATES; i++)
-        given |= (requests[i] == request) << i;
+/* What KVM is told of the machine. It knows no processor. */
+UNSEEN static void set(unsigned long request, void *argument) {
     if (request == KVM_SET_USER_MEMORY_REGION)
         add_memory(argument);
     else if (request == KVM_SET_REGS)
-        place = ((const struct kvm_regs *)argument)->rip, is_started = false;
+        place = ((const struct kvm_regs *)argument)->rip;
+    else if (request == KVM_GET_SUPPORTED_CPUID)
+        ((struct kvm_cpuid2 *)argument)->nent = 0;
     else if (request == KVM_IRQFD)
         set_interrupt(argument);
     else if (request == KVM_IRQ_LINE)
@@ -530,7 +438,8 @@ UNSEEN int __wrap_ioctl(int fd, unsigned long request, ...) {
         return __real_ioctl(fd, request, argument);
     if (is_running && fd == vcpu)
         fail("KVM holds a vCPU that runs");
-    get(request, argument);
+    if (_IOC_DIR(request) == _IOC_READ)
+        memset(argument, 0, _IOC_SIZE(request));
     set(request, argument);
     switch (request) {
     case KVM_CREATE_VM: return make(0);
@@ -539,8 +448,6 @@ UNSEEN int __wrap_ioctl(int fd, unsigned long request, ...) {
         run = mmap(NULL, RUN_SIZE, PROT_READ | PROT_WRITE, MAP_SHARED, vcpu, 0);
         return vcpu;
     case KVM_GET_VCPU_MMAP_SIZE: return RUN_SIZE;
-    case KVM_GET_MSRS:
-    case KVM_SET_MSRS: return 1;
     case KVM_RUN:
         is_running = true;
         fd = run_guest();

@@ -7,12 +7,12 @@ import os
 import random
 import signal
 
-from oracle import CLOCK, Clock, Port, resets
+from oracle import CLOCK, resets
 from twin import COM1, EDGES, IS_MASKED, Monitor, different_scripts, seconds_due
 
 SECOND, BASE, CTRL_A = 10**9, 0xD0000, 0x01
-# Where the guest starts, and what the memory there and elsewhere has.
-START, IMAGE, FRESH, USED = 0x7C00, 0xF4, 0, 0x5A
+# Where the guest starts, and what is there.
+START, IMAGE = 0x7C00, 0xF4
 # The host's time without sleep, since its start and of the day, as host.c has it, and after which a refused request is
 # made again.
 AWAKE, SINCE_START, OF_DAY = 777 * SECOND, 5000 * SECOND, 1700000000 * SECOND + SECOND * 3 // 10
@@ -20,14 +20,14 @@ PAUSE = 5_000_000
 RETRY = f"t {PAUSE:x}"
 # Two bytes come, and the guest takes one.
 POKE = "i 7879", f"r {COM1:x} 1 1"
-# A guest sets a divisor whose high byte is 1, which enables nothing; one polls, and is moved; one sleeps up to an alarm
-# that is far away; others do nothing of this.
+# A guest sets a divisor whose high byte is 1, which enables nothing; one polls; one sleeps up to an alarm that is far
+# away; others do nothing of this.
 DIVISOR = f"w {COM1 + 3:x} 1 83", f"w {COM1 + 1:x} 1 01", *POKE, f"w {COM1 + 3:x} 1 03", f"r {COM1:x} 1 1"
 FAR_ALARM = (f"s {BASE + 0x010:x} 01000000", f"s {BASE + 0x004:x} ffffffff",
              f"n {(2**32 - 1) * SECOND - OF_DAY - SECOND // 10:x}", f"n {SECOND:x}")
 # A request is refused, and made again.
 MADE_AGAIN = "d 1", f"w {COM1 + 1:x} 1 00", f"w {COM1 + 1:x} 1 02", "d 0", RETRY
-OPENINGS = (), (), (), DIVISOR, (*POKE, "g", *POKE, f"w {COM1 + 4:x} 1 08"), FAR_ALARM
+OPENINGS = (), (), (), DIVISOR, (*POKE, *POKE, f"w {COM1 + 4:x} 1 08"), FAR_ALARM
 # The guest enables both interrupts while a byte is held, and the second of the two requests is refused.
 SECOND_OF_TWO = (f"w {COM1 + 1:x} 1 00", "i 78", "d 2", f"w {COM1 + 1:x} 1 03", RETRY)
 MOST_LINES, MOST_WAITING = 60, 60_000
@@ -38,7 +38,6 @@ QUEUE, LEVEL, PIECE = 65536, 65536 - 4096, 4096
 EVER = 2**63 - 1
 # Up to where moments are tried. In nanoseconds twice as much has more than 63 bits.
 FAR = 2**32 * SECOND
-SNAPSHOT, CALLS_OF_A_FILE = "\r\nmonitor: snapshot: {}\r\n", 4
 RESET, LEFT = "monitor: the guest reset the machine", "monitor: left by Ctrl-A x"
 # Why KVM gives up.
 SHUTDOWN, INTERNAL_ERROR = 8, 17
@@ -57,19 +56,14 @@ class Hosted(Monitor):
     def __init__(self, is_early):
         super().__init__()
         self.feeds_early, self.out, self.is_up, self.is_after = is_early, b"", 0, False
-        self.since_start, self.of_day, self.place = SINCE_START, OF_DAY, START
+        self.since_start, self.of_day = SINCE_START, OF_DAY
         self.ahead, self.goes_off, self.awake, self.retry_at = OF_DAY - SINCE_START, None, AWAKE, None
         self.status, self.error = 0, 0  # the last is that of the next write
-        self.is_restored = self.is_reset = False
         self.has_ended = ""  # or what the monitor says then
         self.is_closed, self.has_input = False, True  # as the user does, and as the monitor knows it
         self.backlog, self.is_watched = b"", True  # what was typed and not read, and whether it is to be
         self.waits_for_terminal, self.dropped, self.takes, self.is_stalled = b"", 0, EVER, False
-        self.printed.append(RAW)
-        self.start(FRESH)
-
-    def start(self, mark):
-        self.printed.append(f"starts {self.place:x} {IMAGE:02x} {mark:02x}{mark:02x}")
+        self.printed += [RAW, f"starts {START:x} {IMAGE:02x}"]
 
     @property
     def moment(self):
@@ -199,15 +193,6 @@ class Hosted(Monitor):
         read = getattr(self, word)(*numbers, *data)
         if word in "rl":
             self.printed.append(read.hex())
-        if word in "wrsl":
-            self.place += 1
-        if self.is_reset and self.is_restored:
-            self.has_ended = RESET
-        elif self.is_reset:
-            self.follow_clock()
-            self.place = START
-            self.start(FRESH)
-        self.is_reset = False
         self.end() if self.has_ended else self.rest()
 
     def w(self, port, size, data):
@@ -218,10 +203,7 @@ class Hosted(Monitor):
             if place > 0 and (port, size) == (COM1, 1) and self.port.at(0) == "RBR" and not self.port.is_looped():
                 self.show(byte)  # as the first of the string, which has raised what it can
             elif at in (0x60, 0x64) and resets(at - 0x60, byte):
-                self.is_reset = True
-                if not self.is_restored:
-                    self.port, self.clock = Port(lambda _: False, lambda: ""), Clock()
-                    self.is_ready = False
+                self.has_ended = RESET
             else:
                 super().w(at, byte)
 
@@ -274,34 +256,6 @@ class Hosted(Monitor):
         self.has_ended = {0: f"monitor: {os.strerror(errno.EFAULT)}", SHUTDOWN: SHUT_DOWN}.get(reason, GIVES_UP)
         self.status = 1
 
-    def say_of_snapshot(self, what):
-        self.fail_to_read()
-        self.feed()
-        for byte in SNAPSHOT.format(what).encode():
-            self.show(byte)
-
-    def f(self, _call):
-        self.say_of_snapshot(os.strerror(errno.ENOSPC))
-        self.turn()
-
-    def g(self):
-        """After the snapshot the monitor makes its turn, of which the next one knows nothing."""
-        self.say_of_snapshot("written")
-        saved, moment = list(self.port.past), self.moment
-        self.turn()
-        self.show_output()
-        self.port.past, self.is_restored = saved, True
-        self.ahead = max(self.of_day, moment * SECOND) - self.since_start
-        self.is_stalled, self.retry_at = False, None
-        self.down = self.is_up = self.dropped = self.error = 0
-        self.waits_for_terminal, self.takes = b"", EVER
-        self.feed()
-        self.printed.append(RAW)
-        self.ask(self.port.due())
-        self.follow_clock()
-        self.turn()
-        self.start(USED)
-
 
 class Script:
     """Random lines, and what the host sees for them."""
@@ -310,17 +264,19 @@ class Script:
         self.random = chance
         self.is_early = chance.randrange(6) == 0
         self.monitor, self.lines = Hosted(self.is_early), []
-        if number < 3 * WAYS:
-            (self.flood, self.fill, self.insist)[number // WAYS](number % WAYS)
+        if number < 2 * WAYS:
+            (self.flood, self.fill)[number // WAYS](number % WAYS)
+        elif number == 2 * WAYS:
+            self.insist()
         else:
             self.add(*chance.choice(OPENINGS))
         for line in (f"w {COM1 + 1:x} 1 0{chance.choice((1, 1, 1, 2, 3))}", f"s {BASE + 0x010:x} 01000000"):
-            if chance.randrange(4) and not self.monitor.has_ended:
+            if chance.randrange(4):
                 self.add(line)
         makers = [self.write, self.read, self.type, self.store, self.load, self.wait, self.host]
         while len(self.lines) < length and not self.monitor.has_ended:
-            chance.choices(makers, (8, 12, 8, 6, 2, 4, 9))[0]()
-        if not self.monitor.has_ended and chance.randrange(2):
+            chance.choices(makers, (8, 12, 8, 6, 5, 4, 9))[0]()
+        if chance.randrange(2):
             self.add(chance.choice((*FAILURES, f"q {chance.choice(SIGNALS):x}", f"q {chance.choice(FAULTS):x}")))
 
     def flood(self, number):
@@ -340,19 +296,18 @@ class Script:
         """More input than there is room for, or not quite, for a guest that is ready only then."""
         for _ in range((2, QUEUE // PIECE - 1, QUEUE // PIECE, QUEUE // PIECE + 2)[number]):
             self.add(f"i {bytes(self.random.choices(range(2, 256), k=PIECE)).hex()}")
-        self.add(f"i {bytes(self.random.randrange(1, 40)).hex()}", *["g"] * self.monitor.is_watched,
-                 f"w {COM1 + 1:x} 1 01", *[f"r {COM1:x} 1 {PIECE:x}"] * 2)
+        take = f"r {COM1:x} 1 {PIECE:x}"
+        self.add(f"i {bytes(self.random.randrange(1, 40)).hex()}", f"w {COM1 + 1:x} 1 01", take, take)
 
-    def insist(self, number):
+    def insist(self):
         """Both interrupts are refused, again and again."""
-        if number == 0:
-            self.add("d 1", f"w {COM1 + 1:x} 1 01", "i 78", f"w {COM1 + 1:x} 1 03", *[RETRY] * REFUSALS, "d 0", RETRY,
-                     RETRY)
+        self.add("d 1", f"w {COM1 + 1:x} 1 01", "i 78", f"w {COM1 + 1:x} 1 03")
+        self.add(*[RETRY] * REFUSALS, "d 0", RETRY, RETRY)
 
     def add(self, *lines):
-        """Adds lines, without what would be typed after the end of input."""
+        """Adds lines, up to the end, and without what would be typed after the end of input."""
         for line in lines:
-            if line[0] != "i" or not self.monitor.is_closed:
+            if not self.monitor.has_ended and (line[0] not in "iz" or not self.monitor.is_closed):
                 self.lines.append(line)
                 self.monitor.serve(line)
 
@@ -429,35 +384,20 @@ class Script:
         self.add(f"n {max(0, self.random.choice((left, left, left - 1, left // 2, SECOND, 7 * SECOND // 10))):x}")
 
     def host(self):
-        """The line takes nothing, or requests again, or a refused one is made again; the machine is reset, and input
-        comes to a guest that may not be ready; or it moves, mostly to a host of another time of day."""
-        self.random.choices((self.refuse, self.reset, self.move, self.fail), (8, 1, 2, 2))[0]()
+        """The line takes nothing, or requests again, or a refused one is made again; the host's time of day changes;
+        the next write to the terminal fails; the guest resets the machine, or not quite; or the user types no more."""
+        back = self.random.choice((1, 2, self.random.randrange(-2000, 2000)))
+        error, command = self.random.choice((*PASSING, LASTING)), self.random.choice(("fe", "fd", "fd", "fd"))
+        lines = {(f"k {back:x}", f"l {BASE:x} 4", *POKE): 4, (f"e {error:x}",): 3, (f"w 64 1 {command}",): 1, ("z",): 1}
+        if self.random.randrange(2):
+            self.refuse()
+        else:
+            self.add(*self.random.choices(list(lines), lines.values())[0])
 
     def refuse(self):
         """At times the line refuses the second of two requests."""
         singly = ("d 1", "d 1", "d 0", RETRY, RETRY, f"t {PAUSE - 1:x}", "t 1")
         self.add(*self.random.choice((*((it,) for it in singly), SECOND_OF_TWO, MADE_AGAIN)))
-
-    def fail(self):
-        """The next write to the terminal fails, or a snapshot, or the user types no more."""
-        if not self.random.randrange(8) and not self.monitor.is_closed:
-            self.add("z")
-        elif self.random.randrange(3) or not self.monitor.is_watched:
-            self.add(f"e {self.random.choice((*PASSING, LASTING)):x}")
-        else:
-            self.add(f"f {self.random.randrange(CALLS_OF_A_FILE) + 1}")
-
-    def reset(self):
-        self.add(f"w 64 1 {self.random.choice(('fe', 'fe', 'fe', 'fd'))}")
-        if not self.monitor.has_ended and self.random.randrange(2):
-            self.add(f"w {COM1 + 1:x} 1 0{self.random.randrange(4)}", *POKE)
-
-    def move(self):
-        self.add(f"k {self.random.choice((0, 1, 2, self.random.randrange(-2000, 2000))):x}")
-        if self.random.randrange(2) and self.monitor.is_watched:
-            self.add("g", f"l {BASE:x} 4")
-        if self.random.randrange(2):
-            self.add(*POKE)
 
 
 def random_scripts(count, seed):
@@ -469,12 +409,12 @@ def random_scripts(count, seed):
 def command_of(program, *options):
     """The words that run a monitor in its folder, where an image has one byte."""
     (program.parent / "image").write_bytes(bytes([IMAGE]))
-    return ["env", "-C", program.parent, "TSAN_OPTIONS=atexit_sleep_ms=0", program, "-s", "snapshot", *options]
+    return ["env", "-C", program.parent, "TSAN_OPTIONS=atexit_sleep_ms=0", program, "-f", "image", "-m", "2", *options]
 
 
 def differences_of(program, scripts):
     """The scripts in which a monitor with this host does something else."""
     for script in scripts:
-        options = "-m", "2", "--reboot", *["--early-input"] * script.is_early
+        options = ["-e"] * script.is_early
         case = str(script.lines)[:2000], script.lines, script.monitor.printed, script.monitor.status
-        yield from different_scripts(command_of(program, "-f", "image", *options), [case])
+        yield from different_scripts(command_of(program, *options), [case])

@@ -1,13 +1,12 @@
-"""Programs that are built against an installed tree, by CMake and by pkg-config."""
+"""The object code of the libraries, and programs that are built against an installed tree."""
 import os
-import sys
+import re
 from pathlib import Path
 
-from libraries import PREBUILT, ROOT, SHARED, TARGETS, host_target
+from header import read_header
+from libraries import PREBUILT, ROOT, SHARED, STATIC, TARGETS, host_target
 from machines import machines
-from objects import symbols
 from tally import run
-from texts import VERSION
 
 LIBDIR = Path("usr", "lib", "fancy")
 # A program for both languages, and what it prints.
@@ -17,22 +16,53 @@ int main(void)
 {
     superio_serial port = superio_serial_new();
     superio_serial_write_effects written = superio_serial_write(&port, 0, 'x');
-    printf("%s %d %d\\n", SUPERIO_VERSION, (int)SUPERIO_ABI_MATCHES(), (int)written.sends);
+    printf("%d %d\\n", (int)SUPERIO_ABI_MATCHES(), (int)written.sends);
     return 0;
 }
 """
-EXPECTED = f"{VERSION} 1 1\n"
+EXPECTED = "1 1\n"
 CMAKE = """cmake_minimum_required(VERSION 3.16)
-project(user C CXX)
-find_package(superio %s REQUIRED)
-foreach(kind superio static)
-  foreach(language c cpp)
-    add_executable(${kind}_${language} program.${language})
-    target_link_libraries(${kind}_${language} superio::${kind})
-  endforeach()
-endforeach()
+project(user C)
+find_package(PkgConfig REQUIRED)
+pkg_check_modules(superio REQUIRED IMPORTED_TARGET superio)
+add_executable(program program.c)
+target_link_libraries(program PkgConfig::superio)
 """
-PAGE_COMPLAINT = 'missing date, using ""'
+WANTED = ("NT_GNU_BUILD_ID", "GNU_RELRO", "BIND_NOW", f"Library soname: [{SHARED}]")
+# Marks that a program may not carry unless each of its jumps leads to a place that is marked too.
+CLAIMS = re.compile(r"feature:.*(?:IBT|SHSTK|BTI|PAC)")
+
+
+def symbols(kind, library, *options):
+    """The symbols of a library that have a letter as their kind, without the version of the C library."""
+    return set(re.findall(rf"\b{kind} ([^\s@]+)", run(["nm", *options, library]).stdout))
+
+
+def check_shared(tally, library, is_prebuilt):
+    """Counts whether a shared library has the properties that docs/RELEASE.md says. A stack protector, or a checked
+    call of the C library, would be missing beside memcpy."""
+    said = run(["readelf", "--wide", "--notes", "--segments", "--dynamic", "--sections", library]).stdout
+    for what in WANTED:
+        tally.check(what in said, f"{library} has no {what}")
+    tally.check(("GNU_EH_FRAME" in said) != is_prebuilt, f"{library}: docs/RELEASE.md says otherwise of unwind tables")
+    stack = re.findall("GNU_STACK.*", said)
+    tally.check(len(stack) == 1 and " RW " in stack[0], f"{library} may run its stack: {stack}")
+    tally.check(not CLAIMS.findall(said), f"{library} claims {CLAIMS.findall(said)}")
+    needed = re.findall(r"\(NEEDED\).*\[(.+)\]", said)
+    tally.check(needed == ([] if is_prebuilt else ["libc.so.6"]), f"{library} needs {needed}")
+    shown = symbols(r"\w", library, "--dynamic", "--defined-only")
+    tally.check(shown == read_header().functions.keys(), f"{library} shows {shown}")
+    missing = symbols("U", library, "--dynamic", "--undefined-only")
+    tally.check(missing == {"memcpy"}, f"{library} takes {missing} from elsewhere")
+
+
+def check_objects(tally):
+    """Counts what the libraries of the repository have."""
+    if all(tally.has(tool, "the properties of the libraries") for tool in ("readelf", "nm")):
+        for target in sorted(TARGETS):
+            check_shared(tally, PREBUILT / target / SHARED, is_prebuilt=True)
+            shown = symbols("T", PREBUILT / target / STATIC, "--defined-only", "--extern-only")
+            tally.check(shown == read_header().functions.keys(), f"{target}: {STATIC} shows {shown}")
 
 
 def finding(libdir):
@@ -47,19 +77,9 @@ def run_example(tally, name, libdir, **environment):
     tally.run(f"debian/tests/{name}", [program], cwd=ROOT, env={**finding(libdir), **environment})
 
 
-def check_links(tally, program, is_shared, what):
-    """Counts whether a program needs the shared library, by the name that has the binary interface's number."""
-    if tally.has("readelf", f"what {what} needs"):
-        needed = f"Shared library: [{SHARED}]" in run(["readelf", "--dynamic", "--wide", program]).stdout
-        tally.check(needed == is_shared, f"{what} needs {SHARED}: {needed}")
-
-
 def check_pkg_config(tally, machine, libdir, folder):
     """Counts whether a program of each compiler is built by the flags of pkg-config, and runs with either library."""
-    if not tally.has("pkg-config", f"programs by pkg-config for {machine.target}"):
-        return
     environment = finding(libdir)
-    tally.run("pkg-config's version", ["pkg-config", "--modversion", "superio"], f"{VERSION}\n", env=environment)
     source, program = folder / "program.c", folder / "program"
     source.write_text(PROGRAM, encoding="ascii")
     # qemu loads the cross compiler's C library, and our library.
@@ -73,89 +93,28 @@ def check_pkg_config(tally, machine, libdir, folder):
             command = [compiler.name, *compiler.language, *options, source, "-xnone", *flags, "-o", program]
             what = f"{package} for {machine.target} under {compiler.title} {' '.join(options)}"
             if tally.run(f"{what} is built", command):
-                check_links(tally, program, package == "superio" and not options, what)
                 tally.run(what, [*runner, program], EXPECTED, env=environment)
 
 
 def check_cmake(tally, libdir, folder):
-    """Counts whether a project of CMake finds the package of its version, and no other, and its programs run."""
-    project, wanted = folder / "project", VERSION.rpartition(".")[0]
-    project.mkdir()
-    for name in ("program.c", "program.cpp"):
-        (project / name).write_text(PROGRAM, encoding="ascii")
-    for c, cpp in (("gcc", "g++"), ("clang", "clang++")):
-        if not all(tally.has(tool, "a project of CMake") for tool in ("cmake", "make", c, cpp)):
-            continue
-        for version in (f"{wanted}.99", "0.1", "99.0", wanted):
-            (project / "CMakeLists.txt").write_text(CMAKE % version, encoding="ascii")
-            place = folder / f"{c}-{version}"
-            ran = run(["cmake", "-S", project, "-B", place, f"-Dsuperio_DIR={libdir / 'cmake' / 'superio'}",
-                       f"-DCMAKE_C_COMPILER={c}", f"-DCMAKE_CXX_COMPILER={cpp}"])
-            is_found = ran.returncode == 0
-            tally.check(is_found == (version == wanted), f"CMake asked for superio {version}:\n{ran.stdout}")
-        if tally.run("the project of CMake", ["cmake", "--build", folder / f"{c}-{wanted}"]):
-            for name in ("superio_c", "superio_cpp", "static_c", "static_cpp"):
-                program = folder / f"{c}-{wanted}" / name
-                tally.run(f"{name} of CMake", [program], EXPECTED)
-                check_links(tally, program, name.startswith("superio"), f"{name} of CMake")
-
-
-def check_exports(tally, tree, folder):
-    """Counts whether a shared library that links the static one shows its functions, and hides them if told so."""
-    if not all(tally.has(tool, "a shared library over the static one") for tool in ("cc", "nm")):
-        return
-    source, made = folder / "over.c", folder / "libover.so"
-    source.write_text("#include <superio.h>\nunsigned over(void) { return superio_abi(); }\n", encoding="ascii")
-    for options, is_hidden in (([], False), (["-Wl,--exclude-libs,ALL"], True)):
-        words = ["cc", "-shared", "-fPIC", *options, "-I", tree / "usr" / "include", source, "-o", made]
-        if tally.run("a shared library over the static one", [*words, tree / LIBDIR / "libsuperio.a"]):
-            found = symbols(r"\w", made, "--dynamic", "--defined-only")
-            is_good = found == {"over"} if is_hidden else found >= {"over", "superio_abi"}
-            tally.check(is_good, f"a shared library over the static one shows {found}")
-
-
-def check_page(tally, page):
-    """Counts whether the manual page is in order, and has each function."""
-    if tally.has("mandoc", "the manual page"):
-        said = run(["mandoc", "-Tlint", page]).stdout.splitlines()
-        wrong = [line for line in said if PAGE_COMPLAINT not in line]  # a date would not be that of the release
-        tally.check(not wrong, "\n".join(["the manual page:", *wrong]))
-        shown = run(["mandoc", "-Tascii", "-Owidth=200", page]).stdout.replace("\b", "")
-        tally.check(shown.count("superio_rtc_save(") == 2, "the manual page lacks superio_rtc_save")
-    if tally.has("man", "the manual page"):
-        tally.run("the manual page", ["sh", "-c", 'man --warnings --local-file "$1" 2>&1 >/dev/null', "sh", page], "")
-
-
-def check_make(tally, tree, target):
-    """Counts whether make installs the library of a target, or this machine's, and takes it away again."""
-    names = [f"DESTDIR={tree}", "PREFIX=/opt/it", "LIBDIR=lib64", *([f"TARGET={target}"] if target else [])]
-    tally.run("make install", ["make", "-s", "-C", ROOT, "install", *names])
-    installed = tree / "opt" / "it" / "lib64" / SHARED
-    wanted = PREBUILT / (target or host_target()) / SHARED
-    is_there = installed.is_file() and installed.read_bytes() == wanted.read_bytes()
-    tally.check(is_there, f"make install, TARGET={target}: not the right library")
-    tally.run("make uninstall", ["make", "-s", "-C", ROOT, "uninstall", *names])
-    left = [path for path in tree.rglob("*") if not path.is_dir()]
-    tally.check(not left, f"make uninstall leaves {left}")
+    """Counts whether a project of CMake finds the library by pkg-config."""
+    if tally.has("cmake", "a project of CMake"):
+        (folder / "CMakeLists.txt").write_text(CMAKE, encoding="ascii")
+        for words in (["-S", folder, "-B", folder / "made"], ["--build", folder / "made"]):
+            tally.run("the project of CMake", ["cmake", *words], env=finding(libdir))
+        tally.run("the program of CMake", [folder / "made" / "program"], EXPECTED)
 
 
 def check_trees(tally, folder):
     """Counts what programs make of the trees that an installation writes."""
-    install = [sys.executable, ROOT / "tools" / "install"]
+    if not all(tally.has(tool, "an installation") for tool in ("make", "pkg-config")):
+        return
     for machine in machines():
-        tree, place = folder / machine.target / "tree", folder / machine.target
-        tally.run(f"tools/install for {machine.target}",
-                  [*install, "--target", machine.target, "--libdir", "lib/fancy", "/usr"], "",
-                  env={**os.environ, "DESTDIR": str(tree)})
-        check_pkg_config(tally, machine, tree / LIBDIR, place)
+        place = folder / machine.target
+        names = [f"DESTDIR={place}/tree", "PREFIX=/usr", "LIBDIR=lib/fancy", f"TARGET={machine.target}"]
+        tally.run(f"make install for {machine.target}", ["make", "-s", "-C", ROOT, "install", *names], "")
+        check_pkg_config(tally, machine, place / "tree" / LIBDIR, place)
         if machine.target == host_target():
-            check_cmake(tally, tree / LIBDIR, place)
-            check_exports(tally, tree, place)
-            check_page(tally, tree / "usr" / "share" / "man" / "man3" / "superio.3")
-            if all(tally.has(tool, "the installed demo") for tool in ("pkg-config", "make", "cc")):
-                run_example(tally, "c", tree / LIBDIR)
-    if host_target() is None:
-        tally.skip("a library for this processor", "projects of CMake")
-    elif tally.has("make", "make install"):
-        for target in (None, *sorted(TARGETS)):
-            check_make(tally, folder / f"made {target}", target)
+            check_cmake(tally, place / "tree" / LIBDIR, place)
+            if tally.has("cc", "the installed demo"):
+                run_example(tally, "c", place / "tree" / LIBDIR)

@@ -8,7 +8,6 @@
  *   d DOWN           the interrupt line takes nothing, or takes requests again
  *   n SECONDS        the time                     a              the alarm's timer goes off
  *   t                a turn of the event loop     h              the guest's handler runs while it is interrupted
- *   p MOST           the same of a guest that takes so many bytes for each look at IIR, which are printed
  *   g                the machine moves            f WHICH HOW    later loads of the port (1) or the clock (2) give HOW
  *   e                input is offered although the guest is not ready
  *   o                another machine takes the place of this one
@@ -43,23 +42,6 @@ static void run_handler(struct machine *machine) {
     printf("received %d\n", received);
 }
 
-static void run_other_handler(struct machine *machine, int most) {
-    uint8_t taken[sizeof machine->input + SUPERIO_SERIAL_FIFO_SIZE];
-    size_t count = 0;
-    while (machine->is_interrupted) {
-        machine->is_interrupted = false;
-        while (!(port_read(machine, COM1 + 2) & 0x01))
-            for (int i = 0; i < most && port_read(machine, COM1 + 5) & 0x01; i++) {
-                check(count < sizeof taken, "a handler's end");
-                taken[count++] = port_read(machine, COM1);
-            }
-    }
-    fputs("received ", stdout);
-    for (size_t i = 0; i < count; i++)
-        printf("%02x", taken[i]);
-    puts("");
-}
-
 static void serve(struct machine *machine, char word, long long first, long long second) {
     size_t length;
     switch (word) {
@@ -77,7 +59,6 @@ static void serve(struct machine *machine, char word, long long first, long long
     case 'a': alarm_is_due(machine); break;
     case 't': turn(machine); break;
     case 'h': run_handler(machine); break;
-    case 'p': run_other_handler(machine, (int)first); break;
     case 'g': *machine = migrate(machine); break;
     case 'e': machine->feeds_early = true; break;
     case 'f':
