@@ -297,8 +297,9 @@ superio_serial_enqueue_effects superio_serial_enqueue(superio_serial *port,
  * 0 or 1 times.
  *
  * A guest's read of RBR or IIR ends RDA even if it leaves bytes. Without this
- * call, these wait without an interrupt until another byte arrives or the guest
- * writes IER, and a guest that waits for the interrupt hangs. Make the call
+ * call, these wait without an interrupt until another byte arrives, for which a
+ * full FIFO has no room, or the guest writes IER. A guest that waits for the
+ * interrupt hangs. Make the call
  *
  * - after each guest read at offset 2 whose byte has bit 0x01 set, which says
  *   that nothing is pending;

@@ -7,8 +7,8 @@ use crate::Trigger;
 /// Interrupts the guest again while received bytes wait for it.
 ///
 /// A guest's read of IIR or of a byte ends the interrupt of received data, even if it leaves bytes in the FIFO. Without
-/// this call they wait silently until another byte arrives or the guest writes IER, and a guest that waits for the
-/// interrupt hangs.
+/// this call they wait silently until another byte arrives, for which a full FIFO has no room, or the guest writes IER.
+/// A guest that waits for the interrupt hangs.
 ///
 /// # When to make the call
 ///
