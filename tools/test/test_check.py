@@ -60,7 +60,7 @@ CHECKS = [
 LEAST = [
     ("kvm/check", "PASTED", 100_000), ("kvm/without_kvm.py", "TURNS", 30), ("checks/first_crate", "PROVED", 3),
     ("c/programs.py", "SANITIZERS", 4),
-    ("c/programs.py", "CALLS", 250_000), ("rust/random_calls", "CALLS", 2_000_000), ("c/demo.py", "OTHERS", 4),
+    ("c/programs.py", "CALLS", 250_000), ("c/demo.py", "OTHERS", 4),
     ("kvm/without_kvm.py", "OTHERS", 3), ("kvm/without_kvm.py", "HELD", 3), ("kvm/hosted.py", "WAYS", 4),
     ("kvm/hosted.py", "REFUSALS", 1000), ("kvm/hosted.py", "MOST_LINES", 60), ("c/twin.py", "MOST_LINES", 80),
 ]

@@ -34,10 +34,10 @@ LACKING = re.compile(r"(.*-)?(rt|cc|c89|c99|tcc|gcc|g\+\+|c\+\+|cpp|clang|clang\
 # The checks that need compilers, each with what it names as missing; the same if Cargo is there, but no compiler that
 # it links by; and if it is too old.
 NO_CC, NO_CARGO, OLD = "cc is not there", "cargo is not there", "a Cargo that knows the edition"
-WITHOUT = {**dict.fromkeys(("rust", "random_calls", "counts", "calls"), NO_CARGO), **dict.fromkeys(("c", "kvm"), NO_CC)}
+WITHOUT = {**dict.fromkeys(("rust", "counts", "calls"), NO_CARGO), **dict.fromkeys(("c", "kvm"), NO_CC)}
 # targets names a package of Debian first, if that is missing.
-WITH_CARGO = {**dict.fromkeys(("c", "rust", "random_calls", "counts", "calls"), NO_CC), "targets": " is not there"}
-WITH_OLD_CARGO = dict.fromkeys(("random_calls", "calls", "counts"), OLD)
+WITH_CARGO = {**dict.fromkeys(("c", "rust", "counts", "calls"), NO_CC), "targets": " is not there"}
+WITH_OLD_CARGO = dict.fromkeys(("calls", "counts"), OLD)
 
 
 @unittest.skipUnless(CAT and shutil.which("cc"), "cat and cc are needed")

@@ -40,7 +40,7 @@ NAMES = [
      f"{PROOFS}: superio_c::serial::superio_serial_character_timeout: waiting is not named"),
     (BODIES, "| `dropped`; `tools", "| `alarm`; `tools",
      f"{BODIES}: crates/superio_tests/src has no module alarm"),
-    (PROOFS, "`sending`; `tools/compare", "`serial`; `tools/compare",
+    (PROOFS, "`sending`; `tools/checks/calls", "`serial`; `tools/checks/calls",
      f"{PROOFS}: crates/superio_tests/src has no module serial"),
     (CALLING, "`Serial::read: data`", "`Serial::read: date`",
      f"{CALLING}: vm_superio::serial::Serial::read has no clause date"),

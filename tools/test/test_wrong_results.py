@@ -7,7 +7,7 @@ import subprocess
 import sys
 import unittest
 from dataclasses import replace
-from itertools import chain, islice, repeat
+from itertools import islice
 from pathlib import Path
 from unittest import mock
 
@@ -22,11 +22,10 @@ from machines import machines
 from repository import (NOTHING_ELSE, OF_CALLS, ROOT, CopyTest, FolderTest, ended, make_tiny, module_of, program,
                         silently, sum_of, tally_of)
 from tally import run
-from toolchains import Toolchain
 
 failing_io, first_crate, hostile, refused_memory, saved_forms = (
     module_of(f"checks/{name}") for name in ("failing_io", "first_crate", "hostile", "refused_memory", "saved_forms"))
-rust_check, js_check, kvm_check, page_check = (module_of(f"{name}/check") for name in ("rust", "js", "kvm", "page"))
+js_check, kvm_check, page_check = (module_of(f"{name}/check") for name in ("js", "kvm", "page"))
 # A program that prints its script, and others that differ from it in one thing.
 RIGHT, STATUS = "cat", "cat; exit 1"
 WRONG = ("sed 's/4$/5/'", "cat; echo", "sed '$d'", "cat; echo fault >&2", STATUS, "true")
@@ -96,7 +95,7 @@ class Programs(CopyTest):
             printed = self.run_tool("tools/checks/calls", program(self.root / "program", text), env=environment)[1]
             return (*sum_of(printed)[:2], printed)
         passed, failed, _ = calls(OF_CALLS, self.tools)
-        self.assertIn((passed, failed), [(17, 0), (25, 0)])  # with Cargo beside cc there is a library more
+        self.assertIn((passed, failed), [(17, 0), (26, 0)])  # with Cargo beside cc there is a library more
         self.assertEqual(calls(f"{OF_CALLS}sys.exit(1)\n", NOTHING_ELSE)[:2], (11, 6))
         further = ("c/tests/shared.txt", "compare/panics.txt")
         for path in (*folder.glob("*.txt*"), *(self.root / "tools" / it for it in further)):
@@ -108,7 +107,7 @@ class Programs(CopyTest):
         wrong = OF_CALLS.replace("print(reply)", "print('08' if line == 'sr 07\\n' else reply)")
         passed, failed, printed = calls(wrong, os.environ)
         lost = [it for it, says in DIFFERS.items() if f"{it}, line.txt: recorded: {says}\n" not in printed]
-        self.assertIn((passed, failed, lost), [(0, 17, ["Rust"]), (0, 25, [])], printed)
+        self.assertIn((passed, failed, lost), [(0, 17, ["Rust"]), (0, 26, [])], printed)
 
     def test_saved_forms(self):
         self.take("bindings", "docs/SAVED-STATES.md")
@@ -364,29 +363,6 @@ class Failing(FolderTest):
                 mock.patch("subprocess.run", lambda *_, **__: ended(0)):
             tally = tally_of(demo.check_driven_demo, machines()[0], self.folder)
         self.assertEqual((tally.failed, tally.tried.counts["wrong demos"]), (demo.TURNS, demo.TURNS))
-
-    def test_of_rust(self):
-        """But that an empty crate is no vm-superio."""
-        for check in rust_check.OF_PROGRAMS:
-            with mock.patch.object(rust_check, "debian_crates", lambda *_: {}), \
-                    mock.patch.object(rust_check, "toolchains", lambda: [Toolchain("/rustc", rust_check.OLDEST)]), \
-                    mock.patch.dict("os.environ", {"VM_SUPERIO": ""}):
-                tally = tally_of(lambda it: it.carry_out("it", check, self.folder / check.__name__))
-            has_none = check in (rust_check.check_moved_original, rust_check.check_comparison)
-            self.assertEqual((tally.passed, tally.skipped > 0, tally.failed > 0),
-                             (check is rust_check.check_drop_in, has_none, not has_none), check.__name__)
-
-    def test_the_echo(self):
-        """Scripts that differ, and wrong echoes that differ in nothing or are not built."""
-        wrong = len(list(rust_check.read_bugs(rust_check.WRONG_ECHOES, "echo.rs")))
-        for statuses, different, passed, failed in (
-                ([0], ["one", "another"], 1 + wrong, 1), ([0], [], 2, wrong), ([0, 101], ["one"], 1, 1 + wrong)):
-            runs = chain(map(ended, statuses), repeat(ended(statuses[-1])))
-            crate = mock.Mock(**{"return_value.run.side_effect": runs})
-            with mock.patch.multiple(rust_check, Cargo=crate, random_cases=lambda *_: [],
-                                     different_scripts=lambda *_: different):
-                tally = tally_of(rust_check.check_echo, self.folder / str(failed))
-            self.assertEqual((tally.passed, tally.failed), (passed, failed))
 
 
 class Proving(CopyTest):
