@@ -67,7 +67,7 @@ class MissingFiles(CopyTest):
             (self.root / lost).unlink()
         path = {"PATH": f"{self.root}:{Path(sys.executable).parent}"}
         self.judge_sums("c/check", says=f"{LIBRARY}'", sums=(SOME, SOME), env=path)
-        self.judge_sums("rust/check", says=f"{DEVICE} is not there", sums=(SOME, SOME), env=path)
+        self.judge_sums("rust/check", says=f"{DEVICE} is not there", sums=(0, SOME), env=path)
 
     def test_wrong_bodies_without_the_prover(self):
         make_tiny(self.root, [("one", "same", "ensures", "    number", "    0")])
