@@ -13,9 +13,8 @@ BINDINGS = ROOT / "bindings" / "rust"
 COMPARISON, STATES = ROOT / "tools" / "compare", ROOT / "tools" / "rust" / "states"
 # Where Debian's packages put crates.
 DEBIAN = Path("/usr/share/cargo/registry")
-ORIGINAL = "vm-superio-0.8.2"
 # An optional dependency has to be there, to be left out.
-STAND_INS = {"serde-1.0.0": None, ORIGINAL: None}
+STAND_INS = {"serde-1.0.0": None, "vm-superio-0.8.2": None}
 # Most is built once, and nothing is debugged.
 QUICK = {"CARGO_INCREMENTAL": "0", "CARGO_PROFILE_DEV_DEBUG": "0"}
 # Debian's linker takes long to put Rust's library into each test.
@@ -28,13 +27,9 @@ def original():
     return Path(folder).resolve() if folder else None
 
 
-def debian_crates(original=None):
-    """The crates of Debian's packages, by name and version, or `None` if there are none. A given folder takes the place
-    of their vm-superio."""
-    if not DEBIAN.is_dir():
-        return None
-    crates = {it.name: it for it in DEBIAN.iterdir() if not (original and it.name.startswith("vm-superio-"))}
-    return {**crates, ORIGINAL: original} if original else crates
+def debian_crates():
+    """The crates of Debian's packages, by name and version, or `None` if there are none."""
+    return {it.name: it for it in DEBIAN.iterdir()} if DEBIAN.is_dir() else None
 
 
 class Cargo:

@@ -82,7 +82,7 @@ OF_PAGE = [
 PASTED = [("```sh\necho a\n```\n\n```text\na\n```\n", True), ("```sh\necho b\n```\n\n```text\na\n```\n", False),
           ("```sh\nfalse\necho goes on\n```\n", False), ("```sh\necho Traceback\n```\n", False)]
 # Checks that need a compiler, Cargo or node, and skip what they cannot run.
-NEEDING = ("rust/counts", "js/check", "kvm/check", "rust/check", "rust/random_calls")
+NEEDING = ("rust/counts", "js/check", "kvm/check", "rust/check")
 
 
 class Planted(CopyTest):

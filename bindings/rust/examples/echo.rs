@@ -1,4 +1,4 @@
-//! A guest's driver that sends back what you type, in capitals: `cargo run --example echo`.
+//! A guest's driver that sends back what you type, in capitals: `echo hello | cargo run --example echo` prints HELLO.
 //!
 //! Each line of standard input reaches the port as a terminal's input would. The driver below is the guest. It is
 //! called for the interrupt, reads bytes that have come, and sends its answer. The end of input (Ctrl-D) ends the

@@ -18,15 +18,6 @@ pub type Outcome = Result<String, Error<io::Error>>;
 /// The bytes before a clock read, which an invalid one leaves as they were.
 pub const UNREAD: [u8; 4] = [0xA5; 4];
 
-/// An error as a derived `Debug` prints it.
-#[derive(Debug)]
-#[allow(dead_code)] // what `Debug` alone reads
-enum Derived<'a> {
-    Trigger(&'a io::Error),
-    IOError(&'a io::Error),
-    FullFifo,
-}
-
 pub struct Devices {
     pub object: Object,
     pub serial: Serial<Object, Arc<Object>, Object>,
@@ -64,22 +55,16 @@ impl Devices {
         Some(reply + &self.object.take_events())
     }
 
-    /// The reply of a call that fails, if its error and what it prints are those that its object gave.
+    /// The reply of a call that fails, if its error is the one that its object gave, and prints so.
     fn name_of(&self, error: &Error<io::Error>) -> &'static str {
-        let (name, text, derived, is_given) = match error {
-            Error::Trigger(it) => {
-                let text = format!("Failed to trigger interrupt: {it}");
-                ("trigger", text, Derived::Trigger(it), self.object.gave(it, true))
-            }
+        let (name, text, is_given) = match error {
+            Error::Trigger(it) => ("trigger", format!("Failed to trigger interrupt: {it}"), self.object.gave(it, true)),
             Error::IOError(it) => {
-                let text = format!("Couldn't write/flush to the given destination: {it}");
-                ("io", text, Derived::IOError(it), self.object.gave(it, false))
+                ("io", format!("Couldn't write/flush to the given destination: {it}"), self.object.gave(it, false))
             }
-            Error::FullFifo => ("full", "No space left in FIFO".into(), Derived::FullFifo, true),
+            Error::FullFifo => ("full", "No space left in FIFO".into(), true),
         };
-        let printed = format!("{error} {error:#} {error:?} {error:#?}");
-        let is_printed = printed == format!("{text} {text} {derived:?} {derived:#?}");
-        if is_given && is_printed && error.source().is_none() { name } else { "another error" }
+        if is_given && error.to_string() == text && error.source().is_none() { name } else { "another error" }
     }
 
     /// Makes a call that both crates have.

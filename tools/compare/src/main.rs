@@ -1,41 +1,22 @@
-//! Makes calls on the devices of bindings/rust, or of the Rust crate vm-superio 0.8.2. They are lines of text, of which
-//! what stands behind ` = ` does not count:
-//!
-//!     compare play    makes those on standard input, and prints each with what it did
-//!     compare texts   prints what no call reaches
+//! Makes the calls of standard input on the devices of bindings/rust, or of the Rust crate vm-superio 0.8.2, and prints
+//! each with what it did. They are lines of text, of which what stands behind ` = ` does not count.
 //!
 //! Calls that the crate does not have are left out. Over vm-superio, without the feature `further`, the match of a
 //! clock is past, since any other is an alarm in one crate alone.
 #![allow(clippy::arc_with_non_send_sync)] // the crates have events behind an `Arc`, and none behind an `Rc`
 
 mod devices;
-mod errors;
 #[cfg(feature = "further")]
 mod further;
 mod line;
 mod moment;
 mod objects;
-mod surface;
 
-use std::env;
 use std::io::{self, BufRead, BufWriter, Write};
 
 use devices::Devices;
 
-/// Makes each call of standard input, and prints it with what it did, if it could be made.
-fn play() -> io::Result<()> {
-    let mut devices = Devices::new();
-    let mut out = BufWriter::new(io::stdout().lock());
-    for line in io::stdin().lock().lines() {
-        let line = line?;
-        let call = line.split(" = ").next().unwrap_or_default();
-        if let Some(done) = made(&mut devices, call) {
-            writeln!(out, "{done}")?;
-        }
-    }
-    out.flush()
-}
-
+/// The call with what it did, if the crate has it.
 #[cfg(feature = "further")]
 fn made(devices: &mut Devices, call: &str) -> Option<String> {
     Some(format!("{call} = {}", devices.make(call, Devices::carry_out_any)?))
@@ -60,9 +41,14 @@ fn main() -> io::Result<()> {
             eprintln!("{panic}");
         }
     }));
-    match env::args().nth(1).as_deref() {
-        Some("play") => play(),
-        Some("texts") => surface::texts().iter().try_for_each(|text| writeln!(io::stdout(), "{text}")),
-        mode => panic!("there is no mode {mode:?}"),
+    let mut devices = Devices::new();
+    let mut out = BufWriter::new(io::stdout().lock());
+    for line in io::stdin().lock().lines() {
+        let line = line?;
+        let call = line.split(" = ").next().unwrap_or_default();
+        if let Some(done) = made(&mut devices, call) {
+            writeln!(out, "{done}")?;
+        }
     }
+    out.flush()
 }

@@ -3,24 +3,26 @@ use std::cell::{Cell, RefCell};
 use std::io::{self, ErrorKind, Write};
 use std::rc::Rc;
 
-use crate::errors::{OF_WRITE_ALL, interruption, made, seen};
 use crate::line::Behaviour;
 use superio::Trigger;
 use superio::rtc_pl031::RtcEvents;
 use superio::serial::SerialEvents;
+
+/// Numbers of errors of Linux, and kinds of the standard library.
+const NUMBERS: [i32; 5] = [5, 11, 28, 32, 133];
+const KINDS: [ErrorKind; 5] =
+    [ErrorKind::WouldBlock, ErrorKind::BrokenPipe, ErrorKind::WriteZero, ErrorKind::InvalidData, ErrorKind::Other];
 
 /// What the objects of all devices share: how they are to behave, and what they were asked.
 #[derive(Debug, Default)]
 struct Script {
     behaviour: Cell<Behaviour>,
     events: RefCell<String>,
-    /// The number of the next error, and of the last ones of a trigger and a writer.
-    errors: Cell<u32>,
-    refusal: Cell<u32>,
-    fault: Cell<u32>,
-    /// How many writes the calls of the writer noted, and how often the next one is interrupted, which no line shows.
-    writes: Cell<u32>,
-    interruptions: Cell<u32>,
+    /// How many errors there were.
+    errors: Cell<usize>,
+    /// The last errors of a trigger and of a writer, with all that can be seen of them.
+    refusal: RefCell<String>,
+    fault: RefCell<String>,
 }
 
 /// A trigger, an events object and a writer in one.
@@ -38,17 +40,22 @@ impl Object {
         self.0.events.take()
     }
 
-    /// Whether an error is in every respect the last one of a trigger or of a writer.
+    /// Whether an error is the last one of a trigger or of a writer.
     pub fn gave(&self, error: &io::Error, is_refusal: bool) -> bool {
-        let number = if is_refusal { &self.0.refusal } else { &self.0.fault };
-        seen(error) == seen(&made(number.get()))
+        let last = if is_refusal { &self.0.refusal } else { &self.0.fault };
+        format!("{error:?}") == *last.borrow()
     }
 
-    /// The next error.
-    fn fail(&self, number: &Cell<u32>) -> io::Error {
-        number.set(self.0.errors.get());
-        self.0.errors.set(number.get() + 1);
-        made(number.get())
+    /// The next error: by turns a number of the system, a kind alone, and a kind with a text of its own.
+    fn fail(&self, last: &RefCell<String>) -> io::Error {
+        let number = self.0.errors.replace(self.0.errors.get() + 1);
+        let error = match (number % 3, number / 3 % KINDS.len()) {
+            (0, place) => io::Error::from_raw_os_error(NUMBERS[place]),
+            (1, place) => KINDS[place].into(),
+            (_, place) => io::Error::new(KINDS[place], format!("failure {number}")),
+        };
+        last.replace(format!("{error:?}"));
+        error
     }
 
     /// Notes a call of an object, and panics if it is the one that is to.
@@ -101,40 +108,21 @@ impl RtcEvents for Object {
     }
 }
 
-/// How often a writer is interrupted after so many writes: not at all, a few times, or very often.
-fn interruptions_after(writes: u32) -> u32 {
-    match (writes % 5_000, writes % 8) {
-        (0, _) => 100_000,
-        (_, 0) => 1 + writes / 8 % 9,
-        _ => 0,
-    }
-}
-
 impl Write for Object {
     fn write(&mut self, bytes: &[u8]) -> io::Result<usize> {
-        if let Some(left) = self.0.interruptions.get().checked_sub(1) {
-            self.0.interruptions.set(left);
-            return Err(interruption(left));
-        }
-        self.0.writes.set(self.0.writes.get() + 1);
-        self.0.interruptions.set(interruptions_after(self.0.writes.get()));
         bytes.iter().for_each(|byte| self.note(&format!("W{byte:02x}")));
         let behaviour = self.0.behaviour.get();
         match behaviour.writing {
             Some('n') => {
-                self.0.fault.set(OF_WRITE_ALL);
+                // What `write_all` makes of a writer that takes nothing.
+                let error = [0; 0].as_mut_slice().write_all(b"x").expect_err("no room");
+                self.0.fault.replace(format!("{error:?}"));
                 Ok(0)
             }
-            Some('f') => loop {
-                // A write that is interrupted is made again.
-                let error = self.fail(&self.0.fault);
-                if error.kind() != ErrorKind::Interrupted {
-                    break Err(error);
-                }
-            },
+            Some('f') => Err(self.fail(&self.0.fault)),
             Some('i') => {
                 self.0.behaviour.set(Behaviour { writing: None, ..behaviour });
-                Err(interruption(self.0.writes.get()))
+                Err(ErrorKind::Interrupted.into())
             }
             _ => Ok(bytes.len()),
         }
