@@ -8,9 +8,6 @@ from typing import Dict, NamedTuple, Tuple, Union
 
 from .arguments import byte_string
 
-MAXIMUM = 65_536
-"""A script has at most this many bytes."""
-
 _DIGITS = re.compile(rb"[0-9A-Fa-f]+")
 _MANY_BYTES = 128
 _LINES = 4096
@@ -134,11 +131,6 @@ def _parse(line: bytes, is_first: bool) -> Command:
     if name == MASK and not is_first:
         raise ScriptError("a mask comes before every other line")
     return Command(name, values)
-
-
-def lines_of(script: bytes) -> Tuple[bytes, ...]:
-    """The lines of a script. The last one may lack its LF."""
-    return tuple(script[:-1 if script.endswith(b"\n") else None].split(b"\n")) if script else ()
 
 
 def text_of(command: Command) -> str:

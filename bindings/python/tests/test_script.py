@@ -3,23 +3,25 @@
 The program `superio` is the one that the environment variable SUPERIO_PROGRAM names, or else the built one. Without it
 the tests beside it are skipped.
 """
+import io
 import os
 import random
-import re
 import unittest
 from pathlib import Path
 
-from support import ROOT, run
+from support import ROOT
 
 from program import run_all, seed_of
 from script_tests import scripts_of
 
 from superio import Board, ScriptError, parse
-from superio.script import FORMS, MAXIMUM, lines_of, text_of
+from superio.script import FORMS, text_of
+from superio.session import Session
 
 PROGRAM = Path(os.environ.get("SUPERIO_PROGRAM", ROOT / "crates" / "superio" / "out" / "superio"))
-EXAMPLES = sorted((ROOT / "examples").glob("*.script"))
-SCRIPTS = [test for path in sorted((ROOT / "tests").glob("*.txt")) for test in scripts_of(path)]
+# All but those that are too long.
+SCRIPTS = [test for path in sorted((ROOT / "tests").glob("*.txt")) for test in scripts_of(path)
+           if test.expected[0] in (0, 1)]
 BROKEN = 2_000
 
 # Why lines have no form.
@@ -63,10 +65,13 @@ class Lines(unittest.TestCase):
                 self.assertEqual(reason, str(caught.exception))
 
 
+def lines_of(script):
+    """The lines of a script. The last one may lack its LF."""
+    return script[:-1 if script.endswith(b"\n") else None].split(b"\n") if script else []
+
+
 def run_board(script):
     """What the package makes of a script, as the program does: the status, the replies, and what is wrong."""
-    if len(script) > MAXIMUM:
-        return 4, b"", b"script too long\n"
     board, replies = Board(), []
     for number, line in enumerate(lines_of(script), 1):
         try:
@@ -88,16 +93,13 @@ def broken(script, randomness):
 
 class Replies(unittest.TestCase):
     def test_replies_are_those_of_the_tests(self):
+        """On a board, and those of a good script in the shell too."""
         for test in SCRIPTS:
             self.assertEqual(test.expected, run_board(test.script), test.place)
-
-    def test_scripts_have_their_replies_in_the_shell_too(self):
-        """A good script has the same replies without --strict."""
-        for path in EXAMPLES:
-            self.assertEqual(run("--strict", path), run(path))
-        good = [test for test in SCRIPTS if test.expected[0] == 0 and test.script]
-        for test in good[::25]:
-            self.assertEqual((0, test.expected[1].decode(), ""), run(script=test.script), test.place)
+            if test.expected[0] == 0:
+                out = io.StringIO()
+                Session(out).run_lines("script", lines_of(test.script))
+                self.assertEqual(test.expected[1].decode(), out.getvalue(), test.place)
 
 
 @unittest.skipUnless(PROGRAM.exists(), f"{PROGRAM} is not built")
@@ -106,17 +108,7 @@ class Program(unittest.TestCase):
         """The scripts of tests/ have their replies there: tools/checks/scripts and Replies compare both with those."""
         randomness = random.Random(seed_of(ROOT))
         whole = [test.script for test in SCRIPTS if 0 < len(test.script) < 3000]
-        scripts = [path.read_bytes() for path in EXAMPLES]
+        scripts = [path.read_bytes() for path in (ROOT / "examples").glob("*.script")]
         scripts += [broken(randomness.choice(whole), randomness) for _ in range(BROKEN)]
         for script, expected in zip(scripts, run_all(PROGRAM, scripts)):
-            if run_board(script) != expected:
-                self.assertEqual(expected, run_board(script), script)
-        self.assertTrue(EXAMPLES)
-
-    def test_strict_command_line(self):
-        bad = [test.script for test in SCRIPTS if test.expected[0] == 1][::40]
-        for script, (status, output, errors) in zip(bad, run_all(PROGRAM, bad)):
-            number = int(re.fullmatch(rb"bad line (\d+)\n", errors)[1])
-            got = run("--strict", script=script)
-            self.assertEqual((status, output.decode()), got[:2])
-            self.assertTrue(got[2].startswith(f"<stdin>:{number}: "), got[2])
+            self.assertEqual(expected, run_board(script), script)
