@@ -64,9 +64,9 @@ class Prompt(cmd.Cmd):
         if name not in self.help:
             raise ScriptError(f"no command is called {shown(name)}: help lists them")
         usage = self.help[name].usage
-        if rest and " " not in usage:
-            raise ScriptError(f"{name} takes no arguments")
         try:
+            if rest and " " not in usage:
+                raise UsageError
             self.perform(name, rest.strip())
         except UsageError:
             raise ScriptError(f"the form is: {usage}") from None

@@ -8,7 +8,7 @@ from .board import Board, Call
 from .files import BadLine, write_text
 from .prompt import Help, Prompt
 from .registers import CLOCK
-from .script import FORMS, LINES, MASK, Command, ScriptError, text_of
+from .script import FORMS, LINES, MASK, Command, ScriptError, form_of, text_of
 from .tell import Story, changes, clock_registers, registers, told
 from .words import Speaker, UsageError
 
@@ -76,8 +76,8 @@ _GROUPS: Dict[str, Tuple[Help, ...]] = {
         Help("quit", "ends, as exit and Ctrl-D do"),
     ),
     "Lines of a script, with hexadecimal fields": tuple(
-        Help(" ".join([name, *(field.form for field in fields)]), about, _OF_MASK if name == MASK else "",
-             tuple(field.kind for field in fields)) for name, (about, fields) in LINES.items()),
+        Help(form_of(name), about, _OF_MASK if name == MASK else "", tuple(field.kind for field in fields))
+        for name, (about, fields) in LINES.items()),
 }
 
 
@@ -115,15 +115,14 @@ class Session(Prompt):
         return max(0, int(self._host_time()))
 
     def carry_out(self, line: bytes) -> None:
-        text = line.decode("utf-8", "surrogateescape").strip()
-        name = text.partition(" ")[0]
-        if name in FORMS:
-            self.run(self._speaker.line(name, text), is_short=True)
-        elif text and not text.startswith("#"):
+        """Carries out a line, which may be blank or a comment."""
+        if not line.lstrip().startswith(b"#") and line.strip():
             super().carry_out(line)
 
     def perform(self, name: str, rest: str) -> None:
-        if self.help[name].means:
+        if name in FORMS:
+            self.run(self._speaker.line(name, rest), is_short=True)
+        elif self.help[name].means:
             self.run(self._speaker.command(self.help[name].means, rest), is_short=False)
         else:
             super().perform(name, rest)

@@ -21,10 +21,10 @@ RUNS = [
     ([], b"# comment\nkr 04\nread XYZ\nkr 04\n",
      (1, "00\n", '<stdin>:3: "read XYZ": XYZ is no offset, and no register: '
                  "those are RBR THR DLL IER DLM IIR FCR LCR MCR LSR MSR SCR\n")),
-    ([], b"kr 04\nsr\nkr 04\n", (1, "00\n", '<stdin>:2: "sr": an offset is missing\n')),
+    ([], b"kr 04\nsr\nkr 04\n", (1, "00\n", '<stdin>:2: "sr": the form is: sr OO\n')),
     ([], b"\xff\x1b\n", (1, "", '<stdin>:1: "\\xff\\x1b": no command is called \\xff\\x1b: help lists them\n')),
     ([], b"\n   # indented\n  kr 04  \t\r\nread LSR\r\n\r\nkr 04", (0, "00\nLSR = 0x60  THRE TEMT\n00\n", "")),
-    ([], b"# " + b"x" * 200_000 + b"\nkr 04\nkr", (1, "00\n", '<stdin>:3: "kr": an offset is missing\n')),
+    ([], b"# " + b"x" * 200_000 + b"\nkr 04\nkr", (1, "00\n", '<stdin>:3: "kr": the form is: kr OO\n')),
     ([], b"kr " + b"1" * 100, (1, "", f'<stdin>:1: "kr {"1" * 57}..": {"1" * 24}.. is no offset: it has 8 bits\n')),
     ([], b"kr 04\nquit\nkr 04\n", (0, "00\n", "")),
     ([], b"write SCR 7\nreset\nread SCR\n", (0, "ok\na fresh board\nSCR = 0x00\n", "")),
@@ -33,7 +33,7 @@ RUNS = [
     (["/"], b"", (2, "", "python3 -m superio: /: Is a directory\n")),
     (["/nowhere/at/all"], b"", (2, "", "python3 -m superio: " + NOWHERE)),
     (["view", "/nowhere/at/all"], b"", (2, "", "python3 -m superio: " + NOWHERE)),
-    (["view", "-"], b"sr\n", (1, "", '<stdin>:1: "sr": an offset is missing\n')),
+    (["view", "-"], b"sr\n", (1, "", '<stdin>:1: "sr": the form is: sr OO\n')),
     (["view", "-"], b"# nothing\n", (1, "", "- has no call\n")),
     (["--version"], b"", (0, f"superio {superio.__version__}\n", "")),
 ]
@@ -52,13 +52,13 @@ FILES = [
      (0, "ok\n64 bytes received; no interrupt: IER does not enable RDA\nok\nport and clock saved to a file\n"), "",
      {"a file": SL + CL}),
     ({"it": SL + CL}, f"load it\n{LOADED}", (0, f"ok\nok\nSCR = 0x07\n{HELD.encode().hex()}\n0000006b\n"), "", {}),
-    ({"it": "sl 00\ncl zz\n"}, "load it\n", (1, "too short\n"), 'it:2: "cl zz": 1 to 128 bytes have two digits', {}),
+    ({"it": "sl 00\ncl zz\n"}, "load it\n", (1, "too short\n"), 'it:2: "cl zz": the form is: cl HH..', {}),
     # Files follow each other, and go ten deep. What a line of one says is said with both places.
     (CHAIN, "source 0\n" * 12, (0, "ok\n" * 12), "", {}),
     (CHAIN, "source 9\n", (0, "ok\n"), "", {}),
     (CHAIN, "source 10\n", (1, ""), "files that load each other go at most 10 deep", {}),
     ({"it": "kr 04\nkr 4 4\n"}, "source it\n", (1, "00\n"),
-     '<stdin>:1: "source it": it:2: "kr 4 4": it goes on after its last field\n', {}),
+     '<stdin>:1: "source it": it:2: "kr 4 4": the form is: kr OO\n', {}),
     ({"it": "kr 04\nquit\n"}, "source it\nkr 04\n", (0, "00\n"), "", {}),
     ({}, "kr 04\nreset\nsr 07\ntrace on\nread SCR\ntrace off\nread SCR\ntrace\ntrace new\n",
      (0, "00\na fresh board\n00\ntrace is on\nsr 07\nSCR = 0x00\ntrace is off\nSCR = 0x00\nsr 07\nsr 07\nsr 07\n"

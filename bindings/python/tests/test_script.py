@@ -26,25 +26,12 @@ BROKEN = 2_000
 
 # Why lines have no form.
 BAD = {
-    "a line begins with a name": [b"", b" sr 05"],
-    "no line has this name": [b"sx 05", b"SR 05", b"\xff"],
-    "an offset is missing": [b"sr"],
-    "a value is missing": [b"sw 01"],
-    "a moment is missing": [b"cr"],
-    "an offset of the clock is missing": [b"cr 0000000000000000"],
-    "a value of the clock is missing": [b"cw 0000000000000000 0000"],
-    "a mask is missing": [b"refuse"],
-    "an offset has two digits": [b"sr 5", b"sr 005", b"sr 0x", b"sr +5", b"sr _5", b"sr \xd9\xa1"],
-    "a value has two digits": [b"sw 01 1"],
-    "1 to 128 bytes have two digits each": [b"sq 4", b"sq " + b"00" * 129, b"sl 4", b"cl " + b"00" * 129],
-    "a moment has sixteen digits": [b"cr 0 0000"],
-    "an offset of the clock has four digits": [b"cr 0000000000000000 00"],
-    "a value of the clock has eight digits": [b"cw 0000000000000000 0000 00"],
-    "a mask has sixteen digits": [b"refuse 1"],
+    "no line has this name": [b"", b" sr 05", b"sx 05", b"SR 05", b"\xff", b"sr\r", b"\r"],
+    "the form is: sr OO": [b"sr", b"sr 5", b"sr 005", b"sr 0x", b"sr +5", b"sr _5", b"sr \xd9\xa1", b"sr  05",
+                           b"sr 05 ", b"sr 05 06", b"sr 05\r"],
+    "the form is: sq HH..": [b"sq 4", b"sq " + b"00" * 129, b"sq ", b"sq 53 49"],
+    "the form is: si": [b"si ", b"si 00"],
     "a mask comes before every other line": [b"refuse 0000000000000001"],
-    "one space separates two fields, and none follows the last": [b"sr  05", b"sr 05 ", b"sq ", b"sc ", b"si "],
-    "it goes on after its last field": [b"sr 05 06", b"sb 00", b"sl 53 49", b"sc 00", b"si 00"],
-    "it ends with a carriage return": [b"sr 05\r", b"\r"],
 }
 
 

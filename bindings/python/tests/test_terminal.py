@@ -35,7 +35,7 @@ class ShellTest(FolderTest):
 SESSIONS = [
     ([("write IER RDA", "ok\n"), ('type "hi"', "2 bytes received; interrupt for RDA\n"),
       ("read IIR", "IIR = 0xc4  RDA\n"), ("read RBR", 'RBR = 0x68  "h"\n')], CTRL_D),
-    ([("foo", NO_FOO), ("refuse", "a mask is missing\n"), ("", ""), ("sr 05", "60\n")], "quit\r"),
+    ([("foo", NO_FOO), ("refuse", "the form is: refuse MASK\n"), ("", ""), ("sr 05", "60\n")], "quit\r"),
     ([("write SCR 7", "ok\n"), ("read SCR", "SCR = 0x07\n"), (UP + UP + "1", "ok\n"),  # write SCR 71
       ("ead SCR" + HOME + "r", "SCR = 0x47\n"), ("read LR" + LEFT + "S", "LSR = 0x60  THRE TEMT\n")], "exit\r"),
     ([("rea\tLS\t", "LSR = 0x60  THRE TEMT\n"), ("wri\tie\tRD\t|TH\t", "ok; interrupt for THRE\n"),

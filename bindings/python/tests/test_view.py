@@ -60,7 +60,7 @@ class Recordings(unittest.TestCase):
         self.assertEqual(["ok", "00", "00", None], [step.call.reply for step in steps])
 
     def test_faults(self):
-        for trace, reason in ((b"sr 05\nsr 5\n", 'trace:2: "sr 5": an offset has two digits'),
+        for trace, reason in ((b"sr 05\nsr 5\n", 'trace:2: "sr 5": the form is: sr OO'),
                               (b'sent "\xc3\xa9"\n', "the text is no JSON string of ASCII"),
                               (b'sent "\\q"\n', "the text is no JSON string of ASCII"),
                               (b"sr 05\nrefuse 0000000000000001\n", "a mask comes before every other line")):
