@@ -1,5 +1,4 @@
 """A headless Chromium, driven by its own protocol over a pipe: messages of JSON, each ended by a byte 0."""
-import base64
 import json
 import os
 import shutil
@@ -110,10 +109,6 @@ class Browser:
         features = {"prefers-color-scheme": scheme, "prefers-reduced-motion": "reduce"}
         self.send("Emulation.setEmulatedMedia",
                   features=[{"name": name, "value": value} for name, value in features.items()])
-
-    def picture(self, **options):
-        """A picture of what is seen, as PNG."""
-        return base64.b64decode(self.send("Page.captureScreenshot", **options)["data"])
 
     def complaints(self):
         """What the page told on the console, or asked of the network."""

@@ -23,9 +23,6 @@ const bit = (offset, name) =>
 const label = (one) => one.getAttribute("aria-label");
 /** The parts of each line of the list: its number, the line and the reply. */
 const parts = () => Array.from(by("list").children, (item) => Array.from(item.children, (part) => part.textContent));
-/** What the page shows of registers of the clock. */
-const ofClock = (...names) => names.map((wanted) => Array.from(by("clock-registers").children)
-  .find((row) => row.querySelector("b").textContent === wanted).querySelector("code").textContent).join(" ");
 /** The saved state of a clock after lines of a script. */
 const clockAfter = (...lines) => superio.runScript([...lines, "cb"].join("\n")).replies.at(-1);
 const held = () => by("fifo").querySelector("text").textContent;
@@ -79,15 +76,10 @@ const features = [
     { lines: "sw 07 5a=ok sw 00 41=ok", output: "A" }],
   ["a value that is no byte", "", () => put(7, "256"),
     { lines: "", invalid: "Value for SCR", fault: "A value is 0 to 255, as 0x41, 65 or 'A'." }],
-  ["the next call takes back what was said of a value", "", () => { put(7, "-1"); put(7, "1"); },
-    { lines: "sw 07 01=ok", invalid: "", fault: "" }],
   ["a write that is ignored is told so before it is made", "", () => [2, 5, 6, 7].map(write).map(label),
     { gives: [...["FCR", "LSR", "MSR"].map((name) => `Write ${name}, which is ignored`), "Write SCR"] }],
   ["a bit is turned by its name", "", () => { bit(1, "RDA").click(); return bit(1, "RDA").className; },
     { lines: "sw 01 01=ok", gives: "bit set flipped" }],
-  ["a bit is turned back", "#sw+01+03",
-    () => { bit(1, "RDA").click(); return bit(1, "RDA").getAttribute("aria-pressed"); },
-    { lines: "sw 01 03=ok sw 01 02=ok", gives: "false" }],
   ["the divisor takes the place of RBR and IER", "", () => { bit(3, "DLAB").click(); put(0, "1"); },
     { lines: "sw 03 83=ok sw 00 01=ok", names: /^DLL DLM IIR/, values: /^0x01 / }],
   ["input is typed", "#sw+01+01", () => type("hello"),
@@ -95,9 +87,6 @@ const features = [
   ["the ring turns", "#sq+616263;sr+00", () => {}, { held: "2", ring: /^- oldest held( -){61}$/ }],
   ["1,000 bytes are pasted", "#sw+01+01", () => click("paste-many"),
     { held: "64", counts: /936 bytes of input wait/, told: /64 of 1,000 bytes received/ }],
-  ["input beyond ASCII waits as bytes", "",
-    () => { type("ä".repeat(40)); for (let taken = 0; taken < 64; taken += 1) read(0); },
-    { lines: / sq (c3a4){8}0a=11$/, counts: /^0 bytes sent, 0 lost$/ }],
   ["a driver takes all of them, in order", "#sw+01+01", () => click("paste-many", "serve"), { held: "0",
     counts: /lost$/, place: "2,021 of 2,021", "taken-heading": "What the guest read: 1,000 bytes", taken: MANY }],
   ["a driver enables the interrupt if it has to", "#sw+03+83", () => { type("hi"); click("serve"); },
@@ -105,10 +94,6 @@ const features = [
       "sr 05=61 sr 00=0a sr 05=60 sr 02=c1 si=ok", taken: "hi\n" }],
   ["a driver is interrupted again for bytes that the guest left", LEFT, () => click("serve"),
     { lines: / sr 02=c1 si=ok sr 02=c4 sr 05=61 sr 00=62 sr 05=60 sr 02=c1 si=ok$/, taken: "ab", held: "0" }],
-  ["a driver is not interrupted again if no timeout is made", LEFT, () => click("makes-timeouts", "serve"),
-    { taken: "a", held: "1" }],
-  ["a driver is not interrupted again if the interrupt is refused", LEFT, () => click("refuses", "serve"),
-    { taken: "a", held: "1" }],
   ["a read of IIR that shows none pending has a timeout after it", "#sw+01+01;sq+6162;sr+02", () => read(2),
     { lines: "sw 01 01=ok sq 6162=02 sr 02=c4 sr 02=c1 si=ok", lit: "RDA pending, interrupt due" }],
   ["a monitor that makes no timeouts", "#sw+01+01;sq+6162;sr+02", () => { click("makes-timeouts"); read(2); },
@@ -121,9 +106,6 @@ const features = [
     { lines: "sw 00 42 f=io", told: /is lost/, counts: /1 lost/ }],
   ["a character timeout", "#sw+01+01;sq+6162;sr+02", () => click("timeout"),
     { lines: "sw 01 01=ok sq 6162=02 sr 02=c4 si=ok", stories: /call 4, si, raised it/ }],
-  ["a screen reader hears which bits are set and what is pending", "#sw+01+01;sq+61",
-    () => [bit(5, "DR"), bit(5, "OE"), bit(2, "RDA"), by("rda"), by("thre"), by("line")].map(label),
-    { gives: ["DR set", "OE clear", "RDA set", "RDA pending: yes", "THRE pending: no", "interrupt due: yes"] }],
   ["a port is saved and loaded", "#sq+61", () => { click("save"); read(0); click("load"); },
     { lines: `sq 61=01 sb=${SAVED} sr 00=61 sl ${SAVED}=ok`, held: "1", saved: SAVED }],
   ["fresh devices", "#sw+07+5a", () => click("reset"), { lines: "", values: / 0x00$/, hash: "" }],
@@ -141,8 +123,6 @@ const features = [
   ["a line is added", "", () => add("sr 05"), { lines: "sr 05=60", one: "" }],
   ["a line of no form", "", () => add("sr 5"),
     { lines: "", invalid: "one", fault: "sr takes 2 hexadecimal digits, after one space each." }],
-  ["a word that begins no line", "", () => add("read LSR"),
-    { lines: "", fault: 'No line of a script begins with "read".' }],
   ["a script is pasted, with replies", "",
     () => { fill("script", "sw 01 01   ok\n# a comment\n\nsq 41  01\n"); click("run"); },
     { lines: "sw 01 01=ok sq 41=01", said: "2 calls made." }],
@@ -174,31 +154,8 @@ const features = [
   ["the whole boot replies as it was recorded", "",
     async () => { let place; do place = await play(); while (place !== "42839"); },
     { caption: /is over: 0 of 42,839 replies differed/, "boot-count": "42,839 of 42,839" }],
-  ["the boot goes to its end at once", "", () => fill("boot-at", by("boot-at").max),
-    { "boot-count": "42,839 of 42,839", caption: /The boot is over/, play: "Play again" }],
-  ["the boot plays as fast as it is told, whatever its pictures take", "", () => {
-    const pictures = [];
-    performance.now = () => 0;
-    window.requestAnimationFrame = (turn) => pictures.push(turn);
-    by("speed").value = "600";
-    click("play");
-    return [15.625, 31.25, 93.75, 5093.75].map((now) => { pictures.shift()(now); return by("boot-at").value; });
-  }, { gives: ["9", "18", "56", "656"] }],
-  ["a place of the boot has a caption, and a fresh start has the first one", "", () => {
-    const [first, [second]] = [text("caption"), at(["9"], () => text("caption"))];
-    click("reset");
-    return [second, text("caption") === first];
-  }, { gives: ["The kernel prints by polling: it reads LSR, and writes one byte to THR.", true], "boot-count": "",
-    "boot-at": "0" }],
   ["the boot goes anywhere", "", () => fill("boot-at", "40137"),
     { "boot-count": "40,137 of 42,839", caption: /opens the port/, output: /evm: security\.capability/ }],
-  ["the list of a boot goes to any call, one by one and by a click", "", () => {
-    fill("boot-at", "26491");
-    const seen = ["back", "forward", "back"].map((step) => { click(step); return text("place").split(" ")[0]; });
-    by("list").querySelector(".later").click();
-    return seen;
-  }, { gives: ["26,490", "26,491", "26,490"], "boot-count": "26,491 of 42,839", values: /^\S+ 0x0f /,
-    now: "26491sw 01 0fok", caption: /looks for the port/ }],
   ["the user takes over as the guest", "", () => { fill("boot-at", "26491"); click("as-guest"); },
     { lines: `cl ${clockAfter()}=ok sl 53494f53010109000c000f02136001b000=ok`, values: /^\S+ 0x0f /,
       focus: "Value for IER", output: /Serial: 8250\/16550 driver/ }],
@@ -216,44 +173,22 @@ const features = [
     choose("boot");
     return [...second.slice(0, 4), second[4].includes("a paste of 4,096 bytes"), by("boot-at").max];
   }, { gives: ["", "false", "", "19323", true, "42839"], "boot-at": "0", play: "Play the boot" }],
-  ["a list of calls stays if another boot is chosen", "#sw+07+5a", () => choose("console"),
-    { lines: "sw 07 5a=ok", values: / 0x5a$/ }],
   ["the whole second boot replies as it was recorded, and stops where it is told", "", async () => {
     choose("console");
     const stops = [];
     while (stops.at(-1) !== "19323") stops.push(await play());
     return stops;
   }, { caption: /is over: 0 of 19,323 replies differed/, gives: ["1307", "1333", "2801", "19138", "19321", "19323"] }],
-  ["the second boot says where it is", "", () => {
-    choose("console");
-    return at(["9", "1307", "1333", "2801", "19138", "19321"], () => text("caption").split(/[.:]/)[0]);
-  }, { gives: [
-    "The kernel looks for option ROMs in the memory where the clock is, so it reads the clock every 16 bytes",
-    "The shell has printed its prompt", "The host typed a command", "The host pastes 4,096 bytes",
-    "The guest unmasked the alarm, set it, and polled MIS", "The guest ran reboot"] }],
   ["the second boot shows what the guest read and sent, from its beginning", "", () => {
     choose("console");
     return at(["2801", "19323"], () => [held(), text("taken-heading"), text("taken")]);
   }, { gives: [["64", "What the guest read: 102 bytes", COMMANDS], ["0", "What the guest read: 4,386 bytes", TYPED]],
     output: /500dfa0d2db8c97ea7d77d6222cb5c86[^]*\/ # \^\[\[6n/, counts: "5,241 bytes sent, 0 lost" }],
-  ["the second boot shows the clock at the host's time of its last access", "", () => {
-    choose("console");
-    return at(["19136", "19138", "19141"], () =>
-      [...textsOf("times", "dd").slice(1), ofClock("MR", "IMSC", "RIS", "MIS")]);
-  }, { gives: [
-    ["2026-11-25 01:35:52 UTC", "in 1 second", "down", "0x6b063b79 0x00000001 0x00000000 0x00000000"],
-    ["2026-11-25 01:35:53 UTC", "none is set", "up", "0x6b063b79 0x00000001 0x00000001 0x00000001"],
-    ["2026-11-25 01:35:54 UTC", "none is set", "down", "0x6b063b79 0x00000001 0x00000000 0x00000000"]] }],
   ["the user takes over the second boot with its clock", "",
     () => { choose("console"); fill("boot-at", "19150"); click("as-guest"); },
     { lines: `cl ${clockAfter("cw 0000000080000000 0004 6b063b79", "cw 0000000080000000 0010 00000001")}=ok ` +
       "sl 53494f53010109000c00070213600bb000=ok",
       caption: /after call 19,150/, "clock-registers": /^MR0x6b063b79/ }],
-  ["a driver serves the bytes that the FIFO held in the second boot", "",
-    () => { choose("console"); fill("boot-at", "2798"); click("as-host", "serve"); }, { taken: PASTED.slice(0, 64) }],
-  ["a driver serves bytes that the FIFO held with nothing pending", "",
-    () => { choose("console"); const [before] = at(["1313"], held); click("as-host", "serve"); return before; },
-    { gives: "10", taken: "uname -sr\n", held: "0" }],
 ];
 
 /** Whether the list, copied as a script, replies on a fresh board as it did; null if it is no such list. */

@@ -119,68 +119,30 @@ export function ruleOf({ command: { name, values }, before }) {
   return otherRules[name] ?? ["The board tells what it counted.", "the-serial-port"];
 }
 
-function toldOfRead(call) {
-  const { lineControl, inBuffer } = call.before.serial.state;
-  const register = serialRegister(call.command.values[0], lineControl, false);
-  const value = parseInt(call.reply, 16);
-  const name = register?.name ?? `offset 0x${hex(call.command.values[0], 2)}`;
-  const byte = quoted(value);
-  const names = name === "RBR" ? (!inBuffer.length ? "no byte was held" : byte.startsWith("0x") ? "" : byte) :
-    register ? bitNames(register, value).join(" ") : "";
-  return `${name} = 0x${call.reply}  ${names}`.trim();
+function toldOfAccess({ command: { name, values }, reply, before, after }) {
+  const isClock = name.startsWith("c");
+  const [offset, value] = isClock ? values.slice(1) : values;
+  const { lineControl, inBuffer } = before.serial.state;
+  const isWrite = value !== undefined;
+  const register = isClock ? clockRegister(offset) : serialRegister(offset, lineControl, isWrite);
+  const place = register?.name ?? `offset 0x${hex(offset, isClock ? 4 : 2)}`;
+  if (reply === "invalid") return `invalid: nothing can be ${isWrite ? "written" : "read"} at ${place}`;
+  if (isWrite) return after.isLost ? `${quoted(value)} is lost` : `${place} gets 0x${hex(value, isClock ? 8 : 2)}`;
+  const read = parseInt(reply, 16);
+  const note = { RBR: inBuffer.length ? quoted(read) : "no byte was held", DR: `${dateOf(read)} UTC` }[place] ??
+    (register ? bitNames(register, read).join(" ") : "");
+  return `${place} = 0x${reply}  ${note}`.trim();
 }
-
-function toldOfWrite(call) {
-  const [offset, value] = call.command.values;
-  const name = serialRegister(offset, call.before.serial.state.lineControl, true)?.name;
-  const to = `${name ?? `offset 0x${hex(offset, 2)}`} gets 0x${hex(value, 2)}`;
-  if (!name || WITHOUT_EFFECT.includes(name)) return `${to}: ignored`;
-  const why = call.after.fails ? "the writer fails" : "the output is full";
-  if (call.after.isLost) return `${quoted(value)} is lost: ${why}`;
-  return call.after.output.length > call.before.output.length ? `sent ${quoted(value)}` : to;
-}
-
-function toldOfInput(call) {
-  const [bytes] = call.command.values;
-  const { inBuffer, modemControl, interruptEnable } = call.after.serial.state;
-  const taken = inBuffer.length - call.before.serial.state.inBuffer.length;
-  const offered = call.waiting ?? bytes.length;
-  const of = taken < offered ? ` of ${offered.toLocaleString("en")}` : "";
-  const text = `${taken}${of} ${offered === 1 ? "byte" : "bytes"} received`;
-  if (taken < bytes.length) return `${text}: the ${modemControl & LOOP ? "port is in loopback" : "FIFO is full"}`;
-  if (call.after.answers.length) return text;
-  return `${text}; no interrupt: ${interruptEnable & 1 ? "RDA is pending already" : "IER does not enable RDA"}`;
-}
-
-function toldOfTimeout(call) {
-  const { inBuffer, interruptEnable } = call.before.serial.state;
-  if (!inBuffer.length) return "no interrupt: no byte is held";
-  const held = `${plural(inBuffer.length, "byte")} held`;
-  if (call.after.answers.length) return held;
-  return `${held}; no interrupt: ${interruptEnable & 1 ? "RDA is pending already" : "IER does not enable RDA"}`;
-}
-
-function toldOfClock(call) {
-  const isWrite = call.command.name === "cw";
-  const [, offset, value] = call.command.values;
-  const name = clockRegister(offset)?.name ?? `offset 0x${hex(offset, 4)}`;
-  if (call.reply === "invalid") return `invalid: nothing can be ${isWrite ? "written" : "read"} at ${name}`;
-  if (!isWrite) return `${name} = 0x${call.reply}${name === "DR" ? `  ${dateOf(parseInt(call.reply, 16))} UTC` : ""}`;
-  if (name === "MR" && call.after.clock.state.armed) return `alarm set for guest time ${dateOf(value)} UTC`;
-  return `${name} gets 0x${hex(value, 8)}`;
-}
-
-const TELLERS = {
-  sr: toldOfRead, sw: toldOfWrite, sq: toldOfInput, si: toldOfTimeout, cr: toldOfClock, cw: toldOfClock,
-};
 
 /** What a call did, in words. */
 export function told(call) {
-  const { name } = call.command;
-  if (TELLERS[name]) return TELLERS[name](call) + asked(call);
-  const restored = call.reply === "ok" ? "restored" : `not restored: ${call.reply}`;
-  if (name === "ss" || name === "sl") return restored + asked(call);
-  return call.reply;
+  const { command: { name, values: [bytes] }, reply, before, after } = call;
+  const [held, now] = [before, after].map(({ serial }) => serial.state.inBuffer.length);
+  const words = /^[sc][rw]$/.test(name) ? toldOfAccess(call) : {
+    sq: `${now - held} of ${plural(call.waiting ?? bytes?.length ?? 0, "byte")} received`,
+    si: `${plural(held, "byte")} held`,
+  }[name] ?? reply;
+  return words + asked(call);
 }
 
 /** The newest call up to `at` by which a condition became pending or was acknowledged, by this test of it. */

@@ -4,7 +4,7 @@ import os
 from ctypes import POINTER, Structure, c_bool, c_char_p, c_size_t, c_uint8, c_uint16, c_uint32, c_uint64
 from functools import lru_cache
 from pathlib import Path
-from typing import Any, Iterator, Tuple
+from typing import Any
 
 from .registers import FIFO_SIZE, RtcState, SerialState
 
@@ -72,57 +72,41 @@ class LibraryError(Exception):
     """The shared library of the devices cannot be found or loaded, or is another one than this package needs."""
 
 
-class Library:
-    """The functions of superio.h as attributes, under their names there.
+def _loaded(path: str) -> ctypes.PyDLL:
+    """The library at `path`, or the one that the system finds under that name, if it has this interface.
 
     Each call keeps Python's global lock, so calls from several threads do not overlap, as the header asks.
     """
-
-    def __init__(self, path: str) -> None:
-        """Loads the library at `path`, or the one that the system finds under that name, if it has this interface."""
-        self.path = path
-        try:
-            self._file = ctypes.PyDLL(path)
-        except OSError as error:
-            raise LibraryError(f"{path} cannot be loaded: {error}") from None
-        for name, (result, parameters) in PROTOTYPES.items():
-            if function := getattr(self._file, name, None):
-                function.restype, function.argtypes = result, parameters
-                setattr(self, name, function)
-        found = self.superio_abi()
-        if found != ABI:
-            raise LibraryError(f"{path} has the binary interface {found}, and this package needs {ABI}: "
-                               "take package and library from the same version")
-
-    def __getattr__(self, name: str) -> Any:
-        if name not in PROTOTYPES:
-            raise AttributeError(f"superio.h has no function {name}")
-        raise LibraryError(f"{self.path} has no function {name}: take package and library from the same version")
+    try:
+        library = ctypes.PyDLL(path)
+        found = library.superio_abi()
+    except (OSError, AttributeError) as error:
+        raise LibraryError(f"{path} cannot be loaded: {error}") from None
+    if found != ABI:
+        raise LibraryError(f"{path} has the binary interface {found}, and this package needs {ABI}: "
+                           "take package and library from the same version")
+    for name, (result, parameters) in PROTOTYPES.items():
+        function = getattr(library, name)
+        function.restype, function.argtypes = result, parameters
+    return library
 
 
-def candidates() -> Iterator[Tuple[str, Path]]:
-    """Where the library may be, in the order in which it is looked for: what each place is, and its file."""
-    package = Path(__file__).resolve().parent
-    yield "in the package", package / FILE_NAME
-    if len(package.parents) > 2:
-        yield "in the repository", package.parents[2] / "prebuilt" / f"{os.uname().machine}-linux" / FILE_NAME
-
-
-def open_library() -> Library:
-    """Loads the library that `SUPERIO_LIBRARY` names, or the first that is found: one of `candidates` or the system's.
+def open_library() -> ctypes.PyDLL:
+    """Loads the library that `SUPERIO_LIBRARY` names, or the first that is found: the one in the package, in the
+    repository's `prebuilt`, or the system's.
 
     Raises `LibraryError` if there is none, or if the first one found cannot be used.
     """
-    named = os.environ.get(VARIABLE) or next((str(path) for _, path in candidates() if path.is_file()), "")
+    package = Path(__file__).resolve().parent
+    places = [package / FILE_NAME, *(place / "prebuilt" / f"{os.uname().machine}-linux" / FILE_NAME
+                                     for place in package.parents[2:3])]
+    named = os.environ.get(VARIABLE) or next((str(path) for path in places if path.is_file()), "")
     if named:
-        return Library(named)
+        return _loaded(named)
     try:
-        ctypes.PyDLL(FILE_NAME)
-    except OSError:
-        places = ", ".join(f"{what} ({path})" for what, path in candidates())
-        raise LibraryError(f"{FILE_NAME} was not found {places} or among the system's libraries: "
-                           f"set {VARIABLE} to its path") from None
-    return Library(FILE_NAME)
+        return _loaded(FILE_NAME)
+    except LibraryError as error:
+        raise LibraryError(f"{error}, nor is it {' or '.join(map(str, places))}: set {VARIABLE} to its path") from None
 
 
 load = lru_cache(maxsize=None)(open_library)

@@ -3,12 +3,12 @@ import atexit
 import cmd
 import glob
 import os
-import signal
+import sys
 from contextlib import suppress
 from pathlib import Path
-from typing import IO, Dict, List, NamedTuple, Optional, Tuple
+from typing import IO, Dict, List, NamedTuple, Tuple
 
-from .files import FileFault, replaced
+from .files import reason_of
 from .registers import CLOCK, SERIAL
 from .script import ScriptError, shown
 from .words import UsageError
@@ -17,9 +17,6 @@ HISTORY_VARIABLE = "SUPERIO_HISTORY"
 """The environment variable that can name the history's file. Empty: there is none."""
 
 _HISTORY_LENGTH = 1000
-
-STRONG, QUIET, ERROR = 1, 2, 31
-"""How texts can be marked, as the codes of a terminal."""
 
 
 class Help(NamedTuple):
@@ -40,17 +37,10 @@ class Leave(Exception):
     """The session ends."""
 
 
-def has_colours(stream: "IO[str]", is_wanted: bool) -> bool:
-    """Whether they are wanted, the stream is a terminal that shows them, and NO_COLOR is not set."""
-    return (is_wanted and stream.isatty() and not os.environ.get("NO_COLOR") and os.environ.get("TERM") != "dumb")
-
-
 def _files(text: str) -> List[str]:
     """The files whose names begin so."""
     found = glob.glob(glob.escape(os.path.expanduser(text)) + "*")
-    home = os.path.expanduser("~")
-    names = [path + "/" if os.path.isdir(path) else path for path in found]
-    return sorted("~" + path[len(home):] if text.startswith("~") and path.startswith(home) else path for path in names)
+    return sorted(path + "/" if os.path.isdir(path) else path for path in found)
 
 
 class Prompt(cmd.Cmd):
@@ -58,38 +48,25 @@ class Prompt(cmd.Cmd):
 
     groups: Dict[str, Tuple[Help, ...]] = {}
 
-    def __init__(self, out: "IO[str]", is_coloured: bool = False, errors: "Optional[IO[str]]" = None,
-                 errors_are_coloured: bool = False) -> None:
+    def __init__(self, out: "IO[str]") -> None:
         super().__init__(stdout=out)
-        self.out = out
-        self.is_coloured = is_coloured
-        self._errors = errors or out
-        self._errors_are_coloured = errors_are_coloured
         self.help = {entry.name: entry for group in self.groups.values() for entry in group}
         self.help["exit"] = self.help["quit"]
 
     def say(self, *lines: str) -> None:
         """Writes lines."""
         for line in lines:
-            self.out.write(line + "\n")
-
-    def marked(self, code: int, text: str) -> str:
-        """A text with a colour or another mark, if there are any."""
-        return f"\x1b[{code}m{text}\x1b[0m" if self.is_coloured and text else text
-
-    def show(self, rows: List[str]) -> None:
-        """Writes a heading and the rows below it."""
-        self.say(self.marked(STRONG, rows[0]), *rows[1:])
+            print(line, file=self.stdout)
 
     def carry_out(self, line: bytes) -> None:
-        """Carries out a line, without its LF. A `ValueError` or `FileFault` says why not; `Leave` ends the session."""
+        """Carries out a line, without its LF. A `ValueError` or `OSError` says why not; `Leave` ends the session."""
         name, _, rest = line.decode("utf-8", "surrogateescape").strip().partition(" ")
         if name not in self.help:
             raise ScriptError(f"no command is called {shown(name)}: help lists them")
         usage = self.help[name].usage
-        if rest and " " not in usage:
-            raise ScriptError(f"{name} takes no arguments")
         try:
+            if rest and " " not in usage:
+                raise UsageError
             self.perform(name, rest.strip())
         except UsageError:
             raise ScriptError(f"the form is: {usage}") from None
@@ -106,8 +83,8 @@ class Prompt(cmd.Cmd):
             self.say(entry.usage, f"{entry.about}.", *filter(None, [entry.more]))
             return
         for title, group in self.groups.items():
-            self.show([title, *(f"  {entry.usage:<19} {entry.about}" if len(entry.usage) < 20 else
-                                f"  {entry.usage}\n{'':22}{entry.about}" for entry in group)])
+            self.say(title, *(f"  {entry.usage:<19} {entry.about}" if len(entry.usage) < 20 else
+                              f"  {entry.usage}\n{'':22}{entry.about}" for entry in group))
         self.say("help NAME says more. Ctrl-C drops a line, Ctrl-D ends.")
 
     def do_quit(self, _: str) -> None:
@@ -150,25 +127,18 @@ class Prompt(cmd.Cmd):
             self.carry_out(line.encode("utf-8", "surrogateescape"))
         except Leave:
             return True
-        except (ValueError, FileFault) as error:
-            said = f"\x1b[{ERROR}m{error}\x1b[0m" if self._errors_are_coloured else str(error)
-            print(said, file=self._errors, flush=True)
+        except (ValueError, OSError) as error:
+            print(reason_of(error), file=sys.stderr, flush=True)
         return False
 
     def run_prompt(self) -> None:
         """Reads and carries out lines up to the end. Ctrl-C drops a line."""
-        if callable(signal.getsignal(signal.SIGINT)):
-            signal.signal(signal.SIGINT, signal.default_int_handler)
-        is_interrupted = False
         while True:
             try:
-                if is_interrupted:
-                    self.intro = ""
-                    self.out.write("^C\n")
-                self.cmdloop()
-                return
+                return self.cmdloop()
             except KeyboardInterrupt:
-                is_interrupted = True
+                self.intro = ""
+                self.say("^C")
 
 
 def use_history() -> None:
@@ -178,8 +148,7 @@ def use_history() -> None:
     except ImportError:  # a Python without it reads lines all the same
         return
     readline.set_completer_delims(" \t\n")
-    named = os.environ.get(HISTORY_VARIABLE)
-    path = str(Path.home() / ".superio_history") if named is None else named
+    path = os.environ.get(HISTORY_VARIABLE, str(Path.home() / ".superio_history"))
     if not path:
         return
     with suppress(OSError):
@@ -187,6 +156,6 @@ def use_history() -> None:
     readline.set_history_length(_HISTORY_LENGTH)
 
     def write_history() -> None:
-        with suppress(FileFault), replaced(path) as name:
-            readline.write_history_file(name)
+        with suppress(OSError):
+            readline.write_history_file(path)
     atexit.register(write_history)

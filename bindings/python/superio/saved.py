@@ -89,11 +89,9 @@ class Saved:
         for name in kind.kinds():
             setattr(self._struct, name, getattr(state, name))
 
-    def __reduce_ex__(self, protocol: Any) -> Tuple[Any, ...]:
-        """Attributes of a subclass go along, in the form that `copy` and `pickle` set them from."""
-        named, slots = super().__reduce_ex__(2)[2]
-        own = {name: value for name, value in slots.items() if name not in Saved.__slots__}
-        return _restored, (type(self), self.to_bytes()), (named, own) if own else named
+    def __reduce__(self) -> Tuple[Any, ...]:
+        """Attributes of a subclass go along."""
+        return _restored, (type(self), self.to_bytes()), getattr(self, "__dict__", None)
 
 
 def _restored(kind: Type[Saved], data: bytes) -> Saved:

@@ -1,6 +1,6 @@
 """The lines of a script, as the program `superio` takes them: docs/SCRIPT.md has their forms.
 
-`parse` accepts exactly the lines that the program accepts, and says of any other why it has no form.
+`parse` accepts exactly the lines that the program accepts.
 """
 import re
 from functools import lru_cache
@@ -8,17 +8,7 @@ from typing import Dict, NamedTuple, Tuple, Union
 
 from .arguments import byte_string
 
-MAXIMUM = 65_536
-"""A script has at most this many bytes."""
-
-_DIGITS = re.compile(rb"[0-9A-Fa-f]+")
-_MANY_BYTES = 128
 _LINES = 4096
-
-_SPACES = "one space separates two fields, and none follows the last"
-
-TOO_MANY = "it goes on after its last field"
-"""Why a line with too many fields has no form."""
 
 Value = Union[int, bytes]
 
@@ -42,9 +32,6 @@ class Field(NamedTuple):
     digits: int     # how many it has, 0 for bytes of two digits each
     kind: str = ""  # what it can be in a shell beside digits: a register or bits of one, or a moment
 
-    def __str__(self) -> str:
-        return f"{'an' if self.name.startswith('o') else 'a'} {self.name}"
-
 
 OFFSET, VALUE = Field("offset", "OO", 2), Field("value", "VV", 2)
 SERIAL_OFFSET, SERIAL_VALUE = OFFSET._replace(kind="serial"), VALUE._replace(kind="bits")
@@ -52,8 +39,6 @@ MOMENT = Field("moment", "MOMENT", 16, "now")
 CLOCK_OFFSET = Field("offset of the clock", "OOOO", 4, "clock")
 CLOCK_VALUE = Field("value of the clock", "VVVVVVVV", 8, "bits")
 BYTES = Field("bytes", "HH..", 0)
-
-_NUMBERS = {2: "two", 4: "four", 8: "eight", 16: "sixteen"}
 
 MASK = "refuse"
 """The name of the line that a script can only begin with."""
@@ -85,27 +70,25 @@ FORMS = {name: fields for name, (_, fields) in LINES.items()}
 """The fields of each line. Bytes may be left out."""
 
 
+def form_of(name: str) -> str:
+    """The form of a line, as `help` shows it."""
+    return " ".join([name, *(field.form for field in FORMS[name])])
+
+
+def _pattern(name: str) -> "re.Pattern[str]":
+    fields = (f" ([0-9A-Fa-f]{{{field.digits}}})" if field.digits else "(?: ((?:[0-9A-Fa-f]{2}){1,128}))?"
+              for field in FORMS[name])
+    return re.compile(name + "".join(fields))
+
+
+_PATTERNS = {name: _pattern(name) for name in FORMS}
+
+
 class Command(NamedTuple):
     """A line of a script: its name, and the values of its fields."""
 
     name: str
     values: Tuple[Value, ...] = ()
-
-
-def missing(field: Field) -> str:
-    """Why a line without this field has no form."""
-    return f"{field} is missing"
-
-
-def _value(field: Field, text: bytes) -> Value:
-    """The value of a field's text. Raises `ScriptError` if it has not the field's digits."""
-    if not text:
-        raise ScriptError(_SPACES)
-    is_whole = len(text) == field.digits if field.digits else len(text) % 2 == 0 and len(text) <= 2 * _MANY_BYTES
-    if not is_whole or not _DIGITS.fullmatch(text):
-        raise ScriptError(f"{field} has {_NUMBERS[field.digits]} digits" if field.digits else
-                          f"1 to {_MANY_BYTES} bytes have two digits each")
-    return int(text, 16) if field.digits else bytes.fromhex(text.decode("ascii"))
 
 
 def parse(line: bytes, is_first: bool = False) -> Command:
@@ -119,26 +102,17 @@ def parse(line: bytes, is_first: bool = False) -> Command:
 @lru_cache(maxsize=_LINES)
 def _parse(line: bytes, is_first: bool) -> Command:
     """The same. A script has most of its lines many times."""
-    if line.endswith(b"\r"):
-        raise ScriptError("it ends with a carriage return")
-    word, *texts = line.split(b" ")
-    name = word.decode("ascii", "replace")
+    text = line.decode("ascii", "replace")
+    name = text.partition(" ")[0]
     if name not in FORMS:
-        raise ScriptError("no line has this name" if name else "a line begins with a name")
-    fields = FORMS[name] if texts or FORMS[name] != (BYTES,) else ()
-    values = tuple(map(_value, fields, texts))
-    if len(texts) < len(fields):
-        raise ScriptError(missing(fields[len(texts)]))
-    if len(texts) > len(fields):
-        raise ScriptError(TOO_MANY if texts[len(fields)] else _SPACES)
+        raise ScriptError("no line has this name")
+    found = _PATTERNS[name].fullmatch(text)
+    if not found:
+        raise ScriptError(f"the form is: {form_of(name)}")
     if name == MASK and not is_first:
         raise ScriptError("a mask comes before every other line")
-    return Command(name, values)
-
-
-def lines_of(script: bytes) -> Tuple[bytes, ...]:
-    """The lines of a script. The last one may lack its LF."""
-    return tuple(script[:-1 if script.endswith(b"\n") else None].split(b"\n")) if script else ()
+    return Command(name, tuple(int(digits, 16) if field.digits else bytes.fromhex(digits)
+                               for field, digits in zip(FORMS[name], found.groups()) if digits))
 
 
 def text_of(command: Command) -> str:

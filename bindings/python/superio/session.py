@@ -1,17 +1,14 @@
 """A session: a board, what a line can make of it, and the lines of its calls."""
 import os
 import shlex
-import signal
 import time
-from contextlib import suppress
-from typing import IO, Any, Callable, Dict, Iterable, List, Optional, Tuple
+from typing import IO, Callable, Dict, Iterable, List, Optional, Tuple
 
 from .board import Board, Call
-from .devices import Rtc, Serial
-from .files import BadLine, FileFault, opened, replaced, write_text
-from .prompt import QUIET, Help, Prompt
+from .files import BadLine, write_text
+from .prompt import Help, Prompt
 from .registers import CLOCK
-from .script import FORMS, LINES, MASK, Command, ScriptError, parse, text_of
+from .script import FORMS, LINES, MASK, Command, ScriptError, form_of, text_of
 from .tell import Story, changes, clock_registers, registers, told
 from .words import Speaker, UsageError
 
@@ -63,24 +60,24 @@ _GROUPS: Dict[str, Tuple[Help, ...]] = {
         Help("regs [serial|clock]", "every register, the FIFO and what is pending", "", ("serial clock",)),
         Help("why", "why each interrupt is pending, or is not"),
         Help("diff", "what the last call changed"),
-        Help("trace [on [FILE]|off]", "every call as a script line",
-             "trace on shows each call's line. trace on FILE writes all since the last reset to a file, a script for "
-             "the program superio. trace alone lists them.", ("on off", "file")),
+        Help("trace [on|off|FILE]", "every call as a script line",
+             "trace alone lists those since the last reset, and trace FILE writes them to a file, a script for the "
+             "program superio. trace on shows each from now on.", ("on off",)),
     ),
     "Session": (
         Help("save FILE", "saves port and clock", "The file has the two script lines that load them, sl and cl.",
              ("file",)),
-        Help("load FILE", "loads what save wrote",
+        Help("load FILE", "carries out the lines of a file, such as save wrote",
              "The port goes on over the board's own line and output. If the line refuses an interrupt that is due, the "
              "port stays as it was.", ("file",)),
+        Help("source FILE", "as load", "", ("file",)),
         Help("reset", "a fresh board, as after a reset of the machine"),
-        Help("source FILE", "carries out the lines of a file", "", ("file",)),
         Help("help [NAME]", "this list, or more about one command", "", ("command",)),
         Help("quit", "ends, as exit and Ctrl-D do"),
     ),
     "Lines of a script, with hexadecimal fields": tuple(
-        Help(" ".join([name, *(field.form for field in fields)]), about, _OF_MASK if name == MASK else "",
-             tuple(field.kind for field in fields)) for name, (about, fields) in LINES.items()),
+        Help(form_of(name), about, _OF_MASK if name == MASK else "", tuple(field.kind for field in fields))
+        for name, (about, fields) in LINES.items()),
 }
 
 
@@ -94,22 +91,14 @@ def _path(rest: str) -> str:
 
 
 class Session(Prompt):
-    """Carries out lines on a board, and writes the replies to a stream.
-
-    `keeps_lines` says whether the lines of all calls are kept, for `trace`. `is_strict` takes nothing but what the
-    program `superio` takes.
-    """
+    """Carries out lines on a board, and writes the replies to a stream."""
 
     groups, prompt, intro = _GROUPS, "superio> ", INTRO
 
-    def __init__(self, out: "IO[str]", keeps_lines: bool = False, is_strict: bool = False,
-                 host_time: Callable[[], float] = time.time, **marks: Any) -> None:
-        super().__init__(out, **marks)
-        self.is_strict = is_strict
-        self.keeps_lines = keeps_lines
+    def __init__(self, out: "IO[str]", host_time: Callable[[], float] = time.time) -> None:
+        super().__init__(out)
         self._depth = 0
         self._shows_calls = False
-        self._trace: Optional[Tuple[IO[str], str]] = None  # a file to which the lines of calls go, and its name
         self._host_time = host_time
         self.renew()
 
@@ -119,78 +108,50 @@ class Session(Prompt):
         self._speaker = Speaker(self.board, self._now)
         self._story = Story()
         self.last: Optional[Call] = None
-        self.lines: List[str] = []
-        self._end_trace()
+        self.commands: List[Command] = []
 
     def _now(self) -> int:
         """The host's time, in seconds since 1970, or 0 if its clock is before that."""
         return max(0, int(self._host_time()))
 
     def carry_out(self, line: bytes) -> None:
-        try:
-            command = parse(line, is_first=self.board.number == 0)
-        except ScriptError:
-            if self.is_strict:
-                raise
-        else:
-            self.run(command, is_short=True)
-            return
-        text = line.decode("utf-8", "surrogateescape").strip()
-        name = text.partition(" ")[0]
-        if name in FORMS:
-            self.run(self._speaker.line(name, text), is_short=True)
-        elif text and not text.startswith("#"):
+        """Carries out a line, which may be blank or a comment."""
+        if not line.lstrip().startswith(b"#") and line.strip():
             super().carry_out(line)
 
     def perform(self, name: str, rest: str) -> None:
-        if self.help[name].means:
+        if name in FORMS:
+            self.run(self._speaker.line(name, rest), is_short=True)
+        elif self.help[name].means:
             self.run(self._speaker.command(self.help[name].means, rest), is_short=False)
         else:
             super().perform(name, rest)
 
     def run(self, command: Command, is_short: bool) -> None:
         """Carries out a command, and writes what it replied: what a script prints if `is_short`, otherwise in words."""
-        if self.keeps_lines:
-            # Only a shell goes on after Ctrl-C, and has to find a board whose call is whole. This costs more than one.
-            before = signal.pthread_sigmask(signal.SIG_BLOCK, {signal.SIGINT})
-            try:
-                call = self._make(command)
-                self.lines.append(text_of(command))
-            finally:
-                signal.pthread_sigmask(signal.SIG_SETMASK, before)
-        else:
-            call = self._make(command)
+        call = self.last = self.board.run(command)
+        self.commands.append(command)
+        self._story.note(call)
         if self._shows_calls:
-            self.say(self.marked(QUIET, text_of(command)))
+            self.say(text_of(command))
         if call.reply is not None:
             self.say(call.reply if is_short else told(call))
-        if self._trace:
-            try:
-                print(text_of(command), file=self._trace[0], flush=True)
-            except OSError as error:
-                raise FileFault(str(self._end_trace()), error) from None
-
-    def _make(self, command: Command) -> Call:
-        call = self.last = self.board.run(command)
-        self._story.note(call)
-        return call
 
     def run_lines(self, name: str, lines: Iterable[bytes]) -> None:
         """Carries out the lines of a file of this name. `BadLine` names the first that is not carried out."""
         for number, line in enumerate(lines, 1):
-            line = line[:-1] if line.endswith(b"\n") else line
             try:
                 self.carry_out(line)
-            except (ValueError, FileFault) as error:
-                raise BadLine(name, number, line, error) from error
+            except (ValueError, OSError) as error:
+                raise BadLine(name, number, line.rstrip(b"\r\n"), error) from error
 
     def do_regs(self, rest: str) -> None:
         if rest not in ("", "serial", "clock"):
             raise UsageError
         if rest != "clock":
-            self.show(registers(self.board.snapshot()))
+            self.say(*registers(self.board.snapshot()))
         if rest != "serial":
-            self.show(clock_registers(self.board.clock.state, self._now()))
+            self.say(*clock_registers(self.board.clock.state, self._now()))
 
     def do_why(self, _: str) -> None:
         self.say(*self._story.lines(self.board))
@@ -199,7 +160,7 @@ class Session(Prompt):
         if self.last is None:
             raise ScriptError("no call was made yet")
         rows = changes(self.last) or ["nothing changed"]
-        self.show([text_of(self.last.command), *("  " + row for row in rows)])
+        self.say(text_of(self.last.command), *("  " + row for row in rows))
 
     def do_save(self, rest: str) -> None:
         path = _path(rest)
@@ -208,66 +169,29 @@ class Session(Prompt):
 
     def do_load(self, rest: str) -> None:
         path = _path(rest)
-        with opened(path) as file:
-            data = file.read(4096)
+        if self._depth == _DEEPEST:
+            raise ScriptError(f"files that load each other go at most {_DEEPEST} deep")
+        self._depth += 1
         try:
-            (first, port), (second, clock) = (line.decode("ascii").split() for line in data.splitlines())
-            forms = bytes.fromhex(port), bytes.fromhex(clock)
-        except ValueError:
-            first = second = ""
-        if (first, second) != ("sl", "cl"):
-            raise ScriptError(f"{path} is no file that save wrote")
-        for name, device, form in zip((first, second), (Serial, Rtc), forms):
-            device.from_bytes(form)
-        for name, form in zip((first, second), forms):
-            self.run(Command(name, (form,)), is_short=True)
+            with open(path, "rb") as file:
+                self.run_lines(path, file)
+        finally:
+            self._depth -= 1
+
+    do_source = do_load
 
     def do_reset(self, _: str) -> None:
         self.renew()
         self.say("a fresh board")
 
-    def do_source(self, rest: str) -> None:
-        path = _path(rest)
-        if self._depth == _DEEPEST:
-            raise ScriptError(f"files that source each other go at most {_DEEPEST} deep")
-        self._depth += 1
-        try:
-            with opened(path) as file:
-                self.run_lines(path, file)
-        finally:
-            self._depth -= 1
-
     def do_trace(self, rest: str) -> None:
-        name, _, path = rest.partition(" ")
-        has_all_lines = self.board.number == len(self.lines)
+        lines = [text_of(command) for command in self.commands]
         if rest in ("on", "off"):
             self._shows_calls = rest == "on"
-            ended = None if self._shows_calls else self._end_trace()
-            self.say(f"trace is {rest}" + (f", and {ended} is complete" if ended else ""))
-        elif name == "on":
-            if not has_all_lines:
-                raise ScriptError("trace on FILE has to come before every call here")
-            self._begin_trace(_path(path))
-        elif not rest and has_all_lines:
-            self.say(*self.lines)
+            self.say(f"trace is {rest}")
+        elif rest:
+            path = _path(rest)
+            write_text(path, "".join(f"{line}\n" for line in lines))
+            self.say(f"the calls since the last reset are in {path}")
         else:
-            raise UsageError
-
-    def _begin_trace(self, path: str) -> None:
-        """Writes `lines`, and from now on the line of each further call, into a file."""
-        self._end_trace()
-        with replaced(path) as name:
-            file = open(name, "w", encoding="ascii")
-            file.writelines(line + "\n" for line in self.lines)
-            file.flush()
-        self._trace = file, path
-        self.say(f"the calls since the last reset go to {path}")
-
-    def _end_trace(self) -> Optional[str]:
-        """Closes that file. Returns its name, or `None` if there is none."""
-        if self._trace is None:
-            return None
-        (file, path), self._trace = self._trace, None
-        with suppress(OSError):  # of a line that could not be written, which was said
-            file.close()
-        return path
+            self.say(*lines)

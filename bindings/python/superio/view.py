@@ -3,12 +3,11 @@ import os
 import pydoc
 import re
 import sys
-from contextlib import contextmanager
 from itertools import groupby
-from typing import IO, Callable, Dict, Iterator, Optional, Sequence
+from typing import IO, Callable, Dict, List, Optional, Sequence
 
-from .files import FileFault, opened, write_text
-from .prompt import ERROR, STRONG, Help, Prompt
+from .files import write_text
+from .prompt import Help, Prompt
 from .recording import Step, picture, replay
 from .registers import CLOCK, SERIAL
 from .script import ScriptError, shown, text_of
@@ -73,8 +72,8 @@ class Viewer(Prompt):
         Help("quit", "ends, as exit and Ctrl-D do"),
     )}
 
-    def __init__(self, steps: Sequence[Step], name: str, out: IO[str], is_coloured: bool = False) -> None:
-        super().__init__(out, is_coloured, errors_are_coloured=is_coloured)
+    def __init__(self, steps: Sequence[Step], name: str, out: IO[str]) -> None:
+        super().__init__(out)
         self.prompt = "view> " if sys.stdin.isatty() else ""
         self._steps = steps
         self._name = name
@@ -98,11 +97,11 @@ class Viewer(Prompt):
         self._place, step = place, self._steps[place]
         line = f"{text_of(step.call.command)}  {step.call.reply or ''}".rstrip()
         name, words = step.call.register.name if step.call.register else "", told(step.call)
-        self.say(f"call {place + 1} of {len(self._steps)}, piece {step.piece}: {self.marked(STRONG, line)}",
+        self.say(f"call {place + 1} of {len(self._steps)}, piece {step.piece}: {line}",
                  f"  {words}" if words.startswith(name) else f"  {name}: {words}",
                  *(f"  {row}" for row in changes(step.call)))
         if step.differs:
-            self.say(self.marked(ERROR, f"  recorded: {step.recorded}"))
+            self.say(f"  recorded: {step.recorded}")
 
     def _seek(self, rest: str, direction: int) -> None:
         if not rest or rest.isdecimal():
@@ -160,37 +159,31 @@ def write_table(steps: Sequence[Step], path: str) -> None:
         (pydoc.pager if sys.stdout.isatty() else sys.stdout.write)(table(steps))
 
 
-@contextmanager
-def _trace(path: str) -> Iterator["IO[bytes]"]:
-    """Opens a trace, unpacked if its name ends in .xz. Raises `FileFault` if it cannot be opened or read."""
-    with opened(path) as file:
-        if not path.endswith(".xz"):
-            yield file
-            return
-        import lzma
-        try:
-            with lzma.open(file) as unpacked:
-                yield unpacked
-        except (EOFError, lzma.LZMAError) as error:
-            raise FileFault(path, error) from None
-
-
-def view(path: str, table_path: Optional[str], svg_path: Optional[str], is_coloured: bool) -> None:
-    """Steps through the trace in a file, or writes its table, to a file of this name or else to standard output, or its
-    picture. Raises `BadLine` at a row that stands for no calls, and `ScriptError` if there is none."""
-    if path == "-":
-        steps = list(replay("<stdin>", sys.stdin.buffer))
-    else:
-        with _trace(path) as file:
-            steps = list(replay(path, file))
+def _steps(path: str) -> List[Step]:
+    """The calls of a trace, which is unpacked if its name ends in .xz. Raises `ScriptError` if there is none."""
+    import lzma
+    try:
+        if path == "-":
+            steps = list(replay("<stdin>", sys.stdin.buffer))
+        else:
+            with (lzma.open if path.endswith(".xz") else open)(path, "rb") as file:
+                steps = list(replay(path, file))
+    except (EOFError, lzma.LZMAError) as error:
+        raise ScriptError(f"{path}: {error}") from None
     if not steps:
         raise ScriptError(f"{path} has no call")
-    name = re.sub(r"\.xz$", "", os.path.basename(path))
+    return steps
+
+
+def view(path: str, table_path: Optional[str], svg_path: Optional[str]) -> None:
+    """Steps through the trace in a file, or writes its table, to a file of this name or else to standard output, or its
+    picture. Raises `BadLine` at a row that stands for no calls."""
+    steps, name = _steps(path), re.sub(r"\.xz$", "", os.path.basename(path))
     if svg_path:
         write_text(svg_path, picture(steps, name))
     if table_path is not None:
         write_table(steps, table_path)
     if not svg_path and table_path is None:
-        viewer = Viewer(steps, name, sys.stdout, is_coloured)
+        viewer = Viewer(steps, name, sys.stdout)
         viewer.greet()
         viewer.run_prompt()

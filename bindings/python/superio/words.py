@@ -6,7 +6,7 @@ from typing import Any, Callable, List, Optional
 from .board import Board
 from .registers import (CLOCK, SERIAL, Register, bits_by_name, clock_offset, clock_register, serial_offset,
                         serial_register)
-from .script import BYTES, FORMS, MASK, MOMENT, TOO_MANY, Command, Field, ScriptError, missing, parse, shown
+from .script import BYTES, FORMS, MASK, MOMENT, Command, Field, ScriptError, parse, shown
 
 # A word of a line. A character in quotes is one, also a blank one.
 _WORD = re.compile(r"'(?:\\.[^']*|[^'])'|\S+")
@@ -75,16 +75,15 @@ class Speaker:
             raise UsageError
         return self._filled(name, words, 0)
 
-    def line(self, name: str, text: str) -> Command:
+    def line(self, name: str, rest: str) -> Command:
         """The command of a script's line, whose fields need not be written out: `sr LSR`, `sw 3 0x83`, `cr now DR`."""
-        rest = text[len(name):].strip()
         texts, fields = rest.split(), FORMS[name]
         if name == "sq" and rest[:1] in ("'", '"'):
             return Command(name, (self._bytes(rest),))
         if fields == (BYTES,):
-            return parse(text.encode("utf-8", "surrogateescape"))
+            return parse(" ".join([name, *texts]).encode("utf-8", "surrogateescape"))
         if len(texts) != len(fields):
-            raise ScriptError(TOO_MANY if len(texts) > len(fields) else missing(fields[len(texts)]))
+            raise UsageError
         if name == MASK and self.board.number:
             raise ScriptError("a mask comes before every other line; reset begins anew")
         return self._filled(name, texts, 16)

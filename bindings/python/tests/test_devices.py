@@ -1,4 +1,4 @@
-"""The devices: each call with an effect of its own, and values from the data sheets."""
+"""The devices: what Python adds to the calls, which tools/checks/calls compares with recordings."""
 import copy
 import dataclasses
 import doctest
@@ -6,7 +6,6 @@ import inspect
 import itertools
 import json
 import pickle
-import random
 import re
 import typing
 import unittest
@@ -20,10 +19,6 @@ from superio import (AlarmIsSetError, Board, Command, I8042, LibraryError, LoadS
 # What programs over vm-superio 0.8.2 saved: the device, the format, and the contents.
 RECORDED = ROOT / "tools" / "rust" / "states" / "recorded.txt"
 
-# The bits of the data sheets of the 16550A and the PL031, from the lowest on.
-BITS = {"IER": "RDA THRE RLS MS - - - -", "IIR": "- THRE RDA - - - - -", "LCR": "- - - - - - BREAK DLAB",
-        "MCR": "DTR RTS OUT1 OUT2 LOOP - - -", "LSR": "DR OE PE FE BI THRE TEMT -", "MSR": "- - - - CTS DSR RI DCD",
-        **dict.fromkeys(("IMSC", "RIS", "MIS", "ICR"), "ALARM - - - - - - -")}
 # A state of the clock, in which each field has a number of its own.
 DISTINCT = RtcState(*range(1, 1 + len(dataclasses.fields(RtcState))))
 FORMATS = {0x00: "5N1", 0x01: "6N1", 0x02: "7N1", 0x03: "8N1", 0x06: "7N2", 0x07: "8N2", 0x0B: "8O1", 0x1B: "8E1",
@@ -31,11 +26,7 @@ FORMATS = {0x00: "5N1", 0x01: "6N1", 0x02: "7N1", 0x03: "8N1", 0x06: "7N2", 0x07
 
 
 class Registers(unittest.TestCase):
-    def test_bits(self):
-        for name, register in {**registers.SERIAL, **registers.CLOCK}.items():
-            found = {name: bit for bit, name in register.bits}
-            wanted = {bit: 1 << place for place, bit in enumerate(BITS.get(name, "").split()) if bit != "-"}
-            self.assertEqual(wanted, found, name)
+    def test_formats_of_characters(self):
         for value, name in FORMATS.items():
             self.assertEqual([name], registers.bit_names(registers.SERIAL["LCR"], value), hex(value))
 
@@ -76,22 +67,17 @@ BYTES, SIGNED = "a bytes-like object", r"an int from -2\*\*63 to 2\*\*63 - 1"
 
 # Calls with a wrong argument: which it is, how it is shown, empty if it is long, and what is wanted. `Types` has more.
 REFUSED = [
-    (lambda: Serial().enqueue([65]), "data", "[65], of type list", BYTES),
     (lambda: Serial().write(7, 256), "value", "256, of type int", BYTE),
     (lambda: Serial().write(7, -1), "value", "-1, of type int", BYTE),
     (lambda: Serial().write(7, 10 ** 5000), "value", "", BYTE),
     (lambda: Serial().read(256), "offset", "256, of type int", OFFSET),
-    (lambda: Serial().write(-1, 0), "offset", "-1, of type int", OFFSET),
     (lambda: SerialState(scratch=256), "scratch", "256, of type int", BYTE),
-    (lambda: SerialState(scratch=-1), "scratch", "-1, of type int", BYTE),
     (lambda: SerialState(in_buffer=3), "in_buffer", "3, of type int", BYTES),
     (lambda: Rtc().read("DR", 1 << 64), "now", "18446744073709551616, of type int", MOMENT),
     (lambda: Rtc().due(-1), "now", "-1, of type int", MOMENT),
     (lambda: Rtc().write("LR", 1 << 32, 0), "value", "4294967296, of type int", WORD),
     (lambda: Rtc().read(1 << 16, 0), "offset", "65536, of type int", CLOCK_OFFSET),
-    (lambda: Rtc.from_state(None), "state", "None, of type NoneType", "RtcState"),
     (lambda: RtcState(lr=-1), "lr", "-1, of type int", WORD),
-    (lambda: RtcState(lr=1 << 32), "lr", "4294967296, of type int", WORD),
     (lambda: RtcState(offset=1 << 63), "offset", "9223372036854775808, of type int", SIGNED),
     (lambda: RtcState(offset=-1 - (1 << 63)), "offset", "-9223372036854775809, of type int", SIGNED),
     (lambda: I8042().write(4, 0x1FE), "value", "510, of type int", BYTE),
@@ -165,10 +151,6 @@ class Copies(unittest.TestCase):
         pickled = pickle.dumps(port, 2)
         self.assertEqual(pickle.dumps(Serial.from_state(SerialState(in_buffer=b"ab", line_status=0x61)), 2), pickled)
         self.assertNotIn(b"secret", pickled)
-        form = "".join(f"\\u{byte:04x}" for byte in Rtc.from_state(RtcState(lr=7)).to_bytes()).encode()
-        stored = (b"csuperio.saved\n_restored\n(csuperio.devices\nRtc\nc_codecs\nencode\n(V" + form
-                  + b"\nVlatin1\ntRtR.")
-        self.assertEqual(RtcState(lr=7), pickle.loads(stored).state)
 
     def test_a_copied_board_goes_on_as_its_original(self):
         """Every part of it, among them what its line has still to refuse."""
@@ -182,10 +164,10 @@ class Copies(unittest.TestCase):
             self.assertEqual(calls, [other.run(parse(line)) for line in lines])
 
     def test_attributes_of_a_subclass_go_along(self):
-        """With a constructor of its own, and in slots."""
-        for kind, way in itertools.product((NamedPort, NamedClock, NamedController), self.WAYS):
-            other = way(kind("COM1"))
-            self.assertEqual((kind, "COM1"), (type(other), other.name))
+        """Also if its constructor wants arguments."""
+        for way in self.WAYS:
+            other = way(NamedPort("COM1"))
+            self.assertEqual((NamedPort, "COM1"), (type(other), other.name))
 
     def test_each_error_can_be_copied(self):
         """As a pool of processes does that passes one on."""
@@ -203,34 +185,10 @@ class Copies(unittest.TestCase):
                 self.assertEqual((type(error), str(error), vars(error)), (type(other), str(other), vars(other)))
 
 
-class Named:
-    """A device with an attribute of its own."""
-
+class NamedPort(Serial):
     def __init__(self, name):
         super().__init__()
         self.name = name
-
-
-class NamedPort(Named, Serial):
-    pass
-
-
-class NamedController(Named, I8042):
-    pass
-
-
-class NamedClock(Rtc):
-    """A clock with slots of its own, of which one has no value."""
-
-    __slots__ = ("__name", "unset")
-
-    def __init__(self, name):
-        super().__init__()
-        self.__name = name
-
-    @property
-    def name(self):
-        return self.__name
 
 
 # A value of each kind. Text is the name of a register that the device has.
@@ -289,23 +247,6 @@ class Types(unittest.TestCase):
             types = {name: type(value) for name, value in vars(state).items()}
             self.assertEqual(typing.get_type_hints(type(state)), types)
         self.assertTrue(one[1].armed)
-
-
-class Walks(unittest.TestCase):
-    def test_a_port_whose_ring_begins_at_each_place(self):
-        """After each of many calls the state is that of the saved form, which the library writes."""
-        chance, heads, port = random.Random(3), set(), Serial()
-        for _ in range(10000):
-            offset, count = chance.choice((0, 0, 0, 1, 2, 3, 4, 5, 7)), chance.choice((1, 1, 2, 3, 64))
-            call = chance.choice((lambda: port.read(offset), lambda: port.write(offset, chance.randrange(256)),
-                                  lambda: port.enqueue(bytes(chance.randrange(256) for _ in range(count)))))
-            call()
-            form = port.to_bytes()
-            self.assertEqual(SerialState(*form[8:17], in_buffer=form[17:]), port.state)
-            self.assertEqual(form, Serial.from_state(port.state).to_bytes())
-            self.assertEqual(port.state, Serial.from_bytes(form).state)
-            heads.add(port._struct.head)
-        self.assertEqual(set(range(64)), heads)
 
 
 class MovedStates(unittest.TestCase):

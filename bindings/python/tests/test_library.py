@@ -42,7 +42,7 @@ class Layout(unittest.TestCase):
         """Otherwise ctypes passes and returns an `int`, whose 32 bits many numbers fit by chance."""
         self.assertEqual(DECLARED.functions.keys(), library.PROTOTYPES.keys())
         found = library.open_library()
-        self.assertIsInstance(found._file, ctypes.PyDLL, "calls on one device may overlap: they give up Python's lock")
+        self.assertIsInstance(found, ctypes.PyDLL, "calls on one device may overlap: they give up Python's lock")
         for name, declared in DECLARED.functions.items():
             function = getattr(found, name)
             expected = TYPES[declared.returned], [parameter_of(parameter) for parameter in declared.parameters]
@@ -61,30 +61,18 @@ class Layout(unittest.TestCase):
 
 
 class Finding(unittest.TestCase):
-    def opened(self, named=None, **constants):
+    def opened(self, named, **constants):
         """The library, if SUPERIO_LIBRARY and constants of the module have these values."""
-        environment = {name: value for name, value in os.environ.items() if name != library.VARIABLE}
-        variables = {**environment, **({} if named is None else {library.VARIABLE: named})}
-        with mock.patch.dict(os.environ, variables, clear=True), mock.patch.dict(vars(library), constants):
+        with mock.patch.dict(os.environ, {library.VARIABLE: named}), mock.patch.dict(vars(library), constants):
             return library.open_library()
 
     def test_what_is_refused(self):
-        own = library.ABI
+        own, here = library.ABI, self.opened("")._name
         for said, named, constants in (
                 ("/nowhere/lib.so cannot be loaded", "/nowhere/lib.so", {}),
-                ("none.so was not found .* set SUPERIO_LIBRARY", None, {"FILE_NAME": "none.so"}),
-                *((f"interface {own}, .* needs {other}:", None, {"ABI": other})  # newer than the package, or older
+                ("none.so cannot be loaded: .* set SUPERIO_LIBRARY", "", {"FILE_NAME": "none.so"}),
+                ("libc.so.6 cannot be loaded", "libc.so.6", {}),
+                *((f"interface {own}, .* needs {other}:", here, {"ABI": other})  # newer than the package, or older
                   for other in (own - 1, own + 1, own + 256))):
             with self.subTest(said), self.assertRaisesRegex(LibraryError, said):
                 self.opened(named, **constants)
-
-    def test_the_packages_own_library_comes_first_and_an_empty_name_names_none(self):
-        self.assertEqual(["in the package", "in the repository"], [place for place, _ in library.candidates()])
-        self.assertTrue(os.path.isfile(self.opened("").path))
-
-    def test_a_missing_function_says_so_when_it_is_called(self):
-        with mock.patch.dict(library.PROTOTYPES, superio_nothing=(None, [])):
-            found = library.open_library()
-            with self.assertRaisesRegex(LibraryError, "has no function superio_nothing"):
-                found.superio_nothing()
-        self.assertFalse(hasattr(found, "superio_nothing"))

@@ -3,46 +3,35 @@
 The program `superio` is the one that the environment variable SUPERIO_PROGRAM names, or else the built one. Without it
 the tests beside it are skipped.
 """
+import io
 import os
 import random
-import re
 import unittest
 from pathlib import Path
 
-from support import ROOT, run
+from support import ROOT
 
 from program import run_all, seed_of
 from script_tests import scripts_of
 
 from superio import Board, ScriptError, parse
-from superio.script import FORMS, MAXIMUM, lines_of, text_of
+from superio.script import FORMS, text_of
+from superio.session import Session
 
 PROGRAM = Path(os.environ.get("SUPERIO_PROGRAM", ROOT / "crates" / "superio" / "out" / "superio"))
-EXAMPLES = sorted((ROOT / "examples").glob("*.script"))
-SCRIPTS = [test for path in sorted((ROOT / "tests").glob("*.txt")) for test in scripts_of(path)]
+# All but those that are too long.
+SCRIPTS = [test for path in sorted((ROOT / "tests").glob("*.txt")) for test in scripts_of(path)
+           if test.expected[0] in (0, 1)]
 BROKEN = 2_000
 
 # Why lines have no form.
 BAD = {
-    "a line begins with a name": [b"", b" sr 05"],
-    "no line has this name": [b"sx 05", b"SR 05", b"\xff"],
-    "an offset is missing": [b"sr"],
-    "a value is missing": [b"sw 01"],
-    "a moment is missing": [b"cr"],
-    "an offset of the clock is missing": [b"cr 0000000000000000"],
-    "a value of the clock is missing": [b"cw 0000000000000000 0000"],
-    "a mask is missing": [b"refuse"],
-    "an offset has two digits": [b"sr 5", b"sr 005", b"sr 0x", b"sr +5", b"sr _5", b"sr \xd9\xa1"],
-    "a value has two digits": [b"sw 01 1"],
-    "1 to 128 bytes have two digits each": [b"sq 4", b"sq " + b"00" * 129, b"sl 4", b"cl " + b"00" * 129],
-    "a moment has sixteen digits": [b"cr 0 0000"],
-    "an offset of the clock has four digits": [b"cr 0000000000000000 00"],
-    "a value of the clock has eight digits": [b"cw 0000000000000000 0000 00"],
-    "a mask has sixteen digits": [b"refuse 1"],
+    "no line has this name": [b"", b" sr 05", b"sx 05", b"SR 05", b"\xff", b"sr\r", b"\r"],
+    "the form is: sr OO": [b"sr", b"sr 5", b"sr 005", b"sr 0x", b"sr +5", b"sr _5", b"sr \xd9\xa1", b"sr  05",
+                           b"sr 05 ", b"sr 05 06", b"sr 05\r"],
+    "the form is: sq HH..": [b"sq 4", b"sq " + b"00" * 129, b"sq ", b"sq 53 49"],
+    "the form is: si": [b"si ", b"si 00"],
     "a mask comes before every other line": [b"refuse 0000000000000001"],
-    "one space separates two fields, and none follows the last": [b"sr  05", b"sr 05 ", b"sq ", b"sc ", b"si "],
-    "it goes on after its last field": [b"sr 05 06", b"sb 00", b"sl 53 49", b"sc 00", b"si 00"],
-    "it ends with a carriage return": [b"sr 05\r", b"\r"],
 }
 
 
@@ -63,10 +52,13 @@ class Lines(unittest.TestCase):
                 self.assertEqual(reason, str(caught.exception))
 
 
+def lines_of(script):
+    """The lines of a script. The last one may lack its LF."""
+    return script[:-1 if script.endswith(b"\n") else None].split(b"\n") if script else []
+
+
 def run_board(script):
     """What the package makes of a script, as the program does: the status, the replies, and what is wrong."""
-    if len(script) > MAXIMUM:
-        return 4, b"", b"script too long\n"
     board, replies = Board(), []
     for number, line in enumerate(lines_of(script), 1):
         try:
@@ -88,16 +80,13 @@ def broken(script, randomness):
 
 class Replies(unittest.TestCase):
     def test_replies_are_those_of_the_tests(self):
+        """On a board, and those of a good script in the shell too."""
         for test in SCRIPTS:
             self.assertEqual(test.expected, run_board(test.script), test.place)
-
-    def test_scripts_have_their_replies_in_the_shell_too(self):
-        """A good script has the same replies without --strict."""
-        for path in EXAMPLES:
-            self.assertEqual(run("--strict", path), run(path))
-        good = [test for test in SCRIPTS if test.expected[0] == 0 and test.script]
-        for test in good[::25]:
-            self.assertEqual((0, test.expected[1].decode(), ""), run(script=test.script), test.place)
+            if test.expected[0] == 0:
+                out = io.StringIO()
+                Session(out).run_lines("script", lines_of(test.script))
+                self.assertEqual(test.expected[1].decode(), out.getvalue(), test.place)
 
 
 @unittest.skipUnless(PROGRAM.exists(), f"{PROGRAM} is not built")
@@ -106,17 +95,7 @@ class Program(unittest.TestCase):
         """The scripts of tests/ have their replies there: tools/checks/scripts and Replies compare both with those."""
         randomness = random.Random(seed_of(ROOT))
         whole = [test.script for test in SCRIPTS if 0 < len(test.script) < 3000]
-        scripts = [path.read_bytes() for path in EXAMPLES]
+        scripts = [path.read_bytes() for path in (ROOT / "examples").glob("*.script")]
         scripts += [broken(randomness.choice(whole), randomness) for _ in range(BROKEN)]
         for script, expected in zip(scripts, run_all(PROGRAM, scripts)):
-            if run_board(script) != expected:
-                self.assertEqual(expected, run_board(script), script)
-        self.assertTrue(EXAMPLES)
-
-    def test_strict_command_line(self):
-        bad = [test.script for test in SCRIPTS if test.expected[0] == 1][::40]
-        for script, (status, output, errors) in zip(bad, run_all(PROGRAM, bad)):
-            number = int(re.fullmatch(rb"bad line (\d+)\n", errors)[1])
-            got = run("--strict", script=script)
-            self.assertEqual((status, output.decode()), got[:2])
-            self.assertTrue(got[2].startswith(f"<stdin>:{number}: "), got[2])
+            self.assertEqual(expected, run_board(script), script)

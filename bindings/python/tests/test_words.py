@@ -1,24 +1,19 @@
 """What people type: the commands that it means, what is said of it, and why it means none. And what documents show."""
 import doctest
 import io
-import os
 import re
-import signal
 import unittest
-from unittest import mock
 
-from support import PACKAGE, ROOT, FolderTest, run
+from support import PACKAGE, ROOT, run
 
-from superio import Command, Rtc, Serial
-from superio.files import FileFault
-from superio.prompt import Leave
+from superio import Command
+from superio.files import reason_of
 from superio.registers import CLOCK, SERIAL
 from superio.session import Session
 from superio.tell import quoted
 from superio.words import characters
 
 NOW = 0x6553F100
-SAVED = f"sl {Serial().to_bytes().hex()}\ncl {Rtc().to_bytes().hex()}\n"
 
 # The line of a script, and the lines that mean it.
 MEANINGS = {
@@ -64,7 +59,7 @@ MEANINGS = {
 # A part of why a line is none, and such lines, after those before them.
 FAULTS = {
     "no command is called reed: help lists them": ["reed LSR"],
-    "an offset is missing": ["sr"],
+    "the form is: sr OO": ["sr"],
     "XYZ is no offset, and no register: those are RBR": ["sr XYZ"],
     "the form is: read REGISTER": ["read", "read LSR now"],
     "256 is no offset": ["read 256"],
@@ -77,7 +72,7 @@ FAULTS = {
     'the text has no closing "': ['type "a', 'type "a" b', r'type "\"'],
     "no escape is called \\q": [r'type "\q"'],
     "1 to 128 bytes": ["type " + "x" * 129, 'type ""'],
-    "1 to 128 bytes have two digits each": ["sq 4"],
+    "the form is: sq HH..": ["sq 4"],
     "the form is: clock read|write REGISTER [VALUE] [MOMENT]": ["clock", "clock read", "clock set DR 1"],
     "noon is no moment": ["clock read DR noon"],
     "is no number of seconds: it has 64 bits": [f"clock read DR now+{1 << 64}"],
@@ -85,19 +80,17 @@ FAULTS = {
     "is no number of seconds": ["clock read DR now+" + "9" * 5000],
     "guest time has 32 bits": ["alarm +4294967295", f"alarm +{(1 << 32) - NOW}"],
     "the form is: i8042 read|write OFFSET [VALUE]": ["i8042 read"],
-    "room takes no arguments": ["room 5"],
-    "timeout takes no arguments": ["timeout 5"],
-    "it goes on after its last field": ["si 5"],
-    "why takes no arguments": ["why not"],
+    "the form is: room": ["room 5"],
+    "the form is: si": ["si 5"],
+    "the form is: why": ["why not"],
     "the form is: regs": ["regs i8042"],
     "the form is: save FILE": ["save", "save a b"],
     "the form is: load FILE": ['load "a'],
     "/nowhere/at/all: No such file or directory": ["load /nowhere/at/all"],
     "/: Is a directory": ["source /"],
-    "/proc/self/mem: Input/output error": ["load /proc/self/mem", "source /proc/self/mem"],
-    "/dev/full: No space left on device": ["save /dev/full"],
+    "Input/output error": ["load /proc/self/mem"],
+    "No space left on device": ["save /dev/full"],
     "no command is called foo": ["help foo"],
-    "the form is: trace": ["trace of"],
     "no call was made yet": ["diff", "type hi\nreset\ndiff"],
     "RBR is out of reach while DLAB is set": ["write LCR 0x83\nwrite DLL 1\nread RBR"],
     "a mask comes before every other line; reset begins anew": ["# comment\nregs\nrefuse 1\nrefuse 2"],
@@ -200,14 +193,13 @@ ASKED = [
 ]
 
 
-class SessionTest(FolderTest):
+class SessionTest(unittest.TestCase):
     def setUp(self):
-        super().setUp()
         self.begin()
 
     def begin(self, **options):
         self.out = io.StringIO()
-        self.session = Session(self.out, **{"keeps_lines": True, "host_time": lambda: NOW + 0.75, **options})
+        self.session = Session(self.out, **{"host_time": lambda: NOW + 0.75, **options})
 
     def said(self, *lines):
         """What is said of lines, as lines."""
@@ -237,11 +229,11 @@ class Words(SessionTest):
             for line in lines:
                 *before, last = line.split("\n")
                 self.afresh(before)
-                calls = self.session.lines[:]
+                calls = self.session.commands[:]
                 with self.subTest(line), self.assertRaises(Exception) as caught:
                     self.said(last)
-                self.assertIn(reason, str(caught.exception))
-                self.assertEqual(calls, self.session.lines)
+                self.assertIn(reason, reason_of(caught.exception))
+                self.assertEqual(calls, self.session.commands)
 
     def test_dialogues(self):
         for lines, replies in DIALOGUES:
@@ -278,22 +270,6 @@ class Words(SessionTest):
         for data in (bytes([one, other]) for one in range(256) for other in b"a0\\\"\xff"):
             self.assertEqual(data, characters(quoted(data)))
 
-    def test_ctrl_c_amid_a_call_comes_after_it(self):
-        run_command = self.session.board.run
-
-        def interrupted(command):
-            os.kill(os.getpid(), signal.SIGINT)
-            return run_command(command)
-
-        # A shell that starts this in the background lets it ignore the signal.
-        before = signal.signal(signal.SIGINT, signal.default_int_handler)
-        try:
-            with mock.patch.object(self.session.board, "run", interrupted), self.assertRaises(KeyboardInterrupt):
-                self.said("write SCR 7")
-        finally:
-            signal.signal(signal.SIGINT, before)
-        self.assertEqual((7, 1), (self.session.board.serial.state.scratch, self.session.last.number))
-
     def test_help(self):
         """It names every command, and the registers that a command reaches."""
         listed = "\n".join(self.said("help"))
@@ -305,70 +281,6 @@ class Words(SessionTest):
             self.assertEqual(sorted(name for name, one in SERIAL.items() if letter in one.access), sorted(named))
         named = self.session.help["clock"].more.partition(", ID0")[0].partition("REGISTER is ")[2].split(", ")
         self.assertEqual([name for name in CLOCK if not name.startswith("ID")], named)
-
-
-# Lines, what is said of them, and what is in a file then. `{}` stands for the name of the file, which is there.
-OLD, BEGUN = "an old file\n", "the calls since the last reset go to {}"
-TRACES = [
-    (["trace on", "read LSR", "sr 07", "trace off", "sr 07", "trace"],
-     ["trace is on", "sr 05", "LSR = 0x60  THRE TEMT", "sr 07", "00", "trace is off", "00", "sr 05", "sr 07", "sr 07"],
-     OLD),
-    (["read SCR", "reset", "read LSR", "trace on {}"],
-     ["SCR = 0x00", "a fresh board", "LSR = 0x60  THRE TEMT", BEGUN], "sr 05\n"),
-    (["kr 04", "trace on {}", "sr 02"], ["00", BEGUN, "c1"], "kr 04\nsr 02\n"),
-    (["trace on {}", "sr 02", "trace off", "kr 04"],
-     [BEGUN, "c1", "trace is off, and {} is complete", "00"], "sr 02\n"),
-    (["trace on {}", "kr 04", "reset", "sr 07", "trace", "trace off"],
-     [BEGUN, "00", "a fresh board", "00", "sr 07", "trace is off"], "kr 04\n"),
-    (["save {}", "reset", "load {}", "trace"],
-     ["port and clock saved to {}", "a fresh board", "ok", "ok", *SAVED.splitlines()], SAVED),
-]
-
-
-class Files(SessionTest):
-    """The files of `trace`, `save`, `load` and `source`."""
-
-    def setUp(self):
-        super().setUp()
-        self.path = self.folder / "file"
-
-    def test_traces(self):
-        for lines, said, text in TRACES:
-            self.path.write_text(OLD)
-            self.assertEqual([row.format(self.path) for row in said],
-                             self.afresh([], *(line.format(self.path) for line in lines)))
-            self.assertEqual(text, self.path.read_text())
-
-    def test_a_full_disk_ends_a_trace_and_no_more(self):
-        self.said("trace on /dev/full")
-        with self.assertRaisesRegex(FileFault, "/dev/full: No space left on device"):
-            self.said("kr 04")
-        self.assertEqual(["00", "00"], self.said("kr 04"))
-
-    def test_nothing_is_loaded_of_a_file_that_is_half_good(self):
-        port, clock = Serial().to_bytes().hex(), Rtc().to_bytes().hex()
-        self.said("write SCR 7", "clock write LR 100")
-        before = self.session.board.snapshot()
-        for text, reason in ((f"sl {port}\ncl {clock[:-2]}02\n", "an alarm that is neither set nor clear"),
-                             (f"sl {port[:-2]}\ncl {clock}\n", "a saved state of the wrong length")):
-            self.path.write_text(text)
-            with self.assertRaisesRegex(ValueError, reason):
-                self.said(f"load {self.path}")
-            self.assertEqual(before, self.session.board.snapshot())
-
-    def test_a_file_can_end_the_session_or_have_a_fault(self):
-        self.path.write_text("quit\n")
-        self.assertRaises(Leave, self.said, f"source {self.path}")
-        self.path.write_text("room 5\n")
-        for name in [self.path, self.folder / "none", self.folder] * 11:
-            self.assertRaises((ValueError, FileFault), self.said, f"source {name}")
-        self.path.write_text("room\n")
-        self.assertEqual(self.said("room"), self.said(f"source {self.path}"))
-
-    def test_a_tilde_is_the_home(self):
-        with mock.patch.dict(os.environ, {"HOME": str(self.folder)}):
-            self.assertEqual([f"port and clock saved to {self.path}"], self.said("save ~/file"))
-        self.assertTrue(self.path.exists())
 
 
 class Documents(unittest.TestCase):
