@@ -19,15 +19,11 @@ SAVED, SOME = "docs/SAVED-STATES.md", "some"
 # A tool with its arguments, the parts of the repository that it has beside tools/, the Python package and SAVED, how a
 # line of it ends, and what it passes and fails.
 MISSING = [
-    ("checks/calls", [CAT], [], "calls/line.txt is not there", (0, SOME)),
     ("checks/links", [], [], "SAVED-STATES.md: no document links to it", (0, SOME)),
     ("checks/failing_io", [CAT], [], "tests/scripts.txt: No such file or directory", (0, SOME)),
-    ("replay", [CAT], [], "boot.recording.xz: No such file or directory", (0, SOME)),
-    ("checks/scripts", [CAT], [], "tests/clock.txt is not there", (0, SOME)),
-    ("checks/transcripts", [CAT], [], "nothing was checked", (0, SOME)),
+    ("checks/scripts", [CAT], [], "nothing was checked", (0, SOME)),
     *((f"checks/{name}", ["/nowhere/at/all"], [], NONE, (0, SOME)) for name in ("scripts", "hostile")),
     ("checks/calls", ["/nowhere/at/all"], ["tests/calls/line.txt"], NONE, (SOME, SOME)),
-    ("checks/saved_forms", [CAT, "--random", "0"], ["include"], "returned non-zero exit status 1.", (0, 1)),
 ]
 # The programs that a machine may lack: the kit, compilers and Cargo.
 LACKING = re.compile(r"(.*-)?(rt|cc|c89|c99|tcc|gcc|g\+\+|c\+\+|cpp|clang|clang\+\+|cargo|rustc)(-[\d.]+)?")
@@ -73,22 +69,6 @@ class MissingFiles(CopyTest):
         make_tiny(self.root, [("one", "same", "ensures", "    number", "    0")])
         self.judge_sums("checks/wrong_bodies", "--root", self.root, says="No such file or directory: 'rt'", sums=(0, 1),
                         env=NOTHING_ELSE)
-
-    def test_a_damaged_recording_and_a_document_without_what_is_read(self):
-        self.take("tests", "include", "prebuilt")
-        self.write(CALLS_OF, (self.root / CALLS_OF).read_bytes()[:-1000])
-        says = "end-of-stream marker was reached"
-        self.judge_sums("checks/calls", CAT, says=says, sums=(SOME, SOME), env=NOTHING_ELSE)
-        text = (self.root / SAVED).read_text(encoding="utf-8")
-        for document, says in (
-                (text.replace("53494f53", "-"), "one good example of each device is wanted, and these are there: {}"),
-                (text.replace("| `lr`", "| lr"), "SAVED-STATES.md: the fields of a clock are not one after the other"),
-                ("Without a table.\n", "SAVED-STATES.md has no version of the form"),
-                (None, "SAVED-STATES.md: No such file or directory")):
-            (self.root / SAVED).unlink()
-            if document:
-                self.write(SAVED, document)
-            self.judge_sums("checks/saved_forms", CAT, "--random", "0", says=says, sums=(0, 1))
 
 
 class MissingPrograms(CopyTest):

@@ -80,8 +80,7 @@ fn is_written(alloc: Global, script: usize, writing: Writing) -> bool {
 }
 
 /// A write fails at once by each fault. By each without a number, a read fails after any part of a script, a write
-/// between two bytes of a reply and after interruptions, and the flush, also of no reply. `tools/checks/failing_io` has
-/// the numbers there.
+/// between two bytes of a reply and after interruptions, and the flush, also of no reply.
 #[test]
 fn a_fault_of_any_kind_is_io(rt: HostRuntime) -> Result<(), Fail> {
     let alloc = rt.alloc();
