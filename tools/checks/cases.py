@@ -1,11 +1,12 @@
 """What tools/checks/hostile tries: random scripts for the program `superio`, runs of calls for `superio_harness`. And what
 each library is given beside the recorded calls: every answer in every state."""
 import random
+import re
 from itertools import product
 
 from expected import ROOM, clock_text
 from oracle import CLOCK_FIELDS, FIFO_SIZE
-from saved_bytes import CLOCK, CLOCK_CONTENTS, SERIAL, form
+from saved_bytes import CLOCK, CLOCK_CONTENTS, REGISTERS, SERIAL, TEXT, form
 
 from superio.script import FORMS  # noqa: E402, of the package that oracle finds
 
@@ -125,53 +126,14 @@ def full_output(source):
     return [*sends[:filled], f"sw 01 {source.choice((0, 2, 3)):02x}", *lines]
 
 
-def two_writes(source):
-    """Two writes of registers, of values with no bit, one or all, and then every register."""
-    writes = [f"sw {source.randrange(8):02x} {source.choice((0, 255, 1 << source.randrange(8))):02x}" for _ in range(2)]
-    return [source.choice(("sq", "sq 61")), f"sw 03 {source.choice((0x03, 0x80)):02x}",
-            f"sw 04 {source.choice((0x08, 0x10)):02x}", *writes, *SCRIPT_READS]
-
-
-def every_identification(source):
-    """An access, mostly a read of RBR, in a state of any registers for each value of IIR, with a byte or none."""
-    for identification in range(8):
-        registers, _ = port_start(source)
-        state = registers[:3] + bytes([identification]) + registers[4:] + source.choice((b"", b"a"))
-        yield from (f"sl {form(SERIAL, state).hex()}", source.choice(("sr 00", "si", serial_access(source))), "sb")
-
-
-def turns(source):
-    """Turns of a driver that takes a byte or none, and then reads IIR, with the monitor's timeout after each."""
-    lines = [f"sw 01 {source.choice((1, 3)):02x}"]
-    for _ in range(LINES // 4):
-        arrives = source.choice(("sq", "sq 61", "sq 616263", serial_access(source)))
-        lines += [arrives, *["sr 00"] * source.randrange(2), "sr 02", "si", "st"]
-    return lines
-
-
-def few_at_a_time(source):
-    """A driver that enables one condition or both, mostly with a byte held. A byte or none comes to it at a time."""
-    lines = []
-    for _ in range(LINES // 4):
-        enables = ["sw 01 00", *["sq 61"] * source.randrange(2), f"sw 01 {source.choice((1, 3, 3)):02x}"]
-        lines += [*source.choice((enables, ["sq 61"])), "sr 02", *["sr 00"] * source.randrange(2)]
-    return lines
-
-
-# What makes a script or its lines, with how many of 200 scripts it makes.
-SCRIPT_PARTS = {full_output: 4, two_writes: 31, every_identification: 16, turns: 8, few_at_a_time: 8, serial_line: 73,
-                clock_line: 40, any_line: 16, controller_access: 4}
-WHOLE = (full_output, two_writes, every_identification, turns, few_at_a_time)
-
-
 def script_lines(source):
     """The lines of a script, under a mask or none. Half of them begin at a state that is loaded."""
-    make, = source.choices(list(SCRIPT_PARTS), SCRIPT_PARTS.values())
+    make, = source.choices((serial_line, clock_line, any_line, controller_access, full_output), (24, 10, 4, 1, 1))
     bits = source.getrandbits(64)
-    masks = (bits, bits, bits & source.getrandbits(64), 1 << source.randrange(6))
-    mask = source.choice(masks if make == few_at_a_time else (None, None, None, *masks))
+    masks = (None, None, None, bits, bits, bits & source.getrandbits(64), 1 << source.randrange(6))
+    mask = source.choice(masks)
     lines = [] if mask is None else [f"refuse {mask:016x}"]
-    if make in WHOLE:
+    if make == full_output:
         return [*lines, *make(source), *SCRIPT_ENDS]
     if source.random() < 0.5:
         lines += [load_port(source)] * (make != clock_line) + [load_clock(source)] * (make in (clock_line, any_line))
@@ -203,11 +165,52 @@ def broken_lines():
             yield from (line[:place], *(line[:place] + other + line[place + 1:] for other in others))
 
 
+def random_form(source):
+    """A form of a random state."""
+    if source.random() < 0.5:
+        return form(SERIAL, source.randbytes(REGISTERS + source.randrange(FIFO_SIZE + 1)))
+    return form(CLOCK, CLOCK_CONTENTS.pack(*clock_start(source)))
+
+
+def random_bytes(source):
+    """Random bytes below the header of a form, or a part or a change of one. Some have the length that they say."""
+    data = source.randbytes(source.choice((CLOCK_CONTENTS.size, source.randrange(80))))
+    whole = bytearray(form(source.choice((SERIAL, CLOCK)), data))
+    changed = whole[:]
+    changed[source.randrange(8)] = source.randrange(256)
+    others = whole, changed, whole[:source.randrange(len(whole) + 1)], whole + data[:3], b"SIOS" + data, data
+    return bytes(source.choice(others))
+
+
+def loaded_bytes():
+    """The examples of docs/SAVED-STATES.md with each byte changed; these and other forms cut short at each place, or
+    longer; and random bytes."""
+    source = random.Random("loads")
+    examples = [bytes.fromhex(digits) for digits in re.findall(r"^(?:[0-9a-f]{2}){17,}$", TEXT, re.MULTILINE)]
+    bounds = [form(SERIAL, bytes(length)) for length in (0, 8, 9, 72, 73, 74)]
+    bounds += [form(CLOCK, bytes(CLOCK_CONTENTS.size + more)) for more in (-1, 0, 1)]
+    for data in (*examples, *bounds, *(random_form(source) for _ in range(50))):
+        yield from (data[:length] for length in range(1, len(data) + 1))
+        yield from (data + b"\x00", data + data[:30])
+    for data, place, value in product(examples, range(33), range(256)):
+        yield data[:place] + bytes([value]) + data[place + 1:]
+    yield from (random_bytes(source) or b"S" for _ in range(2_000))
+
+
+def every_load():
+    """Each of these bytes is loaded as a port and as a clock, which are saved after it."""
+    for data in dict.fromkeys(loaded_bytes()):
+        yield from (f"sl {data.hex()}", "sb", f"cl {data.hex()}", "cb")
+
+
 def fixed_scripts():
-    """Each script with a name: a broken line alone, and one after a good line, without a line feed."""
+    """Each script with a name: a broken line alone, and one after a good line, without a line feed; and loads."""
     for line in dict.fromkeys(broken_lines()):
         yield f"broken_lines, {line!r}", f"{line}\n"
         yield f"broken_lines, {line!r} after another", f"sc\n{line}"
+    loads = list(every_load())
+    for place in range(0, len(loads), 400):
+        yield f"every_load, from line {place} on", "".join(f"{line}\n" for line in loads[place:place + 400])
 
 
 # Runs of calls. Each begins with a state, so that many follow each other in one process.

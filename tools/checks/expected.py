@@ -150,7 +150,7 @@ class Monitor:
         return "trigger" if "R" in did else "ok", did
 
 
-def recording_of(calls):
-    """These calls with what they do, in the form of tests/calls."""
-    monitor = Monitor()
-    return "".join(f"{call} = {monitor.reply(call)}\n" for call in calls)
+def recording_of(calls, devices=None):
+    """These calls with what they do, in the form of tests/calls, or as lines over a board."""
+    devices = devices or Monitor()
+    return "".join(f"{call} = {devices.reply(call)}\n" for call in calls)

@@ -1,4 +1,4 @@
-"""Runs of the built program in which a call fails that takes memory, reads the script or writes replies."""
+"""Runs of the built program in which an allocation is refused."""
 import os
 import subprocess
 import tempfile

@@ -116,22 +116,6 @@ def seed_of(root):
         return ""
 
 
-def side_by_side(block):
-    """Script lines and their replies, of lines that have both with two spaces or more between them. A line without a
-    reply has `None`."""
-    for line in block:
-        row, _, reply = line.partition("  ")
-        yield row, reply.lstrip(" ") or None
-
-
-def lost_or_new(folder, pattern, names):
-    """A message for each of these files that a folder lacks, and for each other one that it has."""
-    found = {path.name for path in folder.glob(pattern)}
-    for name in sorted(found ^ set(names)):
-        lack = "there" if name in names else "in the tool's list"
-        yield f"{folder.name}/{name} is not {lack}"
-
-
 def reason(error):
     """What an error says, an `OSError` with the file that it is about."""
     return f"{error.filename}: {error.strerror}" if getattr(error, "filename", None) else str(error)

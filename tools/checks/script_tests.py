@@ -1,12 +1,16 @@
-"""The scripts of tests/, as `tools/checks/scripts` describes them."""
+"""Scripts with their replies, as `tools/checks/scripts` describes them."""
 import json
+import lzma
 import re
+import sys
 from itertools import groupby, zip_longest
+from pathlib import Path
 
-from program import side_by_side
+TESTS = Path(__file__).resolve().parents[2] / "tests"
+sys.path.append(str(TESTS.parent / "bindings" / "python"))
+from superio.recording import entries_of  # noqa: E402
 
 ENDS = {"input or output fault": 2, "out of memory": 3, "script too long": 4}
-EMPTY = "(empty)"
 
 
 class Script:
@@ -60,15 +64,15 @@ def of_texts(place, block):
 def of_rows(place, block):
     """The script of a block that has lines and replies side by side."""
     end = block[-1] if is_end(block[-1]) else ""
-    rows = list(side_by_side(block[:-1] if end else block))
+    rows = [entry for row in (block[:-1] if end else block) for entry in entries_of(row)]
     good = int(end.split()[-1]) - 1 if end else len(rows)
     for number, (line, reply) in enumerate(rows):
         has_none = number >= good or number == 0 and line.startswith("refuse ")
         if (reply is None) != has_none:
             raise ValueError(f"{place}: {line!r} has {'no' if reply is None else 'a'} reply")
     script = "".join(line + "\n" for line, _ in rows)
-    replies = ("" if reply == EMPTY else reply for _, reply in rows if reply)
-    return Script(place, script.encode(), "".join(reply + "\n" for reply in replies).encode(), end)
+    replies = "".join(reply + "\n" for _, reply in rows if reply is not None)
+    return Script(place, script.encode(), replies.encode(), end)
 
 
 def of_bad_line(place, row):
@@ -80,17 +84,19 @@ def of_bad_line(place, row):
 
 
 def scripts_of(path):
-    """The scripts of a file of tests/."""
-    lines = enumerate(path.read_text(encoding="utf-8").splitlines(), 1)
+    """The scripts of a file."""
+    data = path.read_bytes()
+    lines = enumerate((lzma.decompress(data) if path.suffix == ".xz" else data).decode().splitlines(), 1)
     for is_block, numbered in groupby(lines, key=lambda entry: entry[1] != ""):
         rows = [(number, row) for number, row in numbered if not row.startswith("#")]
         if not is_block or not rows:
             continue
-        place, block = f"tests/{path.name}:{rows[0][0]}", [row for _, row in rows]
+        place, block = f"{path.name}:{rows[0][0]}", [row for _, row in rows]
         if block[0].startswith("script "):
             yield of_texts(place, block)
         elif block[0].startswith("bad \""):
             for number, row in rows:
-                yield from of_bad_line(f"tests/{path.name}:{number}", row[len("bad "):])
+                yield from of_bad_line(f"{path.name}:{number}", row[len("bad "):])
         else:
             yield of_rows(place, block)
+

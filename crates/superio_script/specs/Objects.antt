@@ -1,5 +1,5 @@
--- The objects that the devices of a script own: what calls make of the interrupt line, of the counts of events and of the
--- output.
+-- The objects that the devices of a script own: what calls make of the interrupt line, of the counts of events and of
+-- the output.
 use Rattle.std.specs.Prelude.{◌≡◌, ℕ, ◌+◌, ◌-◌, ◌^◌, Bool, ◌&&◌, ◌==◌, nat_lt, min, if◌then◌else◌, List, [], ◌∷◌, ◌++◌, Result, Ok, Err}
 use Rattle.std.specs.Int.{bit_at}
 use Rattle.std.proofs.Common.{subst, sym}
