@@ -1,10 +1,8 @@
 //! A serial port with the registers of a 16550.
 ghost use Rattle.vm_superio.specs.Links.{WriterCalls, all_ok, RefusesOwnState};
 ghost use Rattle.std.specs.Prelude.{◌≡◌, ◌<◌, ◌≤◌, ◌+◌, ◌-◌, ◌==◌, not, ℕ, [], ◌∷◌, ◌++◌, if◌then◌else◌, false, length, vec_len, IsErr, IfOk, OnOk, OnErr, IfErr};
-ghost use Rattle.superio_core.specs.Serial.Port.{Coherent};
-ghost use Rattle.superio_core.specs.Serial.{fresh_state};
 ghost use Rattle.vm_superio.specs.Saved.{state_of};
-ghost use Rattle.superio_core.specs.Serial.Step.Raising.{is_line_up, restore_calls};
+ghost use Rattle.vm_superio.specs.Serial.{Coherent, fresh_state, is_line_up, restore_calls};
 ghost use Rattle.vm_superio.specs.Serial.Step.{RefusesRestore};
 
 mod errors;
@@ -82,23 +80,15 @@ impl<T: Trigger, W: Write> Serial<T, NoEvents, W> {
 
 impl<T: Trigger, EV: SerialEvents, W: Write> Serial<T, EV, W> {
     ghost use Rattle.std.specs.Borrow.{Lends, sem};
-    ghost use Rattle.vm_superio.specs.Links.Writer.{taken_calls};
     ghost use Rattle.vm_superio.specs.contracts.serial.Serial.{the_row};
+    ghost use Rattle.vm_superio.specs.Links.Three.{ThreeLink};
+    ghost use Rattle.vm_superio.specs.Links.Writer.{taken_calls, WriterLink};
+    ghost use Rattle.vm_superio.specs.Serial.{Other, Read, SameSettings, ShowsHeldBytes, Write, enqueued_bytes, is_dlab, kind_in_state, sends_byte, sent_by};
+    ghost use Rattle.vm_superio.specs.Serial.Run.Three.{ThreeHistory};
     ghost use Rattle.vm_superio.specs.Serial.Step.{with_trigger, with_events, with_writer};
     ghost use Rattle.vm_superio.specs.Serial.Step.{IsReadStep, IsWriteStep, IsEnqueueStep, IsTimeoutStep, IsRetryStep};
     ghost use Rattle.vm_superio.specs.Serial.Step.{WriteFate, EnqueueFate, TimeoutFate};
-    ghost use Rattle.vm_superio.specs.Links.Three.{ThreeLink};
-    ghost use Rattle.vm_superio.specs.Links.Writer.{WriterLink};
-    ghost use Rattle.vm_superio.specs.Serial.Step.ObjectStep.{one_port};
-    ghost use Rattle.vm_superio.specs.Serial.Step.ObjectStep.{IsRun};
-    ghost use Rattle.vm_superio.specs.Serial.Run.Three.{ThreeHistory};
-    ghost use Rattle.superio_core.specs.Serial.Port.{ShowsHeldBytes};
-    ghost use Rattle.superio_core.specs.Serial.Step.Admissible.{kind_in_state, sends_byte};
-    ghost use Rattle.superio_core.specs.Serial.Operations.{Read, Write};
-    ghost use Rattle.superio_core.specs.Serial.Operations.{Other, sent_by};
-    ghost use Rattle.superio_core.specs.Serial.RegisterMap.{is_dlab};
-    ghost use Rattle.superio_core.specs.Serial.{SameSettings};
-    ghost use Rattle.superio_core.specs.Serial.Step.Raising.{enqueued_bytes};
+    ghost use Rattle.vm_superio.specs.Serial.Step.ObjectStep.{one_port, IsRun};
 
     /// Makes a serial port as `new` does, but reports events to `serial_evts`. Calls neither the trigger nor the events
     /// object.

@@ -51,17 +51,8 @@ module _ {T E EV W : Type 0} (trigger : Link T (TriggerAnswer E)) (events : Link
       IsPortStep (port_links trigger events out) (Read offset) Asked.Nothing Sent.Nothing
       (ByteRead byte) None old new
 
-  -- a write, with the trigger's answers and the outcome of its byte. A fault that it returns is the one that the output
-  -- answered
-  pub record IsRecordedWrite
-      (offset value : ℕ) (asked : Asked) (sent : Sent) (result : Result (Unit {0}) (Error E))
-      (old new : Port T EV W) : Type 0 where
-    pub step :
-        IsPortStep (port_links trigger events out) (Write offset value) asked sent
-        (write_response result) (refusal_in_result result) old new
-    pub fault : AnsweredFault (fault_in_result result) step.out.calls
-
-  -- a write. There is one answer of the trigger for each pending bit of IIR that the write turns on
+  -- a write. A fault that it returns is the one that the output answered. There is one answer of the trigger for each
+  -- pending bit of IIR that the write turns on
   pub record IsWriteStep
       (offset value : ℕ) (result : Result (Unit {0}) (Error E)) (old new : Port T EV W) : Type 0 where
     pub asked : Asked

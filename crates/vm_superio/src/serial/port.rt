@@ -1,15 +1,13 @@
 //! A serial port with one object for all three roles: its contract states the order of the calls.
 ghost use Rattle.std.specs.Prelude.{◌≡◌, ◌≤◌, ◌+◌, ◌==◌, not, List, Result, length, map, [], ◌∷◌, if◌then◌else◌, is_some, IsTrue, IfOk, IfErr, OnOk};
-ghost use Rattle.superio_core.specs.Serial.Port.{Coherent};
-ghost use Rattle.superio_core.specs.Serial.{fresh_state, state_with};
-ghost use Rattle.vm_superio.specs.Serial.Step.ObjectStep.{IsObjectStep, SendsThenReports, LosesByte, Taken, byte_calls};
-ghost use Rattle.superio_core.specs.Serial.Step.Raising.{is_line_up, restore_calls};
-ghost use Rattle.vm_superio.specs.Saved.{state_of};
-ghost use Rattle.vm_superio.specs.Serial.Step.{RefusesRestore};
-ghost use Rattle.superio_core.specs.Serial.Operations.{Read, Write, Enqueue, CharacterTimeout, ByteRead, WriteOk, TriggerRefused, WriterFailed, is_sent, is_lost, ends_in_refusal, out_byte, tx_lost_byte, events_of_read};
 ghost use Rattle.vm_superio.specs.Links.{ToTrigger, ToOut, ToEvents, raised, answers_of, all_ok, StopsAtRefusal, RefusesOwnState};
+ghost use Rattle.vm_superio.specs.Saved.{state_of};
+ghost use Rattle.vm_superio.specs.Serial.{Coherent, fresh_state, state_with, is_line_up, restore_calls, answers_all};
+ghost use Rattle.vm_superio.specs.Serial.{Read, Write, Enqueue, CharacterTimeout, ByteRead, WriteOk, TriggerRefused, WriterFailed};
+ghost use Rattle.vm_superio.specs.Serial.{is_sent, is_lost, ends_in_refusal, out_byte, tx_lost_byte, events_of_read};
 ghost use Rattle.vm_superio.specs.Serial.{write_response, enqueue_response, timeout_response, refusal_in_result, fault_in_result};
-ghost use Rattle.superio_core.specs.Serial.Step.Admissible.{answers_all};
+ghost use Rattle.vm_superio.specs.Serial.Step.{RefusesRestore};
+ghost use Rattle.vm_superio.specs.Serial.Step.ObjectStep.{IsObjectStep, SendsThenReports, LosesByte, Taken, byte_calls};
 
 use super::errors::Error;
 use super::objects::Objects;
@@ -35,8 +33,7 @@ pub struct Port<O: Objects> {
 }
 
 impl<O: Objects> Model for Port<O> {
-    ghost use Rattle.vm_superio.specs.Serial.Step.ObjectStep.{OnePort};
-    ghost use Rattle.superio_core.specs.Serial.{state_with};
+    ghost use Rattle.vm_superio.specs.Serial.{OnePort, state_with};
 
     ghost Value = { OnePort O };
 
@@ -73,6 +70,7 @@ impl<O: Objects> Port<O> {
     /// # Errors
     ///
     /// Returns the object if allocating the receive FIFO fails.
+    #[tactic(auto, using(superio_core::proofs::Lemmas::Serial::fresh_coherent))]
     pub fn new(alloc: Global, objects: O) -> Result<Self, O>
         ensures state { IfOk result (λ port. port.state ≡ fresh_state) }
         ensures objects { IfOk result (λ port. port.objects ≡ objects) }

@@ -139,8 +139,6 @@ next_at_point start trace entry =
 
 -- ---- the held-bytes law: no byte is lost or made up, and data ready says whether one is held
 
--- ---- any trace
-
 -- what is left of all bytes and the new ones, after those taken and then some more
 drop_more : (all taken_bytes remaining_bytes more new : List ℕ) → taken_bytes ++ remaining_bytes ≡ all
     → drop (length (taken_bytes ++ more)) (all ++ new) ≡ drop (length more) (remaining_bytes ++ new)
@@ -219,7 +217,5 @@ pub line_status_law : LineStatusLaw
 line_status_law start trace right =
     ready_after start trace right
     ∙ ap (λ bytes. with_data_ready start.line_status (not_empty bytes)) (held_bytes_law start trace)
-
--- ---- what the law rests on
 
 pub ruleset held_bytes_laws = (held_bytes_law, line_status_law)

@@ -1,17 +1,18 @@
 -- One call of a run.
 pub mod Three
-use Rattle.std.proofs.Common.{arith, ◌≡◌, List, [], ◌∷◌, sym, subst, Ok, Err, ℕ, map, false, not, ◌++◌, refl, ap, ◌∙◌, Option, Result, IfOk, ◌↔◌, IsTrue}
+use Rattle.std.proofs.Common.{arith, ◌≡◌, List, [], ◌∷◌, sym, subst, Ok, Err, map, false, not, ◌++◌, refl, ap, ◌∙◌, Option, Result, IfOk, ◌↔◌, IsTrue}
 use Rattle.std.proofs.lemmas.Bool.{cond_both}
 use Rattle.std.specs.declared.io.Error as io
-use Rattle.vm_superio.specs.Serial.Run.{Call, Done, act_of, IsReplyTo, RecordsOf, op_of, is_restore, entry_of, response_of, entries_of, trace_of, without_restores, ReadIs, ReadsAre, Act, Reply, Byte, Wrote, Enqueued, TimedOut, Restored, NotRestored}
+use Rattle.vm_superio.specs.Links.Writer.{AnsweredFault}
+use Rattle.vm_superio.specs.Serial.Run.{fault_in_reply, Call, Done, act_of, IsReplyTo, RecordsOf, op_of, is_restore, entry_of, response_of, entries_of, trace_of, without_restores, ReadIs, ReadsAre, Act, Reply, Byte, Wrote, Enqueued, TimedOut, Restored, NotRestored}
 use Rattle.vm_superio.specs.Links.{Link, ObjectCall, answers_of, all_ok, RefusesOwnState, ToTrigger, ToOut, ToEvents, raised}
 use Rattle.vm_superio.specs.Serial.Step.ObjectStep.{OnePort, IsCallStep, IsRun, Sending, NotSent, sent_in, out_calls, calls_of, IsObjectStep}
-use Rattle.vm_superio.specs.Serial.{Asked, Sent, Op, TraceEntry, Response, ByteRead, State, Coherent, step, step_response, step_events, is_admissible, restore_calls}
+use Rattle.vm_superio.specs.Serial.{Asked, Sent, Op, TraceEntry, Response, State, Coherent, step, step_response, step_events, is_admissible, restore_calls}
 use Rattle.vm_superio.specs.declared.run.Call.TheVariants.{Read, Write, Enqueue, CharacterTimeout, Restore}
 use Rattle.vm_superio.specs.Serial.History.Registers.{taken_bytes}
 use Rattle.vm_superio.specs.Serial.History.Interrupts.{restore_calls_due}
 use Rattle.vm_superio.specs.Serial.History.{ResponsesAre, history_response, bytes_read, state_of_history}
-use Rattle.vm_superio.specs.Serial.Run.HistoryTheorem.{calls_at, ObjectSegment, IsSentBy, ObjectAtRestore, next_object_segment, ObjectsAre, HistoryTheorem}
+use Rattle.vm_superio.specs.Serial.Run.HistoryTheorem.{calls_at, ObjectSegment, ObjectAtRestore, next_object_segment, ObjectsAre, HistoryTheorem}
 use Rattle.vm_superio.specs.Serial.Laws.{StepsFollow}
 use Rattle.vm_superio.specs.Serial.Laws.Consequences.{op_and_asked, ops_and_asked}
 use Rattle.vm_superio.proofs.Lemmas.Serial.Laws.StepsOfHistory.{whole_run_law, state_law, step_law, call_law}
@@ -52,11 +53,6 @@ restore_admissible s asked sent no_call no_byte =
 op_of-restore : (call : Act) → not (is_restore call) ≡ false → op_of call ≡ operation.Restore
 op_of-restore call is = grind arith
 
--- the byte of a read's response
-abbrev byte_in : Response → ℕ
-byte_in (ByteRead byte) = byte
-byte_in _ = 0
-
 module _ {O E : Type 0} (link : Link O (ObjectCall E)) where
   -- ---- each call is a step
 
@@ -85,28 +81,20 @@ module _ {O E : Type 0} (link : Link O (ObjectCall E)) where
       subst (λ act. EntryFollows old.state act done.asked done.sent done.reply next.state) (sym act)
       (EntryFollows-call call done.asked done.sent done.reply old next made)
 
-  pub StepsFollow-run :
-      (calls : List (Call O)) (records : List (Done O E)) (old end : OnePort O) →
-      IsRun link old calls records end → StepsFollow old.state (entries_of records) end.state
-  StepsFollow-run [] [] old end run = ap (λ (port : OnePort O). port.state) run
-  StepsFollow-run (call ∷ calls) (done ∷ later) old end run =
+  -- the records of a run follow each other by steps, one for each call
+  steps_of_run :
+      (calls : List (Call O)) (records : List (Done O E)) (old end : OnePort O) → IsRun link old calls records end →
+      StepsFollow old.state (entries_of records) end.state × RecordsOf calls records
+  steps_of_run [] [] old end run = (ap (λ (port : OnePort O). port.state) run, tt)
+  steps_of_run (call ∷ calls) (done ∷ later) old end run =
       let next = run.1.0 in
       let one = follows call done old next run.0 run.1.1 in
-      (one.admissible, one.response, subst (λ s. StepsFollow s (entries_of later) end.state) one.state (StepsFollow-run calls later next end run.1.2))
-  StepsFollow-run [] (done ∷ later) old end run = absurd run
-  StepsFollow-run (call ∷ calls) [] old end run = absurd run
-
-  -- ---- a run has a record of each call
-
-  RecordsOf-run :
-      (calls : List (Call O)) (records : List (Done O E)) (old end : OnePort O) →
-      IsRun link old calls records end → RecordsOf calls records
-  RecordsOf-run [] [] old end run = tt
-  RecordsOf-run (call ∷ calls) (done ∷ later) old end run =
-      let next = run.1.0 in
-      (run.0, (EntryFollows-call call done.asked done.sent done.reply old next run.1.1).of, RecordsOf-run calls later next end run.1.2)
-  RecordsOf-run [] (done ∷ later) old end run = absurd run
-  RecordsOf-run (call ∷ calls) [] old end run = absurd run
+      let rest = steps_of_run calls later next end run.1.2 in (
+        (one.admissible, one.response, subst (λ s. StepsFollow s (entries_of later) end.state) one.state rest.0),
+        (run.0, (EntryFollows-call call done.asked done.sent done.reply old next run.1.1).of, rest.1),
+      )
+  steps_of_run [] (done ∷ later) old end run = absurd run
+  steps_of_run (call ∷ calls) [] old end run = absurd run
 
   -- ---- the bytes read
 
@@ -156,15 +144,22 @@ module _ {O E : Type 0} (link : Link O (ObjectCall E)) where
       (start : State) (coherent : Coherent start) where
     -- a call makes its own calls, or ends the segment
     record Object-next
-        (trace : List TraceEntry) (segment : ObjectSegment O E) (call : Call O) (made : Act) (asked : Asked) (sent : Sent)
-        (reply : Reply O E) (next : OnePort O) : Type 0 where
-      at_restore : ObjectAtRestore link start trace segment call reply
+        (AtRestore : Type 0) (after : Sending → ObjectSegment O E) (op : Op) (sent : Sent) (fault : Option io.Error)
+        (next : OnePort O) : Type 0 where
+      at_restore : AtRestore
       sending : Sending
-      sent_by : IsSentBy (record { act = made; asked = asked; sent = sent; reply = reply }) sending
-      linked :
-          let entry : TraceEntry = record { op = op_of made; asked = asked; sent = sent } in
-          let after = next_object_segment link start trace segment call entry sending reply in
-          link after.initial after.calls next.objects
+      outcome : sent ≡ sent_in sending
+      answered : AnsweredFault fault (out_calls op sending)
+      linked : link (after sending).initial (after sending).calls next.objects
+
+    abbrev Made-by :
+        (trace : List TraceEntry) (segment : ObjectSegment O E) (call : Call O) (made : Act) (asked : Asked) (sent : Sent)
+        (reply : Reply O E) (next : OnePort O) → Type 0
+    Made-by trace segment call made asked sent reply next =
+        let entry : TraceEntry = record { op = op_of made; asked = asked; sent = sent } in
+        Object-next (ObjectAtRestore link start trace segment call reply)
+        (λ sending. next_object_segment link start trace segment call entry sending reply) (op_of made) sent
+        (fault_in_reply reply) next
 
     -- the calls of a step are those of its point
     at_point :
@@ -177,17 +172,24 @@ module _ {O E : Type 0} (link : Link O (ObjectCall E)) where
         ap (λ events. map ToOut (out_calls op sending) ++ map ToEvents events ++ map ToTrigger (answers_of asked refusal))
         (ap (λ s. step_events s op (sent_in sending)) here ∙ ap (λ sent. step_events (state_of_history start trace) op sent) (sym same) ∙ agrees.events)
 
-    linked_on :
+    own_calls :
         (trace : List TraceEntry) (segment : ObjectSegment O E) (op : Op) (asked : Asked) (sent : Sent) (reply : Response)
         (refusal : Option E) (fault : Option io.Error) (old next : OnePort O) →
         old.state ≡ state_of_history start trace → link segment.initial segment.calls old.objects →
-        (h : IsObjectStep link op asked sent reply refusal fault old next) →
-        link segment.initial
-        (segment.calls ++ calls_at start trace (record { op = op; asked = asked; sent = sent }) h.sending refusal) next.objects
-    linked_on trace segment op asked sent reply refusal fault old next here before h =
-        joined segment.initial old.objects next.objects segment.calls _ before
-        (subst (λ calls. link old.objects calls next.objects)
-        (at_point trace old.state op asked sent h.sending refusal here h.admissible h.outcome) h.linked)
+        IsObjectStep link op asked sent reply refusal fault old next →
+        Object-next (Unit {0}) (λ sending. record segment {
+          calls = segment.calls ++ calls_at start trace (record { op = op; asked = asked; sent = sent }) sending refusal;
+        }) op sent fault next
+    own_calls trace segment op asked sent reply refusal fault old next here before h = record {
+      at_restore = tt;
+      sending = h.sending;
+      outcome = h.outcome;
+      answered = h.answered;
+      linked =
+          joined segment.initial old.objects next.objects segment.calls _ before
+          (subst (λ calls. link old.objects calls next.objects)
+          (at_point trace old.state op asked sent h.sending refusal here h.admissible h.outcome) h.linked);
+    }
 
     restoring : (trace : List TraceEntry) (s : State) → s ≡ state_of_history start trace → restore_calls s ≡ restore_calls_due start trace
     restoring trace s here = ap restore_calls here ∙ (step_law start trace coherent).restoring
@@ -196,43 +198,29 @@ module _ {O E : Type 0} (link : Link O (ObjectCall E)) where
         (trace : List TraceEntry) (segment : ObjectSegment O E) (call : Call O) (asked : Asked) (sent : Sent)
         (reply : Reply O E) (old next : OnePort O) →
         old.state ≡ state_of_history start trace → link segment.initial segment.calls old.objects →
-        IsCallStep link call asked sent reply old next → Object-next trace segment call (act_of call) asked sent reply next
-    Object-call trace segment (Read offset) asked sent (Byte byte) old next here before h = record {
-      at_restore = tt;
-      sending = h.sending;
-      sent_by = record { outcome = h.outcome; answered = h.answered };
-      linked = linked_on trace segment _ asked sent _ _ _ old next here before h;
-    }
-    Object-call trace segment (Write offset value) asked sent (Wrote answer) old next here before h = record {
-      at_restore = tt;
-      sending = h.sending;
-      sent_by = record { outcome = h.outcome; answered = h.answered };
-      linked = linked_on trace segment _ asked sent _ _ _ old next here before h;
-    }
-    Object-call trace segment (Enqueue bytes) asked sent (Enqueued answer) old next here before h = record {
-      at_restore = tt;
-      sending = h.sending;
-      sent_by = record { outcome = h.outcome; answered = h.answered };
-      linked = linked_on trace segment _ asked sent _ _ _ old next here before h;
-    }
-    Object-call trace segment CharacterTimeout asked sent (TimedOut answer) old next here before h = record {
-      at_restore = tt;
-      sending = h.sending;
-      sent_by = record { outcome = h.outcome; answered = h.answered };
-      linked = linked_on trace segment _ asked sent _ _ _ old next here before h;
-    }
+        IsCallStep link call asked sent reply old next → Made-by trace segment call (act_of call) asked sent reply next
+    Object-call trace segment (Read offset) asked sent (Byte byte) old next here before h =
+        own_calls trace segment _ asked sent _ _ _ old next here before h
+    Object-call trace segment (Write offset value) asked sent (Wrote answer) old next here before h =
+        own_calls trace segment _ asked sent _ _ _ old next here before h
+    Object-call trace segment (Enqueue bytes) asked sent (Enqueued answer) old next here before h =
+        own_calls trace segment _ asked sent _ _ _ old next here before h
+    Object-call trace segment CharacterTimeout asked sent (TimedOut answer) old next here before h =
+        own_calls trace segment _ asked sent _ _ _ old next here before h
     Object-call trace segment (Restore object) asked sent (Restored was) old next here before h =
         let called = subst (λ due. raised link object (all_ok due) next.objects) (restoring trace old.state here) h.4 in
         record {
           at_restore = (subst (λ object. link segment.initial segment.calls object) (sym h.2) before, (next.objects, called));
           sending = NotSent;
-          sent_by = record { outcome = h.1; answered = tt };
+          outcome = h.1;
+          answered = tt;
           linked = called;
         }
     Object-call trace segment (Restore object) asked sent (NotRestored refused) old next here before h = record {
       at_restore = subst (λ due. RefusesOwnState (raised link) due refused.error object refused.objects) (restoring trace old.state here) h.2;
       sending = NotSent;
-      sent_by = record { outcome = h.1; answered = tt };
+      outcome = h.1;
+      answered = tt;
       linked = subst (λ (port : OnePort O). link segment.initial segment.calls port.objects) (sym h.3) before;
     }
     Object-call trace segment _ asked sent _ old next here before h = absurd h
@@ -246,11 +234,11 @@ module _ {O E : Type 0} (link : Link O (ObjectCall E)) where
     ObjectsAre-run trace segment (call ∷ calls) (done ∷ later) old end here before run =
         let next = run.1.0 in
         let one = follows call done old next run.0 run.1.1 in
-        let made = subst (λ act. Object-next trace segment call act done.asked done.sent done.reply next) (sym run.0)
+        let made = subst (λ act. Made-by trace segment call act done.asked done.sent done.reply next) (sym run.0)
         (Object-call trace segment call done.asked done.sent done.reply old next here before run.1.1) in
         let on = (call_law start trace (entry_of done) (response_of done.reply) old.state next.state coherent here one.admissible one.response one.state).state in (
           made.at_restore,
-          (made.sending, made.sent_by, ObjectsAre-run (entry_of done ∷ trace) _ calls later next end on made.linked run.1.2),
+          (made.sending, record { outcome = made.outcome; answered = made.answered }, ObjectsAre-run (entry_of done ∷ trace) _ calls later next end on made.linked run.1.2),
         )
     ObjectsAre-run trace segment [] (done ∷ later) old end here before run = absurd run
     ObjectsAre-run trace segment (call ∷ calls) [] old end here before run = absurd run
@@ -265,14 +253,14 @@ pub HistoryTheorem-run :
 HistoryTheorem-run link no_call joined start calls records end run coherent =
     let s = start.state in
     let trace = trace_of records in
-    let agrees = whole_run_law s end.state (entries_of records) coherent (StepsFollow-run link calls records start end run) in
-    let of = RecordsOf-run link calls records start end run in
-    let reads = ReadsAre-run link s [] calls records of agrees.responses in
+    let steps = steps_of_run link calls records start end run in
+    let agrees = whole_run_law s end.state (entries_of records) coherent steps.0 in
+    let reads = ReadsAre-run link s [] calls records steps.1 agrees.responses in
     record {
       objects =
           ObjectsAre-run link joined s coherent [] _ calls records start end
           (state_law s [] coherent) ((no_call start.objects start.objects).1 refl) run;
-      records_of_calls = of;
+      records_of_calls = steps.1;
       reads = reads;
       responses = agrees.responses;
       read_bytes = ap (λ (port : State). bytes_read s [] (entries_of records) ++ port.in_buffer) agrees.state ∙ read_then_held s (entries_of records) agrees.responses;

@@ -3,8 +3,7 @@ use Rattle.std.proofs.Common.{◌≡◌, inl, inr, Bool, true, false, not, ◌&&
 use Rattle.std.proofs.lemmas.Bool.{and_parts, false≢true, eqb-true}
 use Rattle.std.specs.Bool.{IsFalse, beq}
 use Rattle.std.proofs.lemmas.List.Sums.{sum_by-cons}
-use Rattle.std.specs.Cmp.Derive.{both_true}
-use Rattle.vm_superio.specs.Serial.{State, not_empty, has_bits, Asked, Sent, TraceEntry, OpKind, count_if, answer_count, RbrRead, IirRead, is_iir_read, is_rbr_read, IerWrite, ThrWrite, Arrival, Timeout, Other, Op, is_sent, read_kind, kind_of, sent_by, Condition, Rda, Thre, Register, iir_bit, receive_bytes, bytes_that_fit}
+use Rattle.vm_superio.specs.Serial.{State, not_empty, has_bits, Asked, Sent, TraceEntry, OpKind, count_if, answer_count, is_iir_read, is_rbr_read, Op, is_sent, kind_of, sent_by, Condition, Rda, Thre, iir_bit}
 use Rattle.vm_superio.specs.Serial.History.Registers.{kind_at, held_bytes, interrupt_enable, dlab, loopback}
 use Rattle.vm_superio.specs.Serial.History.Interrupts.{pending_since, is_raised, acknowledges, NoneAcknowledges, trigger_calls, is_pending, is_well_formed_entry, is_well_formed, op_kinds, shows_waiting_bytes}
 use Rattle.vm_superio.specs.Serial.Laws.Consequences.{PendingByPrefixesLaw, TriggerBoundLaw, WaitingBytesLaw, OutputLaw}
@@ -201,49 +200,16 @@ trigger_bound_law start trace well_formed = rw (answered start trace well_formed
 abbrev IsTold : State → Bool → Type 0
 IsTold s pending = IsTrue (not_empty s.in_buffer) → IsTrue (has_bits s.interrupt_enable 0x01) → IsTrue pending
 
-or_left : (a b : Bool) → IsTrue a → IsTrue (a || b)
-or_left true b here = refl
-or_left false b here = absurd (false≢true here)
-
-received_reported : (new : List ℕ) (s : State) (pending : Bool) → IsTold s pending
-    → IsTold (receive_bytes new s) ((not_empty new && has_bits s.interrupt_enable 0x01) || pending)
-received_reported [] s pending before held_bytes enabled = before held_bytes enabled
-received_reported (byte ∷ bytes) s pending before held_bytes enabled = or_left (has_bits s.interrupt_enable 0x01) pending enabled
-
 -- an operation that does not acknowledge leaves it so
 reported_by_kind : (k : OpKind) (asked : Asked) (s : State) (pending : Bool) → IsFalse (acknowledges Rda k)
     → IsTold s pending
     → IsTold (by_kind k asked s) (rda_next k s.in_buffer s.interrupt_enable pending)
-reported_by_kind RbrRead asked s pending not_here before some enabled = absurd (false≢true (sym not_here))
-reported_by_kind IirRead asked s pending not_here before some enabled = absurd (false≢true (sym not_here))
-reported_by_kind (IerWrite value) asked s pending not_here before some enabled =
-    or_left (has_bits value 0x01 && not_empty s.in_buffer) pending
-    (both_true (sym (enables_rda value) ∙ enabled) some)
-reported_by_kind (ThrWrite value) asked s pending not_here before some enabled = before some enabled
-reported_by_kind (Arrival bytes) asked s pending not_here before some enabled =
-    received_reported (bytes_that_fit s.in_buffer bytes) s pending before some enabled
-reported_by_kind Timeout asked s pending not_here before some enabled =
-    or_left (has_bits s.interrupt_enable 0x01 && not_empty s.in_buffer) pending (both_true enabled some)
-reported_by_kind Other asked s pending not_here before some enabled = before some enabled
-
-received_first : (new : List ℕ) (s : State) (pending : Bool) → IsTrue (not_empty new)
-    → IsTold (receive_bytes new s) ((not_empty new && has_bits s.interrupt_enable 0x01) || pending)
-received_first [] s pending arrived some enabled = absurd (false≢true arrived)
-received_first (byte ∷ bytes) s pending arrived some enabled =
-    or_left (has_bits s.interrupt_enable 0x01) pending enabled
+reported_by_kind k asked s pending not_here before some enabled = grind (arith, enables_rda)
 
 -- and a point that shows waiting bytes makes it so
 first_reported : (k : OpKind) (asked : Asked) (s : State) (pending : Bool) → IsTrue (shows_waiting_bytes k s.in_buffer)
     → IsTold (by_kind k asked s) (rda_next k s.in_buffer s.interrupt_enable pending)
-first_reported (IerWrite value) asked s pending tells some enabled =
-    or_left (has_bits value 0x01 && not_empty s.in_buffer) pending
-    (both_true (sym (enables_rda value) ∙ enabled) some)
-first_reported (Arrival bytes) asked s pending tells some enabled =
-    received_first (bytes_that_fit s.in_buffer bytes) s pending tells some enabled
-first_reported Timeout asked s pending tells some enabled =
-    or_left (has_bits s.interrupt_enable 0x01 && not_empty s.in_buffer) pending (both_true enabled some)
-first_reported RbrRead asked s pending tells some enabled = absurd (false≢true tells)
-first_reported _ asked s pending tells some enabled = absurd (false≢true tells)
+first_reported k asked s pending tells some enabled = grind (arith, enables_rda)
 
 -- the same at a point of a trace
 abbrev IsToldAt : State → List TraceEntry → Type 0
@@ -292,14 +258,9 @@ waiting_bytes_law start trace after before entry same tells none =
 
 -- ---- what was sent is the output
 
--- ---- one call
-
 -- nothing is sent if the kind sends nothing
 abbrev IsOutcome : List ℕ → Sent → Type 0
 IsOutcome bytes outcome = IsTrue (beq (is_sent outcome) (not_empty bytes))
-
-read_sends : (r : Register) → [] ≡ sent_by (read_kind r)
-read_sends r = grind arith
 
 -- what is recorded as sent is what the operation sends
 pub call_written : (dlab loopback : Bool) (op : Op) (outcome : Sent)

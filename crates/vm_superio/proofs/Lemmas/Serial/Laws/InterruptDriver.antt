@@ -54,8 +54,6 @@ timeouts_show_law start trace well_formed after before entry at is_timeout =
     timeout_shows start before entry is_timeout
     (entry_within start after before entry (subst (λ trace. IsTrue (is_well_formed start trace)) at well_formed))
 
--- ---- what the law rests on
-
 pub ruleset no_byte_waits_laws = (no_byte_waits_law, timeout_calls_law)
 
 -- ---- a driver that is run by interrupts takes all bytes
@@ -164,7 +162,5 @@ taken_after_runs_law start runs before after all few =
     )
     (held_bytes start after, sym (taken_then_held start after)) enough in
     (more, is ∙ ap (λ bytes. bytes ++ more) (sym (taken_then_held start before)))
-
--- ---- what the law rests on
 
 pub ruleset interrupt_driver_laws = (owed_after_run_law, taken_after_runs_law)

@@ -49,9 +49,6 @@ line_after_law s op asked sent fit =
 
 -- ---- what follows
 
-no_calls : (asked : Asked) → IsTrue (answers_all 0 asked) → IsTrue (is_called asked) → ⊥
-no_calls asked fit called = grind arith
-
 up_by_kind : (k : OpKind) (asked : Asked) (s : State) → IsTrue (answers_all (kind_calls k s) asked)
     → IsTrue (is_called asked) → IsTrue (line_after k (is_called asked) s)
 up_by_kind k asked s fit called = grind arith
@@ -84,7 +81,5 @@ line_of_history start trace thre rda at =
     up_while_due (state_after start trace)
     ∙ ap (λ calls. not (length calls == 0)) (interrupt_law start trace thre rda at).restoring
     ∙ sym (one_or_both (is_asserted_at Thre start trace) (is_asserted_at Rda start trace))
-
--- ---- what the law rests on
 
 pub ruleset interrupt_line_laws = (line_after_law, up_after_call, goes_up, stays_up)

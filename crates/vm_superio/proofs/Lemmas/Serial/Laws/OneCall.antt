@@ -1,9 +1,9 @@
 -- One call: the bytes that it takes, accepts and gives, and the byte that a THR write sends.
-use Rattle.std.proofs.Common.{◌≡◌, ℕ, Bool, true, List, [], ◌∷◌, ◌++◌, length, drop, refl, ap, sym, ◌∙◌, append-nil, ◌<◌, false, subst, arith, IsTrue, if◌then◌else◌, ◌&&◌, count_by}
+use Rattle.std.proofs.Common.{◌≡◌, ℕ, Bool, true, List, [], ◌∷◌, ◌++◌, length, drop, refl, ap, sym, ◌∙◌, append-nil, ◌<◌, subst, arith, IsTrue, if◌then◌else◌, ◌&&◌, count_by}
 use Rattle.std.proofs.Math.Bool.{and-true, and-false}
 use Rattle.std.specs.Bool.{beq}
 use Rattle.std.proofs.lemmas.Bool.{and_parts}
-use Rattle.vm_superio.specs.Serial.{Asked, Sent, Op, Read, Write, Enqueue, Response, ByteRead, WriteOk, WriterFailed, TriggerRefused, is_sent, is_lost, ends_in_refusal, OpKind, RbrRead, IirRead, Arrival, read_kind, write_kind, kind_of, sent_by, State, not_empty, has_bits, without_bits, receive_bytes, bytes_that_fit, raise, kind_in_state, answers_all, step_calls, sends_byte, step, read_step, step_response, write_step, read_events, sent_events, step_events, Register, RbrThr, Thre, register_at, is_dlab, is_loopback, register_read}
+use Rattle.vm_superio.specs.Serial.{Asked, Sent, Op, Read, Write, ByteRead, WriteOk, WriterFailed, TriggerRefused, is_sent, is_lost, ends_in_refusal, OpKind, RbrRead, IirRead, Arrival, read_kind, write_kind, sent_by, State, not_empty, has_bits, without_bits, receive_bytes, bytes_that_fit, raise, kind_in_state, answers_all, step_calls, sends_byte, step, read_step, step_response, write_step, step_events, Register, RbrThr, Thre, register_at, is_dlab, is_loopback}
 use Rattle.vm_superio.specs.Serial.History.{line_status, byte_read}
 use Rattle.vm_superio.specs.Serial.History.Registers.{accepted_by, taken_by}
 use Rattle.vm_superio.specs.Serial.Laws.OneCall.{OneCallLaw, ReceivedLaw, OneReadLaw, RbrReadLaw, RbrDataReadyLaw, ThrWriteLaw, OutcomeEventsLaw, reports_outcome}
@@ -46,24 +46,6 @@ one_call s op asked =
     ∙ taken_first (kind_in_state s op) s.in_buffer (accepted_by (kind_in_state s op) s.in_buffer)
 
 -- ---- bytes read
-
--- of a read of any register
-pub of_read : (register : Register) (s : State)
-    → byte_read (read_kind register) s.in_buffer (ByteRead (register_read register s))
-    ≡ taken_by (read_kind register) s.in_buffer
-of_read register s = grind arith
-
--- a write takes no byte, and gives none
-pub of_write : (register : Register) (in_loopback : Bool) (value : ℕ) (held : List ℕ) (reply : Response)
-    → byte_read (write_kind register in_loopback value) held reply
-    ≡ taken_by (write_kind register in_loopback value) held
-of_write register in_loopback value held reply = grind arith
-
-pub of_enqueue : (latch in_loopback : Bool) (bytes held : List ℕ) (reply : Response)
-    → byte_read (kind_of latch in_loopback (Enqueue bytes)) held reply
-    ≡ taken_by (kind_of latch in_loopback (Enqueue bytes)) held
-of_enqueue latch true bytes held reply = refl
-of_enqueue latch false bytes held reply = refl
 
 of_step : (s : State) (op : Op) (asked : Asked) (sent : Sent)
     → byte_read (kind_in_state s op) s.in_buffer (step_response s op asked sent)
@@ -137,32 +119,14 @@ thr_write s value asked sent hidden outside admissible =
       taken = taken (ends_in_refusal asked) sent has_outcome;
     }
 
--- ---- what the law rests on
-
 pub ruleset one_call_laws = (one_call, received, one_read, rbr_read, rbr_data_ready, thr_write)
 
 -- ---- one call, in any state: the events that it reports
 
--- an outcome is recorded exactly if a byte is sent
-abbrev sent_fits : Bool → Sent → Bool
-sent_fits sends_byte outcome = beq (is_sent outcome) sends_byte
-
--- ---- events
-
-read_reported : (r : Register) (held : List ℕ) → count_by reports_outcome (read_events r held) ≡ length (sent_by (read_kind r))
-read_reported r held = grind arith
-
-not_sent : (outcome : Sent) → IsTrue (sent_fits false outcome) → count_by reports_outcome (sent_events outcome) ≡ 0
-not_sent outcome fit = grind arith
-
-enqueue_reported : (loopback dlab : Bool) (bytes : List ℕ) → 0 ≡ length (sent_by (kind_of dlab loopback (Enqueue bytes)))
-enqueue_reported true dlab bytes = refl
-enqueue_reported false dlab bytes = refl
-
-reported : (s : State) (op : Op) (outcome : Sent) → IsTrue (sent_fits (sends_byte s op) outcome)
+reported : (s : State) (op : Op) (outcome : Sent) → IsTrue (beq (is_sent outcome) (sends_byte s op))
     → count_by reports_outcome (step_events s op outcome) ≡ length (sent_by (kind_in_state s op))
 reported s op outcome fit = grind arith
 
 pub events_law : OutcomeEventsLaw
 events_law s op asked outcome fit =
-    reported s op outcome (and_parts (answers_all (step_calls s op) asked) (sent_fits (sends_byte s op) outcome) fit).1
+    reported s op outcome (and_parts (answers_all (step_calls s op) asked) _ fit).1

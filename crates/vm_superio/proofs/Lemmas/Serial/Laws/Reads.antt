@@ -1,4 +1,4 @@
--- Neither the writer nor a restore changes a read: each trace is read as one of operations with the trigger's answers.
+-- What a guest reads. Neither the writer nor a restore changes a read: operations and the trigger's answers determine it.
 use Rattle.std.proofs.Common.{arith, ◌≡◌, Bool, List, [], ◌∷◌, ◌++◌, refl, ap, sym, ◌∙◌, append_assoc, append-nil, ℕ, true, false, ◌==◌, subst, IsTrue, not, ◌&&◌, ◌||◌, length, drop}
 use Rattle.std.proofs.lemmas.Bool.{and_parts, false≢true, eqb-true}
 use Rattle.std.specs.Cmp.Derive.{both_true}
@@ -12,106 +12,67 @@ use Rattle.vm_superio.proofs.Lemmas.Serial.Laws.{same_kind, register_law, state_
 use Rattle.vm_superio.proofs.Lemmas.Serial.Laws.Interrupts.{thre_next, rda_next}
 use Rattle.vm_superio.specs.Serial.Run.{trace_after}
 use Rattle.superio_core.proofs.Lemmas.Serial.{data_ready_set, data_ready_cleared}
-use Rattle.superio_core.specs.declared.trace.Sent.TheVariants as sent
-
--- the trace of these operations, in which nothing is sent
-unsent : List (Op × Asked) → List TraceEntry
-unsent [] = []
-unsent (call ∷ calls) = record { op = call.0; asked = call.1; sent = sent.Nothing } ∷ unsent calls
 
 -- what a guest can read: the state's registers and bytes, and the conditions that are pending
-record SameView (start : State) (one other : List TraceEntry) : Type 0 where
-  state : state_after start one ≡ state_after start other
-  rda : (is_pending Rda) start one ≡ is_pending Rda start other
-  thre : (is_pending Thre) start one ≡ is_pending Thre start other
+abbrev View : Type 0
+View = State × Bool × Bool
 
--- the conditions that are pending after one more operation, by the state before it
-rda_by_state : (start : State) (trace : List TraceEntry) (entry : TraceEntry) → let s = state_after start trace in
-    is_pending Rda start (entry ∷ trace)
-    ≡ rda_next (kind_in_state s entry.op) s.in_buffer s.interrupt_enable (is_pending Rda start trace)
-rda_by_state start trace entry =
-    let s = state_after start trace in
-    let r = is_pending Rda start trace in
-    ap (λ (k : OpKind). rda_next k (held_bytes start trace) (interrupt_enable start trace) r)
-    (sym (same_kind start trace entry.op))
-    ∙ ap (λ bytes. rda_next (kind_in_state s entry.op) bytes (interrupt_enable start trace) r)
-    (sym (held_bytes_law start trace))
-    ∙ ap (λ enable. rda_next (kind_in_state s entry.op) s.in_buffer enable r)
-    (sym (register_law start trace).interrupt_enable)
+abbrev view_at : (start : State) (trace : List TraceEntry) → View
+view_at start trace = (state_after start trace, is_pending Thre start trace, is_pending Rda start trace)
 
-thre_by_state : (start : State) (trace : List TraceEntry) (entry : TraceEntry) → let s = state_after start trace in
-    is_pending Thre start (entry ∷ trace)
-    ≡ thre_next (kind_in_state s entry.op) s.in_buffer s.interrupt_enable entry.asked (is_pending Thre start trace)
-    (is_pending Rda start trace)
-thre_by_state start trace entry =
+-- the view after an operation, by that before it
+abbrev next_view : (op : Op) (asked : Asked) (view : View) → View
+next_view op asked view =
+    let s = view.0 in
+    let kind = kind_in_state s op in (
+      step s op asked,
+      thre_next kind s.in_buffer s.interrupt_enable asked view.1 view.2,
+      rda_next kind s.in_buffer s.interrupt_enable view.2,
+    )
+
+view_goes_on : (start : State) (trace : List TraceEntry) (entry : TraceEntry)
+    → view_at start (entry ∷ trace) ≡ next_view entry.op entry.asked (view_at start trace)
+view_goes_on start trace entry =
     let s = state_after start trace in
-    let r = is_pending Rda start trace in
     let t = is_pending Thre start trace in
-    ap (λ (k : OpKind). thre_next k (held_bytes start trace) (interrupt_enable start trace) entry.asked t r)
-    (sym (same_kind start trace entry.op))
-    ∙ ap (λ bytes. thre_next (kind_in_state s entry.op) bytes (interrupt_enable start trace) entry.asked t r)
-    (sym (held_bytes_law start trace))
-    ∙ ap (λ enable. thre_next (kind_in_state s entry.op) s.in_buffer enable entry.asked t r)
-    (sym (register_law start trace).interrupt_enable)
+    let r = is_pending Rda start trace in
+    let next_of : OpKind → List ℕ → ℕ → View =
+    λ kind bytes enable. (step s entry.op entry.asked, thre_next kind bytes enable entry.asked t r, rda_next kind bytes enable r) in
+    ap (λ (kind : OpKind). next_of kind (held_bytes start trace) (interrupt_enable start trace)) (sym (same_kind start trace entry.op))
+    ∙ ap (λ bytes. next_of (kind_in_state s entry.op) bytes (interrupt_enable start trace)) (sym (held_bytes_law start trace))
+    ∙ ap (next_of (kind_in_state s entry.op) s.in_buffer) (sym (register_law start trace).interrupt_enable)
 
--- one more call in both traces
-more : (start : State) (one other : List TraceEntry) (op : Op) (asked : Asked) (first second : Sent)
-    → SameView start one other
-    → SameView start (record { op = op; asked = asked; sent = first } ∷ one)
-    (record { op = op; asked = asked; sent = second } ∷ other)
-more start one other op asked first second same =
-    let receive_of = λ (s : State) (r : Bool). rda_next (kind_in_state s op) s.in_buffer s.interrupt_enable r in
-    let transmit_of =
-    λ (s : State) (t r : Bool). thre_next (kind_in_state s op) s.in_buffer s.interrupt_enable asked t r in
-    let s = state_after start other in
-    record {
-      state = ap (λ (s : State). step s op asked) same.state;
-      rda =
-          rda_by_state start one (record { op = op; asked = asked; sent = first })
-          ∙ ap (λ (s : State). receive_of s (is_pending Rda start one)) same.state ∙ ap (receive_of s) same.rda
-          ∙ sym (rda_by_state start other (record { op = op; asked = asked; sent = second }));
-      thre =
-          thre_by_state start one (record { op = op; asked = asked; sent = first })
-          ∙ ap (λ (s : State). transmit_of s (is_pending Thre start one) (is_pending Rda start one)) same.state
-          ∙ ap (λ t. transmit_of s t (is_pending Rda start one)) same.thre
-          ∙ ap (transmit_of s (is_pending Thre start other)) same.rda
-          ∙ sym (thre_by_state start other (record { op = op; asked = asked; sent = second }));
-    }
+-- the view after operations with the trigger's answers
+view_of : (start : State) → List (Op × Asked) → View
+view_of start [] = view_at start []
+view_of start (call ∷ calls) = next_view call.0 call.1 (view_of start calls)
 
--- a restore in one of them
-restored : (start : State) (one other : List TraceEntry) (asked : Asked) (outcome : Sent) → SameView start one other
-    → SameView start (record { op = Restore; asked = asked; sent = outcome } ∷ one) other
-restored start one other asked outcome same =
-    record { state = same.state; rda = same.rda; thre = same.thre }
+-- a restore changes no view
+one_more : (start : State) (op : Op) (asked : Asked) (calls : List (Op × Asked))
+    → next_view op asked (view_of start calls) ≡ view_of start (op_and_asked op asked ++ calls)
+unfolding view_of
+one_more start Restore asked calls = refl
+one_more start op asked calls = refl
 
-one_unsent : (start : State) (trace : List TraceEntry) (calls : List (Op × Asked)) (op : Op) (asked : Asked)
-    (outcome : Sent)
-    → SameView start trace (unsent calls)
-    → SameView start (record { op = op; asked = asked; sent = outcome } ∷ trace)
-    (unsent (op_and_asked op asked ++ calls))
-unfolding unsent
-one_unsent start trace calls Restore asked outcome same = restored start trace (unsent calls) asked outcome same
-one_unsent start trace calls op asked outcome same = more start trace (unsent calls) op asked outcome sent.Nothing same
+-- so every trace shows what its operations and the trigger's answers show
+by_operations : (start : State) (trace : List TraceEntry) → view_at start trace ≡ view_of start (ops_and_asked trace)
+unfolding view_of
+by_operations start [] = refl
+by_operations start (entry ∷ trace) =
+    view_goes_on start trace entry
+    ∙ ap (next_view entry.op entry.asked) (by_operations start trace)
+    ∙ one_more start entry.op entry.asked (ops_and_asked trace)
 
--- every trace shows what its operations and the trigger's answers show
-as_unsent : (start : State) (trace : List TraceEntry) → SameView start trace (unsent (ops_and_asked trace))
-unfolding unsent
-as_unsent start [] = record { state = refl; rda = refl; thre = refl }
-as_unsent start (entry ∷ trace) =
-    one_unsent start trace (ops_and_asked trace) entry.op entry.asked entry.sent (as_unsent start trace)
-
--- the state that a trace describes, by the state after it and the conditions that are pending
-view_of : State → State → Bool → Bool → State
-view_of start s thre rda = record s {
-  interrupt_identification = identification_of thre rda;
-  line_status = with_data_ready start.line_status (not_empty s.in_buffer);
+-- the state that a trace describes, by its view
+described : State → View → State
+described start view = record view.0 {
+  interrupt_identification = identification_of view.1 view.2;
+  line_status = with_data_ready start.line_status (not_empty view.0.in_buffer);
 }
 
-described_by_state : (start : State) (trace : List TraceEntry)
-    → state_of_history start trace
-    ≡ view_of start (state_after start trace) (is_pending Thre start trace) (is_pending Rda start trace)
-unfolding view_of
-described_by_state start trace =
+described_by_view : (start : State) (trace : List TraceEntry) → state_of_history start trace ≡ described start (view_at start trace)
+unfolding described
+described_by_view start trace =
     state_of_history-by_state start trace _ _ _
     ∙ ap (λ bytes. record (state_after start trace) {
       interrupt_identification = identification_of (is_pending Thre start trace) (is_pending Rda start trace);
@@ -119,22 +80,16 @@ described_by_state start trace =
       in_buffer = bytes;
     }) (sym (held_bytes_law start trace))
 
-same_described : (start : State) (one other : List TraceEntry) → SameView start one other
-    → state_of_history start one ≡ state_of_history start other
-same_described start one other same =
-    described_by_state start one
-    ∙ ap (λ (s : State). view_of start s (is_pending Thre start one) (is_pending Rda start one)) same.state
-    ∙ ap (λ t. view_of start (state_after start other) t (is_pending Rda start one)) same.thre
-    ∙ ap (view_of start (state_after start other) (is_pending Thre start other)) same.rda
-    ∙ sym (described_by_state start other)
+described_by_operations : (start : State) (trace : List TraceEntry)
+    → state_of_history start trace ≡ described start (view_of start (ops_and_asked trace))
+described_by_operations start trace = described_by_view start trace ∙ ap (described start) (by_operations start trace)
 
 pub same_reads_law : SameReadsLaw
 same_reads_law start one other same offset =
-    let read_of = λ (s : State). register_read (register_at (is_dlab s.line_control) offset) s in
-    ap read_of
-    (same_described start one (unsent (ops_and_asked one)) (as_unsent start one)
-    ∙ ap (λ calls. state_of_history start (unsent calls)) same
-    ∙ sym (same_described start other (unsent (ops_and_asked other)) (as_unsent start other)))
+    ap (λ (s : State). register_read (register_at (is_dlab s.line_control) offset) s)
+    (described_by_operations start one
+    ∙ ap (λ calls. described start (view_of start calls)) same
+    ∙ sym (described_by_operations start other))
 
 -- ---- the bytes that a guest reads from the FIFO are the bytes taken
 
@@ -157,8 +112,6 @@ pub read_then_held : ReadThenHeldLaw
 read_then_held start calls are =
     ap (λ bytes. bytes ++ held_bytes start (trace_after [] calls)) (reads_are_taken start [] calls are)
     ∙ taken_then_held start (trace_after [] calls)
-
--- ---- what the law rests on
 
 pub ruleset reads_are_taken_laws = (reads_are_taken, read_then_held)
 
@@ -275,7 +228,5 @@ polls_from start trace seen (call ∷ later) right are sight =
 
 pub polls_after_data_ready_law : PollsAfterDataReadyLaw
 polls_after_data_ready_law start calls are sight = polls_from start [] false calls (λ none. absurd (false≢true none)) are sight
-
--- ---- what the law rests on
 
 pub ruleset polling_driver_laws = (polling_driver, driver_gets_all, polls_after_data_ready_law)

@@ -1,12 +1,12 @@
 -- The state after a trace is that of the history, and a call responds as the history says.
-use Rattle.std.proofs.Common.{arith, sym, ◌≡◌, ℕ, Bool, true, false, List, [], refl, ap, ◌∙◌, ◌+◌, not, ◌&&◌, ◌∷◌, subst, IsTrue}
+use Rattle.std.proofs.Common.{arith, sym, ◌≡◌, ℕ, Bool, false, List, [], refl, ap, ◌∙◌, ◌+◌, not, ◌&&◌, ◌∷◌, subst, IsTrue}
 use Rattle.std.proofs.Math.Bool.{and-false}
 use Rattle.std.proofs.lemmas.Bool.{and_parts}
 use Rattle.std.specs.Bool.{beq}
 use Rattle.std.specs.Cmp.Derive.{both_true}
-use Rattle.vm_superio.specs.Serial.{Asked, Sent, Op, Read, Write, Enqueue, CharacterTimeout, Restore, TraceEntry, Arrival, Other, NoResponse, is_sent, count_if, OpKind, Timeout, read_kind, write_kind, kind_of, sent_by, Response, State, not_empty, restore_calls, step_response, step, read_step, read_events, sent_events, step_events, Register, Rda, Thre, register_at, answers_all, step_calls, sends_byte, is_admissible, Coherent}
+use Rattle.vm_superio.specs.Serial.{kind_in_state, Asked, Sent, Op, Restore, TraceEntry, NoResponse, is_sent, count_if, OpKind, Response, State, restore_calls, step_response, step, step_events, Rda, Thre, answers_all, step_calls, sends_byte, is_admissible, Coherent}
 use Rattle.vm_superio.specs.Serial.History.Registers.{loopback, held_bytes, kind_at, dlab, interrupt_enable}
-use Rattle.vm_superio.specs.Serial.History.{history_response, state_of_history, calls_due, kind_events, history_events}
+use Rattle.vm_superio.specs.Serial.History.{history_response, state_of_history, calls_due, kind_events}
 use Rattle.vm_superio.specs.Serial.Laws.{state_after, StateLaw, ResponseLaw, StepLaw, CallLaw, RetryLaw, StepsFollow, RunAgrees, WholeRunLaw}
 use Rattle.vm_superio.proofs.Lemmas.Serial.Laws.{state_of_history-by_state, held_bytes_law, line_status_law}
 use Rattle.vm_superio.proofs.Lemmas.Serial.Laws.Interrupts.{interrupt_law, due_is, coherent_after}
@@ -33,61 +33,14 @@ response_law start trace entry coherent =
     ap (λ (s : State). step_response s entry.op entry.asked entry.sent) (state_law start trace coherent)
     ∙ answer_reported start trace entry.op entry.asked entry.sent
 
--- ---- what the law rests on
-
 pub ruleset states_of_history_laws = (state_law, response_law)
 
 -- ---- a call in the state that a trace describes is a step of the history
 
--- ---- events
-
--- if nothing is sent, no outcome is reported
-not_sent : (outcome : Sent) → IsTrue (beq (is_sent outcome) false) → outcome ≡ sent.Nothing
-not_sent outcome outcome_fits = grind arith
-
-read_reported : (r : Register) (s : State) (after : List ℕ) → (read_step r s).in_buffer ≡ after
-    → read_events r s.in_buffer ≡ kind_events (read_kind r) after sent.Nothing
-read_reported r s after same = grind arith
-
--- no write is an RBR read
-abbrev TellsFate : OpKind → Type 0
-TellsFate k = (after : List ℕ) (outcome : Sent) → sent_events outcome ≡ kind_events k after outcome
-
-write_reported : (r : Register) (loopback : Bool) (value : ℕ) → TellsFate (write_kind r loopback value)
-write_reported r loopback value = grind arith
-
-enqueue_reported : (loopback dlab : Bool) (bytes after : List ℕ) (outcome : Sent)
-    → IsTrue (beq (is_sent outcome) (not_empty (sent_by (kind_of dlab loopback (Enqueue bytes)))))
-    → [] ≡ kind_events (kind_of dlab loopback (Enqueue bytes)) after outcome
-enqueue_reported true dlab bytes after outcome outcome_fits =
-    ap (λ (outcome : Sent). kind_events Other after outcome) (sym (not_sent outcome outcome_fits))
-enqueue_reported false dlab bytes after outcome outcome_fits =
-    ap (λ (outcome : Sent). kind_events (Arrival bytes) after outcome) (sym (not_sent outcome outcome_fits))
-
-read_sends : (r : Register) → not_empty (sent_by (read_kind r)) ≡ false
-read_sends r = grind arith
-
--- the events of a call are those of its point
-reported_at_point : (start : State) (trace : List TraceEntry) (op : Op) (asked : Asked) (outcome : Sent)
-    → (let entry : TraceEntry = record { op = op; asked = asked; sent = outcome } in
-    step (state_of_history start trace) op asked ≡ state_of_history start (entry ∷ trace)
-    → IsTrue (beq (is_sent outcome) (sends_byte (state_of_history start trace) op))
-    → step_events (state_of_history start trace) op outcome ≡ history_events start trace entry)
-reported_at_point start trace (Read offset) asked outcome goes_on outcome_fits =
-    let entry : TraceEntry = record { op = Read offset; asked = asked; sent = outcome } in
-    let after = held_bytes start (entry ∷ trace) in
-    let r = register_at (dlab start trace) offset in
-    let none = not_sent outcome (subst (λ (b : Bool). IsTrue (beq (is_sent outcome) b)) (read_sends r) outcome_fits) in
-    read_reported r (state_of_history start trace) after (ap (λ (s : State). s.in_buffer) goes_on)
-    ∙ ap (λ (outcome_fits : Sent). kind_events (read_kind r) after outcome_fits) (sym none)
-reported_at_point start trace (Write offset value) asked outcome goes_on outcome_fits =
-    write_reported (register_at (dlab start trace) offset) (loopback start trace) value _ outcome
-reported_at_point start trace (Enqueue bytes) asked outcome goes_on outcome_fits =
-    enqueue_reported (loopback start trace) (dlab start trace) bytes _ outcome outcome_fits
-reported_at_point start trace CharacterTimeout asked outcome goes_on outcome_fits =
-    ap (λ (outcome_fits : Sent). kind_events Timeout [] outcome_fits) (sym (not_sent outcome outcome_fits))
-reported_at_point start trace Restore asked outcome goes_on outcome_fits =
-    ap (λ (outcome_fits : Sent). kind_events Other [] outcome_fits) (sym (not_sent outcome outcome_fits))
+-- a call reports the events of its kind, with the bytes that it leaves
+reported : (s : State) (op : Op) (asked : Asked) (outcome : Sent) → IsTrue (beq (is_sent outcome) (sends_byte s op))
+    → step_events s op outcome ≡ kind_events (kind_in_state s op) (step s op asked).in_buffer outcome
+reported s op asked outcome fits = grind arith
 
 -- ---- trigger calls
 
@@ -126,7 +79,9 @@ step_law start trace coherent =
             response = ap (λ (s : State). step_response s entry.op entry.asked entry.sent) (sym here)
                 ∙ response_law start trace entry coherent;
             state = goes_on;
-            events = reported_at_point start trace entry.op entry.asked entry.sent goes_on outcome_fits;
+            events =
+                reported (state_of_history start trace) entry.op entry.asked entry.sent outcome_fits
+                ∙ ap (λ (s : State). kind_events (kind_at start trace entry.op) s.in_buffer entry.sent) goes_on;
             output = call_written (dlab start trace) (loopback start trace) entry.op entry.sent outcome_fits;
           };
     }

@@ -5,7 +5,7 @@ use Rattle.std.proofs.lemmas.Nat.{and_or_self, and_or_apart}
 use Rattle.vm_superio.specs.Serial.{Asked, is_refused_at_once, count_if, answer_count, OpKind, IerWrite, State, not_empty, has_bits, only_bits, with_bits, without_bits, Rda, Thre, kind_in_state, kind_calls, step_calls, answers_all, becomes_pending, raise}
 use Rattle.vm_superio.specs.Serial.Step.{turns_on}
 use Rattle.vm_superio.specs.Serial.Laws.OneCall.{TurnedBitsLaw}
-use Rattle.superio_core.proofs.Lemmas.Serial.Step.{answers_counted, by_kind, next_by_kind}
+use Rattle.superio_core.proofs.Lemmas.Serial.Step.{answers_counted, by_kind, next_by_kind, rda_sets}
 use Rattle.superio_core.proofs.Lemmas.{and-without, and-without-apart}
 
 -- ---- the bits of an IIR, whatever byte it is
@@ -18,10 +18,6 @@ module _ (old : ℕ) where
   pub rda_left : has_bits (with_bits (without_bits old 0x01) 0x02) 0x04 ≡ has_bits old 0x04
   unfolding has_bits with_bits
   rda_left = ap (λ n. n == 0x04) (and_or_apart 0x04 (without_bits old 0x01) 0x02 refl ∙ and-without-apart old 0x01 0x04 refl)
-
-  pub rda_set : has_bits (with_bits (without_bits old 0x01) 0x04) 0x04 ≡ true
-  unfolding has_bits with_bits
-  rda_set = ap (λ n. n == 0x04) (and_or_self 0x04 (without_bits old 0x01))
 
   pub rda_cleared : has_bits (without_bits old 0x04) 0x04 ≡ false
   unfolding has_bits
@@ -51,7 +47,7 @@ pub none_set : has_bits 0 0x02 ≡ false
 unfolding has_bits
 none_set = refl
 
-pub ruleset bits = (rda_left, rda_set, rda_cleared, thre_left, thre_set, thre_kept, no_rda, no_thre, none_set)
+pub ruleset bits = (rda_left, rda_sets, rda_cleared, thre_left, thre_set, thre_kept, no_rda, no_thre, none_set)
 
 -- ---- one operation
 

@@ -1,8 +1,8 @@
 -- The calls of a port without objects, by the history.
-use Rattle.std.proofs.Common.{◌≡◌, ℕ, ◌&&◌, Bool, true, false, List, [], ◌∷◌, ◌++◌, length, refl, sym, ap, ◌∙◌, subst, append_assoc, append-nil, arith, ◌+◌, if◌then◌else◌, not, ◌==◌, ◌||◌, nat_le, IsTrue}
+use Rattle.std.proofs.Common.{◌≡◌, ℕ, ◌&&◌, Bool, true, false, List, [], ◌∷◌, ◌++◌, length, refl, sym, ap, ◌∙◌, subst, append_assoc, append-nil, arith, ◌+◌, if◌then◌else◌, IsTrue}
 use Rattle.std.specs.Bool.{beq}
 use Rattle.superio_core.specs.declared.trace.Asked.TheVariants.{Nothing}
-use Rattle.vm_superio.specs.Serial.{Sent, Other, Arrival, read_kind, sent_by, Write, Enqueue, CharacterTimeout, Response, ByteRead, Trace, is_sent, Op, Read, State, not_empty, Register, is_dlab, is_loopback, register_at, register_read, Coherent, bytes_that_fit, restore_calls, step, step_events, kind_calls, step_calls, sends_byte, answers_all}
+use Rattle.vm_superio.specs.Serial.{Sent, Other, Arrival, read_kind, sent_by, Write, Enqueue, CharacterTimeout, Response, ByteRead, Trace, is_sent, Read, State, not_empty, Register, is_dlab, register_at, Coherent, bytes_that_fit, step, kind_calls, answers_all}
 use Rattle.vm_superio.specs.Serial.History.Registers.{kind_at, loopback, accepted_by, held_bytes}
 use Rattle.vm_superio.specs.Serial.History.{output, state_of_history, calls_due}
 use Rattle.vm_superio.specs.Serial.Laws.PortRun.{PortCall, PortRead, PortWrite, PortEnqueue, PortTimeout, PortRestore, IsPortCall, PortCallsFollow, op_of_call, ops_of_calls, unasked, trace_with, EffectsAre, AllEffectsAre, PortRunLaw, told_by, bytes_told, PortOutputLaw, interrupts_of, interrupts_told, PortBoundLaw}
@@ -36,79 +36,49 @@ taken-accepted true bytes held = refl
 taken-accepted false bytes held = refl
 
 module _ (start : State) (coherent : Coherent start) where
-  asked-at-point :
-      (trace : Trace) (op : Op) (s : State) → s ≡ state_of_history start trace
-      → step_calls s op ≡ step_calls (state_of_history start trace) op
-  asked-at-point trace op s here = ap (λ (s : State). step_calls s op) here
-
-  effects-at-point :
-      (trace : Trace) (call : PortCall) (old new : State) → old ≡ state_of_history start trace
-      → IsPortCall call old new → EffectsAre start trace call
-  effects-at-point trace (PortRead offset effects) old new here is =
+  effects-at-point : (trace : Trace) (call : PortCall) (new : State) → IsPortCall call (state_of_history start trace) new → EffectsAre start trace call
+  effects-at-point trace (PortRead offset effects) new is =
       let s = state_of_history start trace in
       let possible = read-possible (register_at (is_dlab s.line_control) offset) s in (
-        ap byte_in is.response
-            ∙ ap (λ (s : State). register_read (register_at (is_dlab s.line_control) offset) s) here,
-        is.events ∙ ap (λ (s : State). step_events s (Read offset) Sent.Nothing) here
-            ∙ ((step_law start trace coherent).steps (unasked (Read offset)) possible).events,
+        ap byte_in is.response,
+        is.events ∙ ((step_law start trace coherent).steps (unasked (Read offset)) possible).events,
       )
-  effects-at-point trace (PortWrite offset value effects) old new here is = (
-    is.sends ∙ ap (λ (s : State). sends_byte s (Write offset value)) here,
-    is.interrupts ∙ asked-at-point trace (Write offset value) old here
-        ∙ (step_law start trace coherent).calls (Write offset value),
+  effects-at-point trace (PortWrite offset value effects) new is =
+      (is.sends, is.interrupts ∙ (step_law start trace coherent).calls (Write offset value))
+  effects-at-point trace (PortEnqueue bytes effects) new is = (
+    is.taken ∙ taken-accepted (loopback start trace) bytes (held_bytes start trace),
+    is.full,
+    is.interrupts ∙ (step_law start trace coherent).calls (Enqueue bytes),
   )
-  effects-at-point trace (PortEnqueue bytes effects) old new here is = (
-    is.taken
-        ∙ ap (λ (s : State). length (if is_loopback s.modem_control then [] else bytes_that_fit s.in_buffer bytes)) here
-        ∙ taken-accepted (loopback start trace) bytes (held_bytes start trace),
-    is.full
-        ∙ ap (λ (s : State). not (is_loopback s.modem_control || (length bytes == 0)) && nat_le 64 (length s.in_buffer)) here,
-    is.interrupts ∙ asked-at-point trace (Enqueue bytes) old here ∙ (step_law start trace coherent).calls (Enqueue bytes),
-  )
-  effects-at-point trace (PortTimeout interrupts) old new here is =
-      is.interrupts ∙ asked-at-point trace CharacterTimeout old here
-      ∙ (step_law start trace coherent).calls CharacterTimeout
-  effects-at-point trace (PortRestore interrupts) old new here is =
-      is.0 ∙ ap (λ (s : State). length (restore_calls s)) here
-      ∙ ap (λ due. length due) (step_law start trace coherent).restoring
+  effects-at-point trace (PortTimeout interrupts) new is = is.interrupts ∙ (step_law start trace coherent).calls CharacterTimeout
+  effects-at-point trace (PortRestore interrupts) new is = is.0 ∙ ap (λ due. length due) (step_law start trace coherent).restoring
 
   state-at-point :
-      (trace : Trace) (call : PortCall) (old new : State) → old ≡ state_of_history start trace
-      → IsPortCall call old new → new ≡ state_of_history start (unasked (op_of_call call) ∷ trace)
-  state-at-point trace call old new here is =
-      step-of-call call old new is
-      ∙ ap (λ (s : State). step s (op_of_call call) Nothing) (here ∙ sym (state_law start trace coherent))
+      (trace : Trace) (call : PortCall) (new : State) → IsPortCall call (state_of_history start trace) new
+      → new ≡ state_of_history start (unasked (op_of_call call) ∷ trace)
+  state-at-point trace call new is =
+      step-of-call call (state_of_history start trace) new is
+      ∙ ap (λ (s : State). step s (op_of_call call) Nothing) (sym (state_law start trace coherent))
       ∙ state_law start (unasked (op_of_call call) ∷ trace) coherent
 
-  -- ---- calls that follow each other
-
-  all-effects :
-      (trace : Trace) (s end : State) (calls : List PortCall) → s ≡ state_of_history start trace
-      → PortCallsFollow s calls end → AllEffectsAre start trace calls
-  all-effects trace s end [] here done = tt
-  all-effects trace s end (call ∷ later) here calls = (
-    effects-at-point trace call s calls.0 here calls.1,
-    all-effects (unasked (op_of_call call) ∷ trace) calls.0 end later (state-at-point trace call s calls.0 here calls.1)
-        calls.2,
-  )
-
-  last-state :
-      (trace : Trace) (s end : State) (calls : List PortCall) → s ≡ state_of_history start trace
-      → PortCallsFollow s calls end → end ≡ state_of_history start (trace_with trace (ops_of_calls calls))
-  last-state trace s end [] here done = done ∙ here
-  last-state trace s end (call ∷ later) here calls =
-      last-state (unasked (op_of_call call) ∷ trace) calls.0 end later (state-at-point trace call s calls.0 here calls.1)
-      calls.2
+  -- calls that follow each other
+  run-from :
+      (trace : Trace) (s end : State) (calls : List PortCall) → s ≡ state_of_history start trace → PortCallsFollow s calls end
+      → AllEffectsAre start trace calls × (end ≡ state_of_history start (trace_with trace (ops_of_calls calls)))
+  run-from trace s end [] here done = (tt, done ∙ here)
+  run-from trace s end (call ∷ later) here calls =
+      let is = subst (λ s. IsPortCall call s calls.0) here calls.1 in
+      let rest = run-from (unasked (op_of_call call) ∷ trace) calls.0 end later (state-at-point trace call calls.0 is) calls.2 in
+      ((effects-at-point trace call calls.0 is, rest.0), rest.1)
 
 pub port_run_law : PortRunLaw
 port_run_law start end calls before follow =
-    let here = state_law start [] before in
+    let run = run-from start before [] start end calls (state_law start [] before) follow in
     let trace = trace_with [] (ops_of_calls calls) in
-    let state = last-state start before [] start end calls here follow in
     record {
-      effects = all-effects start before [] start end calls here follow;
-      state = state;
-      coherent = subst Coherent (state_law start trace before ∙ sym state) (coherent_after start trace before);
+      effects = run.0;
+      state = run.1;
+      coherent = subst Coherent (state_law start trace before ∙ sym run.1) (coherent_after start trace before);
     }
 
 -- ---- the output
@@ -156,7 +126,5 @@ port_bound_law start end calls before follow =
       told-so-far start before [] calls (port_run_law start end calls before follow).effects,
       due-within start (trace_with [] (ops_of_calls calls)),
     )
-
--- ---- what the law rests on
 
 pub ruleset port_run_laws = (port_run_law, port_output_law, port_bound_law)

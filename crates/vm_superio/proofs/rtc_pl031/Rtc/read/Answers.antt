@@ -1,8 +1,7 @@
 -- A read continues each history: it may reach the alarm, and has no other effect.
-use Rattle.std.proofs.Common.{rules, ◌≡◌, ◌∙◌, ap}
+use Rattle.std.proofs.Common.{rules, ◌≡◌}
 use Rattle.superio_core.specs.Rtc.{read, bytes_left}
-use Rattle.vm_superio.specs.Rtc.{ClockDevice}
-use Rattle.superio_core.specs.Rtc.Step.{clock_response, clock_step}
+use Rattle.superio_core.specs.Rtc.Step.{clock_response}
 use Rattle.vm_superio.proofs.Lemmas.Rtc.{ReadsByHistory-read, GoesOnByHistory-step}
 use Rattle.vm_superio.proofs.rtc_pl031.Rtc.read.Goals as goal
 
@@ -13,12 +12,8 @@ returns-in-Some-clause-response_by_history g c =
 
 pub returns-in-Some-clause-history : goal.returns-in-Some-clause-history
 returns-in-Some-clause-history g c =
-    let access = read c.args.offset c.args.now in
-    let held = ap (λ (clock : ClockDevice _). clock_step clock.state access) c.self.view_is in
-    GoesOnByHistory-step access (c.read.ensures.state ∙ held)
+    rw (← c.self.view_is) (GoesOnByHistory-step (read c.args.offset c.args.now) c.read.ensures.state)
 
 pub returns-in-None-clause-history : goal.returns-in-None-clause-history
 returns-in-None-clause-history g c =
-    let access = read c.args.offset c.args.now in
-    let held = ap (λ (clock : ClockDevice _). clock_step clock.state access) c.self.view_is in
-    GoesOnByHistory-step access (c.read.ensures.state ∙ held)
+    rw (← c.self.view_is) (GoesOnByHistory-step (read c.args.offset c.args.now) c.read.ensures.state)

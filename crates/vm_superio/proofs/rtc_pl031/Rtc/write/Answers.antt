@@ -1,21 +1,16 @@
 -- A write continues each history, since it leaves the state of its step.
 use Rattle.std.proofs.Common.{◌∙◌, ap}
 use Rattle.superio_core.specs.Rtc.{state_of_clock, write, write_of}
-use Rattle.vm_superio.specs.Rtc.{ClockDevice}
 use Rattle.superio_core.specs.Rtc.Step.{clock_step}
 use Rattle.vm_superio.proofs.Lemmas.Rtc.{GoesOnByHistory-step}
 use Rattle.vm_superio.proofs.rtc_pl031.Rtc.write.Goals as goal
 
 pub returns-then-not-write-clause-history : goal.returns-then-not-write-clause-history
 returns-then-not-write-clause-history g c =
-    let access = write_of c.args.offset c.args.bytes.now c.args.now in
     let value = ap (λ value. clock_step (state_of_clock c.self.inside.clock) (write c.args.offset value c.args.now)) c.from_le_bytes-value.ensures in
-    let held = ap (λ (clock : ClockDevice _). clock_step clock.state access) c.self.view_is in
-    GoesOnByHistory-step access (c.write.ensures.state ∙ value ∙ held)
+    rw (← c.self.view_is) (GoesOnByHistory-step (write_of c.args.offset c.args.bytes.now c.args.now) (c.write.ensures.state ∙ value))
 
 pub returns-else-not-write-clause-history : goal.returns-else-not-write-clause-history
 returns-else-not-write-clause-history g c =
-    let access = write_of c.args.offset c.args.bytes.now c.args.now in
     let value = ap (λ value. clock_step (state_of_clock c.self.inside.clock) (write c.args.offset value c.args.now)) c.from_le_bytes-value.ensures in
-    let held = ap (λ (clock : ClockDevice _). clock_step clock.state access) c.self.view_is in
-    GoesOnByHistory-step access (c.write.ensures.state ∙ value ∙ held)
+    rw (← c.self.view_is) (GoesOnByHistory-step (write_of c.args.offset c.args.bytes.now c.args.now) (c.write.ensures.state ∙ value))

@@ -1,31 +1,44 @@
 -- A step over three objects as one is a step of each. The other clauses follow from it.
 use Rattle.std.proofs.Common.{refl, sym, subst, ap, ◌∙◌}
-use Rattle.vm_superio.specs.Serial.{timeout_response, refusal_in_result, State, CharacterTimeout, ShowsHeldBytes}
-use Rattle.superio_core.proofs.Lemmas.Serial.Coherence.{coherence_law}
+use Rattle.vm_superio.specs.Serial.{State, ShowsHeldBytes}
 use Rattle.superio_core.proofs.Lemmas.Serial.Step.{shows_held_bytes}
-use Rattle.vm_superio.specs.Links.{WriterCalls, WriterCalls-nil}
-use Rattle.vm_superio.specs.Links.Writer.{port_links}
-use Rattle.vm_superio.specs.Serial.Step.ObjectStep.{port_of}
-use Rattle.vm_superio.specs.Serial.Step.{IsPortStep}
-use Rattle.vm_superio.proofs.Lemmas.Serial.{IsPortStep-three, length-answers_of-step}
-use Rattle.vm_superio.proofs.Lemmas.Serial.Step.{quiet, silent, timeout_fate}
+use Rattle.vm_superio.specs.Links.{WriterCalls-nil}
+use Rattle.vm_superio.proofs.Lemmas.Serial.{IsPortStep-three, IsTimeoutStep-three}
+use Rattle.vm_superio.proofs.Lemmas.Serial.Step.{quiet, silent, keeps_coherent, timeout_fate}
 use Rattle.vm_superio.proofs.serial.Serial.character_timeout.Goals as goal
 
-pub returns : goal.returns
-returns g c =
-    let contents = g.W.Write.contents in
-    let links = port_links g.T.Trigger.link g.EV.SerialEvents.link (WriterCalls contents) in
+pub returns-clause-step : goal.returns-clause-step
+returns-clause-step g c =
+    let call = c.recorded_timeout.ensures in
+    rw (← c.self.view_is) (IsTimeoutStep-three g.T.Trigger.link g.EV.SerialEvents.link g.W.Write.contents call.no_byte call.step)
+
+pub returns-clause-pending : goal.returns-clause-pending
+returns-clause-pending g c =
     let call = c.recorded_timeout in
-    let step = IsPortStep-three g.T.Trigger.link g.EV.SerialEvents.link contents _ _ _ _ _ _ _ _ call.ensures.step in
-    let made = subst (λ sent. IsPortStep links CharacterTimeout call.result.asked sent (timeout_response call.result.reply)
-    (refusal_in_result call.result.reply) (port_of c.self.inside.port) (port_of call.new.self)) call.ensures.no_byte step in
-    rw (← c.self.view_is) (
-    record {
-      step = record { asked = call.result.asked; step = made; calls = length-answers_of-step links _ _ _ _ _ _ _ made };
-      pending = subst ShowsHeldBytes (sym made.state) (shows_held_bytes c.self.inside.port.state call.result.asked);
-      fate = timeout_fate links _ _ _ _ _ made;
-      quiet = λ off. quiet links _ _ _ _ _ _ _ g.met.T.Trigger.no_call made (ap (λ (s : State). s.interrupt_enable) made.state ∙ off);
-      events = sym ((g.met.EV.SerialEvents.no_event _ _).0 made.events);
-      out = silent links _ _ _ _ _ _ _ (WriterCalls-nil contents) made refl;
-      coherent = λ before. rw made.state (coherence_law _ CharacterTimeout call.result.asked before);
-    })
+    subst ShowsHeldBytes (sym call.ensures.step.state) (shows_held_bytes c.self.inside.port.state call.result.asked)
+
+pub returns-clause-fate : goal.returns-clause-fate
+returns-clause-fate g c =
+    let made = IsPortStep-three g.T.Trigger.link g.EV.SerialEvents.link g.W.Write.contents c.recorded_timeout.ensures.step in
+    rw (← c.self.view_is) (timeout_fate c.recorded_timeout.result.reply made)
+
+pub returns-clause-quiet : goal.returns-clause-quiet
+returns-clause-quiet g c =
+    let made = IsPortStep-three g.T.Trigger.link g.EV.SerialEvents.link g.W.Write.contents c.recorded_timeout.ensures.step in
+    let enable = ap (λ (s : State). s.interrupt_enable) made.state in
+    rw (← c.self.view_is) (λ off. quiet made g.met.T.Trigger.no_call (enable ∙ off))
+
+pub returns-clause-events : goal.returns-clause-events
+returns-clause-events g c =
+    let made = IsPortStep-three g.T.Trigger.link g.EV.SerialEvents.link g.W.Write.contents c.recorded_timeout.ensures.step in
+    rw (← c.self.view_is) (sym ((g.met.EV.SerialEvents.no_event _ _).0 made.events))
+
+pub returns-clause-out : goal.returns-clause-out
+returns-clause-out g c =
+    let made = IsPortStep-three g.T.Trigger.link g.EV.SerialEvents.link g.W.Write.contents c.recorded_timeout.ensures.step in
+    rw (← c.self.view_is) (silent made (WriterCalls-nil g.W.Write.contents) refl)
+
+pub returns-clause-coherent : goal.returns-clause-coherent
+returns-clause-coherent g c =
+    let made = IsPortStep-three g.T.Trigger.link g.EV.SerialEvents.link g.W.Write.contents c.recorded_timeout.ensures.step in
+    rw (← c.self.view_is) (keeps_coherent made)
