@@ -28,14 +28,6 @@ class Block(NamedTuple):
     is_after_heading: bool
 
 
-class Row(NamedTuple):
-    """A row of a table: the number of its line, the heading above, the table's head, and its own cells."""
-    number: int
-    heading: str
-    head: list
-    cells: list
-
-
 class Document:
     """A document by its path from the top of the repository, or of another one."""
 
@@ -84,20 +76,10 @@ class Document:
         """The targets of the links outside code."""
         return ["".join(targets) for targets in LINK.findall(CODE.sub("", self.prose))]
 
-    @property
-    def rows(self):
-        heading, head = "", None
-        for number, line in self.lines:
-            heading = line if line.startswith("#") else heading
-            cells = [cell.strip() for cell in line.strip().strip("|").split(" | ")] if line.startswith("|") else None
-            if head and cells and set(line) - set("|- :"):
-                yield Row(number, heading, head, cells)
-            head = (head or cells) if cells else None
-
 
 def code_in(text):
-    """The code in a text: each with what follows it in its line."""
-    return [(code[2], text[code.end():].partition("\n")[0]) for code in CODE.finditer(text)]
+    """The pieces of code in a text."""
+    return [code[2] for code in CODE.finditer(text)]
 
 
 def documents():
@@ -107,13 +89,7 @@ def documents():
     return [Document(path) for path in sorted(kept, key=lambda path: (len(path.parts), path))]
 
 
-def judged(kind, is_good, fault):
-    """A result of one thing that is good, or has this fault."""
-    return kind, [] if is_good else [fault]
-
-
 def run(check, said):
-    """Runs a check of documents that takes no argument, and reports each kind with its faults. `said` is what the check
-    says of itself."""
+    """Runs a check that takes no argument, and reports its results. `said` is what the check says of itself."""
     takes_no_argument(said)
-    sys.exit(report((kind, fault) for kind, faults in check() for fault in faults or [None]))
+    sys.exit(report(check()))

@@ -5,11 +5,10 @@ import subprocess
 import sys
 import tempfile
 import time
-from collections import Counter
 from concurrent.futures import ThreadPoolExecutor
 from pathlib import Path
 
-from tally import Tried, sum_line
+from tally import Tally
 
 CRATES = Path(__file__).resolve().parents[2] / "crates"
 # The programs, each with the crates whose sources it is built of, the lowest last.
@@ -123,30 +122,22 @@ def reason(error):
 
 def report(results, generated=()):
     """Prints each message, what was tried of each kind, and then `N passed, M failed`. A result is its kind and a
-    message, or `None` for a pass. The cases of the kinds in `generated` are one check together. Returns the exit
-    status: 1 if something failed, if a file cannot be used or a program not built, or if nothing was checked."""
-    tried, failures, faults = Tried(), Counter(), 0
+    message, or `None` for a pass. Of a kind in `generated` all that pass are one check. Returns the exit status: 1 if
+    something failed, if a file cannot be used or a program not built, or if nothing was checked."""
+    tally = Tally()
     try:
         for kind, message in results:
+            tally.of(kind)
             if isinstance(message, Skipped):
-                print(f"skipped: {message} is not there, for {kind}")
-                tried.leave_out(kind)
-                continue
-            tried.add(kind)
-            if message is not None:
-                print(message)
-                failures[kind] += 1
+                tally.skip(message, kind)
+            elif message is None and kind in generated:
+                tally.tried.add(kind)
+            else:
+                tally.check(message is None, message)
     except (OSError, NotBuilt) as error:
-        print(reason(error))
-        faults = 1
-    checks = {kind: 1 if kind in generated else number for kind, number in tried.counts.items()}
-    failed = faults + sum(min(failures[kind], number) for kind, number in checks.items())
-    if not checks and not failed:
-        print("nothing was checked")
-        failed = 1
-    passed = max(0, sum(checks.values()) + faults - failed)
-    print(*tried.lines(), sum_line(passed, failed, len(tried.left_out)), sep="\n")
-    return 1 if failed else 0
+        tally.check(False, reason(error))
+    tally.passed += len(tally.tried.counts.keys() & set(generated))
+    return tally.end()
 
 
 def check_program(check, generated=()):

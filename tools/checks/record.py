@@ -11,7 +11,6 @@ import subprocess
 from functools import cache
 from pathlib import Path
 
-from edits import may_share
 from program import seed_of
 from rooms import PARTS, crates_of
 
@@ -63,12 +62,10 @@ def write_record(root, numbers):
     (root / FILE).write_text(HEAD + "".join(rows), encoding="utf-8")
 
 
-def drawn(crate, edits):
-    """The edits of a recorded crate to try again: one in ten, and other ones with each commit. After the first each is of a
-    function of its own, so that they share a round."""
-    first, *others = random.Random(f"{seed_of(crate.folder)} {crate.name}").sample(edits, len(edits))
-    chosen = []
-    for edit in others:
-        if not edit.is_outside and all(may_share(edit, it) for it in [first, *chosen] if not it.is_outside):
-            chosen.append(edit)
-    return [first, *chosen][:-(-len(edits) // ONE_IN)]
+def drawn(edits):
+    """The edits of a recorded crate to try again: one in ten, and other ones with each commit. Each is of a function of
+    its own, so that they share a round."""
+    crate, chosen = edits[0].crate, {}
+    for edit in random.Random(f"{seed_of(crate)} {crate.name}").sample(edits, len(edits)):
+        chosen.setdefault(edit.function, edit)
+    return list(chosen.values())[:-(-len(edits) // ONE_IN)]

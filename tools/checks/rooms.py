@@ -3,7 +3,6 @@ import os
 import re
 import shutil
 import subprocess
-import tempfile
 from dataclasses import dataclass
 from pathlib import Path
 
@@ -37,15 +36,6 @@ def copy_files(root, folder):
         shutil.copy2(path, folder / path.relative_to(root), follow_symlinks=False)
 
 
-def place_for_rooms(root):
-    """A folder for rooms, in the file system of the repository, so that what they share is linked."""
-    for folder in (tempfile.gettempdir(), "/var/tmp"):
-        if os.path.isdir(folder) and os.stat(folder).st_dev == os.stat(root).st_dev:
-            return folder
-    (root / "out").mkdir(exist_ok=True)
-    return root / "out"
-
-
 def link_tree(source, target):
     if source.is_dir():
         shutil.copytree(source, target, copy_function=link, dirs_exist_ok=True)
@@ -72,10 +62,6 @@ class Crate:
     def libraries(self):
         """The names of all that it uses, of the repository and of the kit."""
         return set(self.line.partition(":")[2].partition("#")[0].split())
-
-    def size(self):
-        """How much there is to prove: its lines."""
-        return sum(path.read_bytes().count(b"\n") for part in PARTS for path in (self.folder / part).rglob("*.*t"))
 
 
 def crates_of(root):
@@ -105,25 +91,11 @@ def make_room(folder, crate, texts=()):
     return copy
 
 
-@dataclass
-class Ran:
-    """What a command printed, how it ended, and what it took: processor seconds, and bytes of memory at its most."""
-    lines: list
-    status: int
-    seconds: float
-    memory: int
-
-
 def run(command, folder):
-    """Runs a command in a folder."""
-    lines = []
+    """Runs a command in a folder. Returns the lines that it prints, and its status."""
     try:
-        process = subprocess.Popen(command, cwd=folder, stdin=subprocess.DEVNULL, stdout=subprocess.PIPE,
-                                   stderr=subprocess.STDOUT, text=True, errors="replace")
+        ran = subprocess.run(command, cwd=folder, stdin=subprocess.DEVNULL, stdout=subprocess.PIPE,
+                             stderr=subprocess.STDOUT, text=True, errors="replace")
     except OSError as error:
-        return Ran([str(error)], NOT_STARTED, 0, 0)
-    for line in process.stdout:
-        lines.append(line.rstrip("\n"))
-    _, status, used = os.wait4(process.pid, 0)
-    process.returncode = os.WEXITSTATUS(status) if os.WIFEXITED(status) else -os.WTERMSIG(status)
-    return Ran(lines, process.returncode, used.ru_utime + used.ru_stime, used.ru_maxrss * 1024)
+        return [str(error)], NOT_STARTED
+    return ran.stdout.splitlines(), ran.returncode

@@ -101,6 +101,13 @@ class Tally:
         self.skip(tool, what)
         return False
 
+    def end(self):
+        """Prints what was tried of each kind and the sum. Returns the exit status."""
+        if not self.passed + self.failed + self.skipped:
+            self.check(False, "nothing was checked")
+        print(*self.tried.lines(), sum_line(self.passed, self.failed, self.skipped), sep="\n")
+        return 1 if self.failed else 0
+
     def run(self, what, command, expected=None, number=1, **options):
         """Counts whether a command succeeds and, if a text is expected, prints that. It tries so many of its kind.
         Returns whether it does."""
@@ -116,8 +123,7 @@ def run_check(count, said=None, kind="checks"):
         takes_no_argument(said)
     tally = Tally(kind)
     count(tally)
-    print(*tally.tried.lines(), sum_line(tally.passed, tally.failed, tally.skipped), sep="\n")
-    sys.exit(1 if tally.failed else 0)
+    sys.exit(tally.end())
 
 
 def takes_no_argument(said):

@@ -99,6 +99,6 @@ class CopyTest(FolderTest):
         """The status, the output and the errors of a tool of the copy, which may not end in a traceback."""
         # What Python compiled of a file would be taken for that of another one of its size, of the same second.
         ran = subprocess.run([sys.executable, self.root / name, *arguments], capture_output=True, text=True,
-                             timeout=120, env={**env, "PYTHONDONTWRITEBYTECODE": "1"}, **options)
+                             timeout=600, env={**env, "PYTHONDONTWRITEBYTECODE": "1"}, **options)
         self.assertNotIn("Traceback", ran.stderr)
         return ran.returncode, ran.stdout, ran.stderr
