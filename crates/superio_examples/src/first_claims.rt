@@ -32,20 +32,6 @@ pub fn enqueued_is_read<T: Trigger, EV: SerialEvents, W: Write>(
     serial.read(0)
 }
 
-/// An enqueued byte waits behind those held, whether or not the trigger refuses. Only FIFO, LSR and IIR change.
-#[tactic(auto)]
-pub fn enqueued_waits_last<T: Trigger, EV: SerialEvents, W: Write>(
-    serial: &mut Serial<T, EV, W>,
-    last: u8,
-)
-    requires outside { is_outside serial.old }
-    requires room { length (held serial.old) < 64 }
-    ensures last { held serial.new ≡ held serial.old ++ last ∷ [] }
-    ensures settings { SameSettings serial.old.state serial.new.state }
-{
-    let _ = serial.enqueue_raw_bytes(&[last]);
-}
-
 /// A read of the data register takes the oldest byte. Only FIFO, LSR and IIR change.
 #[tactic(auto)]
 pub fn read_takes_oldest<T: Trigger, EV: SerialEvents, W: Write>(
@@ -74,41 +60,6 @@ pub fn read_all<T: Trigger, EV: SerialEvents, W: Write>(
         read.push(serial.read(0))?;
     }
     Ok(read)
-}
-
-/// What the host and the guest did with a port.
-#[derive(Drop)]
-pub struct Passed {
-    /// The bytes enqueued.
-    pub enqueued: Vec<u8>,
-    /// The bytes read.
-    pub read: Vec<u8>,
-}
-
-/// Over any enqueues and reads, the bytes read, then those held, are those held at first, then those enqueued. `Some`
-/// enqueues a byte if there is room, and `None` reads one if there is any.
-pub fn interleaved_in_order<T: Trigger, EV: SerialEvents, W: Write>(
-    alloc: Global,
-    serial: &mut Serial<T, EV, W>,
-    turns: &[Option<u8>],
-) -> Result<Passed, AllocError>
-    requires data { shows_data serial.old }
-    requires outside { is_outside serial.old }
-    ensures { IfOk result (λ passed. passed.read.items ++ held serial.new ≡ held serial.old ++ passed.enqueued.items) }
-{
-    let mut enqueued = Vec::new(alloc);
-    let mut read = Vec::new(alloc);
-    for turn in turns {
-        match turn {
-            Some(byte) if serial.fifo_capacity() > 0 => {
-                enqueued_waits_last(serial, *byte);
-                enqueued.push(*byte)?;
-            }
-            None if serial.fifo_capacity() < 64 => read.push(read_takes_oldest(serial))?,
-            _ => {}
-        }
-    }
-    Ok(Passed { enqueued, read })
 }
 
 /// A full FIFO accepts nothing and says so.
@@ -167,17 +118,6 @@ pub fn loopback_returns_byte<T: Trigger, EV: SerialEvents, W: Write>(
 
 // ---- registers
 
-/// SCR keeps any byte.
-pub fn scratch_keeps<T: Trigger, EV: SerialEvents, W: Write>(
-    serial: &mut Serial<T, EV, W>,
-    value: u8,
-) -> u8
-    ensures { result ≡ value }
-{
-    let _ = serial.write(7, value);
-    serial.read(7)
-}
-
 /// With DLAB set, offsets 0 and 1 keep the divisor.
 pub fn divisor_keeps<T: Trigger, EV: SerialEvents, W: Write>(
     serial: &mut Serial<T, EV, W>,
@@ -201,19 +141,6 @@ pub fn line_status_shows_data<T: Trigger, EV: SerialEvents, W: Write>(
     ensures { has_bits result 0x01 ≡ not_empty (held serial.old) }
 {
     serial.read(5)
-}
-
-/// In loopback MSR shows DTR of MCR as DSR, and OUT2 as DCD.
-pub fn loopback_shows_outputs<T: Trigger, EV: SerialEvents, W: Write>(
-    serial: &mut Serial<T, EV, W>,
-    value: u8,
-) -> u8
-    requires { has_bits value 0x10 ≡ true }
-    ensures dtr { has_bits result 0x20 ≡ has_bits value 0x01 }
-    ensures out2 { has_bits result 0x80 ≡ has_bits value 0x08 }
-{
-    let _ = serial.write(4, value);
-    serial.read(6)
 }
 
 // ---- interrupts

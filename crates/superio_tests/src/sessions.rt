@@ -157,25 +157,6 @@ fn a_clock_is_reached_in_its_window(rt: HostRuntime) {
     assert!(rt; window.clock.state().mr == 0 && log.calls() == [0, 7, 0, 0]);
 }
 
-#[test]
-fn an_alarm_is_found_when_the_timer_goes_off(rt: HostRuntime) {
-    let log = Log::new();
-    let mut clock = Rtc::with_events(Object(&log));
-    let alarm = |clock: &Rtc<Object>, now| (clock.interrupt_line(), clock.alarm_due(now));
-    assert!(rt; alarm(&clock, 1_000) == (false, None));
-    // The guest unmasks the interrupt and sets an alarm in a minute.
-    clock.write(0x010, &1u32.to_le_bytes(), 1_000);
-    clock.write(0x004, &1_060u32.to_le_bytes(), 1_000);
-    assert!(rt; alarm(&clock, 1_000) == (false, Some(60)));
-    clock.read(0x018, &mut [0; 4], 1_059);
-    assert!(rt; alarm(&clock, 1_059) == (false, Some(1)));
-    clock.read(0x018, &mut [0; 4], 1_060);
-    assert!(rt; alarm(&clock, 1_060) == (true, None));
-    // It is cleared.
-    clock.write(0x01C, &1u32.to_le_bytes(), 1_061);
-    assert!(rt; alarm(&clock, 1_061) == (false, None));
-}
-
 // ---- a whole monitor
 
 /// The clock's window.

@@ -5,7 +5,7 @@ use std::alloc::AllocError;
 use std::io::Write;
 use std::test::Fail;
 use superio_examples::first_claims::{
-    interleaved_in_order, read_back, refused_keeps_bytes, restored_reads_same, sent_is_appended,
+    read_back, refused_keeps_bytes, restored_reads_same, sent_is_appended,
 };
 use superio_examples::input::Input;
 use superio_examples::monitor::{Event, Monitor};
@@ -43,17 +43,14 @@ fn lists_of_each_size_are_taken(rt: HostRuntime) -> Result<(), Fail> {
     let object = Object(&log);
     for size in SIZES {
         let bytes = b"x".repeat(alloc, size)?;
-        let mut turns = Vec::new(alloc);
         let mut calls: Vec<Call<PortObjects>> = Vec::new(alloc);
-        for number in 0..size {
-            turns.push((number % 3 > 0).then_some(b'x'))?;
+        for _ in 0..size {
             calls.push(Call::Read(5))?;
         }
         calls.push(Call::Enqueue(bytes.clone()?))?;
         calls.push(Call::Restore(Three::with_writer(object, object, object)))?;
         let mut serial = port(alloc, &log)?;
         assert!(rt; serial.run(alloc, calls)?.len() == size + 2);
-        assert!(rt; interleaved_in_order(alloc, &mut port(alloc, &log)?, &turns).is_ok());
         assert!(rt; read_back(alloc, object, object, &bytes)?.len() == size.min(64));
         let reads = restored_reads_same(alloc, &mut serial, object, object, object, 0);
         assert!(rt; reads.is_ok());
