@@ -123,12 +123,10 @@ class Stepping(FolderTest):
         self.assertEqual([*range(2, 13)], [int(row.lstrip("> ").split()[0]) for row in self.said("list").splitlines()])
 
     def test_files(self):
-        """The same by the command line, and by commands."""
-        for name in ("table", "svg"):
-            self.said(f"{name} {self.folder / name}")
+        steps = steps_of(TRACE)
+        for name, text in (("table", table(steps)), ("svg", picture(steps, "-"))):
             self.assertEqual((0, "", ""), run("view", "-", f"--{name}", self.path, script=TRACE))
-            self.assertEqual((self.folder / name).read_text().replace(">trace", ">-"), self.path.read_text())
-        self.assertIn("No such file", self.said(f"svg {self.folder}/none/x"))
+            self.assertEqual(text, self.path.read_text())
 
 
 # Traces, and the bars of their lanes: whole, or parts of them.
