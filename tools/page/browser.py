@@ -11,7 +11,6 @@ NAME = "chromium"
 WORDS = ["--headless", "--disable-gpu", "--no-first-run", "--disable-background-networking", "--hide-scrollbars",
          "--remote-debugging-pipe", *(["--no-sandbox"] if os.geteuid() == 0 else [])]
 LIMIT = 60  # seconds for an answer
-KEYS = {"Tab": 9, "Enter": 13, " ": 32, "ArrowLeft": 37, "ArrowRight": 39, "End": 35, "Home": 36}
 # What a page that is silent does not do.
 COMPLAINTS = ("Runtime.exceptionThrown", "Runtime.consoleAPICalled", "Log.entryAdded")
 
@@ -94,13 +93,6 @@ class Browser:
         """For how long the page has had a processor since it was opened."""
         metrics = self.send("Performance.getMetrics")["metrics"]
         return next(1000 * metric["value"] for metric in metrics if metric["name"] == "TaskDuration")
-
-    def key(self, name):
-        """Presses a key."""
-        text = {"Enter": "\r", " ": " "}.get(name, name if len(name) == 1 else "")
-        key = {"key": name, "code": name, "windowsVirtualKeyCode": KEYS.get(name, ord(name[0].upper()))}
-        self.send("Input.dispatchKeyEvent", type="keyDown" if text else "rawKeyDown", text=text, **key)
-        self.send("Input.dispatchKeyEvent", type="keyUp", **key)
 
     def look(self, width, height, scheme="light"):
         """Gives the page a size in pixels and a scheme of colours."""

@@ -113,6 +113,9 @@ const features = [
     { values: / 0x01$/, place: "1 of 3", now: "1sw 07 01ok" }],
   ["forward in time", "#sw+07+01;sw+07+02", () => { fill("at", "0"); click("forward"); },
     { values: / 0x01$/, place: "1 of 2" }],
+  ["keys go through the list", "#sw+07+01;sw+07+02", () => ["Home", "ArrowDown"].forEach((key) =>
+    by("list").dispatchEvent(new KeyboardEvent("keydown", { key, cancelable: true }))),
+  { values: / 0x01$/, place: "1 of 2" }],
   ["a click on a line goes there", "#sw+07+01;sw+07+02;sw+07+03", () => by("list").children[1].click(),
     { values: / 0x02$/, place: "2 of 3" }],
   ["a copied script says which lines are the page's own", "#sw+00+41+f",

@@ -71,7 +71,6 @@ DECLARATIONS = [
 OF_JS = [
     ("bindings/rust/capi/src/lib.rs", "const NEVER: u64 = u64::MAX;", "const NEVER: u64 = 0;",
      "the module was built from other sources"),
-    (f"{JS}/registers.mjs", "", "[].toSorted();", "registers.mjs has .toSorted(, which Node 18 lacks"),
     (f"{PYTHON}/registers.py", '"ICR", 0x01C', '"ICR", 0x020', "module.mjs has other bytes or tables"),
 ]
 OF_PAGE = [

@@ -9,7 +9,7 @@ import json
 import re
 from html import escape
 from itertools import groupby
-from typing import Callable, Iterable, Iterator, List, NamedTuple, Optional, Sequence, Tuple
+from typing import Callable, Dict, Iterable, Iterator, List, NamedTuple, Optional, Sequence, Tuple
 
 from .board import Board, Call
 from .files import BadLine
@@ -88,97 +88,54 @@ def replay(name: str, rows: Iterable[bytes]) -> Iterator[Step]:
             raise BadLine(name, number, row.rstrip(b"\r\n"), error) from error
 
 
-_LEFT, _RIGHT, _TOP, _WIDTH, _HEIGHT, _GAP = 140, 20, 46, 800, 34, 14
-_LEAST = 5.0
+_LEFT, _TOP, _WIDTH, _HEIGHT, _GAP = 120, 46, 800, 34, 14
+_LEAST = 5.0  # how high a bar is at least, so that it is seen
 
-
-class _Lane(NamedTuple):
-    """A row of the picture: how high its bar is at each column, from 0 to 1, by the values of the column's steps."""
-
-    name: str
-    about: str
-    colour: str
-    height: Callable[[List[float]], float]
-    value: Callable[[Step], float]
-
-
-def _share(values: List[float]) -> float:
-    return sum(values) / len(values)
-
-
-_SHARES, _CALLS = "share of the calls", "calls of the line"
 _BLUE, _ORANGE, _GREEN, _RED, _GREY = "#0b6fb8", "#c25e00", "#2e7d32", "#c62828", "#667788"
-_ALWAYS = (
-    _Lane("RDA pending", _SHARES, _BLUE, _share, lambda step: "RDA" in pending(step.call.after.serial)),
-    _Lane("THRE pending", _SHARES, _ORANGE, _share, lambda step: "THRE" in pending(step.call.after.serial)),
-    _Lane("FIFO", f"bytes held, up to {FIFO_SIZE}", _GREEN, max,
-          lambda step: len(step.call.after.serial.in_buffer) / FIFO_SIZE),
-)
-_IF_ANY = (
-    _Lane("interrupts", _CALLS, _BLUE, max, lambda step: any(step.call.answers)),
-    _Lane("refused", _CALLS, _RED, max, lambda step: step.is_refused),
-    _Lane("output", _SHARES, _GREY, _share, lambda step: step.has_sent),
-    _Lane("clock", _SHARES, _GREY, _share, lambda step: step.call.command.name[0] == "c"),
-    _Lane("controller", _SHARES, _GREY, _share, lambda step: step.call.command.name[0] == "k"),
-)
+_LANES: Dict[str, Tuple[str, Callable[[Step], float]]] = {
+    "RDA pending": (_BLUE, lambda step: "RDA" in pending(step.call.after.serial)),
+    "THRE pending": (_ORANGE, lambda step: "THRE" in pending(step.call.after.serial)),
+    "bytes held": (_GREEN, lambda step: len(step.call.after.serial.in_buffer) / FIFO_SIZE),
+    "interrupts": (_BLUE, lambda step: any(step.call.answers)),
+    "refused": (_RED, lambda step: step.is_refused),
+    "output": (_GREY, lambda step: step.has_sent),
+    "clock": (_GREY, lambda step: step.call.command.name[0] == "c"),
+    "controller": (_GREY, lambda step: step.call.command.name[0] == "k"),
+}
+"""The rows of the picture: the colour of each, and what it shows of a step, from 0 to 1."""
 
 
-def _drawn(steps: Sequence[Step], columns: int) -> List[Tuple[_Lane, List[float]]]:
-    """The lanes that are always there, and those in which there is something, each with its heights by columns."""
-    groups = [steps[len(steps) * place // columns:len(steps) * (place + 1) // columns] for place in range(columns)]
-    found = [(lane, [lane.height([lane.value(step) for step in group]) for group in groups])
-             for lane in _ALWAYS + _IF_ANY]
-    return [(lane, heights) for lane, heights in found if lane in _ALWAYS or any(heights)]
-
-
-def _bars(heights: List[float], base: int, width: float) -> str:
-    """A path around the bars. A bar that is not 0 is high and wide enough to be seen."""
-    parts, place = [], 0
+def _bars(heights: Sequence[float], base: int) -> str:
+    """A path around bars of these heights, from 0 to 1, over the whole width."""
+    parts, place, width = [], 0, _WIDTH / len(heights)
     for height, group in groupby(heights):
-        left = _LEFT + place * width
-        place += len(list(group))
+        count = len(list(group))
         if height:
             high = max(_LEAST, height * _HEIGHT)
-            parts.append(f"M{left:.4g} {base}v{-high:.3g}h{max(1.0, _LEFT + place * width - left):.4g}v{high:.3g}z")
+            parts.append(f"M{_LEFT + place * width:.4g} {base}v{-high:.3g}h{max(1.0, count * width):.4g}v{high:.3g}z")
+        place += count
     return "".join(parts)
 
 
-def _rows(lane: _Lane, bars: str, base: int) -> List[str]:
-    return [f'<text x="{_LEFT - 10}" y="{base - 18}" text-anchor="end">{escape(lane.name)}</text>',
-            f'<text x="{_LEFT - 10}" y="{base - 5}" text-anchor="end" class="s">{escape(lane.about)}</text>',
-            f'<path d="M{_LEFT} {base}.5h{_WIDTH}" stroke="#c8d0d8"/>',
-            *([f'<path d="{bars}" fill="{lane.colour}"/>'] if bars else [])]
-
-
-def _axis(count: int, base: int) -> List[str]:
-    """Numbers below the lanes, at five to ten places."""
-    step = next(size * factor for size in (10 ** power for power in range(20)) for factor in (1, 2, 5)
-                if count <= 10 * size * factor)
-    parts = []
-    for number in range(0, count + 1, step):
-        place = _LEFT + number * _WIDTH / max(1, count)
-        parts.append(f'<path d="M{place:.5g} {base}v5" stroke="#667788"/>')
-        parts.append(f'<text x="{place:.5g}" y="{base + 18}" text-anchor="middle" class="s">{number:,}</text>')
-    return parts
-
-
 def picture(steps: Sequence[Step], title: str) -> str:
-    """The picture of steps, at least one, as a text in SVG: a lane for each condition and for the FIFO, and one for
-    whatever else the steps have. From left to right are the calls, several in a column if they are many."""
+    """The picture of steps, at least one, as a text in SVG: a lane for all that they have. From left to right are the
+    calls, several in a column if they are many, and a bar is as high as the column's share of such calls."""
     columns = min(len(steps), _WIDTH)
-    lanes = _drawn(steps, columns)
-    base = _TOP + len(lanes) * (_HEIGHT + _GAP)
-    total = _LEFT + _WIDTH + _RIGHT
-    calls = f"{len(steps):,} calls"
-    parts = [f'<svg xmlns="http://www.w3.org/2000/svg" width="{total}" height="{base + 30}" '
-             f'viewBox="0 0 {total} {base + 30}" font-family="sans-serif" font-size="13" fill="#223" role="img">',
-             f"<title>{escape(title)}</title>",
-             "<style>.s{font-size:10px;fill:#556}</style>",
-             f'<rect width="{total}" height="{base + 30}" fill="#fff"/>',
-             f'<text x="{_LEFT}" y="24" font-size="15">{escape(title)}</text>',
-             f'<text x="{_LEFT + _WIDTH}" y="24" text-anchor="end" class="s">{calls}, from left to right</text>']
-    for number, (lane, heights) in enumerate(lanes):
-        place = _TOP + number * (_HEIGHT + _GAP) + _HEIGHT
-        parts.extend(_rows(lane, _bars(heights, place, _WIDTH / columns), place))
-    parts.extend(_axis(len(steps), base))
-    return "\n".join([*parts, "</svg>", ""])
+    edges = [len(steps) * place // columns for place in range(columns + 1)]
+    parts, base = [], _TOP
+    for name, (colour, value) in _LANES.items():
+        values = [value(step) for step in steps]
+        heights = [sum(values[first:end]) / (end - first) for first, end in zip(edges, edges[1:])]
+        if any(heights):
+            base += _HEIGHT
+            parts += [f'<text x="{_LEFT - 10}" y="{base - 12}" text-anchor="end">{name}</text>',
+                      f'<path d="M{_LEFT} {base}.5h{_WIDTH}" stroke="#c8d0d8"/>',
+                      f'<path d="{_bars(heights, base)}" fill="{colour}"/>']
+            base += _GAP
+    total = _LEFT + _WIDTH + 20
+    head = [f'<svg xmlns="http://www.w3.org/2000/svg" width="{total}" height="{base}" viewBox="0 0 {total} {base}" '
+            'font-family="sans-serif" font-size="13" fill="#223" role="img">',
+            f"<title>{escape(title)}</title>",
+            f'<rect width="{total}" height="{base}" fill="#fff"/>',
+            f'<text x="{_LEFT}" y="24" font-size="15">{escape(title)}: {len(steps):,} calls, from left to right</text>']
+    return "\n".join([*head, *parts, "</svg>", ""])

@@ -137,19 +137,10 @@ def _text_output(call: Call) -> str:
     return quoted(bytes.fromhex(call.reply or ""), OUTPUT_SIZE)
 
 
-def _events(call: Call) -> str:
-    counts = call.after.counts
-    return (f"{plural(counts.buffer_read, 'read')} of RBR, {counts.in_buffer_empty} of them left no byte; "
-            f"{plural(counts.out_byte, 'byte')} out, {counts.tx_lost_byte} lost")
-
-
 _TELLERS = {
     "sr": _read, "sw": _serial_write, "sq": _enqueue, "si": _character_timeout, "sd": _text_output,
-    "so": _text_output,
-    "sc": lambda call: f"room for {plural(int(call.reply or '0', 16), 'byte')}",
-    "st": lambda call: f"the interrupt line was called {plural(int(call.reply or '0', 16), 'time')}",
-    "ss": lambda call: ("restored" if call.reply == "ok" else "not restored") + _interrupts(call),
-    "se": _events, "cr": _clock_access, "cw": _clock_access,
+    "so": _text_output, "ss": lambda call: ("restored" if call.reply == "ok" else "not restored") + _interrupts(call),
+    "cr": _clock_access, "cw": _clock_access,
     "kr": lambda call: f"0x{call.reply}", "kw": lambda call: call.reply or "",
 }
 

@@ -66,8 +66,6 @@ class Viewer(Prompt):
         Help("last", "to the last call"),
         Help("list", "the calls around this one"),
         Help("regs", "every register after this call"),
-        Help("table [FILE]", "all calls, to a pager or a file"),
-        Help("svg FILE", "a picture of the whole, to a file"),
         Help("help [NAME]", "this list, or more about one command"),
         Help("quit", "ends, as exit and Ctrl-D do"),
     )}
@@ -141,23 +139,6 @@ class Viewer(Prompt):
         after = self._steps[self._place].call.after
         self.say(*registers(after), *clock_registers(after.clock))
 
-    def do_table(self, rest: str) -> None:
-        write_table(self._steps, rest)
-
-    def do_svg(self, rest: str) -> None:
-        if not rest:
-            raise UsageError
-        write_text(rest, picture(self._steps, self._name))
-        self.say(f"the picture is in {rest}")
-
-
-def write_table(steps: Sequence[Step], path: str) -> None:
-    """Writes the table to a file, or shows it in a pager if there is no name and standard output is a terminal."""
-    if path:
-        write_text(path, table(steps))
-    else:
-        (pydoc.pager if sys.stdout.isatty() else sys.stdout.write)(table(steps))
-
 
 def _steps(path: str) -> List[Step]:
     """The calls of a trace, which is unpacked if its name ends in .xz. Raises `ScriptError` if there is none."""
@@ -181,9 +162,11 @@ def view(path: str, table_path: Optional[str], svg_path: Optional[str]) -> None:
     steps, name = _steps(path), re.sub(r"\.xz$", "", os.path.basename(path))
     if svg_path:
         write_text(svg_path, picture(steps, name))
-    if table_path is not None:
-        write_table(steps, table_path)
-    if not svg_path and table_path is None:
+    if table_path:
+        write_text(table_path, table(steps))
+    elif table_path is not None:
+        (pydoc.pager if sys.stdout.isatty() else sys.stdout.write)(table(steps))
+    elif not svg_path:
         viewer = Viewer(steps, name, sys.stdout)
         viewer.greet()
         viewer.run_prompt()

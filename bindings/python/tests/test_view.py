@@ -123,23 +123,22 @@ class Stepping(FolderTest):
         self.assertEqual([*range(2, 13)], [int(row.lstrip("> ").split()[0]) for row in self.said("list").splitlines()])
 
     def test_files(self):
-        """The same by the command line, and by commands."""
-        for name in ("table", "svg"):
-            self.said(f"{name} {self.folder / name}")
+        steps = steps_of(TRACE)
+        for name, text in (("table", table(steps)), ("svg", picture(steps, "-"))):
             self.assertEqual((0, "", ""), run("view", "-", f"--{name}", self.path, script=TRACE))
-            self.assertEqual((self.folder / name).read_text().replace(">trace<", ">-<"), self.path.read_text())
-        self.assertIn("No such file", self.said(f"svg {self.folder}/none/x"))
+            self.assertEqual(text, self.path.read_text())
 
 
 # Traces, and the bars of their lanes: whole, or parts of them.
 PICTURES = [
     (b"sw 01 01\nsq 61\nsr 02\nsr 05\n",
-     {"RDA pending": "M340 80v-34h200v34z", "FIFO": "M340 176v-5h600v5z", "interrupts": "M340 224v-34h200v34z"}),
+     {"RDA pending": "M320 80v-34h200v34z", "bytes held": "M320 128v-5h600v5z", "interrupts": "M320 176v-34h200v34z"}),
     # A refused call is no interrupt.
     (b"refuse 0000000000000001\nsw 01 01\nsq 61\nsr 05\n",
-     {"RDA pending": "M540 80v-34h400v34z", "FIFO": "M540 176v-5h400v5z", "refused": "M540 224v-34h200v34z"}),
-    # A column of many calls has the most bytes that were held.
-    (b"sq 61\nsr 00\n" * 800, {"FIFO": "M140 176v-5h800v5z"}),
+     {"RDA pending": "M520 80v-34h400v34z", "bytes held": "M520 128v-5h400v5z", "refused": "M520 176v-34h200v34z"}),
+    # A column of many calls has their mean.
+    (b"sq 61\nsr 00\n" * 800, {"bytes held": "M120 80v-5h800v5z"}),
+    (b"sq " + b"00" * 32 + b"\nsr 05\nsr 05\n", {"bytes held": "M120 80v-17h800v17z"}),
     (b"sr 05\n", {}),
 ]
 
