@@ -62,30 +62,9 @@ pub mod serial;
 /// assert_eq!(RtcState::from_bytes(&form[..length]).err(), Some(Error::OtherDevice));
 /// ```
 ///
-/// The registers over a receive FIFO of the monitor's own, which is a [`ReceiveFifo`](values::fifo::ReceiveFifo), or
-/// over the ring of a port.
-///
-/// ```
-/// use vm_superio::values::fifo::{ReceiveFifo, FIFO_SIZE};
-/// use vm_superio::values::serial::registers::Register;
-/// use vm_superio::values::serial::{Registers, RxRing};
-/// use vm_superio::values::trace::Asked;
-/// use vm_superio::values::SerialPort;
-///
-/// let mut registers = Registers::new();
-/// let mut ring: RxRing = SerialPort::new().in_buffer;
-/// assert_eq!(registers.receive(&mut ring, b"hi"), (2, false)); // no condition is enabled
-/// let due = registers.write(&mut ring, Register::Ier, 0x03).interrupts;
-/// assert_eq!((due, registers.interrupts_due()), (2, 2)); // received data, and an empty transmitter
-/// registers.take_back(due, Asked::Refused); // the first interrupt was refused, so there is no second
-/// assert_eq!((registers.interrupts_due(), registers.interrupt_line()), (1, true));
-/// assert!(matches!(registers.at(0), Register::RbrThr));
-/// assert_eq!(registers.read(&mut ring, Register::RbrThr).byte, b'h');
-/// assert_eq!(registers.character_timeout(&ring), 1); // one byte is left
-/// assert!(registers.is_coherent(!ring.is_empty()) && !registers.is_loopback());
-/// assert_eq!((ring.len(), ring.push(7), ring.fill(&[8; 100]), FIFO_SIZE), (1, true, 62, 64));
-/// assert_eq!(ring.take_first(), Some(b'i'));
-/// ```
+/// [`Registers`](values::serial::Registers) are those of a port over a receive FIFO of the monitor's own, which is a
+/// [`ReceiveFifo`](values::fifo::ReceiveFifo). If the first of two interrupts is refused, tell them by
+/// [`take_back`](values::serial::Registers::take_back).
 ///
 /// No call takes or returns a [`Condition`](values::serial::registers::Condition), a
 /// [`ClockRegister`](values::rtc_pl031::ClockRegister) or a [`Sent`](values::trace::Sent): the contracts of the proved

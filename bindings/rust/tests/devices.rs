@@ -36,14 +36,6 @@ fn output_goes_to_the_writer_which_comes_back() {
 }
 
 #[test]
-fn a_new_port_has_the_default_state() {
-    let serial = Serial::new(Line::default(), io::sink());
-    let state = serial.state();
-    assert_eq!(state, SerialState::default());
-    assert_eq!((state.baud_divisor_low, state.line_control, state.line_status), (12, 3, 0x60));
-}
-
-#[test]
 fn an_enqueue_of_any_length_takes_the_first_bytes_that_fit() {
     for power in [8, 16, 20] {
         for length in [(1 << power) - 1, 1 << power, (1 << power) + 1] {
@@ -72,27 +64,8 @@ fn a_clock_shows_the_hosts_time_until_another_is_set() {
 
     clock.write(8, &1_000u32.to_le_bytes());
     assert!((1_000..1_010).contains(&read_clock(&mut clock, 0)));
-    let state = clock.state();
-    let mut restored = Rtc::from_state(&state, rtc_pl031::NoEvents);
-    assert_eq!(restored.state(), state);
+    let mut restored = Rtc::from_state(&clock.state(), rtc_pl031::NoEvents);
     assert!((1_000..1_010).contains(&read_clock(&mut restored, 0)));
-    assert_eq!(Rtc::default().state(), RtcState::default());
-}
-
-#[test]
-fn each_error_says_what_is_wrong() {
-    for (error, text) in [
-        (SavedStateError::TooShort, "the bytes are fewer than the header of a saved state"),
-        (SavedStateError::NotASavedState, "the bytes are no saved state"),
-        (SavedStateError::OtherDevice, "the saved state is that of another device"),
-        (SavedStateError::UnknownVersion(171), "version 171 of saved states is not known"),
-        (SavedStateError::WrongLength, "the saved state has another length than its header says"),
-        (SavedStateError::TooManyBytes, "a serial port holds at most 64 received bytes"),
-        (SavedStateError::InvalidArmed, "the byte of the alarm is neither 0 nor 1"),
-    ] {
-        let error: Box<dyn std::error::Error> = error.into();
-        assert_eq!(error.to_string(), text);
-    }
 }
 
 #[test]

@@ -176,16 +176,3 @@ fn a_guest_reads_its_byte_and_is_interrupted_later_if_the_timeout_is_refused() {
     assert_eq!(interrupted, [false, true, false]);
     assert_eq!([edges.read(2), edges.read(0), edges.read(2)], [0xc4, b'b', 0xc1]);
 }
-
-/// The guest masks THRE while it is pending, and unmasks it. That makes no edge, since the first one was made.
-#[test]
-fn an_unmasked_condition_raises_the_level_alone() {
-    let interrupted = boards().map(|mut board| {
-        board.write(1, 0x02).unwrap();
-        board.write(1, 0x00).unwrap();
-        let while_masked = board.is_interrupted();
-        board.write(1, 0x02).unwrap();
-        (while_masked, board.is_interrupted())
-    });
-    assert_eq!(interrupted, [(true, false), (false, true)]);
-}

@@ -1,5 +1,6 @@
 //! The devices of one of the two crates, with objects that keep a log, and the calls that both crates have.
 use std::error::Error as StdError;
+use std::fmt::Debug;
 use std::io;
 use std::mem;
 use std::panic::{AssertUnwindSafe, catch_unwind};
@@ -9,8 +10,8 @@ use crate::line::{Behaviour, bytes_of, number, text_of_bytes};
 use crate::moment;
 use crate::objects::Object;
 use superio::I8042Device;
-use superio::rtc_pl031::{Rtc, RtcState};
-use superio::serial::{Error, Serial, SerialState};
+use superio::rtc_pl031::{self, Rtc, RtcState};
+use superio::serial::{Error, NoEvents, Serial, SerialState};
 
 /// The text of a reply.
 pub type Outcome = Result<String, Error<io::Error>>;
@@ -157,4 +158,17 @@ pub fn clock_of(words: &[&str]) -> RtcState {
     let register = |place: usize| number(words[place]) as u32;
     let offset = words[2].parse().expect("a decimal number");
     RtcState { lr: register(1), offset, mr: register(3), imsc: register(4), ris: register(5) }
+}
+
+/// What a program may ask of the types beside the calls above, so that it compiles over both crates.
+#[allow(dead_code)]
+fn names(devices: &Devices) {
+    fn are_values<T: Clone + Debug + Default + Eq>() {}
+    fn are_copied<T: Copy + Debug>() {}
+    fn are_shown<T: Debug>(_: T) {}
+    are_values::<(SerialState, RtcState)>();
+    are_copied::<(RtcState, NoEvents, rtc_pl031::NoEvents)>();
+    are_shown::<(Error<io::Error>, Rtc<rtc_pl031::NoEvents>)>((Error::FullFifo, Rtc::default()));
+    are_shown((&devices.serial, &devices.clock, &devices.controller, devices.controller.reset_evt()));
+    are_shown((Serial::new(Object::default(), io::sink()), Rtc::new()));
 }
