@@ -68,7 +68,7 @@ NAMES += [(document, old, new, f"{document}: {says}") for document, old, new, sa
      "no record has the fields `bound`, `counts`, `reads_alone` and `end_coherent`"),
     (BODIES, "`bound` of `IsComeIn`", "`counts` of `IsComeIn`", "IsComeIn has no field counts"),
     (BODIES, "`byte_is_not_flushed`", "`coherent`", "there is no edit coherent"),
-    (BODIES, "| `test_devices`, ", "| `device`, ", "there are no tests device"))]
+    (BODIES, "part | `test_devices` |", "part | `device` |", "there are no tests device"))]
 # Some of these only look right.
 NAMES += [(document, "", code, f"{document}: {says}") for document, code, says in (
     *((document, code, f"{name} is nowhere in the sources") for document, code, name in (
@@ -117,7 +117,7 @@ FACTS = [
     (README, "[Five points]", "[four points]", "points is [(4,)], and [(5,)]"),
     (README, "in 16 pieces", "in 17 pieces", "paste is [(1000, 17)], and [(1000, 16)]"),
     (README, "Rust 1.63+", "Rust 1.60+", "Rust is [(1, 60)], and [(1, 63)]"),
-    ("docs/python.md", "Python 3.8", "Python 3.7", "Python is [(3, 7)], and [(3, 8)]"),
+    ("bindings/python/README.md", "Python 3.8", "Python 3.7", "Python is [(3, 7)], and [(3, 8)]"),
     (README, "[a 9 kB", "[a 90 kB", "libsuperio_c.a is [(90,)], and [(9,)]"),
     (RELEASE, "| shared library | 8 kB", "| shared library | 9 kB", "is [(9,)], and [(8,)]"),
     (README, "none of 80 with", "none of 90 with", "pastes is [(5, 90)], and [(5, 80)]"),
