@@ -27,7 +27,7 @@ const numbersOf = (state) => Object.keys(state).filter((name) => typeof state[na
 const CLOCK = { ...new Rtc().state, offset: -2n, armed: true,
   ...Object.fromEntries(numbersOf(new Rtc().state).map((name, place) => [name, 0x01020304 + 0x11111111 * place])) };
 
-/** The saved form of a clock by docs/SAVED-STATES.md: four bytes for a number, eight for an offset, one for an alarm. */
+/** The saved form of a clock by docs/SAVED-STATES.md: a number has four bytes, an offset eight, an alarm one. */
 function savedClock(state) {
   const sizes = { number: 4, bigint: 8, boolean: 1 };
   const contents = Object.values(state).flatMap((value) => Array.from({ length: sizes[typeof value] },

@@ -1,4 +1,4 @@
-"""`python3 -m superio` with a file, a pipe and wrong arguments: replies, statuses, messages, and the files it writes."""
+"""`python3 -m superio` with a file, a pipe and wrong arguments: replies, statuses, messages, written files."""
 import re
 import resource
 import signal
