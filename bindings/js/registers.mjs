@@ -14,8 +14,8 @@ const [serial, clock] = [SERIAL_ROWS, CLOCK_ROWS].map((rows) => rows.map(frozen)
 const byName = (registers) => Object.freeze(Object.fromEntries(registers.map((one) => [one.name, one])));
 
 /**
- * The registers of the serial port by name. `latched` says whether a register is reached while DLAB is set (true), while
- * it is clear (false), or always (null); `access` has r if a read reaches it, and w if a write does.
+ * The registers of the serial port by name. `latched` says whether a register is reached while DLAB is set (true),
+ * while it is clear (false), or always (null); `access` has r if a read reaches it, and w if a write does.
  */
 export const SERIAL = byName(serial);
 

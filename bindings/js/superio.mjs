@@ -80,31 +80,23 @@ function pass(bytes) {
   return some.length;
 }
 
-/** The statuses of a load, by their numbers in `enum superio_load` of superio.h, each with its reason. */
-const REFUSALS = [
-  null,
-  ["too short", "too short for a saved state"],
-  ["not a saved state", "not a saved state"],
-  ["other device", "the saved state of another device"],
-  ["unknown version", "a saved state of an unknown version"],
-  ["wrong length", "a saved state of the wrong length"],
-  ["too many bytes", "more than 64 received bytes"],
-  ["invalid armed", "an alarm that is neither set nor clear"],
-];
+/** The statuses of a load, by their numbers in `enum superio_load` of superio.h. */
+const REFUSALS = [null, "too short", "not a saved state", "other device", "unknown version", "wrong length",
+  "too many bytes", "invalid armed"];
 
 /** Bytes are not the saved state of this device. `status` says why, in the words of a script. */
 export class SavedStateError extends Error {
   name = "SavedStateError";
 
-  constructor(status, reason) {
-    super(reason);
+  constructor(status) {
+    super(status);
     this.status = status;
   }
 }
 
 function load(device, call, bytes) {
   const status = onDevice(device, call, DEVICE, PASSED, pass(bytes));
-  if (status) throw new SavedStateError(...REFUSALS[status]);
+  if (status) throw new SavedStateError(REFUSALS[status]);
 }
 
 /**

@@ -505,10 +505,7 @@ const CLICKS = {
   },
   run() { say("said", load(id("script").value) || `${plural(state.list.calls.length, "call")} made.`); },
   copy() {
-    const lines = script();
-    const isOwn = lines.some((line) => line.endsWith(" f"));
-    const what = isOwn ? "The script, whose lines that end in f are for this page alone," : "The script";
-    return toClipboard(`${lines.join("\n")}\n`, what);
+    return toClipboard(`${script().join("\n")}\n`, "The script");
   },
   share() {
     history.replaceState(null, "", `#${script().join(";").replaceAll(" ", "+")}`);

@@ -44,8 +44,8 @@ for (const [, name, base = "", body = ""] of classes) {
 
 test("superio.d.ts declares the fields of what calls give", () => {
   const [port, clock] = [new superio.Serial(), new superio.Rtc()];
-  const given = { ReadEffects: port.read(0), WriteEffects: port.write(7, 0), EnqueueEffects: port.enqueue(port.toBytes()),
-    SerialState: port.state, RtcState: clock.state };
+  const given = { ReadEffects: port.read(0), WriteEffects: port.write(7, 0), SerialState: port.state,
+    EnqueueEffects: port.enqueue(port.toBytes()), RtcState: clock.state };
   for (const [name, value] of Object.entries(given)) {
     assert.deepEqual(Object.fromEntries(Object.entries(value).map(([field, one]) => [field, typeOf(one)])),
       fieldsOf(name));

@@ -27,7 +27,7 @@ const numbersOf = (state) => Object.keys(state).filter((name) => typeof state[na
 const CLOCK = { ...new Rtc().state, offset: -2n, armed: true,
   ...Object.fromEntries(numbersOf(new Rtc().state).map((name, place) => [name, 0x01020304 + 0x11111111 * place])) };
 
-/** The saved form of a clock by docs/SAVED-STATES.md: four bytes for a number, eight for an offset, one for an alarm. */
+/** The saved form of a clock by docs/SAVED-STATES.md: a number has four bytes, an offset eight, an alarm one. */
 function savedClock(state) {
   const sizes = { number: 4, bigint: 8, boolean: 1 };
   const contents = Object.values(state).flatMap((value) => Array.from({ length: sizes[typeof value] },
@@ -112,15 +112,12 @@ test("what a call gives is the caller's own, and what it takes stays as it was",
 });
 
 test("saved bytes that are refused say why", () => {
-  const refusals = [["53494f5301010c", "too short", "too short for a saved state"],
-    [PORT_SAVED.replace("53", "54"), "not a saved state", "not a saved state"],
-    [CLOCK_SAVED, "other device", "the saved state of another device"],
-    [PORT_SAVED.replace("0101", "0102"), "unknown version", "a saved state of an unknown version"],
-    [`${PORT_SAVED}00`, "wrong length", "a saved state of the wrong length"],
-    ["53494f530101ffff" + "00".repeat(0x1ffff), "wrong length", "a saved state of the wrong length"],
-    ["53494f5301014a00" + "00".repeat(74), "too many bytes", "more than 64 received bytes"]];
-  for (const [form, status, message] of refusals) {
-    assert.throws(() => Serial.fromBytes(fromHex(form)), { name: "SavedStateError", status, message });
+  const refusals = [["53494f5301010c", "too short"], [PORT_SAVED.replace("53", "54"), "not a saved state"],
+    [CLOCK_SAVED, "other device"], [PORT_SAVED.replace("0101", "0102"), "unknown version"],
+    [`${PORT_SAVED}00`, "wrong length"], ["53494f530101ffff" + "00".repeat(0x1ffff), "wrong length"],
+    ["53494f5301014a00" + "00".repeat(74), "too many bytes"]];
+  for (const [form, status] of refusals) {
+    assert.throws(() => Serial.fromBytes(fromHex(form)), { name: "SavedStateError", status, message: status });
   }
   assert.throws(() => Rtc.fromBytes(fromHex(CLOCK_SAVED.replace(/01$/, "02"))), { status: "invalid armed" });
   assert.throws(() => Rtc.fromBytes(fromHex(PORT_SAVED)), SavedStateError);

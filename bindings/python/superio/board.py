@@ -191,8 +191,7 @@ def _loaded(data: bytes, kind: Any, replace_device: Callable[[Any], str]) -> str
     try:
         return replace_device(kind.from_bytes(data))
     except SavedStateError as error:
-        words = error.status.name.lower().replace("_", " ")
-        return f"{words} {data[5]:02x}" if error.status is LoadStatus.UNKNOWN_VERSION else words
+        return f"{error} {data[5]:02x}" if error.status is LoadStatus.UNKNOWN_VERSION else str(error)
 
 
 _REPLIES: Dict[str, Callable[..., Optional[str]]] = {

@@ -23,16 +23,11 @@ class LoadStatus(IntEnum):
     INVALID_ARMED = 7
 
 
-_REASONS = ("", "too short for a saved state", "not a saved state", "the saved state of another device",
-            "a saved state of an unknown version", "a saved state of the wrong length", "more than 64 received bytes",
-            "an alarm that is neither set nor clear")
-
-
 class SavedStateError(ValueError):
-    """Bytes are not the saved state of this device. `status` says why."""
+    """Bytes are not the saved state of this device. `status` says why, and the message in the words of a script."""
 
     def __init__(self, status: LoadStatus) -> None:
-        super().__init__(_REASONS[status])
+        super().__init__(status.name.lower().replace("_", " "))
         self.status = status
 
     def __reduce__(self) -> Tuple[Any, ...]:

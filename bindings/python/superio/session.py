@@ -108,8 +108,8 @@ class Session(Prompt):
         self.commands: List[Command] = []
 
     def _now(self) -> int:
-        """The host's time, in seconds since 1970, or 0 if its clock is before that."""
-        return max(0, int(self._host_time()))
+        """The host's time, in seconds since 1970."""
+        return int(self._host_time())
 
     def carry_out(self, line: bytes) -> None:
         """Carries out a line, which may be blank or a comment."""

@@ -1,4 +1,4 @@
-"""`python3 -m superio` with a file, a pipe and wrong arguments: replies, statuses, messages, and the files it writes."""
+"""`python3 -m superio` with a file, a pipe and wrong arguments: replies, statuses, messages, written files."""
 import re
 import resource
 import signal
@@ -93,24 +93,24 @@ class Runs(FolderTest):
             self.assertEqual(expected, ended([program, EXAMPLE], cwd=self.folder, env={"PATH": "/usr/bin:/bin"}))
 
     def test_a_full_disk_leaves_what_was_there(self):
-        """A limit on the size of files stands for it. A file keeps its mode, and a link its target."""
-        link, trace = self.folder / "link", b"sw 01 03  ok\nsr 02  c2\n"
-        link.symlink_to(self.path)
+        """A limit on the size of files stands for it."""
         self.path.write_text("what was there\n")
+        for arguments, script, status in (([], f"save '{self.path}'\n".encode(), 1),
+                                          (["view", "-", "--svg", self.path], b"sr 05\n", 2)):
+            done = run(*arguments, script=script,
+                       preexec_fn=lambda: resource.setrlimit(resource.RLIMIT_FSIZE, (10, 10)))
+            self.assertEqual((status, True), (done[0], "File too large" in done[2]), done)
+            self.assertEqual("what was there\n", self.path.read_text())
+            self.assertEqual([self.path], list(self.folder.iterdir()))
+
+    def test_a_file_keeps_its_mode_and_a_link_its_target(self):
+        self.path.touch()
         self.path.chmod(0o640)
-        for arguments, script in (([], f"save {link}\n".encode()), (["view", "-", "--svg", link], trace)):
-            for size, status in ((10, None), (resource.RLIM_INFINITY, 0)):
-                done = run(*arguments, script=script, preexec_fn=lambda: resource.setrlimit(
-                    resource.RLIMIT_FSIZE, (size, resource.RLIM_INFINITY)))
-                if status is None:
-                    self.assertTrue(done[0] in (1, 2) and "File too large" in done[2], done)
-                    self.assertEqual("what was there\n", self.path.read_text())
-                else:
-                    self.assertEqual(status, done[0], done)
-                    self.assertEqual((0o640, True), (self.path.stat().st_mode & 0o777, link.is_symlink()))
-                    self.assertNotEqual("what was there\n", self.path.read_text())
-                self.assertEqual({self.path, link}, set(self.folder.iterdir()))
-            self.path.write_text("what was there\n")
+        link = self.folder / "link"
+        link.symlink_to(self.path)
+        self.assertEqual(0, run(script=f"save {link}\n".encode())[0])
+        self.assertEqual((0o640, True), (self.path.stat().st_mode & 0o777, link.is_symlink()))
+        self.assertTrue(self.path.read_text().startswith("sl "))
 
 
 SUPERIO = f"{sys.executable} -m superio"

@@ -176,10 +176,8 @@ class Copies(unittest.TestCase):
     def test_each_error_can_be_copied(self):
         """As a pool of processes does that passes one on."""
         refusals = [SavedStateError(LoadStatus(number)) for number in range(1, 8)]
-        self.assertEqual(["too short for a saved state", "not a saved state", "the saved state of another device",
-                          "a saved state of an unknown version", "a saved state of the wrong length",
-                          "more than 64 received bytes", "an alarm that is neither set nor clear"],
-                         [*map(str, refusals)])
+        self.assertEqual(["too short", "not a saved state", "other device", "unknown version", "wrong length",
+                          "too many bytes", "invalid armed"], [*map(str, refusals)])
         errors = [AlarmIsSetError("a"), LibraryError("a"), RegisterError("a"), ScriptError("a"), *refusals]
         public = {kind for kind in vars(superio).values() if isinstance(kind, type) and issubclass(kind, Exception)}
         self.assertEqual(public, set(map(type, errors)))

@@ -25,8 +25,8 @@ CLEAN = {name: value for name, value in ENVIRONMENT.items() if name not in ("PYT
 
 # What Python got after 3.8, and what someone may use without a thought.
 NEWER = {"removeprefix", "removesuffix", "randbytes", "bit_count", "pairwise", "batched", "is_relative_to", "StrEnum",
-         "Self", "TypeAlias", "Annotated", "ParamSpec", "override", "file_digest", "zoneinfo", "tomllib", "cache", "UTC",
-         "strict", "slots", "kw_only", "root_dir"}
+         "Self", "TypeAlias", "Annotated", "ParamSpec", "override", "file_digest", "zoneinfo", "tomllib", "cache",
+         "UTC", "strict", "slots", "kw_only", "root_dir"}
 
 LIBRARY = library.open_library()._name
 BUILD = "import build_wheel, sys; print(getattr(build_wheel, sys.argv[1])(sys.argv[2]))"

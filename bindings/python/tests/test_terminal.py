@@ -15,10 +15,10 @@ NO_FOO = "no command is called foo: help lists them\n"
 
 
 class ShellTest(FolderTest):
-    def start(self, *arguments, prompt=PROMPT, columns=80, **variables):
+    def start(self, *arguments, prompt=PROMPT, **variables):
         """What the package shows up to its prompt, in the folder."""
         command = f"cd '{self.folder}'; exec {sys.executable} -m superio {' '.join(arguments)}"
-        self.terminal = Terminal(["/bin/sh", "-c", command], {**ENVIRONMENT, **variables}, columns)
+        self.terminal = Terminal(["/bin/sh", "-c", command], {**ENVIRONMENT, **variables})
         return self.terminal.read_until(prompt)
 
     def answer(self, text, prompt=PROMPT):
@@ -65,22 +65,6 @@ class Typing(ShellTest):
         self.assertEqual(1, self.terminal.log.count("Try:"))
         self.assertEqual("SCR = 0x07\n", self.answer("read SCR"))
         self.end()
-
-    def test_narrow_window(self):
-        self.assertIn("Try:", self.start(columns=40))
-        text = "0123456789" * 6
-        self.terminal.type(f'type "{text}"' + LEFT * 3 + "x" + "\r")
-        self.assertIn("61 bytes received", self.terminal.read_until(PROMPT))
-        self.assertEqual(f'"{text[:-2]}x{text[-2:]}"', self.answer("drain").strip())
-        for row in self.answer("regs").splitlines():
-            self.assertLessEqual(len(row), 40, row)
-        self.end()
-
-    def test_a_file_has_no_prompt(self):
-        self.path.write_text("read LSR\n")
-        self.start("'a file'", prompt="LSR = 0x60  THRE TEMT\n")
-        self.assertEqual(0, self.terminal.status())
-        self.assertEqual("LSR = 0x60  THRE TEMT\r\n", self.terminal.log)
 
     def test_a_python_without_readline(self):
         (self.folder / "readline.py").write_text("raise ImportError\n")

@@ -245,12 +245,6 @@ class Words(SessionTest):
             self.assertEqual(rows, said, lines)
         self.assertEqual(self.said("regs serial") + self.said("regs clock"), self.said("regs"))
 
-    def test_a_host_before_1970_has_the_moment_0(self):
-        self.begin(host_time=lambda: -5.5)
-        self.assertEqual(["DR = 0x00000000  1970-01-01 00:00:00 UTC", "cr 0000000000000000 0000"],
-                         self.said("clock read DR", "trace"))
-        self.assertEqual("  DR   0x00000000  1970-01-01 00:00:00", self.said("regs clock")[1])
-
     def test_a_load(self):
         """It asks for what is pending, each time anew. If that is refused, the port stays."""
         self.said("sw 01 01", "sq 61")
