@@ -1,9 +1,11 @@
 """The command line of `python3 -m superio`: the shell, a file of lines, or the viewer of a trace."""
 import argparse
+import io
+import os
 import signal
 import sys
 from contextlib import nullcontext
-from typing import List
+from typing import IO, Any, List
 
 from . import __version__
 from .files import reason_of
@@ -11,6 +13,8 @@ from .library import LibraryError, load
 from .prompt import Leave, use_history
 from .session import Session
 from .view import view
+
+_PIECE = 65_536
 
 _EPILOG = """\
 exit status:
@@ -44,6 +48,20 @@ def _viewer_parser() -> argparse.ArgumentParser:
     return parser
 
 
+class _Pipe(io.RawIOBase):
+    """A file, perhaps a pipe. Before it waits for more lines, the replies to those before go out."""
+
+    def __init__(self, file: "IO[bytes]") -> None:
+        self._file = file
+
+    def readable(self) -> bool:
+        return True
+
+    def readinto(self, room: Any) -> int:
+        sys.stdout.flush()
+        return self._file.readinto1(room)  # type: ignore[attr-defined]
+
+
 def _run(arguments: List[str]) -> None:
     if arguments[:1] == ["view"]:
         options = _viewer_parser().parse_args(arguments[1:])
@@ -58,19 +76,21 @@ def _run(arguments: List[str]) -> None:
         return
     is_file = path not in (None, "-")
     with open(path, "rb") if is_file else nullcontext(sys.stdin.buffer) as file:
-        session.run_lines(path if is_file else "<stdin>", file)
+        session.run_lines(path if is_file else "<stdin>", io.BufferedReader(_Pipe(file), _PIECE))
 
 
 def main(arguments: List[str]) -> int:
     """Runs the command line. Returns the exit status."""
-    # Each reply goes out at once. A closed pipe ends in silence.
-    sys.stdout.reconfigure(errors="backslashreplace", line_buffering=True)  # type: ignore[union-attr]
+    sys.stdout.reconfigure(errors="backslashreplace")  # type: ignore[union-attr]
     if not sys.stdout.isatty():
-        signal.signal(signal.SIGPIPE, signal.SIG_DFL)
+        signal.signal(signal.SIGPIPE, signal.SIG_DFL)  # a closed pipe ends in silence
     try:
-        _run(arguments)
-    except Leave:
-        pass
+        try:
+            _run(arguments)
+        except Leave:
+            pass
+        finally:
+            sys.stdout.flush()
     except KeyboardInterrupt:
         return 128 + signal.SIGINT
     except ValueError as error:
@@ -78,7 +98,10 @@ def main(arguments: List[str]) -> int:
         return 1
     except (OSError, LibraryError) as error:
         print(f"python3 -m superio: {reason_of(error)}", file=sys.stderr)
+        os.dup2(os.open(os.devnull, os.O_WRONLY), sys.stdout.fileno())  # where Python's own flush at the end goes
         return 2
+    finally:
+        signal.signal(signal.SIGINT, signal.SIG_DFL)  # Ctrl-C while Python ends has no traceback
     return 0
 
 

@@ -22,16 +22,25 @@ class BadLine(ValueError):
 
 
 def write_text(path: str, text: str) -> None:
-    """Writes a file whole, or leaves what was there. A terminal or a pipe is written itself."""
-    if os.path.exists(path) and not os.path.isfile(path):
-        with open(path, "w", encoding="utf-8") as file:
-            file.write(text)
-        return
-    target = os.path.realpath(path)
+    """Writes a file whole and onto the disk, or leaves what was there. A terminal or a pipe is written itself."""
+    try:
+        if os.path.exists(path) and not os.path.isfile(path):
+            with open(path, "w", encoding="utf-8") as file:
+                file.write(text)
+        else:
+            _replace(os.path.realpath(path), text)
+    except OSError as error:
+        error.filename = path  # which an error of a write lacks
+        raise
+
+
+def _replace(target: str, text: str) -> None:
     with tempfile.TemporaryDirectory(prefix=".superio-", dir=os.path.dirname(target)) as folder:
         beside = os.path.join(folder, "new")
         with open(beside, "w", encoding="utf-8") as file:
             file.write(text)
+            file.flush()
+            os.fsync(file.fileno())
         if os.path.exists(target):
             shutil.copymode(target, beside)
         os.replace(beside, target)

@@ -8,7 +8,7 @@ from .board import Board, Call
 from .files import BadLine, write_text
 from .prompt import Help, Prompt
 from .registers import CLOCK
-from .script import FORMS, LINES, MASK, Command, ScriptError, form_of, text_of
+from .script import FORMS, LINES, MASK, Command, ScriptError, form_of, parse, text_of
 from .tell import Story, changes, clock_registers, registers, told
 from .words import Speaker, UsageError
 
@@ -112,9 +112,14 @@ class Session(Prompt):
         return int(self._host_time())
 
     def carry_out(self, line: bytes) -> None:
-        """Carries out a line, which may be blank or a comment."""
-        if not line.lstrip().startswith(b"#") and line.strip():
-            super().carry_out(line)
+        """Carries out a line, which may be blank or a comment. Most lines of a file are those of a script."""
+        try:
+            command = parse(line, is_first=self.board.number == 0)
+        except ScriptError:
+            if line.strip() and not line.lstrip().startswith(b"#"):
+                super().carry_out(line)
+        else:
+            self.run(command, is_short=True)
 
     def perform(self, name: str, rest: str) -> None:
         if name in FORMS:
@@ -137,10 +142,13 @@ class Session(Prompt):
     def run_lines(self, name: str, lines: Iterable[bytes]) -> None:
         """Carries out the lines of a file of this name. `BadLine` names the first that is not carried out."""
         for number, line in enumerate(lines, 1):
+            line = line[:-1] if line.endswith(b"\n") else line
             try:
                 self.carry_out(line)
             except (ValueError, OSError) as error:
-                raise BadLine(name, number, line.rstrip(b"\r\n"), error) from error
+                if isinstance(error, OSError) and not error.filename:
+                    raise  # the reply was not written
+                raise BadLine(name, number, line, error) from error
 
     def do_regs(self, rest: str) -> None:
         if rest not in ("", "serial", "clock"):

@@ -119,7 +119,7 @@ SUPERIO = f"{sys.executable} -m superio"
 COMMANDS = [
     (f"yes 'kr 04' | {SUPERIO} | head -n 1; exit ${{PIPESTATUS[1]}}", (128 + signal.SIGPIPE, "00\n", "")),
     (f"{SUPERIO} view {BOOT} --table | head -n 1; exit ${{PIPESTATUS[0]}}", (128 + signal.SIGPIPE, "piece 1\n", "")),
-    (f"echo 'kr 04' | {SUPERIO} > /dev/full", (120, "", "No space left on device")),
+    (f"echo 'kr 04' | {SUPERIO} > /dev/full", (2, "", "No space left on device")),
     (f"echo 'save /dev/stdout' | {SUPERIO} | tail -n 1", (0, "port and clock saved to /dev/stdout\n", "")),
     (f"SUPERIO_LIBRARY=/nowhere/lib.so {SUPERIO}", (2, "", "python3 -m superio: /nowhere/lib.so cannot be loaded")),
     *((f"{SUPERIO} {wrong}", (2, "", "usage: ")) for wrong in ("--unknown", "a b", "view", "view --unknown a")),
