@@ -3,13 +3,13 @@ import shutil
 import subprocess
 import unittest
 
-from repository import NOTHING_ELSE, CopyTest
+from repository import NOTHING_ELSE, CopyTest, module_of
 
 PROOFS, BODIES, USING, DEVICES, DIFFERENCES = (
     f"docs/{name}.md" for name in ("PROOFS", "WRONG-BODIES", "USING", "DEVICES", "DIFFERENCES"))
 HEADER, README, SPECS, PYTHON = "include/superio.h", "README.md", "crates/superio_core/specs", "bindings/python/superio"
 SERIAL, I8042, CORE = "crates/vm_superio/src/serial.rt", "crates/vm_superio/src/i8042.rt", "crates/superio_core/src"
-JS, MODULE, CLAUSE = "bindings/js", "wasm32/superio.wasm", "ensures { result ≡ result }"
+CLAUSE = "ensures { result ≡ result }"
 LINKS = [
     *((USING, "", text, f"{USING}: {says}") for text, says in (
         ("[one](two.md)", "two.md is not there"), ("[one](DEVICES.md#another)", "DEVICES.md#another is no heading"),
@@ -71,19 +71,14 @@ DECLARATIONS = [
 OF_JS = [
     ("bindings/rust/capi/src/lib.rs", "const NEVER: u64 = u64::MAX;", "const NEVER: u64 = 0;",
      "the module was built from other sources"),
-    (f"{JS}/registers.mjs", "", "[].toSorted();", "registers.mjs has .toSorted(, which Node 18 lacks"),
     (f"{PYTHON}/registers.py", '"ICR", 0x01C', '"ICR", 0x020', "module.mjs has other bytes or tables"),
 ]
-OF_PAGE = [
-    ("docs/try.html", '<h2 id="why-heading">Why</h2>', '<h2 id="why-heading">Why so</h2>',
-     "try.html is not what its sources make"),
-    (DEVICES, "### The character timeout", "### A timeout", "DEVICES.md#the-character-timeout leads nowhere"),
-]
+OF_PAGE = [(DEVICES, "### The character timeout", "### A timeout", "DEVICES.md#the-character-timeout leads nowhere")]
 # The lines of a document, and whether its blocks do what they show.
 PASTED = [("```sh\necho a\n```\n\n```text\na\n```\n", True), ("```sh\necho b\n```\n\n```text\na\n```\n", False),
           ("```sh\nfalse\necho goes on\n```\n", False), ("```sh\necho Traceback\n```\n", False)]
 # Checks that need a compiler, Cargo or node, and skip what they cannot run.
-NEEDING = ("bench/counts", "js/check", "kvm/check", "rust/check", "rust/random_calls")
+NEEDING = {it.command for it in module_of("check").CHECKS if it.name in ("counts", "js", "kvm", "rust")}
 
 
 class Planted(CopyTest):
@@ -103,7 +98,7 @@ class Planted(CopyTest):
     def test_what_a_machine_lacks_is_skipped(self):
         for name in NEEDING:
             with self.subTest(name):
-                status, printed, _ = self.run_tool(f"tools/{name}", env=NOTHING_ELSE)
+                status, printed, _ = self.run_tool(name, env=NOTHING_ELSE)
                 self.assertRegex(printed.splitlines()[-1], r"^\d+ passed, 0 failed, [1-9]\d* skipped$", printed)
                 self.assertEqual(status, 0)
 
