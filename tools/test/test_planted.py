@@ -55,8 +55,9 @@ MODELS = [
      "no contract names made of Output"),
     (f"{CORE}/i8042.rt", "", "pub enum Made {\n    Here,\n}", "no contract names Here of Made"),
     *((f"{CORE}/{file}.rt", "", text, f"{file}.rt: it has {says}") for file, text, says in (
-        ("i8042", "fn of(it: u8) -> u8 { it }", "`fn of` without a clause"), ("fifo", "use std::cell::Cell;", "Cell of std"),
-        ("rtc_pl031", "static CALLS: u64 = 0;", "`static`"), ("trace", "impl Drop for Asked {}", "an impl of Drop"),
+        ("i8042", "fn of(it: u8) -> u8 { it }", "`fn of` without a clause"),
+        ("fifo", "use std::cell::Cell;", "Cell of std"), ("rtc_pl031", "static CALLS: u64 = 0;", "`static`"),
+        ("trace", "impl Drop for Asked {}", "an impl of Drop"),
         ("saved", f"fn of<T: Copy>(it: &T) {CLAUSE} {{}}", "`Copy`"),
         ("serial", f"fn of() {CLAUSE} {{ println!(1) }}", "the macro println!"))),
     ("crates/superio_examples/src/mmio.rt", "", f"fn of<T: Trigger>(it: T) {CLAUSE} {{ it.trigger() }}",
