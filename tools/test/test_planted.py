@@ -3,13 +3,13 @@ import shutil
 import subprocess
 import unittest
 
-from repository import NOTHING_ELSE, CopyTest
+from repository import NOTHING_ELSE, CopyTest, module_of
 
 PROOFS, BODIES, USING, DEVICES, DIFFERENCES = (
     f"docs/{name}.md" for name in ("PROOFS", "WRONG-BODIES", "USING", "DEVICES", "DIFFERENCES"))
 HEADER, README, SPECS, PYTHON = "include/superio.h", "README.md", "crates/superio_core/specs", "bindings/python/superio"
 SERIAL, I8042, CORE = "crates/vm_superio/src/serial.rt", "crates/vm_superio/src/i8042.rt", "crates/superio_core/src"
-JS, MODULE, CLAUSE = "bindings/js", "wasm32/superio.wasm", "ensures { result ≡ result }"
+CLAUSE = "ensures { result ≡ result }"
 LINKS = [
     *((USING, "", text, f"{USING}: {says}") for text, says in (
         ("[one](two.md)", "two.md is not there"), ("[one](DEVICES.md#another)", "DEVICES.md#another is no heading"),
@@ -55,8 +55,9 @@ MODELS = [
      "no contract names made of Output"),
     (f"{CORE}/i8042.rt", "", "pub enum Made {\n    Here,\n}", "no contract names Here of Made"),
     *((f"{CORE}/{file}.rt", "", text, f"{file}.rt: it has {says}") for file, text, says in (
-        ("i8042", "fn of(it: u8) -> u8 { it }", "`fn of` without a clause"), ("fifo", "use std::cell::Cell;", "Cell of std"),
-        ("rtc_pl031", "static CALLS: u64 = 0;", "`static`"), ("trace", "impl Drop for Asked {}", "an impl of Drop"),
+        ("i8042", "fn of(it: u8) -> u8 { it }", "`fn of` without a clause"),
+        ("fifo", "use std::cell::Cell;", "Cell of std"), ("rtc_pl031", "static CALLS: u64 = 0;", "`static`"),
+        ("trace", "impl Drop for Asked {}", "an impl of Drop"),
         ("saved", f"fn of<T: Copy>(it: &T) {CLAUSE} {{}}", "`Copy`"),
         ("serial", f"fn of() {CLAUSE} {{ println!(1) }}", "the macro println!"))),
     ("crates/superio_examples/src/mmio.rt", "", f"fn of<T: Trigger>(it: T) {CLAUSE} {{ it.trigger() }}",
@@ -81,7 +82,7 @@ OF_PAGE = [
 PASTED = [("```sh\necho a\n```\n\n```text\na\n```\n", True), ("```sh\necho b\n```\n\n```text\na\n```\n", False),
           ("```sh\nfalse\necho goes on\n```\n", False), ("```sh\necho Traceback\n```\n", False)]
 # Checks that need a compiler, Cargo or node, and skip what they cannot run.
-NEEDING = ("rust/counts", "js/check", "kvm/check", "rust/check")
+NEEDING = {it.command for it in module_of("check").CHECKS if it.name in ("counts", "js", "kvm", "rust")}
 
 
 class Planted(CopyTest):
@@ -101,7 +102,7 @@ class Planted(CopyTest):
     def test_what_a_machine_lacks_is_skipped(self):
         for name in NEEDING:
             with self.subTest(name):
-                status, printed, _ = self.run_tool(f"tools/{name}", env=NOTHING_ELSE)
+                status, printed, _ = self.run_tool(name, env=NOTHING_ELSE)
                 self.assertRegex(printed.splitlines()[-1], r"^\d+ passed, 0 failed, [1-9]\d* skipped$", printed)
                 self.assertEqual(status, 0)
 
