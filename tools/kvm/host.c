@@ -97,7 +97,7 @@ UNSEEN static void show(const char *what, const uint8_t *bytes, size_t count) {
 /* What the user sees of the output now. */
 UNSEEN static void show_output(void) {
     static uint8_t bytes[MOST];
-    ssize_t count = pread(screen, bytes, sizeof bytes, shown);
+    ssize_t count = syscall(SYS_pread64, screen, bytes, sizeof bytes, shown);
     shown += count;
     if (count > 0)
         show("output ", bytes, (size_t)count);

@@ -38,6 +38,7 @@ QUEUE, LEVEL, PIECE = 65536, 65536 - 4096, 4096
 EVER = 2**63 - 1
 # Up to where moments are tried. In nanoseconds twice as much has more than 63 bits.
 FAR = 2**32 * SECOND
+HELP = b"\r\nCtrl-A x leaves, Ctrl-A h shows this, Ctrl-A Ctrl-A sends Ctrl-A to the guest\r\n"
 RESET, LEFT = "monitor: the guest reset the machine", "monitor: left by Ctrl-A x"
 # Why KVM gives up.
 SHUTDOWN, INTERNAL_ERROR = 8, 17
@@ -135,6 +136,9 @@ class Hosted(Monitor):
             is_second, self.is_after = self.is_after, byte == CTRL_A and not self.is_after
             if is_second and byte == ord("x"):
                 self.has_ended = self.has_ended or LEFT
+            elif is_second and byte == ord("h"):
+                for shown in HELP:
+                    self.show(shown)
             elif is_second == (byte == CTRL_A):
                 yield byte
 
@@ -282,14 +286,15 @@ class Script:
     def flood(self, number):
         """As much output as the terminal and the queue have no room for, or not quite, and then the end."""
         self.add(f"b {(0, 1, 5000, 5000)[number]:x}")
-        left = (LEVEL, QUEUE, QUEUE, QUEUE + 5003)[number] + self.random.randrange(-2, 3)
+        left = (LEVEL, *(it + self.random.randrange(-2, 3) for it in (QUEUE, QUEUE, QUEUE + 5003)))[number]
         while left > 0:
             count = min(left, PIECE - self.random.randrange(2))
             self.add(f"w {COM1:x} 1 {self.random.randbytes(count).hex()}")
             left -= count
+        self.add(f"w {COM1 + 7:x} 1 41", f"r {COM1 + 7:x} 1 1")  # which the guest does not wait for
         for room in ((EVER,), (100, EVER), (0, EVER), (100,))[number]:
             self.add(f"b {room:x}", f"w {COM1:x} 1 41")
-        if self.random.randrange(2):
+        if number == 3 or self.random.randrange(2):
             self.add("i 0178")
 
     def fill(self, number):
@@ -341,7 +346,7 @@ class Script:
         """No command of the monitor. One of another letter may be cut in two."""
         if len(self.monitor.input) > MOST_WAITING:
             return
-        escaped = (b"\x01\x01", b"\x01y")
+        escaped = (b"\x01\x01", b"\x01y", b"\x01h")
         pieces = [bytes([self.random.choice((0, *[self.random.randrange(2, 256)] * 3))])
                   if self.random.randrange(30) else self.random.choice(escaped)
                   for _ in range(self.random.choice((1, 1, 2, 40, 64, 65, 127, 300)))]
