@@ -1,71 +1,48 @@
-/* The console: the user's terminal, the input that waits for room in the FIFO, and the output that waits for the
- * terminal. */
+/* The console: the user's terminal, and the input that waits for room in the FIFO. */
 #include "monitor.h"
 
 #include <poll.h>
 #include <sys/stat.h>
 #include <termios.h>
 
-/* The guest waits while the output queue is this full, but at most so long for a terminal that takes nothing. */
-enum { QUEUE_SIZE = 65536, OUTPUT_LEVEL = QUEUE_SIZE - 4096, STALL_SECONDS = 1 };
+/* How much input waits, and for how many milliseconds the guest waits for a terminal that takes nothing. */
+enum { QUEUE_SIZE = 65536, STALL = 1000 };
 enum { CTRL_A = 0x01 };
 
 static const char HELP[] = "\r\nCtrl-A x leaves, Ctrl-A h shows this, Ctrl-A Ctrl-A sends Ctrl-A to the guest\r\n";
 
-/* Bytes that wait, the oldest first. */
-struct queue {
-    size_t count;
-    uint8_t bytes[QUEUE_SIZE];
-};
-
 bool console_is_early, console_is_ready;
-static struct queue input;  /* of the user, until the port takes it */
-static struct queue output; /* of the guest, until the terminal takes it */
-static unsigned long long dropped;
+static uint8_t input[QUEUE_SIZE]; /* of the user, until the port takes it, the oldest first */
+static size_t waiting;            /* how much of it there is */
+static unsigned long long dropped; /* bytes of output */
 static int in, out;
 static bool has_input, is_watched; /* `in` may bring more; its event is still to be served */
 static bool is_after_ctrl_a;       /* the next byte is a command */
-static bool is_stalled;            /* `out` took nothing for as long as the guest waits */
+static bool is_stalled;            /* `out` took nothing while the guest waited for it */
 static volatile bool is_raw;       /* for the handlers of signals, as is this: */
 static struct termios before;
 
-static void drop(struct queue *queue, size_t count) {
-    queue->count -= count;
-    memmove(queue->bytes, queue->bytes + count, queue->count);
-}
-
-/* Writes what the terminal takes now. What nobody will ever take is dropped. */
-static void flush(void) {
-    ssize_t count = 0;
-    while (output.count > 0 && (count = write(out, output.bytes, output.count)) > 0) {
-        drop(&output, (size_t)count);
-        is_stalled = false;
-    }
-    if (count < 0 && errno != EAGAIN && errno != EINTR) {
-        dropped += output.count;
-        output.count = 0;
-    }
-    pthread_cond_broadcast(&changed);
-}
-
-/* Waits for room in the queue, before a byte of output. LSR always says that the transmitter is empty, so the guest is
- * slowed down only by waiting in its access. After a stall it waits no more until the terminal takes bytes again. */
+/* Waits until the terminal takes output, before a byte of it. LSR always says that the transmitter is empty, so the
+ * guest is slowed down only by waiting in its access. After a stall it waits no more until the terminal takes bytes
+ * again. */
 void console_await_room(void) {
-    struct timespec until;
-    clock_gettime(CLOCK_MONOTONIC, &until);
-    until.tv_sec += STALL_SECONDS;
-    while (output.count >= OUTPUT_LEVEL && !is_stalled && !has_ended)
-        if (pthread_cond_clockwait(&changed, &lock, CLOCK_MONOTONIC, &until) == ETIMEDOUT)
-            is_stalled = output.count >= OUTPUT_LEVEL;
+    struct pollfd writable = {.fd = out, .events = POLLOUT};
+    int ready;
+    do {
+        pthread_mutex_unlock(&lock);
+        ready = poll(&writable, 1, is_stalled ? 0 : STALL);
+        pthread_mutex_lock(&lock);
+    } while (ready < 0 && !has_ended); /* a signal came */
+    is_stalled = ready == 0;
 }
 
-/* Sends a byte, or queues it, or counts it as dropped. */
+/* Sends a byte, or counts it as dropped. */
 void console_send(uint8_t byte) {
-    if (output.count < QUEUE_SIZE)
-        output.bytes[output.count++] = byte;
-    else
-        dropped++;
-    flush();
+    ssize_t count;
+    do
+        count = write(out, &byte, 1);
+    while (count < 0 && errno == EINTR);
+    dropped += count != 1;
 }
 
 /* A typed byte is for the guest, or a command after Ctrl-A. */
@@ -78,14 +55,14 @@ static void typed(uint8_t byte) {
         for (const char *next = HELP; *next; next++)
             console_send((uint8_t)*next);
     } else if (is_second == (byte == CTRL_A)) {
-        input.bytes[input.count++] = byte;
+        input[waiting++] = byte;
     }
 }
 
 /* Takes as much input as there is room for. The rest waits in the terminal. */
 static void read_input(void) {
     uint8_t bytes[4096];
-    size_t room = QUEUE_SIZE - input.count;
+    size_t room = QUEUE_SIZE - waiting;
     ssize_t count = read(in, bytes, room < sizeof bytes ? room : sizeof bytes);
     is_watched = false;
     has_input = count > 0 || (count < 0 && (errno == EAGAIN || errno == EINTR));
@@ -98,11 +75,12 @@ static void read_input(void) {
  * the FIFO, and when it may have become ready or left loopback. If there is room then, one more read is due. */
 void console_feed(void) {
     if (console_is_ready || console_is_early) {
-        superio_serial_enqueue_effects done = superio_serial_enqueue(&serial, input.bytes, input.count);
-        drop(&input, done.taken);
+        superio_serial_enqueue_effects done = superio_serial_enqueue(&serial, input, waiting);
+        waiting -= done.taken;
+        memmove(input, input + done.taken, waiting);
         interrupts_ask(done.interrupts);
     }
-    if (has_input && !is_watched && input.count < QUEUE_SIZE) {
+    if (has_input && !is_watched && waiting < QUEUE_SIZE) {
         is_watched = true;
         monitor_watch(in, EPOLLIN | EPOLLONESHOT, read_input);
     }
@@ -119,7 +97,6 @@ static int own(int fd, const char *name, int flags) {
 void console_open(void) {
     in = own(STDIN_FILENO, "/proc/self/fd/0", O_RDONLY);
     out = own(STDOUT_FILENO, "/proc/self/fd/1", O_WRONLY);
-    monitor_watch(out, EPOLLOUT | EPOLLET, flush);
     has_input = true;
     console_feed();
     if (tcgetattr(in, &before) < 0)
@@ -137,12 +114,8 @@ void console_restore(void) {
         tcsetattr(in, TCSANOW, &before);
 }
 
-/* Lets the terminal take what is left, unless it takes nothing for a while, and gives it back. */
+/* Gives the terminal back. */
 void console_finish(void) {
-    struct pollfd writable = {.fd = out, .events = POLLOUT};
-    while (output.count > 0 && poll(&writable, 1, STALL_SECONDS * 1000) > 0)
-        flush();
-    dropped += output.count;
     console_restore();
     if (dropped > 0)
         warnx("%llu bytes of output were dropped", dropped);

@@ -11,7 +11,6 @@ static const char HELP[] =
     "Ctrl-A h lists the keys.\n";
 
 pthread_mutex_t lock = PTHREAD_MUTEX_INITIALIZER;
-pthread_cond_t changed = PTHREAD_COND_INITIALIZER;
 bool has_ended;
 static int epoll, signals, status; /* the status is the monitor's */
 static const char *why;            /* it ended */
@@ -38,7 +37,6 @@ void monitor_end(int result, const char *reason) {
     has_ended = true;
     status = result;
     why = reason;
-    pthread_cond_broadcast(&changed);
     kill(getpid(), SIGTERM);
 }
 

@@ -2,8 +2,8 @@
  * A monitor that runs a PC with the devices of superio.h under KVM. docs/MONITOR.md shows how its files fit together.
  *
  * Two threads run: the vCPU's makes the guest's accesses, and the main one has the event loop. Each holds `lock`,
- * except while it waits: in KVM_RUN, in epoll_wait, or for `changed`. The lock guards whatever may change, here and in
- * each file.
+ * except while it waits: in KVM_RUN, in epoll_wait, or in poll. The lock guards whatever may change, here and in each
+ * file.
  */
 #ifndef MONITOR_H
 #define MONITOR_H
@@ -31,7 +31,6 @@ enum { COM1 = 0x3F8, SERIAL_IRQ = 4, CLOCK_BASE = 0xD0000, CLOCK_IRQ = 8, PAGE =
 
 /* main.c */
 extern pthread_mutex_t lock;
-extern pthread_cond_t changed; /* output went out, or the machine has ended */
 extern bool has_ended;
 void monitor_watch(int fd, uint32_t events, void (*serve)(void));
 void monitor_end(int status, const char *reason);

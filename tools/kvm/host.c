@@ -19,8 +19,9 @@
  *   q SIGNAL             the monitor is to end, or has a fault
  *
  * After each line the event loop comes to rest. A guest at its start shows its place and the first byte of its image.
- * The terminal says when its settings change. A wait for room says how long it has to take, and takes no time. The first
- * of two KVM_RUN, waits for events or for room and reads fails, as it may at any time, and has to be made again.
+ * The terminal says when its settings change. A wait for it says how many milliseconds it may take, and is over at once.
+ * The first of two KVM_RUN, waits for events or for room and reads fails, as it may at any time, and has to be made
+ * again.
  */
 #include <err.h>
 #include <errno.h>
@@ -97,7 +98,7 @@ UNSEEN static void show(const char *what, const uint8_t *bytes, size_t count) {
 /* What the user sees of the output now. */
 UNSEEN static void show_output(void) {
     static uint8_t bytes[MOST];
-    ssize_t count = pread(screen, bytes, sizeof bytes, shown);
+    ssize_t count = syscall(SYS_pread64, screen, bytes, sizeof bytes, shown);
     shown += count;
     if (count > 0)
         show("output ", bytes, (size_t)count);
@@ -187,26 +188,19 @@ UNSEEN int __wrap_tcsetattr(int fd, int when, const struct termios *new) {
     return fd < 0 || when != TCSANOW ? -1 : 0;
 }
 
-int __wrap_poll(struct pollfd *files, nfds_t count, int timeout) {
+/* Whether the terminal takes output. A wait for that is over at once. */
+UNSEEN int __wrap_poll(struct pollfd *files, nfds_t count, int timeout) {
+    static unsigned calls;
     (void)files;
-    if (timeout != SECOND / MILLISECOND)
-        fail("the end waits for another time");
+    if (is_interrupted(&calls, EINTR))
+        return -1;
+    if (room == 0 && timeout != 0)
+        dprintf(seen, "waits %d\n", timeout);
     return count > 0 && room > 0;
 }
 
 UNSEEN static int64_t time_of(clockid_t clock) {
     return clock == CLOCK_BOOTTIME ? now.since_start : clock == CLOCK_REALTIME ? now.of_day : now.awake;
-}
-
-/* The time is up at once. */
-int __wrap_pthread_cond_clockwait(pthread_cond_t *it, pthread_mutex_t *lock, clockid_t clock,
-                                  const struct timespec *until) {
-    static unsigned calls;
-    (void)it, (void)lock;
-    if (is_interrupted(&calls, 0))
-        return 0;
-    dprintf(seen, "waits %ld\n", until->tv_sec * (int64_t)SECOND + until->tv_nsec - time_of(clock));
-    return ETIMEDOUT;
 }
 
 /* The event loop. A poll that finds nothing is a rest. */

@@ -31,13 +31,14 @@ OPENINGS = (), (), (), DIVISOR, (*POKE, *POKE, f"w {COM1 + 4:x} 1 08"), FAR_ALAR
 # The guest enables both interrupts while a byte is held, and the second of the two requests is refused.
 SECOND_OF_TWO = (f"w {COM1 + 1:x} 1 00", "i 78", "d 2", f"w {COM1 + 1:x} 1 03", RETRY)
 MOST_LINES, MOST_WAITING = 60, 60_000
-# In how many ways there is too much output, or input, and how often a request is refused.
+# In how many ways there is too much input, and how often a request is refused.
 WAYS, REFUSALS = 4, 1000
-# The room for input and for output, from where on the guest waits before output, and how much is read or typed at once.
-QUEUE, LEVEL, PIECE = 65536, 65536 - 4096, 4096
+# The room for input, how much is read or typed at once, and for how many milliseconds the guest waits for a terminal.
+QUEUE, PIECE, STALL = 65536, 4096, 1000
 EVER = 2**63 - 1
 # Up to where moments are tried. In nanoseconds twice as much has more than 63 bits.
 FAR = 2**32 * SECOND
+HELP = b"\r\nCtrl-A x leaves, Ctrl-A h shows this, Ctrl-A Ctrl-A sends Ctrl-A to the guest\r\n"
 RESET, LEFT = "monitor: the guest reset the machine", "monitor: left by Ctrl-A x"
 # Why KVM gives up.
 SHUTDOWN, INTERNAL_ERROR = 8, 17
@@ -46,8 +47,8 @@ FAILURES = [f"x {reason:x}" for reason in (0, SHUTDOWN, INTERNAL_ERROR)]
 SIGNALS = signal.SIGHUP, signal.SIGINT, signal.SIGQUIT, signal.SIGTERM
 FAULTS = signal.SIGSEGV, signal.SIGBUS, signal.SIGILL, signal.SIGFPE, signal.SIGABRT
 RAW, AS_BEFORE = "terminal raw", "terminal as before"
-# The errors of a write after which it is made again, and another.
-PASSING, LASTING = (errno.EINTR, errno.EAGAIN), errno.EPIPE
+# The errors of a write.
+ERRORS = errno.EINTR, errno.EAGAIN, errno.EPIPE
 
 
 class Hosted(Monitor):
@@ -62,7 +63,7 @@ class Hosted(Monitor):
         self.has_ended = ""  # or what the monitor says then
         self.is_closed, self.has_input = False, True  # as the user does, and as the monitor knows it
         self.backlog, self.is_watched = b"", True  # what was typed and not read, and whether it is to be
-        self.waits_for_terminal, self.dropped, self.takes, self.is_stalled = b"", 0, EVER, False
+        self.dropped, self.takes, self.is_stalled = 0, EVER, False
         self.printed += [RAW, f"starts {START:x} {IMAGE:02x}"]
 
     @property
@@ -72,41 +73,28 @@ class Hosted(Monitor):
     # What the monitor does.
 
     def show(self, byte):
-        """A byte goes out, if the terminal takes it, or waits for that, or is dropped."""
-        if len(self.waits_for_terminal) < QUEUE:
-            self.waits_for_terminal += bytes([byte])
+        """A byte goes out if the terminal takes it, or is dropped. A write that was interrupted is made again."""
+        fails, self.error = self.error not in (0, errno.EINTR), 0
+        if self.takes and not fails:
+            self.out += bytes([byte])
+            self.takes -= 1
         else:
             self.dropped += 1
-        self.flush()
-
-    def flush(self):
-        if self.error and self.waits_for_terminal:
-            if self.error not in PASSING:
-                self.dropped, self.waits_for_terminal = self.dropped + len(self.waits_for_terminal), b""
-            self.error = 0
-            return
-        taken = self.waits_for_terminal[:self.takes]
-        self.out, self.waits_for_terminal = self.out + taken, self.waits_for_terminal[len(taken):]
-        self.takes -= len(taken)
-        self.is_stalled = self.is_stalled and not taken
 
     def await_room(self):
-        if len(self.waits_for_terminal) >= LEVEL and not self.is_stalled:
-            self.printed.append(f"waits {SECOND}")
-            self.is_stalled = True
+        if not self.takes and not self.is_stalled:
+            self.printed.append(f"waits {STALL}")
+        self.is_stalled = not self.takes
 
     def end(self):
-        """What the terminal does not take at the end is dropped too. After a fault it is only given back."""
-        if self.status < 0:
-            return self.printed.append(AS_BEFORE)
-        while self.waits_for_terminal and self.takes:
-            self.flush()
-        self.dropped += len(self.waits_for_terminal)
+        """After a fault the terminal is only given back."""
         self.printed.append(AS_BEFORE)
+        if self.status < 0:
+            return
         if self.dropped:
             self.printed.append(f"monitor: {self.dropped} bytes of output were dropped")
         self.printed.append(self.has_ended)
-        return self.show_output()
+        self.show_output()
 
     def feed(self):
         super().feed()
@@ -135,6 +123,9 @@ class Hosted(Monitor):
             is_second, self.is_after = self.is_after, byte == CTRL_A and not self.is_after
             if is_second and byte == ord("x"):
                 self.has_ended = self.has_ended or LEFT
+            elif is_second and byte == ord("h"):
+                for shown in HELP:
+                    self.show(shown)
             elif is_second == (byte == CTRL_A):
                 yield byte
 
@@ -264,9 +255,9 @@ class Script:
         self.random = chance
         self.is_early = chance.randrange(6) == 0
         self.monitor, self.lines = Hosted(self.is_early), []
-        if number < 2 * WAYS:
-            (self.flood, self.fill)[number // WAYS](number % WAYS)
-        elif number == 2 * WAYS:
+        if number < WAYS:
+            self.fill(number)
+        elif number == WAYS:
             self.insist()
         else:
             self.add(*chance.choice(OPENINGS))
@@ -278,19 +269,6 @@ class Script:
             chance.choices(makers, (8, 12, 8, 6, 5, 4, 9))[0]()
         if chance.randrange(2):
             self.add(chance.choice((*FAILURES, f"q {chance.choice(SIGNALS):x}", f"q {chance.choice(FAULTS):x}")))
-
-    def flood(self, number):
-        """As much output as the terminal and the queue have no room for, or not quite, and then the end."""
-        self.add(f"b {(0, 1, 5000, 5000)[number]:x}")
-        left = (LEVEL, QUEUE, QUEUE, QUEUE + 5003)[number] + self.random.randrange(-2, 3)
-        while left > 0:
-            count = min(left, PIECE - self.random.randrange(2))
-            self.add(f"w {COM1:x} 1 {self.random.randbytes(count).hex()}")
-            left -= count
-        for room in ((EVER,), (100, EVER), (0, EVER), (100,))[number]:
-            self.add(f"b {room:x}", f"w {COM1:x} 1 41")
-        if self.random.randrange(2):
-            self.add("i 0178")
 
     def fill(self, number):
         """More input than there is room for, or not quite, for a guest that is ready only then."""
@@ -341,7 +319,7 @@ class Script:
         """No command of the monitor. One of another letter may be cut in two."""
         if len(self.monitor.input) > MOST_WAITING:
             return
-        escaped = (b"\x01\x01", b"\x01y")
+        escaped = (b"\x01\x01", b"\x01y", b"\x01h")
         pieces = [bytes([self.random.choice((0, *[self.random.randrange(2, 256)] * 3))])
                   if self.random.randrange(30) else self.random.choice(escaped)
                   for _ in range(self.random.choice((1, 1, 2, 40, 64, 65, 127, 300)))]
@@ -364,7 +342,8 @@ class Script:
             self.wait(True)
 
     def load(self):
-        offset = self.random.choice((*(register.offset for register in CLOCK.values()), 0xFE0, 0xFFC, 0x1000, -4))
+        registers = [register.offset for register in CLOCK.values()]
+        offset = self.random.choice((*[CLOCK["DR"].offset] * 6, *registers, 0xFE0, 0xFFC, 0x1000, -4))
         self.add("l {:x} {:x}".format(*self.beside(offset)))
 
     def beside(self, offset):
@@ -385,10 +364,13 @@ class Script:
 
     def host(self):
         """The line takes nothing, or requests again, or a refused one is made again; the host's time of day changes;
-        the next write to the terminal fails; the guest resets the machine, or not quite; or the user types no more."""
+        the next write to the terminal fails, or it takes some bytes; the guest resets the machine, or not quite; or the
+        user types no more."""
         back = self.random.choice((1, 2, self.random.randrange(-2000, 2000)))
-        error, command = self.random.choice((*PASSING, LASTING)), self.random.choice(("fe", "fd", "fd", "fd"))
-        lines = {(f"k {back:x}", f"l {BASE:x} 4", *POKE): 4, (f"e {error:x}",): 3, (f"w 64 1 {command}",): 1, ("z",): 1}
+        error, command = self.random.choice(ERRORS), self.random.choice(("fe", "fd", "fd", "fd"))
+        room = self.random.choice((0, 0, 1, 3, EVER, EVER))
+        lines = {(f"k {back:x}", f"l {BASE:x} 4", *POKE): 4, (f"e {error:x}",): 3, (f"b {room:x}",): 3,
+                 (f"w 64 1 {command}",): 1, ("z",): 1}
         if self.random.randrange(2):
             self.refuse()
         else:
@@ -401,7 +383,7 @@ class Script:
 
 
 def random_scripts(count, seed):
-    """The first ones have much output or input, or many refusals."""
+    """The first ones have much input, or many refusals."""
     chance = random.Random(seed)
     return [Script(chance, chance.randrange(MOST_LINES), number) for number in range(count)]
 

@@ -1,4 +1,4 @@
-"""Two releases of the same sources, made as by two maintainers."""
+"""Two releases of the same sources, made as by two maintainers, and the packages that Debian's tools make of one."""
 import os
 import subprocess
 import sys
@@ -9,9 +9,11 @@ from pathlib import Path
 from libraries import PREBUILT, ROOT, SHARED, TARGETS, digest
 from rooms import copy_files
 from tally import run
+from trees import check_shared, run_example
 
 VERSION = (ROOT / "VERSION").read_text(encoding="ascii").strip()
-ARCHIVE = f"fimolavand-{VERSION}.tar.gz"
+# What every program of a build of Debian's finds first, whatever else is installed.
+OF_DEBIAN = {**os.environ, "PATH": "/usr/sbin:/usr/bin:/sbin:/bin"}
 
 
 def git(tree, *words):
@@ -73,3 +75,39 @@ def check_releases(tally, folder):
         tally.check(len(sums[0]) >= 9, f"a release has only {sorted(sums[0])}")
         check_contents(tally, one)
     check_refusals(tally, first, folder)
+
+
+def build_packages(tally, folder):
+    """Builds the packages from the archive of the sources alone. Returns the folder of the sources, or `None`."""
+    archive = folder / "one" / f"fimolavand-{VERSION}.tar.gz"
+    if not archive.exists():
+        return tally.skip("a release", "the packages of Debian")
+    with tarfile.open(archive) as sources:
+        sources.extractall(folder / "debian")
+    tree = next((folder / "debian").iterdir())
+    lacking = run(["dpkg-checkbuilddeps"], cwd=tree, env=OF_DEBIAN)
+    if lacking.returncode:
+        return tally.skip(lacking.stdout.strip().rpartition(": ")[2], "the packages of Debian")
+    words = ["dpkg-buildpackage", "-us", "-uc", "-b"]
+    return tree if tally.run("the packages of Debian", words, cwd=tree, env=OF_DEBIAN) else None
+
+
+def check_debian(tally, folder):
+    """Counts whether the packages are built, lintian finds no error in them, and their own tests pass with what they
+    unpack."""
+    if not all(tally.has(tool, "the packages of Debian") for tool in ("dpkg-buildpackage", "dh", "lintian")):
+        return
+    tree, root = build_packages(tally, folder), folder / "root"
+    if tree is None:
+        return
+    made = {path.name.split("_")[0]: path for path in tree.parent.glob("*.deb")}
+    library = f"libsuperio{SHARED.rpartition('.')[2]}"
+    wanted = {library, f"{library}-dbgsym", "libsuperio-dev", "libsuperio-rust-dev"}
+    tally.check(wanted == made.keys(), f"the packages are {sorted(made)}")
+    tally.run("lintian", ["lintian", "--fail-on", "error", *tree.parent.glob("*.changes")], env=OF_DEBIAN)
+    for package in made.values():
+        tally.run(f"{package.name} is unpacked", ["dpkg", "-x", package, root])
+    shared = next(root.rglob(SHARED))
+    check_shared(tally, shared, is_prebuilt=False)
+    for name in ("c", "rust"):
+        run_example(tally, name, shared.parent, PATH=OF_DEBIAN["PATH"], CRATE=str(root / "usr/share/superio/rust"))
