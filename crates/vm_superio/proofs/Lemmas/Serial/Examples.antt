@@ -2,7 +2,7 @@
 -- and of calls with their answers, by the steps and by the history.
 use Rattle.std.proofs.Common.{◌≡◌, ℕ, ◌≤◌, true, false, ◌∷◌, List, [], ◌++◌, length, refl, sym, ap, ◌∙◌, replicate, arith, count_by, Bool, map}
 use Rattle.std.proofs.lemmas.Bool.{false≢true}
-use Rattle.vm_superio.specs.Serial.{Memory, Port, has_bits, only_bits, with_bits, Coherent, State, fresh_state, Asked, Sent, Op, Trace, IerWrite, ThrWrite, is_iir_read, is_rbr_read, Read, Write, Enqueue, CharacterTimeout, Restore, TraceEntry, Response, ByteRead, WriteOk, NoResponse, EnqueueOk, TimeoutOk, TriggerRefused, WriterFailed, FifoFull, is_dlab, is_loopback, step_response, step, is_admissible}
+use Rattle.vm_superio.specs.Serial.{Rda, Thre, restore_calls, Memory, Port, has_bits, only_bits, with_bits, Coherent, State, fresh_state, Asked, Sent, Op, Trace, IerWrite, ThrWrite, is_iir_read, is_rbr_read, Read, Write, Enqueue, CharacterTimeout, Restore, TraceEntry, Response, ByteRead, WriteOk, NoResponse, EnqueueOk, TimeoutOk, TriggerRefused, WriterFailed, FifoFull, is_dlab, is_loopback, step_response, step, is_admissible}
 use Rattle.superio_core.specs.declared.trace.Asked.TheVariants.{Nothing, Took, Refused, TookTook, TookRefused}
 use Rattle.superio_core.specs.declared.trace.Sent.TheVariants as sent
 use Rattle.vm_superio.specs.Claims.{is_fresh, shows_data, is_outside, is_inside, is_masked}
@@ -160,6 +160,11 @@ calls_of_a_fresh_port : Given (
     ∷ [])
 unfolding has_bits only_bits with_bits
 calls_of_a_fresh_port = record { steps = refl; history = refl }
+
+-- a restore calls for THRE first
+both_due : restore_calls (record fresh_state { interrupt_identification = 0x06; interrupt_enable = 0x03 }) ≡ Thre ∷ Rda ∷ []
+unfolding has_bits
+both_due = refl
 
 -- ---- a driver that polls, and one that reads RBR unasked
 

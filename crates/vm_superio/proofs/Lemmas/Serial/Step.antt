@@ -106,13 +106,11 @@ shows_more {asked = asked} {refusal = refusal} made =
 
 -- ---- a write
 
--- a write fails with the output only if the output failed
-lost-by : (refused : Bool) (sent : Sent)
-    → WriterFailed ≡ (if refused then TriggerRefused else (if is_lost sent then WriterFailed else WriteOk)) → sent ≡ was.Lost
-lost-by refused sent failed = grind arith
-
-sends-lost : (answered sends : Bool) (sent : Sent) → sent ≡ was.Lost → IsTrue (answered && beq (is_sent sent) sends) → IsTrue sends
-sends-lost answered sends sent lost made = grind arith
+-- a write fails with the output only if the output failed, and so it sends a byte
+sends-lost : (answered sends refused : Bool) (sent : Sent)
+    → WriterFailed ≡ (if refused then TriggerRefused else (if is_lost sent then WriterFailed else WriteOk))
+    → IsTrue (answered && beq (is_sent sent) sends) → IsTrue sends
+sends-lost answered sends refused sent failed made = grind arith
 
 -- a write that sends a byte changes the registers alike whatever the trigger answers
 sends-alike : (register : Register) (inside : Bool) (value : ℕ) (asked : Asked) (s : State)
@@ -133,8 +131,7 @@ write_fate (Ok done) made = tt
 write_fate (Err (Trigger refusal)) made = shows_more made
 write_fate {offset = offset} {value = value} {asked = asked} {sent = sent} {old = old} (Err (IOError fault)) made =
     let s = old.state in
-    let lost = lost-by (ends_in_refusal asked) sent made.response in
-    let sends = sends-lost _ (sends_byte s (Write offset value)) sent lost made.admissible in
+    let sends = sends-lost _ (sends_byte s (Write offset value)) (ends_in_refusal asked) sent made.response made.admissible in
     (sends, made.state ∙ sends-alike (register_at (is_dlab s.line_control) offset) (is_loopback s.modem_control) value asked s sends)
 write_fate {asked = asked} {sent = sent} (Err FullFifo) made = never-full (ends_in_refusal asked) (is_lost sent) made.response
 write_fate {asked = asked} {sent = sent} (Err Memory) made = never-memory (ends_in_refusal asked) (is_lost sent) made.response

@@ -1,14 +1,15 @@
 -- The interrupt law: IIR shows the pending conditions, and an entry is admissible exactly if it is well-formed.
-use Rattle.std.proofs.Common.{arith, ◌≡◌, ℕ, ◌+◌, zero-add, add-zero, Bool, false, not, ◌==◌, ◌&&◌, ◌||◌, List, [], ◌∷◌, refl, ap, sym, ◌∙◌}
+use Rattle.std.proofs.Common.{arith, ◌≡◌, ℕ, ◌+◌, Bool, false, not, ◌==◌, ◌&&◌, ◌||◌, List, [], ◌∷◌, ap, sym, ◌∙◌}
 use Rattle.std.specs.Bool.{beq}
-use Rattle.std.proofs.Math.Bool.{and-true}
-use Rattle.vm_superio.specs.Serial.{Asked, TraceEntry, is_refused_at_once, is_sent, count_if, answer_count, OpKind, RbrRead, IerWrite, ThrWrite, Arrival, Timeout, sent_by, is_iir_read, State, not_empty, has_bits, only_bits, Thre, Rda, identification_of, pending_in_order, raise_rda_while_held, becomes_pending, rda_becomes_pending, bytes_that_fit, restore_calls, arrival_calls, kind_calls, answers_all, step_calls, is_admissible, Coherent}
+use Rattle.vm_superio.specs.Serial.{Asked, TraceEntry, is_refused_at_once, is_sent, count_if, answer_count, OpKind, RbrRead, sent_by, is_iir_read, State, not_empty, has_bits, Thre, Rda, identification_of, pending_in_order, restore_calls, kind_calls, answers_all, step_calls, is_admissible, Coherent}
 use Rattle.vm_superio.specs.Serial.History.Registers.{kind_at, held_bytes}
-use Rattle.vm_superio.specs.Serial.History.Interrupts.{raises_rda, acknowledges, is_pending, raises_thre, is_well_formed_entry, restore_calls_due}
+use Rattle.vm_superio.specs.Serial.History.Interrupts.{raises_rda, acknowledges, is_pending, raises_thre, is_well_formed_entry}
 use Rattle.vm_superio.specs.Serial.History.{interrupt_identification}
 use Rattle.vm_superio.specs.Serial.Laws.{state_after, InterruptLaw}
-use Rattle.superio_core.proofs.Lemmas.Serial.Step.{rda_bit, thre_bit, rda_new, thre_new, ier_write_raises_rda, ier_write_raises_thre, timeout_raises_rda, answers_counted, by_kind}
+use Rattle.superio_core.proofs.Lemmas.Serial.Step.{rda_bit, thre_bit, answers_counted, by_kind}
+use Rattle.superio_core.proofs.Lemmas.Serial.{enables_rda, enables_thre}
 use Rattle.superio_core.proofs.Lemmas.Serial.Coherence.{pending_by_kind as pending_after, coherence_law}
+use Rattle.vm_superio.proofs.Lemmas.Serial.Laws.TurnedBits.{bits}
 use Rattle.vm_superio.proofs.Lemmas.Serial.Laws.{next_at_point, same_kind, register_law, held_bytes_law}
 
 -- ---- one operation
@@ -35,39 +36,13 @@ pending_by_kind : (k : OpKind) (asked : Asked) (s : State) (thre rda : Bool)
 pending_by_kind RbrRead asked s thre rda e = pending_after RbrRead asked s thre rda e
 pending_by_kind k asked s thre rda e = pending_after k asked s thre rda e
 
-received_due : (new : List ℕ) (s : State) (thre rda : Bool)
-    → s.interrupt_identification ≡ identification_of thre rda
-    → arrival_calls new s ≡ count_if ((not_empty new && has_bits s.interrupt_enable 0x01) && not rda) + 0
-received_due [] s thre rda e = refl
-received_due (byte ∷ bytes) s thre rda e =
-    ap (λ old. count_if (becomes_pending Rda s.interrupt_enable old)) e
-    ∙ ap count_if (rda_new s.interrupt_enable thre rda) ∙ sym (add-zero _)
-
 -- the calls that are due are those of the conditions that become pending, the second if the first is not refused
 pub due_is : (k : OpKind) (s : State) (thre rda : Bool)
     → s.interrupt_identification ≡ identification_of thre rda
     → kind_calls k s
     ≡ count_if (rda_called k s.in_buffer s.interrupt_enable rda)
     + count_if (raises_thre k s.interrupt_enable false && not thre)
-due_is (IerWrite value) s thre rda e =
-    let enable = only_bits value 0x0F in
-    ap (λ old. count_if (rda_becomes_pending s.in_buffer enable old)
-    + count_if (becomes_pending Thre enable (raise_rda_while_held s.in_buffer enable old))) e
-    ∙ ap (λ new. count_if new
-    + count_if (becomes_pending Thre enable
-    (raise_rda_while_held s.in_buffer enable (identification_of thre rda))))
-    (ier_write_raises_rda s.in_buffer value thre rda)
-    ∙ ap (λ new. count_if (rda_called (IerWrite value) s.in_buffer s.interrupt_enable rda) + count_if new)
-    (ier_write_raises_thre s.in_buffer value thre rda
-    ∙ ap (λ bit. bit && not thre) (sym (and-true (has_bits value 0x02))))
-due_is (ThrWrite value) s thre rda e =
-    ap (λ old. count_if (becomes_pending Thre s.interrupt_enable old)) e
-    ∙ ap count_if (thre_new s.interrupt_enable thre rda) ∙ sym (zero-add _)
-due_is (Arrival bytes) s thre rda e = received_due (bytes_that_fit s.in_buffer bytes) s thre rda e
-due_is Timeout s thre rda e =
-    ap (λ old. count_if (rda_becomes_pending s.in_buffer s.interrupt_enable old)) e
-    ∙ ap count_if (timeout_raises_rda s.in_buffer s.interrupt_enable thre rda) ∙ sym (add-zero _)
-due_is _ s thre rda e = refl
+due_is k s thre rda e = grind (arith, bits, rda_bit, thre_bit, enables_rda, enables_thre)
 
 -- only an IER write may end before THRE
 ends_early : (k : OpKind) (held_bytes : List ℕ) (enable : ℕ) (rda refused : Bool)
@@ -143,26 +118,18 @@ well_formed_law start trace thre rda entry e =
     ∙ ap (λ enable. answer_count entry.asked == calls_of (held_bytes start trace) enable) registers.interrupt_enable)
 
 -- a restore calls the trigger for what is pending and enabled
-restoring_law : (start : State) (trace : List TraceEntry) (thre rda : Bool)
-    → start.interrupt_identification ≡ identification_of thre rda
-    → restore_calls (state_after start trace) ≡ restore_calls_due start trace
-restoring_law start trace thre rda e =
-    let t = is_pending Thre start trace in
-    let r = is_pending Rda start trace in
-    let calls_of =
-    λ (t r : Bool) (enable : ℕ). pending_in_order (t && has_bits enable 0x02) (r && has_bits enable 0x01) in
-    let s = state_after start trace in
-    ap (λ old. calls_of (has_bits old 0x02) (has_bits old 0x04) s.interrupt_enable)
-    (pending_law start trace thre rda e)
-    ∙ ap (λ bit. calls_of bit (has_bits (identification_of t r) 0x04) s.interrupt_enable) (thre_bit t r)
-    ∙ ap (λ bit. calls_of t bit s.interrupt_enable) (rda_bit t r)
-    ∙ ap (calls_of t r) (register_law start trace).interrupt_enable
+restoring_by : (s : State) (enable : ℕ) (thre rda : Bool) → s.interrupt_identification ≡ identification_of thre rda
+    → s.interrupt_enable ≡ enable
+    → restore_calls s ≡ pending_in_order (thre && has_bits enable 0x02) (rda && has_bits enable 0x01)
+restoring_by s enable thre rda pending enabled = grind (arith, rda_bit, thre_bit)
 
 pub interrupt_law : InterruptLaw
 interrupt_law start trace thre rda e = record {
   pending = pending_law start trace thre rda e;
   calls = λ entry. well_formed_law start trace thre rda entry e;
-  restoring = restoring_law start trace thre rda e;
+  restoring =
+      restoring_by (state_after start trace) _ (is_pending Thre start trace) (is_pending Rda start trace)
+      (pending_law start trace thre rda e) (register_law start trace).interrupt_enable;
 }
 
 -- ---- a run keeps a coherent state coherent

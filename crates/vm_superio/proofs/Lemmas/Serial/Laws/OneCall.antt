@@ -1,9 +1,9 @@
 -- One call: the bytes that it takes, accepts and gives, and the byte that a THR write sends.
-use Rattle.std.proofs.Common.{◌≡◌, ℕ, Bool, true, List, [], ◌∷◌, ◌++◌, length, drop, refl, ap, sym, ◌∙◌, append-nil, ◌<◌, subst, arith, IsTrue, if◌then◌else◌, ◌&&◌, count_by}
+use Rattle.std.proofs.Common.{false, ◌≡◌, ℕ, Bool, true, List, [], ◌∷◌, ◌++◌, length, drop, refl, ap, sym, ◌∙◌, append-nil, ◌<◌, subst, arith, IsTrue, if◌then◌else◌, ◌&&◌, count_by}
 use Rattle.std.proofs.Math.Bool.{and-true, and-false}
 use Rattle.std.specs.Bool.{beq}
 use Rattle.std.proofs.lemmas.Bool.{and_parts}
-use Rattle.vm_superio.specs.Serial.{Asked, Sent, Op, Read, Write, ByteRead, WriteOk, WriterFailed, TriggerRefused, is_sent, is_lost, ends_in_refusal, OpKind, RbrRead, IirRead, Arrival, read_kind, write_kind, sent_by, State, not_empty, has_bits, without_bits, receive_bytes, bytes_that_fit, raise, kind_in_state, answers_all, step_calls, sends_byte, step, read_step, step_response, write_step, step_events, Register, RbrThr, Thre, register_at, is_dlab, is_loopback}
+use Rattle.vm_superio.specs.Serial.{Asked, Sent, Op, Read, Write, ByteRead, WriteOk, WriterFailed, TriggerRefused, is_sent, is_lost, ends_in_refusal, OpKind, RbrRead, IirRead, Arrival, read_kind, sent_by, State, not_empty, has_bits, without_bits, receive_bytes, bytes_that_fit, raise, kind_in_state, answers_all, step_calls, sends_byte, step, read_step, step_response, step_events, Register, Thre, register_at, is_dlab, is_loopback}
 use Rattle.vm_superio.specs.Serial.History.{line_status, byte_read}
 use Rattle.vm_superio.specs.Serial.History.Registers.{accepted_by, taken_by}
 use Rattle.vm_superio.specs.Serial.Laws.OneCall.{OneCallLaw, ReceivedLaw, OneReadLaw, RbrReadLaw, RbrDataReadyLaw, ThrWriteLaw, OutcomeEventsLaw, reports_outcome}
@@ -105,17 +105,20 @@ outcome : (is_answered sends : Bool) (sent : Sent) → sends ≡ true → IsTrue
     → IsTrue (is_sent sent)
 outcome is_answered sends sent is admissible = grind arith
 
+sends : (s : State) (value : ℕ) → is_dlab s.line_control ≡ false → is_loopback s.modem_control ≡ false
+    → sends_byte s (Write 0 value) ≡ true
+sends s value hidden outside = grind arith
+
+raises : (s : State) (value : ℕ) (asked : Asked) → is_dlab s.line_control ≡ false → is_loopback s.modem_control ≡ false
+    → step s (Write 0 value) asked ≡ record s { interrupt_identification = raise Thre s.interrupt_enable s.interrupt_identification }
+raises s value asked hidden outside = grind arith
+
 pub thr_write : ThrWriteLaw
 thr_write s value asked sent hidden outside admissible =
-    let sends : sends_byte s (Write 0 value) ≡ true =
-    subst (λ latch. not_empty (sent_by (write_kind (register_at latch 0) (is_loopback s.modem_control) value)) ≡ true) (sym hidden)
-    (subst (λ inside. not_empty (sent_by (write_kind RbrThr inside value)) ≡ true) (sym outside) refl) in
-    let has_outcome = outcome (answers_all (step_calls s (Write 0 value)) asked) (sends_byte s (Write 0 value)) sent sends admissible in
-    let raised = record s { interrupt_identification = raise Thre s.interrupt_enable s.interrupt_identification } in
+    let has_outcome = outcome (answers_all (step_calls s (Write 0 value)) asked) (sends_byte s (Write 0 value)) sent (sends s value hidden outside) admissible in
     record {
       outcome = has_outcome;
-      state = subst (λ latch. write_step (register_at latch 0) value asked s ≡ raised) (sym hidden)
-          (subst (λ inside. (if inside then receive_bytes (bytes_that_fit s.in_buffer (value ∷ [])) s else raised) ≡ raised) (sym outside) refl);
+      state = raises s value asked hidden outside;
       taken = taken (ends_in_refusal asked) sent has_outcome;
     }
 
