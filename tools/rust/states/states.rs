@@ -8,8 +8,8 @@ use vm_superio::{RtcState, SerialState};
 
 /// States that programs over vm-superio 0.8.2 saved: as JSON, and by bincode, as hexadecimal digits.
 const PORT: [&str; 2] = [
-    r#"{"baud_divisor_low":1,"baud_divisor_high":2,"interrupt_enable":1,"interrupt_identification":4,"line_control":27,"#,
-    r#""line_status":97,"modem_control":8,"modem_status":176,"scratch":90,"in_buffer":[104,105]}"#,
+    r#"{"baud_divisor_low":1,"baud_divisor_high":2,"interrupt_enable":1,"interrupt_identification":4,"#,
+    r#""line_control":27,"line_status":97,"modem_control":8,"modem_status":176,"scratch":90,"in_buffer":[104,105]}"#,
 ];
 const PORT_IN_BINCODE: &str = "010201041b6108b05a02000000000000006869";
 const CLOCK: &str = r#"{"lr":1704067200,"offset":-3600,"mr":1704067260,"imsc":1,"ris":0}"#;
