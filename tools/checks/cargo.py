@@ -59,18 +59,15 @@ class Cargo:
 
 
 def add_crate(place, source):
-    """Puts a crate into a registry: as it is, if it comes from one, or else with what a registry adds."""
-    if source and (source / ".cargo-checksum.json").exists():
+    """Puts a crate of a registry into another, or one without contents."""
+    if source:
         place.parent.mkdir(parents=True, exist_ok=True)
         return place.symlink_to(source)
-    if source:
-        shutil.copytree(source, place, ignore=shutil.ignore_patterns("target", "Cargo.lock"))
-    else:
-        name, _, version = place.name.rpartition("-")
-        (place / "src").mkdir(parents=True)
-        (place / "src" / "lib.rs").touch()
-        (place / "Cargo.toml").write_text(
-            f'[package]\nname = "{name}"\nversion = "{version}"\n[features]\nderive = []\n', encoding="utf-8")
+    name, _, version = place.name.rpartition("-")
+    (place / "src").mkdir(parents=True)
+    (place / "src" / "lib.rs").touch()
+    (place / "Cargo.toml").write_text(
+        f'[package]\nname = "{name}"\nversion = "{version}"\n[features]\nderive = []\n', encoding="utf-8")
     package = f"{sum(place.name.encode()):064}"  # a checksum, by which Cargo.lock tells crates apart
     return (place / ".cargo-checksum.json").write_text(json.dumps({"files": {}, "package": package}), encoding="utf-8")
 

@@ -39,7 +39,8 @@ FORMS = {
         "#[inline]\nfn f() {}\n\nstruct A;\n"),
     "words of contracts in strings and comments": (
         'const A: &str = "ensures { ghost use a; } \\" { prove!(1);"; // requires { ensures\n\n'
-        "// ghost use a;\n/// ensures {\nfn f<'a>(c: char) -> bool {\n    c == '{' || c == '\\'' || c == '\"'\n}\n", None),
+        "// ghost use a;\n/// ensures {\nfn f<'a>(c: char) -> bool {\n"
+        "    c == '{' || c == '\\'' || c == '\"'\n}\n", None),
     "code that has no contract": (
         "impl A {\n    fn f(&self) -> bool {\n        matches!(self, A::B) && 1 != 2\n    }\n}\n", None),
 }

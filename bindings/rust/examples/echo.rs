@@ -51,8 +51,8 @@ impl Machine {
         Machine { port: Serial::new(line.clone(), io::stdout()), line, waiting: VecDeque::new(), must_retry: false }
     }
 
-    /// Offers the input that waits, once: a guest need not read, and takes nothing while it is in loopback. The port has
-    /// taken bytes also if the interrupt was refused.
+    /// Offers the input that waits, once: a guest need not read, and takes nothing while it is in loopback. The port
+    /// has taken bytes also if the interrupt was refused.
     fn offer(&mut self) {
         let room = self.port.fifo_capacity();
         if !self.waiting.is_empty() && room > 0 {

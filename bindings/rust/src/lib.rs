@@ -1,22 +1,4 @@
-//! A 16550 serial port, a PL031 real-time clock and an i8042 reset controller, for virtual machine monitors.
-//!
-//! Their names, signatures and errors are those of the crate vm-superio 0.8.2, so a monitor changes one line of its
-//! `Cargo.toml`. What a device does at a call is in the module [`values`], whose code is proved. The rest of the crate
-//! gives the devices their triggers, writers and events objects, and is tested. [`Serial`] and [`Rtc`] show how a monitor
-//! uses them.
-//!
-//! Without the feature `std`, which is on by default, the crate has [`values`], [`Trigger`] and [`I8042Device`] alone,
-//! and needs neither std nor an allocator.
-//!
-//! # Differences
-//!
-//! - The clock's match register is an [alarm](rtc_pl031). In vm-superio 0.8.2 it has no effect.
-//! - A host clock before 1970 reads as 0. vm-superio 0.8.2 panics.
-//!
-//! New are the [character timeout](serial::timeout), without which received bytes can wait for ever,
-//! [`Serial::retry_interrupts`], the [saved form](saved) of a state, [`SerialState::is_coherent`], the whole state of a
-//! clock ([`RtcSnapshot`](rtc_pl031::RtcSnapshot)), its accesses at a given moment, [`Rtc::line`] and [`Rtc::due`]. The
-//! feature `serde` derives `Serialize` and `Deserialize` for the states.
+#![doc = include_str!("../README.md")]
 #![forbid(unsafe_code)]
 #![deny(missing_docs)]
 #![deny(missing_copy_implementations)]

@@ -238,8 +238,8 @@ impl<EV: RtcEvents> Rtc<EV> {
         Rtc { clock: Clock::new(), events: rtc_events }
     }
 
-    /// A snapshot of the registers, as vm-superio has it; [`from_state`](Rtc::from_state) recreates the clock without its
-    /// alarm. To lose no alarm, save a [`snapshot`](Rtc::snapshot).
+    /// A snapshot of the registers, as vm-superio has it; [`from_state`](Rtc::from_state) recreates the clock without
+    /// its alarm. To lose no alarm, save a [`snapshot`](Rtc::snapshot).
     pub fn state(&self) -> RtcState {
         self.snapshot().state
     }

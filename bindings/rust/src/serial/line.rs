@@ -6,8 +6,9 @@ use crate::Trigger;
 
 /// Tells the level of the interrupt line, for an interrupt controller that takes levels.
 ///
-/// A PCI interrupt, a level-triggered input of an I/O APIC and that of a GIC are levels. There a trigger that pulses loses
-/// interrupts. Let the trigger do nothing, and set the line to this level after every call of the port, reads among them.
+/// A PCI interrupt, a level-triggered input of an I/O APIC and that of a GIC are levels. There a trigger that pulses
+/// loses interrupts. Let the trigger do nothing, and set the line to this level after every call of the port, reads
+/// among them.
 ///
 /// It is a trait, in a module of its own, so that no method of a program that was written for vm-superio collides with
 /// the call: import it where you make the call.

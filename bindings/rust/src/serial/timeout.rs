@@ -13,8 +13,8 @@ use crate::Trigger;
 /// # When to make the call
 ///
 /// Make it after each guest read of offset 2 whose answer has bit 0x01 (none pending), and once in each turn of your
-/// event loop. Where DLAB is set or loopback is on, the same call does no harm. If the trigger refuses, the guest has read
-/// the value all the same: return it, and call [`retry_interrupts`](Serial::retry_interrupts) some ms later.
+/// event loop. Where DLAB is set or loopback is on, the same call does no harm. If the trigger refuses, the guest has
+/// read the value all the same: return it, and call [`retry_interrupts`](Serial::retry_interrupts) some ms later.
 ///
 /// # Example
 ///
