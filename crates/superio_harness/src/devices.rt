@@ -65,25 +65,29 @@ fn done(alloc: Global, answer: Result<(), Error<Refusal>>) -> Option<String> {
     }
 }
 
-fn byte(digits: &str) -> Option<u8> {
-    u8::from_str_radix(digits, 16).ok()
+/// A field of a call as a number.
+fn byte(fields: &[&str], place: usize) -> Option<u8> {
+    u8::from_str_radix(fields.get(place)?, 16).ok()
 }
 
-fn offset(digits: &str) -> Option<u16> {
-    u16::from_str_radix(digits, 16).ok()
+fn offset(fields: &[&str], place: usize) -> Option<u16> {
+    u16::from_str_radix(fields.get(place)?, 16).ok()
 }
 
-fn word(digits: &str) -> Option<u32> {
-    u32::from_str_radix(digits, 16).ok()
+fn word(fields: &[&str], place: usize) -> Option<u32> {
+    u32::from_str_radix(fields.get(place)?, 16).ok()
 }
 
-fn moment(digits: &str) -> Option<u64> {
-    u64::from_str_radix(digits, 16).ok()
+fn moment(fields: &[&str], place: usize) -> Option<u64> {
+    u64::from_str_radix(fields.get(place)?, 16).ok()
 }
 
-/// The bytes of a field of digits. `-` means no bytes.
-fn bytes_of(alloc: Global, digits: &str) -> Option<Vec<u8>> {
-    hex::decode(alloc, if digits == "-" { "" } else { digits }).ok()
+/// A field of a call as bytes. `-` means no bytes.
+fn bytes(alloc: Global, fields: &[&str], place: usize) -> Option<Vec<u8>> {
+    match *fields.get(place)? {
+        "-" => Some(Vec::new(alloc)),
+        digits => hex::decode(alloc, digits).ok(),
+    }
 }
 
 /// The state of a port with these registers, in the order of its byte form, that holds these bytes.
@@ -113,6 +117,19 @@ fn port_state(registers: [u8; 9], in_buffer: Vec<u8>) -> SerialState {
     }
 }
 
+/// The state of a clock with these registers. An alarm is set if a last word says `armed`.
+fn clock_state(fields: &[&str]) -> Option<RtcState> {
+    let [lr, mr, imsc, ris] = [
+        word(fields, 0)?,
+        word(fields, 2)?,
+        word(fields, 3)?,
+        word(fields, 4)?,
+    ];
+    let five = RtcState::from_five(lr, fields.get(1)?.parse().ok()?, mr, imsc, ris);
+    let armed = fields.len() > 5;
+    Some(RtcState { armed, ..five })
+}
+
 impl<'a> Devices<'a> {
     /// `None` without memory.
     pub fn new(alloc: Global, log: &'a Log) -> Option<Devices<'a>> {
@@ -127,57 +144,67 @@ impl<'a> Devices<'a> {
 
     /// Makes the call of these words, and returns the reply. `None`: there is no such call, or no memory.
     pub fn make(&mut self, alloc: Global, words: &[&str]) -> Option<String> {
-        let Devices {
-            object,
-            serial,
-            clock,
-            controller,
-        } = self;
-        match words {
-            ["sr", at] => two_digits(alloc, usize::from(serial.read(byte(at)?))),
-            ["sw", at, value] => done(alloc, serial.write(byte(at)?, byte(value)?)),
-            ["sq", digits] => match serial.enqueue_raw_bytes(&bytes_of(alloc, digits)?) {
+        let (name, fields) = words.split_first()?;
+        match name.as_bytes().first()? {
+            b's' => self.serial_call(alloc, name, fields),
+            b'c' => self.clock_call(alloc, name, fields),
+            _ => self.controller_call(alloc, name, fields),
+        }
+    }
+
+    fn serial_call(&mut self, alloc: Global, name: &str, fields: &[&str]) -> Option<String> {
+        let serial = &mut self.serial;
+        match name {
+            "sr" => two_digits(alloc, usize::from(serial.read(byte(fields, 0)?))),
+            "sw" => done(alloc, serial.write(byte(fields, 0)?, byte(fields, 1)?)),
+            "sq" => match serial.enqueue_raw_bytes(&bytes(alloc, fields, 0)?) {
                 Ok(count) => two_digits(alloc, count),
                 Err(error) => failure(alloc, error),
             },
-            ["si"] => done(alloc, serial.character_timeout()),
-            ["sp"] => done(alloc, serial.retry_interrupts().map_err(Error::Trigger)),
-            ["sc"] => two_digits(alloc, serial.fifo_capacity()),
-            ["sh"] => two_digits(alloc, usize::from(serial.interrupt_line())),
-            ["ss"] => {
+            "si" => done(alloc, serial.character_timeout()),
+            "sp" => done(alloc, serial.retry_interrupts().map_err(Error::Trigger)),
+            "sc" => two_digits(alloc, serial.fifo_capacity()),
+            "sh" => two_digits(alloc, usize::from(serial.interrupt_line())),
+            "ss" => {
                 let state = serial.state(alloc).ok()?;
                 self.restore(alloc, &state)
             }
-            ["sl", registers, held] => {
-                let registers = FromHex::from_hex(registers).ok()?;
-                self.restore(alloc, &port_state(registers, bytes_of(alloc, held)?))
+            "sl" => {
+                let registers = FromHex::from_hex(fields.first()?).ok()?;
+                self.restore(alloc, &port_state(registers, bytes(alloc, fields, 1)?))
             }
-            ["cr", now, at] => {
+            _ => None,
+        }
+    }
+
+    fn clock_call(&mut self, alloc: Global, name: &str, fields: &[&str]) -> Option<String> {
+        let clock = &mut self.clock;
+        match name {
+            "cr" => {
                 let mut bytes = UNREAD;
-                clock.read(offset(at)?, &mut bytes, moment(now)?);
+                clock.read(offset(fields, 1)?, &mut bytes, moment(fields, 0)?);
                 format!(in alloc; "{:08x}", u32::from_le_bytes(bytes)).ok()
             }
-            ["cw", now, at, value] => {
-                clock.write(offset(at)?, &word(value)?.to_le_bytes(), moment(now)?);
+            "cw" => {
+                let bytes = word(fields, 2)?.to_le_bytes();
+                clock.write(offset(fields, 1)?, &bytes, moment(fields, 0)?);
                 done(alloc, Ok(()))
             }
-            ["cs"] => clock_text(alloc, &clock.state()),
-            ["cl", lr, offset, mr, imsc, ris, others @ ..] => {
-                let offset = offset.parse().ok()?;
-                let [lr, mr, imsc, ris] = [word(lr)?, word(mr)?, word(imsc)?, word(ris)?];
-                let armed = match others {
-                    [] => false,
-                    ["armed"] => true,
-                    _ => return None,
-                };
-                let five = RtcState::from_five(lr, offset, mr, imsc, ris);
-                let state = RtcState { armed, ..five };
-                *clock = Rtc::from_state(&state, *object);
+            "cs" => clock_text(alloc, &clock.state()),
+            "cl" => {
+                *clock = Rtc::from_state(&clock_state(fields)?, self.object);
                 clock_text(alloc, &clock.state())
             }
-            ["kr", at] => two_digits(alloc, usize::from(controller.read(byte(at)?))),
-            ["kw", at, value] => {
-                let answer = controller.write(byte(at)?, byte(value)?);
+            _ => None,
+        }
+    }
+
+    fn controller_call(&mut self, alloc: Global, name: &str, fields: &[&str]) -> Option<String> {
+        let at = byte(fields, 0)?;
+        match name {
+            "kr" => two_digits(alloc, usize::from(self.controller.read(at))),
+            "kw" => {
+                let answer = self.controller.write(at, byte(fields, 1)?);
                 done(alloc, answer.map_err(Error::Trigger))
             }
             _ => None,

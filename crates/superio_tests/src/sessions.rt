@@ -1,6 +1,5 @@
 //! The programs to copy at work, with values from data sheets, from PCs and from guests: parts of a monitor, a whole one,
 //! and one that moves.
-#![tactic(auto, unfolding(superio_core::specs::Bits::has_bits))]
 
 use crate::objects::{Log, Object, port};
 use std::test::Fail;
