@@ -103,3 +103,5 @@ Consumes-append (Some xs) None after filled count room got rest h k first second
 Consumes-append (Some xs) (Some ys) None filled count room got rest h k first second = second
 Consumes-append (Some xs) (Some ys) (Some zs) filled count room got rest h k first second =
     rw take-append-take (first ∙ ap (λ more. take filled room ++ more) second ∙ sym (append_assoc (take filled room) (take count got) zs))
+
+pub ruleset reads = (room_holds-filled, Consumes-append)

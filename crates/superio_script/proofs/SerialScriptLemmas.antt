@@ -204,28 +204,28 @@ drain-step bytes old new reads few latch ends before at =
 
 -- ---- the lines that change nothing
 
-module _ (port : Port Line Counts Output) where
-  pub capacity-step : IsSerialLineStep line.Capacity (digits_reply ((64 - length port.state.in_buffer) ∷ [])) port port
+module _ (port : Port Line Counts Output) (reply : List ℕ) where
+  pub capacity-step : reply ≡ digits_reply ((64 - length port.state.in_buffer) ∷ []) → IsSerialLineStep line.Capacity reply port port
   unfolding IsSerialLineStep
-  capacity-step before at = (no_choice, ap (λ (s : State). digits_reply ((64 - length s.in_buffer) ∷ [])) at.state, at)
+  capacity-step is before at = (no_choice, is ∙ ap (λ (s : State). digits_reply ((64 - length s.in_buffer) ∷ [])) at.state, at)
 
-  pub save-step : IsSerialLineStep line.Save (digits_reply (serial_form port.state)) port port
+  pub save-step : reply ≡ digits_reply (serial_form port.state) → IsSerialLineStep line.Save reply port port
   unfolding IsSerialLineStep
-  save-step before at = (no_choice, ap (λ (s : State). digits_reply (serial_form s)) at.state, at)
+  save-step is before at = (no_choice, is ∙ ap (λ (s : State). digits_reply (serial_form s)) at.state, at)
 
-  pub calls-step : IsSerialLineStep line.Calls (with_lf (count_digits port.trigger.calls)) port port
+  pub calls-step : reply ≡ with_lf (count_digits port.trigger.calls) → IsSerialLineStep line.Calls reply port port
   unfolding IsSerialLineStep
-  calls-step before at = (no_choice, ap (λ (l : Line). with_lf (count_digits l.calls)) at.interrupt_line, at)
+  calls-step is before at = (no_choice, is ∙ ap (λ (l : Line). with_lf (count_digits l.calls)) at.interrupt_line, at)
 
-  pub events-step : IsSerialLineStep line.Events (counts_reply port.events) port port
+  pub events-step : reply ≡ counts_reply port.events → IsSerialLineStep line.Events reply port port
   unfolding IsSerialLineStep
-  events-step before at = (no_choice, ap counts_reply at.counts, at)
+  events-step is before at = (no_choice, is ∙ ap counts_reply at.counts, at)
 
-  pub output-step : IsSerialLineStep line.Output (digits_reply (written_bytes port.out)) port port
+  pub output-step : reply ≡ digits_reply (written_bytes port.out) → IsSerialLineStep line.Output reply port port
   unfolding IsSerialLineStep
-  output-step before at = (
+  output-step is before at = (
     record { loses = false; printed = written_bytes port.out; short = port.out.few },
-    ap digits_reply (is_printed before.output at.output),
+    is ∙ ap digits_reply (is_printed before.output at.output),
     at,
   )
     where
@@ -233,6 +233,8 @@ module _ (port : Port Line Counts Output) where
           written_bytes port.out ≡ output_or_chosen known (written_bytes port.out)
       is_printed None was = refl
       is_printed (Some all) was = was
+
+pub ruleset unchanged_lines = (capacity-step, calls-step, events-step, output-step)
 
 -- ---- a restore
 
@@ -399,3 +401,5 @@ drain-is_of_held coherence s is = by_latch (is_dlab s.line_control) refl
     by_latch : (latch : Bool) → is_dlab s.line_control ≡ latch → (if latch then [] else bytes_while_ready 64 s) ≡ (if latch then [] else s.in_buffer)
     by_latch true set = refl
     by_latch false hidden = while_ready-are_held coherence 64 s hidden is is.at_most_64
+
+pub ruleset session_laws = (state-is_of_history, drain-is_of_held, output-is_of_history)

@@ -25,6 +25,7 @@ fn room(alloc: Global, len: usize) -> Result<Vec<u8>, ScriptFault>
 }
 
 /// Reads until the room is full or the input ends. Returns the number of bytes read.
+#[tactic(auto, using(crate::proofs::LineLemmas::reads))]
 fn fill<R: Read>(reader: &mut R, room: &mut [u8]) -> io::Result<usize>
     ensures within { IfOk result (λ filled. filled ≤ length room.old) }
     ensures read { IfOk result (λ filled.

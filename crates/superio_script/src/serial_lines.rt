@@ -26,6 +26,7 @@ pub(crate) type Port = Serial<Line, Counts, Output>;
 
 /// Executes a line on the serial port and returns the reply. Only a line that takes memory can fail, for lack of it.
 /// The port is then unchanged.
+#[tactic(auto, using(crate::proofs::SerialScriptLemmas::unchanged_lines))]
 pub(crate) fn serial_line(
     alloc: Global,
     serial: &mut Port,

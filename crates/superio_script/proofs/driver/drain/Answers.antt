@@ -1,7 +1,6 @@
 -- A read of LCR or LSR changes nothing, and a read of RBR is the next one of those that take all bytes.
 use Rattle.vm_superio.specs.Links.{WriterCalls}
 use Rattle.std.proofs.Common.{[], ◌∷◌, ◌++◌, sym, ap, ◌∙◌, subst, append_assoc, append-nil, refl, arith}
-use Rattle.std.proofs.lemmas.Bool.{false≢true}
 use Rattle.superio_core.specs.Bits.{has_bits}
 use Rattle.superio_core.specs.Serial.Operations.{Other}
 use Rattle.superio_core.specs.Serial.{State}
@@ -28,12 +27,6 @@ loop-bytes-init g c =
       out = c.read.ensures.out;
     }
 
-pub push-requires : goal.push-requires
-push-requires g c =
-    let one = pass c.one_call.ensures.data_ready c.loop-bytes.invariant.hidden c.read-in-loop-bytes.ensures.step
-    (c.read-in-loop-bytes.ensures.rest_unchanged (refl {a = Other})) (sym c.shows_data.ensures ∙ c.loop-bytes-test.true) c.read-in-loop-bytes-2.ensures.step in
-    (omega arith, omega (arith, c.loop-bytes.invariant.room, one.less))
-
 pub loop-bytes-smaller : goal.loop-bytes-smaller
 loop-bytes-smaller g c =
     let one = pass c.one_call.ensures.data_ready c.loop-bytes.invariant.hidden c.read-in-loop-bytes.ensures.step
@@ -58,26 +51,11 @@ pub returns-clause-reads : goal.returns-clause-reads
 returns-clause-reads g c = rw (← append-nil c.loop-bytes.bytes.items)
     (c.loop-bytes.invariant.whole [] c.read-in-loop-bytes.new.self (c.read-in-loop-bytes.ensures.rest_unchanged (refl {a = Other})))
 
-pub returns-clause-at_most_64 : goal.returns-clause-at_most_64
-returns-clause-at_most_64 g c = omega (arith, c.loop-bytes.invariant.room)
-
-pub returns-clause-dlab_reads_nothing : goal.returns-clause-dlab_reads_nothing
-returns-clause-dlab_reads_nothing g c = λ set.
-    let value = lcr_read c.read.ensures.step in
-    let clear = ap (λ byte. has_bits byte 0x80) (sym value) ∙ sym c.shows_latch.ensures ∙ c.if-shows_latch.false in
-    absurd (false≢true (sym clear ∙ set))
-
 pub returns-clause-stops_when_not_ready : goal.returns-clause-stops_when_not_ready
 returns-clause-stops_when_not_ready g c = λ hidden.
     let value = lsr_read c.read-in-loop-bytes.ensures.step in
     ap (λ (port : Port g.row.T.Denot g.row.EV.Denot g.row.W.Denot). has_bits port.state.line_status 0x01) (c.read-in-loop-bytes.ensures.rest_unchanged (refl {a = Other}))
     ∙ ap (λ byte. has_bits byte 0x01) (sym value) ∙ sym c.shows_data.ensures ∙ c.loop-bytes-test.false
-
-pub returns-clause-trigger : goal.returns-clause-trigger
-returns-clause-trigger g c = c.read-in-loop-bytes.ensures.trigger ∙ c.loop-bytes.invariant.trigger
-
-pub returns-clause-out : goal.returns-clause-out
-returns-clause-out g c = c.read-in-loop-bytes.ensures.out ∙ c.loop-bytes.invariant.out
 
 pub returns-clause-all : goal.returns-clause-all
 returns-clause-all g c = λ is hidden.

@@ -20,15 +20,7 @@ returns-then-is_empty-clause-written g c =
     let all = before.part.whole ∙ ap (λ rest. before.part.written ++ rest) (before.left ∙ nil_from_length c.loop.rest.now empty) ∙ append-nil before.part.written in
     subst (λ bytes. Appends (g.W.Write.contents c.args.writer.now) (g.W.Write.contents c.loop.writer) bytes) (sym all) before.part.appended
 
-pub returns-in-Ok-eq0-clause-part : goal.returns-in-Ok-eq0-clause-part
-returns-in-Ok-eq0-clause-part g c =
-    let before = c.loop.invariant in
-    let new = g.W.Write.contents c.write.new.self in
-    WritesFirst-more before.part new c.loop.rest.now before.left c.in-Ok-eq0.field-0
-    (subst (λ answer. WriteAppends (g.W.Write.contents c.loop.writer) new answer c.loop.rest.now) c.in-Ok-eq0.is c.write.ensures.bytes)
 
-pub returns-in-Err-2-clause-part : goal.returns-in-Err-2-clause-part
-returns-in-Err-2-clause-part g c = WritesFirst-kept c.loop.invariant.part (g.W.Write.contents c.write.new.self) c.in-Err-2.ensures.bytes
 
 pub loop-preserved : goal.loop-preserved
 loop-preserved g c =
@@ -46,5 +38,3 @@ loop-preserved g c =
       }
     ]
 
-pub returns-clause-part : goal.returns-clause-part
-returns-clause-part g c = c.loop.invariant.part

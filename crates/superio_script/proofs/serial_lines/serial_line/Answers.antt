@@ -1,6 +1,6 @@
 -- Each line is a step of the session.
 use Rattle.superio_script.specs.Board.{IsSerialLineStep}
-use Rattle.superio_script.proofs.SerialScriptLemmas.{call_line-step, drain-step, capacity-step, output-step, calls-step, events-step}
+use Rattle.superio_script.proofs.SerialScriptLemmas.{call_line-step, drain-step}
 use Rattle.superio_script.proofs.serial_lines.serial_line.Goals as goal
 
 pub returns-in-Read-clause-step : goal.returns-in-Read-clause-step
@@ -21,18 +21,6 @@ pub returns-in-CharacterTimeout-clause-step : goal.returns-in-CharacterTimeout-c
 unfolding IsSerialLineStep
 returns-in-CharacterTimeout-clause-step c =
     rw (c.in-CharacterTimeout.is, c.result_reply-in-CharacterTimeout.ensures.timeout) (call_line-step c.character_timeout.ensures.step.step)
-
-pub returns-in-Capacity-clause-step : goal.returns-in-Capacity-clause-step
-returns-in-Capacity-clause-step c = rw (c.in-Capacity.is, c.reply_byte-in-Capacity.ensures, c.fifo_capacity.ensures.value) (capacity-step c.args.serial.now)
-
-pub returns-in-Output-clause-step : goal.returns-in-Output-clause-step
-returns-in-Output-clause-step c = rw (c.in-Output.is, c.reply_digits-in-Output.ensures, c.bytes.ensures, c.writer.ensures) (output-step c.args.serial.now)
-
-pub returns-in-Calls-clause-step : goal.returns-in-Calls-clause-step
-returns-in-Calls-clause-step c = rw (c.in-Calls.is, c.reply_count.ensures, c.calls.ensures, c.interrupt_evt.ensures) (calls-step c.args.serial.now)
-
-pub returns-in-Events-clause-step : goal.returns-in-Events-clause-step
-returns-in-Events-clause-step c = rw (c.in-Events.is, c.reply_events.ensures, c.events.ensures) (events-step c.args.serial.now)
 
 pub returns-in-Drain-clause-step : goal.returns-in-Drain-clause-step
 returns-in-Drain-clause-step c =
