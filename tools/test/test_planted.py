@@ -75,7 +75,7 @@ OF_JS = [
     (f"{PYTHON}/registers.py", '"ICR", 0x01C', '"ICR", 0x020', "module.mjs has other bytes or tables"),
 ]
 OF_PAGE = [
-    (f"{JS}/page/why.mjs", "RBR gives the oldest byte", "RBR gives a byte", "try.html has packed other modules"),
+    ("bindings/js/page/why.mjs", "RBR gives the oldest byte", "RBR gives a byte", "try.html has packed other modules"),
     (DEVICES, "### The character timeout", "### A timeout", "DEVICES.md#the-character-timeout leads nowhere"),
 ]
 # The lines of a document, and whether its blocks do what they show.

@@ -45,26 +45,22 @@ class Programs(CopyTest):
                 self.assertEqual((status, sum_of(printed)), (0, (count, 0)) if command == RIGHT else (1, (0, count)))
 
     def test_scripts(self):
-        names = [path.name for path in (ROOT / "tests").glob("*.txt")]
+        names = [f"tests/{path.name}" for path in (ROOT / "tests").glob("*.txt")]
         for name in names:
-            self.write(f"tests/{name}", "kr 04  kr 04\n")
-        self.judge_programs("tools/checks/scripts", len(names))
+            self.write(name, "kr 04  kr 04\n")
+        self.write("examples/linux-boot/boot.recording.xz", lzma.compress(b"kr 04  kr 04\n\n2 kr 04  kr 04\n"))
+        self.write("README.md", "```\nkr 04  kr 04\n```\n")
+        self.judge_programs("tools/checks/scripts", len(names) + 3)
+        self.write("examples/one.script", "kw 04 04\n")
+        self.write("README.md", "```\n$ echo kr 04 | superio\nkr 05\n```\n")
+        _, printed, _ = self.run_tool("tools/checks/scripts", program(self.root / "program", RIGHT))
+        self.assertEqual(sum_of(printed), (len(names) + 2, 2))
+        for says in ("no document shows examples/one.script with its replies", "printed 'kr 04\\n'"):
+            self.assertIn(says, printed)
 
-    def test_transcripts(self):
-        self.write("examples/one.script", "kr 04\n")
-        self.write("README.md", "```\nkr 04  kr 04\n```\n\n```\n$ echo kr 04 | superio\nkr 04\n```\n")
-        self.judge_programs("tools/checks/transcripts", 3, [it for it in WRONG if it != STATUS])
-
-    def test_replay(self):
-        for name in ("boot", "console"):
-            self.write(f"examples/linux-boot/{name}.recording.xz", lzma.compress(b"kr 04  kr 04\n\n2 kr 04  kr 04\n"))
-        self.judge_programs("tools/replay", 4)
-
-    def test_a_program_that_does_nothing(self):
-        nothing = program(self.root / "program", "true")
-        for tool, *words in (("saved_forms", "--random", "0"), ("failing_io",)):
-            status, printed, _ = self.run_tool(f"tools/checks/{tool}", nothing, *words)
-            self.assertEqual((status, sum_of(printed)[1] > 0), (1, True), printed)
+    def test_failing_io(self):
+        printed = self.run_tool("tools/checks/failing_io", program(self.root / "program", "true"))[1]
+        self.assertEqual(sum_of(printed)[0], 0)
 
     def test_calls(self):
         """Each library notices a recording that is wrong, and a fault of its own."""
