@@ -1,13 +1,12 @@
 """Tests that each check notices a wrong result: what it compares is right, and then right but for one part."""
 import lzma
 import os
-import random
 import shutil
 import subprocess
 import sys
 import unittest
 from dataclasses import replace
-from itertools import chain, islice, repeat
+from itertools import chain, repeat
 from pathlib import Path
 from unittest import mock
 
