@@ -51,9 +51,9 @@ pieces_of-last_line separator (x ∷ xs) none some = whole separator [] (λ b. r
 pub length-lines_of-le : (xs : List ℕ) → length (lines_of xs) ≤ length xs
 length-lines_of-le [] = omega arith
 length-lines_of-le (x ∷ xs) = elim (x == 10) as (λ found. length (if found then [] ∷ lines_of xs else prepend_to_first x (lines_of xs)) ≤ length (x ∷ xs)) [
-      | true ↦ omega (arith, length-lines_of-le xs)
-      | false ↦ more (lines_of xs) (length-lines_of-le xs)
-    ]
+  | true ↦ omega (arith, length-lines_of-le xs)
+  | false ↦ more (lines_of xs) (length-lines_of-le xs)
+]
   where
     more : (lines : List (List ℕ)) → length lines ≤ length xs → length (prepend_to_first x lines) ≤ length (x ∷ xs)
     more [] few = omega arith

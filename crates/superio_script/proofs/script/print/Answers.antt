@@ -20,8 +20,6 @@ returns-then-is_empty-clause-written g c =
     let all = before.part.whole ∙ ap (λ rest. before.part.written ++ rest) (before.left ∙ nil_from_length c.loop.rest.now empty) ∙ append-nil before.part.written in
     subst (λ bytes. Appends (g.W.Write.contents c.args.writer.now) (g.W.Write.contents c.loop.writer) bytes) (sym all) before.part.appended
 
-
-
 pub loop-preserved : goal.loop-preserved
 loop-preserved g c =
     let before = c.loop.invariant in
@@ -37,4 +35,3 @@ loop-preserved g c =
         left = before.left ∙ sym (ap (λ (part : Bor (List ℕ)). part.now) w.rest-is);
       }
     ]
-
