@@ -50,7 +50,7 @@ class Caller(Monitor):
         return "never" if due is None else f"{due:08x}", ()
 
     def ch(self):
-        return f"{self.clock.raw_status() & self.clock.last('IMSC') & 1:02x}", ()
+        return f"{self.clock.line():02x}", ()
 
 
 def struct_of_port(source):

@@ -104,7 +104,7 @@ class Monitor:
         self.ask(times)
 
     def follow_clock(self):
-        line = "up" if self.clock.raw_status() & self.clock.last("IMSC") else "down"
+        line = "up" if self.clock.line() else "down"
         due = seconds_due(self.clock, self.now)
         self.printed.append(f"clock: line {line}, {'no alarm' if due is None else f'alarm in {due} s'}")
 

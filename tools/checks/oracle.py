@@ -223,6 +223,10 @@ class Clock(Device):
             bits = (bits | fact.made.get("raised", 0)) & ~fact.made.get("cleared", 0)
         return bits
 
+    def line(self):
+        """The level of the interrupt line: bit 0 of the raw status, if the mask has it."""
+        return self.raw_status() & self.last("IMSC") & 1
+
     def state(self):
         return [self.raw_status() if name == "raised" else self.last(name) for name in CLOCK_FIELDS]
 

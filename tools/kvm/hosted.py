@@ -148,7 +148,7 @@ class Hosted(Monitor):
         self.ask(self.call("character_timeout")[2])
 
     def follow_clock(self):
-        is_up = self.clock.raw_status() & self.clock.last("IMSC") & 1
+        is_up = self.clock.line()
         if is_up != self.is_up:
             self.printed.append(f"line 8 {is_up}")
         self.is_up, due = is_up, seconds_due(self.clock, self.moment)
