@@ -1,89 +1,103 @@
 /*
- * Drives the monitor of examples/c from standard input, in place of its `main`. A line is a letter and hexadecimal
- * numbers:
- *
- *   w PORT VALUE     the guest's out              r PORT         the guest's in, whose byte is printed
- *   m OFFSET VALUE   a write to memory, OFFSET from the clock's first address, which may be negative
- *   i COUNT BYTE     as many of this byte are input, and offered
- *   d DOWN           the interrupt line takes nothing, or takes requests again
- *   n SECONDS        the time                     a              the alarm's timer goes off
- *   t                a turn of the event loop     h              the guest's handler runs while it is interrupted
- *   g                the machine moves            f WHICH HOW    later loads of the port (1) or the clock (2) give HOW
- *   e                input is offered although the guest is not ready
- *   o                another machine takes the place of this one
- *
- * With an argument the interrupt line is a level, which is printed after each line.
+ * Drives the monitor of examples/c by the lines of demo.txt, which come on standard input, in place of its `main`.
+ * Prints them, and beside each what the monitor prints for it.
  */
+#include <ctype.h>
+#include <setjmp.h>
+#include <stdio.h>
+#include <stdlib.h>
+#include <string.h>
+#include <superio.h>
+
+static jmp_buf ended;
+static char said[4096];                  /* what the monitor prints for a line */
+static unsigned long long first, second; /* the numbers of the line */
+
+/* These take the place of what the monitor calls. The line `move` says which load gives which status. */
 #define main demo_main
+#define printf(...) sprintf(said + strlen(said), __VA_ARGS__)
+#define puts(text) printf("%s\n", text)
+#define fprintf(file, ...) printf(__VA_ARGS__)
+#define exit(status) (printf("status %d\n", status), longjmp(ended, 1))
+#define superio_serial_load(...) (first == 1 ? (uint32_t)second : superio_serial_load(__VA_ARGS__))
+#define superio_rtc_load(...) (first == 2 ? (uint32_t)second : superio_rtc_load(__VA_ARGS__))
 #include "monitor.c"
 #undef main
 
-static unsigned failing;
-static uint32_t fault;
+static struct machine machine;
 
-/* The linker gives the calls of the monitor to these, by its option --wrap. */
-uint32_t __real_superio_serial_load(superio_serial *port, const uint8_t *bytes, size_t count);
-uint32_t __real_superio_rtc_load(superio_rtc *clock, const uint8_t *bytes, size_t count);
-
-uint32_t __wrap_superio_serial_load(superio_serial *port, const uint8_t *bytes, size_t count) {
-    return failing == 1 ? fault : __real_superio_serial_load(port, bytes, count);
+static void add_input(size_t count, int byte) {
+    size_t length = strlen(machine.input);
+    check(length + count < sizeof machine.input, "keeping the input");
+    memset(machine.input + length, byte, count);
+    machine.input[length + count] = 0;
+    feed(&machine);
 }
 
-uint32_t __wrap_superio_rtc_load(superio_rtc *clock, const uint8_t *bytes, size_t count) {
-    return failing == 2 ? fault : __real_superio_rtc_load(clock, bytes, count);
+static void read_port(uint16_t port) {
+    uint8_t byte = port_read(&machine, port); /* which may print */
+    printf("%02x\n", byte);
 }
 
-static void run_handler(struct machine *machine) {
+static void run_handler(void) {
     int received = 0;
-    while (machine->is_interrupted) {
-        machine->is_interrupted = false;
-        received += handle(machine);
+    while (machine.is_interrupted) {
+        machine.is_interrupted = false;
+        received += handle(&machine);
     }
     printf("received %d\n", received);
 }
 
-static void serve(struct machine *machine, char word, long long first, long long second) {
-    size_t length;
-    switch (word) {
-    case 'w': port_write(machine, (uint16_t)first, (uint8_t)second); break;
-    case 'r': printf("%02x\n", port_read(machine, (uint16_t)first)); break;
-    case 'm': memory_write(machine, (uint64_t)(CLOCK + first), (uint32_t)second); break;
-    case 'i':
-        length = strlen(machine->input);
-        memset(machine->input + length, (int)second, (size_t)first);
-        machine->input[length + (size_t)first] = 0;
-        feed(machine);
-        break;
-    case 'd': machine->line_is_down = first != 0; break;
-    case 'n': machine->now = (uint64_t)first; break;
-    case 'a': alarm_is_due(machine); break;
-    case 't': turn(machine); break;
-    case 'h': run_handler(machine); break;
-    case 'g': *machine = migrate(machine); break;
-    case 'e': machine->feeds_early = true; break;
-    case 'f':
-        failing = (unsigned)first;
-        fault = (uint32_t)second;
-        break;
-    default: check(false, "a word of no form");
-    }
+#define IS(name) (strcmp(word, name) == 0)
+
+static void carry_out(const char *word) {
+    struct machine made = {.serial = superio_serial_new(), .clock = superio_rtc_new(), .now = 1000};
+    made.has_level = IS("level");
+    if (IS("edges") || IS("level")) machine = made;
+    else if (IS("out")) port_write(&machine, (uint16_t)first, (uint8_t)second);
+    else if (IS("in")) read_port((uint16_t)first);
+    else if (IS("store")) memory_write(&machine, CLOCK + first, (uint32_t)second);
+    else if (IS("handler")) run_handler();
+    else if (IS("input")) add_input((size_t)first, (int)second);
+    else if (IS("early")) machine.feeds_early = true;
+    else if (IS("turn")) turn(&machine);
+    else if (IS("down")) machine.line_is_down = true;
+    else if (IS("up")) machine.line_is_down = false;
+    else if (IS("time")) machine.now = first;
+    else if (IS("alarm")) alarm_is_due(&machine);
+    else if (IS("move")) machine = migrate(&machine);
+    else check(false, "reading a line");
+    if (machine.has_level && !IS("level")) printf("level %d\n", machine.is_interrupted);
 }
 
-int main(int count, char **arguments) {
-    struct machine fresh = {.serial = superio_serial_new(), .clock = superio_rtc_new(), .now = 1000};
-    fresh.has_level = count > 1;
-    struct machine machine = fresh;
-    char line[80], word;
-    (void)arguments, (void)demo_main;
+/* Carries out a line, and joins what the monitor prints for it. */
+static void follow(const char *line, char *joined) {
+    char word[16] = "";
+    first = second = 0;
+    said[0] = joined[0] = '\0';
+    sscanf(line, "%15s %llx %llx", word, &first, &second);
+    if (setjmp(ended) == 0)
+        carry_out(word);
+    for (char *part = strtok(said, "\n"); part; part = strtok(NULL, "\n"))
+        strcat(strcat(joined, *joined ? "; " : ""), part);
+}
+
+#undef printf
+int main(void) {
+    char line[1024], joined[2 * sizeof said];
+    (void)demo_main;
     while (fgets(line, sizeof line, stdin)) {
-        unsigned long long first = 0, second = 0;
-        check(sscanf(line, "%c %llx %llx", &word, &first, &second) >= 1, "reading a line");
-        if (word == 'o')
-            machine = fresh;
+        char *behind = strstr(line, "  ");
+        if (*line == '#' || *line == '\n') {
+            printf("%s", line);
+            continue;
+        }
+        *(behind ? behind : strchr(line, '\n')) = '\0';
+        follow(line, joined);
+        if (*joined)
+            printf("%-18s  %s\n", line, joined);
         else
-            serve(&machine, word, (long long)first, (long long)second);
-        if (machine.has_level && word != 'o')
-            printf("level %d\n", machine.is_interrupted);
+            printf("%s\n", line);
     }
     return 0;
 }
