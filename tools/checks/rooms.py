@@ -65,7 +65,7 @@ def make_room(folder, crate, texts=()):
 
 
 def run(command, folder):
-    """Runs a command by `env`, which says if it is not there. Returns the lines that it prints, and its status."""
+    """Runs a command in a folder, by `env`, which says if there is none. Returns the lines printed, and the status."""
     ran = subprocess.run(["env", *command], cwd=folder, stdin=subprocess.DEVNULL, stdout=subprocess.PIPE,
                          stderr=subprocess.STDOUT, text=True, errors="replace")
     return ran.stdout.splitlines(), ran.returncode
