@@ -1,47 +1,38 @@
 """The functions of Rattle's and Rust's sources, with their clauses."""
 import re
-from dataclasses import dataclass, replace
-
-from documents import ROOT
+from dataclasses import dataclass
 
 # What is no code: comments, strings, characters.
 NO_CODE = re.compile(r'//[^\n]*|/\*.*?\*/|r(#*)".*?"\1|"(?:\\.|[^"\\])*"|\'(?:\\.|[^\'\\\n])\'', re.S)
-BLOCK = re.compile(r"^[ \t]*(?:pub )?(?:unsafe\s+)?(impl|trait)\b([^{;]*)\{", re.M)
-ENSURES = re.compile(r"\bensures\b(\*?)\s*(\w*)\s*\{")
+BLOCK = re.compile(r"^ *(?:pub )?(?:unsafe )?(impl|trait)\b([^{;]*)\{", re.M)
+HEAD = re.compile(r"(\bpub (?:const |unsafe |extern +)*)?\bfn (\w+)")
+# What follows a head: a clause, or else the body or what stands in its place.
+CLAUSE_OR_BODY = re.compile(r"\b(requires|ensures)(\*?)\s*(\w*)\s*\{|\{|;$", re.M)
 NESTED = re.compile(r"<[^<>]*>")
 
 
 @dataclass(frozen=True)
 class Function:
-    """A function of a source: its path, whether a user of the crate can call it, the header of its `impl`, its place,
-    and its clauses, each as a star or nothing, its name, which may be empty, and its text."""
+    """A function of a source: its path, whether a user of the crate can call it, the header of its `impl`, where it
+    begins and ends, and the names of its clauses, which may be empty. The main clause is the one that a goal is about
+    which names none: the only one, or else the only one with a star."""
     path: tuple
     is_public: bool
     header: str
     start: int
     end: int
     has_body: bool
-    clauses: tuple = ()
+    clauses: tuple
+    main_clause: str
 
     @property
     def name(self):
         return self.path[-1]
 
-    @property
-    def main_clause(self):
-        """The clause that a goal is about which names none: the only one, or else the only one with a star."""
-        clauses = self.clauses if len(self.clauses) == 1 else [it for it in self.clauses if it[0]]
-        return clauses[0][1] if len(clauses) == 1 else ""
-
     def lines(self, text):
         """The first and last line, with the attributes and comments above the head."""
-        above = re.search(r"(?:^[ \t]*(?:#\[|//).*\n)*\Z", text[:text.rfind("\n", 0, self.start) + 1], re.M)
+        above = re.search(r"(?:^ *(?:#\[|//).*\n)*\Z", text[:text.rfind("\n", 0, self.start) + 1], re.M)
         return text.count("\n", 0, above.start()) + 1, text.count("\n", 0, self.end) + 1
-
-    @property
-    def texts(self):
-        """The text of each clause by its name."""
-        return {name: text for _, name, text in self.clauses}
 
     def is_named(self, path):
         """Whether `path` is the end of this function's path. It may leave out the modules between."""
@@ -50,6 +41,11 @@ class Function:
 
     def __str__(self):
         return "::".join(self.path)
+
+
+def code_of(text):
+    """A source with blanks in place of all that is no code."""
+    return NO_CODE.sub(lambda found: re.sub(r"[^\n]", " ", found[0]), text)
 
 
 def without_generics(text):
@@ -69,24 +65,6 @@ def end_of_braces(code, at):
     return len(code)
 
 
-def body_of(code, at):
-    """The place of the body of the function whose head ends at a place, and the one after it. Without a body these are
-    the place of its `;`."""
-    depth, last = 0, at
-    while found := re.compile(r"[()\[\]{;]").search(code, at):
-        at, sign = found.end(), found[0]
-        depth += (sign in "([") - (sign in ")]")
-        if sign == ";" and depth == 0:
-            return found.start(), found.start()
-        if sign == "{" and depth == 0:
-            end = end_of_braces(code, found.start())
-            # What precedes the brace of a clause, and never that of a body.
-            if not re.search(r"\b(?:requires|ensures|ghost)\b\*?\s*(?:\w+\s*:?)?\s*$", code[last:found.start()]):
-                return found.start(), end
-            at = last = end
-    return len(code), len(code)
-
-
 def owner_of(header):
     """The type whose functions a block with this header has."""
     words = without_generics(header.replace("->", "")).split()
@@ -95,25 +73,19 @@ def owner_of(header):
 
 def functions_of(text):
     """The functions of a source, in the order of their heads."""
-    # Blanks are in place of all that is no code.
-    code = NO_CODE.sub(lambda found: re.sub(r"[^\n]", " ", found[0]), text)
+    code = code_of(text)
     blocks = [(found.start(), end_of_braces(code, found.end() - 1), *found.groups()) for found in BLOCK.finditer(code)]
-    for head in re.finditer(r"(\bpub (?:const |unsafe |extern\s+)*)?(\bfn\s+(\w+))", code):
-        body, end = body_of(code, head.end())
-        around = [it for it in blocks if it[0] <= head.start() < it[1]]
-        _, _, kind, header = around[-1] if around else (0, 0, "", "")
-        clauses = [(*found.groups(), text[found.end():end_of_braces(code, found.end() - 1) - 1])
-                   for found in ENSURES.finditer(code, head.end(), body)]
-        is_public = bool(head[1] or kind == "trait" or re.search(r"\bfor\b", without_generics(header)))
-        path = (owner_of(header), head[3]) if header else (head[3],)
+    for head in HEAD.finditer(code):
+        clauses, at = [], head.end()
+        while (found := CLAUSE_OR_BODY.search(code, at)) and found[1]:
+            at = end_of_braces(code, found.end() - 1)
+            clauses += [(found[2], found[3])] if found[1] == "ensures" else []
+        has_body = bool(found) and found[0] == "{"
+        end = end_of_braces(code, found.start()) if has_body else found.start() if found else len(code)
+        kind, header = next((it[2:] for it in reversed(blocks) if it[0] <= head.start() < it[1]), ("", ""))
+        is_public = bool(head[1] or kind == "trait" or " for " in header)
+        path = (owner_of(header), head[2]) if header else (head[2],)
+        names, starred = [name for _, name in clauses], [name for star, name in clauses if star]
+        main = names[0] if len(names) == 1 else starred[0] if len(starred) == 1 else ""
         header = header if kind == "impl" else ""
-        yield Function(path, is_public, header, head.start(2), end, body < end, tuple(clauses))
-
-
-def functions_of_crate(crate):
-    """Each function of a crate, by its path from the crate on, in the order of its sources."""
-    source = ROOT / "crates" / crate / "src"
-    for path in sorted(source.rglob("*.rt")):
-        modules = [part for part in path.relative_to(source).with_suffix("").parts if part not in ("lib", "main")]
-        for function in functions_of(path.read_text(encoding="utf-8")):
-            yield replace(function, path=(crate, *modules, *function.path))
+        yield Function(path, is_public, header, head.start(), end, has_body, tuple(names), main)
