@@ -17,24 +17,18 @@ TIMEOUT = 60  # seconds that one run of the program may take
 
 def build(*steps):
     """Runs commands of rt, each in a crate's folder, the lowest crate first: rt passes over the sources of a crate once
-    more if it has to build the libraries too. Standard error says how far they are. If one fails, the error names a
-    file with what they printed. A proof takes as many processors as RT_JOBS says, or two: each reads the libraries
-    anew, so that more cost much and save little time."""
+    more if it has to build the libraries too. If one fails, the error names a file with what they printed. A proof
+    takes RT_JOBS processors, or two: each reads the libraries anew, so that more cost much and save little time."""
     if not shutil.which("rt"):
-        raise NotBuilt(f"{steps[-1][0]} was not built: rt, of the Rattle kit, is not there")
-    with tempfile.NamedTemporaryFile("w", prefix=f"{steps[-1][0]}-", suffix=".log", delete=False) as log:
-        for crate, command in steps:
-            print(f"rt {command} in crates/{crate}", file=sys.stderr)
+        raise NotBuilt("rt is not there, of the Rattle kit, which alone builds this")
+    with tempfile.NamedTemporaryFile("wb", prefix=f"{steps[-1][0]}-", suffix=".log", delete=False) as log:
+        for number, (crate, command) in enumerate(steps, 1):
+            print(f"step {number} of {len(steps)}: rt {command} in crates/{crate}", file=sys.stderr)
             words = ["rt", *command.split(), "--jobs", os.environ.get("RT_JOBS", "2")]
-            with subprocess.Popen(words, cwd=CRATES / crate, stdin=subprocess.DEVNULL, stdout=subprocess.PIPE,
-                                  stderr=subprocess.STDOUT, text=True, errors="replace") as process:
-                for line in process.stdout:
-                    log.write(line)
-                    if line.startswith("so far: "):
-                        print(f"    {line}", end="", file=sys.stderr)
-            if process.returncode:
-                raise NotBuilt(f"{crate} was not built: `rt {command}` ended with status {process.returncode}, and "
-                               f"{log.name} has what it printed")
+            ran = subprocess.run(words, cwd=CRATES / crate, stdin=subprocess.DEVNULL, stdout=log, stderr=log)
+            if ran.returncode:
+                raise NotBuilt(f"`rt {command}` ended with status {ran.returncode} in crates/{crate}, and {log.name} "
+                               "has what it printed")
     os.unlink(log.name)
 
 

@@ -20,26 +20,10 @@ GATE = [
     (TRIED + "3 passed, 0 failed", 0, {"cases": 3, "of *": 3}, (3, 0, 0)),
     (TRIED + "3 passed, 0 failed", 0, {"cases": 4, "of *": 3}, (3, 1, 0)),
     (TRIED + "3 passed, 0 failed", 0, {"of *": 3}, (3, 1, 0)),
-    (TRIED + "3 passed, 0 failed", 0, {"cases": 3, "of *": 1, "of d": 3}, (3, 1, 0)),
+    (TRIED + "3 passed, 0 failed", 0, {"cases": 3, "of *": 1, "of d": 2}, (3, 0, 0)),
+    (TRIED + "3 passed, 0 failed", 0, {"cases": 3, "of *": 2, "of d": 2}, (3, 1, 0)),
     ("not tried: cases\n3 passed, 0 failed, 2 skipped", 0, {"cases": 3}, (3, 0, 2)),
     ("not tried: cases\n3 passed, 0 failed", 0, {"cases": 3}, (3, 1, 0)),
-]
-# A source, and what is left of it, or a part of what refuses it.
-ERASED = [
-    ("pub fn f(a: u8) -> u8\n    requires small { a ≤ 3 }\n    ensures { let b = 1 in\n    result ≡ b }\n{\n    1\n}\n",
-     "// Clauses in lib.rt: requires small, returns.\npub fn f(a: u8) -> u8 {\n    1\n}\n"),
-    ("trait A {\n    ghost held: { Self → ℕ };\n\n    fn f(&self) -> u8\n        ensures { result ≡ 1 };\n}\n",
-     "trait A {\n    fn f(&self) -> u8;\n}\n"),
-    ("ghost use Rattle.{◌≡◌, []};\n\n#[tactic(auto)]\n#[inline]\nfn f() {}\n", "#[inline]\nfn f() {}\n"),
-    ('const A: &str = "ensures { ghost use a; } \\" {"; // requires {\n// ghost use a;\n',) * 2,
-    ("fn f() -> bool {\n    matches!(A, A::B) && 1 != 2\n}\n",) * 2,
-    ("fn f() -> u8\n    ensures { 1 } { 2 }\n", "lib.rt:2: "),
-    ("ghost use a; const A: u8 = 1;\n", "lib.rt:1: "),
-    ("fn f()\n    ensures { (1 }\n{}\n", "lib.rt"),
-    ("fn f()\n    ensures value 1\n{}\n", "lib.rt:2: `ensures` "),
-    ("fn f() {\n    prove!(1 == 1);\n}\n", "lib.rt:2: `prove!` "),
-    ("#[cfg(test)]\nmod tests;\n", "lib.rt:1: `#` "),
-    ("fn f(a: u64) -> usize {\n    a as usize\n}\n", "lib.rt:2: `as usize` "),
 ]
 # An edit of the first function, and what becomes of it by the lines that `rt check` prints with its status.
 SOURCE = ("pub fn larger(first: u32, second: u32) -> u32\n    ensures left { first ≤ result }\n"
@@ -50,7 +34,7 @@ FAILS = "fn tiny::larger: no proof: expected answers in ./proofs/larger/Answers.
 NOTE = "note: src/lib.rt:{}:1: it is not proved that it holds (`{}`)\n"
 PROOF = "./proofs/{}/Answers.antt:3:1: error: {}\n"
 RIGHT, END = "returns-then-clause-right", "only=2 proved=1\n"
-JOINED = "note: `loop` of proofs/larger/Answers.antt must prove: record {{{} : record {{{} : 1}}; room : 2}}\n"
+JOINED = "note: `loop` of proofs/larger/Answers.antt must prove: record {{{} : record {{b : 1; {} : 2}}; room : 3}}\n"
 WRONG_BODIES = [
     (FAILS + NOTE.format(1, RIGHT) + END, 1, "REFUSED: tiny::larger: right"),
     (FAILS + PROOF.format("larger", f"`{RIGHT}`: they differ") + END, 1, "REFUSED: tiny::larger: right"),
@@ -74,22 +58,23 @@ class Judges(unittest.TestCase):
         for printed, status, floors, counts in GATE:
             with self.subTest(printed, floors=floors):
                 self.assertEqual(gate["judge"](printed.splitlines(), status, floors)[0], counts)
-        self.assertEqual([it.name for it in gate["CHECKS"]], list(gate["read_floors"]()))
+        self.assertEqual([check for check, rows in gate["read_floors"]().items() if not rows], [])
 
     def erase(self, *words):
         ran = subprocess.run([TOOLS / "erase", *words], stdout=subprocess.PIPE, stderr=subprocess.STDOUT, text=True)
         return ran.returncode, ran.stdout
 
     def test_the_eraser(self):
-        for source, expected in ERASED:
+        cases = (TOOLS / "test" / "erased.txt").read_text(encoding="utf-8").split("====\n")[1:-1]
+        for source, expected in (case.split("->\n") for case in cases):
             with self.subTest(source), tempfile.TemporaryDirectory() as folder:
                 folders = Path(folder, "source"), Path(folder, "target")
                 for it in folders:
                     it.mkdir()
                 (folders[0] / "lib.rt").write_text(source, encoding="utf-8")
                 (status, said), made = self.erase(*folders), folders[1] / "mod.rs"
-                if expected.startswith("lib.rt"):
-                    self.assertEqual((status, made.exists(), expected in said), (1, False, True), said)
+                if expected.startswith("lib.rt:"):
+                    self.assertEqual((status, made.exists(), expected.strip() in said), (1, False, True), said)
                     continue
                 text = made.read_text(encoding="utf-8")
                 self.assertEqual(text.split("\n", 2)[2], expected)
