@@ -20,7 +20,7 @@ def build(*steps):
     more if it has to build the libraries too. If one fails, the error names a file with what they printed. A proof
     takes RT_JOBS processors, or two: each reads the libraries anew, so that more cost much and save little time."""
     if not shutil.which("rt"):
-        raise NotBuilt("rt is not there, of the Rattle kit, which alone builds this")
+        raise NotBuilt("nothing was built: rt, of the Rattle kit, is not there")
     with tempfile.NamedTemporaryFile("wb", prefix=f"{steps[-1][0]}-", suffix=".log", delete=False) as log:
         for number, (crate, command) in enumerate(steps, 1):
             print(f"step {number} of {len(steps)}: rt {command} in crates/{crate}", file=sys.stderr)

@@ -137,8 +137,7 @@ def report(results):
 
 
 def run_check(count, said=None, kind="checks"):
-    """Has a check count into a tally, prints the sum, and ends the tool. One without arguments gives what it says of
-    itself."""
+    """Has a check count into a tally, and ends the tool. One without arguments gives what it says of itself."""
     if said:
         takes_no_argument(said)
     tally = Tally(kind)
