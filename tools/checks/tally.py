@@ -63,7 +63,7 @@ class Tally:
 
     def __init__(self, kind="checks"):
         self.passed = self.failed = self.skipped = 0
-        self.tried, self.kind, self.missing = Tried(), kind, set()
+        self.tried, self.kind = Tried(), kind
 
     def of(self, kind):
         """Names the kind of what is counted from now on."""
@@ -79,12 +79,10 @@ class Tally:
         return is_good
 
     def skip(self, missing, what):
-        """Counts a check that cannot run, for want of something that is named once."""
+        """Counts a check that cannot run, for want of something."""
         self.skipped += 1
         self.tried.leave_out(self.kind)
-        if missing not in self.missing:
-            self.missing.add(missing)
-            print(f"skipped: {missing} is not there, for {what} and perhaps more")
+        print(f"skipped: {missing} is not there, for {what}")
 
     def has(self, tool, what):
         """Whether a tool is there. If not, what it is for is skipped."""
@@ -121,8 +119,8 @@ class Tally:
 
 
 def report(results):
-    """Counts what a check yields: a kind, and a message or `None` for a pass. Prints the sum, and returns the exit
-    status. A file that cannot be used, or a program that is not built, counts as failed."""
+    """Counts what a check yields: a kind, and a message or `None` for a pass. Returns the exit status. A file that
+    cannot be used, or a program that is not built, counts as failed."""
     tally = Tally()
     try:
         for kind, message in results:
