@@ -1,82 +1,146 @@
-"""Edits, which turn one function of a crate into a wrong one: what each says, where it is, and which share a round."""
+"""Edits, each of which turns a function of a crate into a wrong one, and what `rt check` says of a crate with some."""
 import re
-from collections import Counter, namedtuple
+from collections import Counter, defaultdict
 from dataclasses import dataclass, field
 from pathlib import Path
 
-# A text that takes the place of another in a line of a file.
-Replacement = namedtuple("Replacement", "file line start end text")
+from contracts import functions_of
+
+REFUSED = "REFUSED: "  # begins what became of an edit, if it is as it has to be
+VERDICT = re.compile(r"only=(\d+) proved=(\d+)$|logic=(not-)?proved\b")
+UNREAD = re.compile(r"(?:\./)?(?:src|specs)/\S+ error(?!: `)")
+UNPROVED = re.compile(r"fn (\S+): (?:not proved|no proof)\b(.*)")
+OPEN = re.compile(r"(?:note: )?(?:\./)?((?:src|proofs)/[^:\s]+):(\d+):\d+: (error: .*|.*it is not proved.*)")
+GOAL = re.compile(r"\((?:in )?`([^`]+)`\)|^error: `([^`]+)`: ")
+# A text that the prover could not read refuses nothing. What cites another function's proof fails with that one.
+NO_REFUSAL = re.compile(r"is not in scope|has no field|is no name|operand is missing|expected the end|cannot continue"
+                        r"|was not admitted")
+# A goal that joins several clauses.
+JOINED = re.compile(r"note: `([^`]+)` of (?:\./)?(proofs/\S+/)\w+\.antt must prove: record \{(.*)\}$")
+BRACKETS = re.compile(r"[(\[{][^][(){}]*[])}]")
 
 
 @dataclass(eq=False)
 class Edit:
-    """An edit, as its entry says it. `problem` says why it cannot be tried, if it cannot."""
-    crate: Path
-    label: str
+    """An edit, as its entry says it: its crate and name, the clauses that refuse it, its file, and the changes of that
+    file's text, each as a place and the texts before and after. `problem` says why it cannot be tried, if it cannot."""
+    name: str
     function: str
     clauses: list
-    replacements: list = field(default_factory=list)
+    file: str
+    text: str
+    changes: list = field(default_factory=list)
     problem: str = ""
-
-    @property
-    def name(self):
-        return f"{self.crate.name}/{self.label}"
 
 
 def read_edits(crate):
-    """Reads the edits of a crate: the entries of `wrong-bodies/*.edits`, with an empty line between two."""
-    edits = []
-    for path in sorted(crate.glob("wrong-bodies/*.edits")):
-        entries = re.split(r"\n{2,}", path.read_text(encoding="utf-8").strip("\n"))
-        edits += [read_edit(crate, entry) for entry in entries]
-    names = Counter(edit.label for edit in edits)
-    for edit in edits:
-        if names[edit.label] > 1:
-            edit.problem = "another edit of its crate has its name"
-    return edits
-
-
-def home_of(crate, function):
-    """The file of a function's module, by its path."""
-    modules = function.split("::")[1:]
-    names = ("src/" + "/".join(modules[:end]) + ".rt" for end in range(len(modules), 0, -1))
-    return next((name for name in names if (crate / name).is_file()), "src/lib.rt")
+    """The edits of a crate: the entries of `wrong-bodies/*.edits`, with an empty line between two."""
+    texts = [path.read_text(encoding="utf-8").strip("\n") for path in sorted(crate.glob("wrong-bodies/*.edits"))]
+    return [read_edit(crate, entry) for text in texts for entry in text.split("\n\n")]
 
 
 def read_edit(crate, entry):
-    """Reads an entry. Each `old:` text must occur once in its file in the repository, that of the function if none is
-    named."""
-    labels, functions, clauses, files = (
-        re.findall(rf"^{key}: *(\S.*?) *$", entry, re.M) for key in ("edit", "function", "clause", "file"))
-    edit = Edit(crate, "".join(labels[:1]), "".join(functions[:1]), clauses)
-    if not (len(labels) == len(functions) == 1 and clauses):
-        edit.problem = "it has to name itself, one function and a clause"
-        return edit
-    file = files[0] if files else home_of(crate, edit.function)
-    text = (crate / file).read_text(encoding="utf-8") if (crate / file).is_file() else ""
-    for old, new in re.findall(r"^old: (.*)\nnew: ?(.*)$", entry, re.M):
-        if text.count(old) != 1:
-            edit.problem = f"an 'old:' text is in {file} {text.count(old)} times, and not once"
-        start = text.find(old)
-        edit.replacements.append(Replacement(file, text.count("\n", 0, start) + 1, start, start + len(old), new))
-    if not edit.replacements:
-        edit.problem = "it has no 'old:' and 'new:' pair"
+    """An entry. Each `old:` text must occur once in its file, that of the function's module if none is named."""
+    said = defaultdict(list)
+    for line in entry.splitlines():
+        key, _, value = line.partition(":")
+        said[key].append(value.removeprefix(" "))
+    name, function = ("".join(said[key]) for key in ("edit", "function"))
+    modules = function.split("::")[1:]
+    files = said["file"] or ["src/" + "/".join(modules[:end]) + ".rt" for end in range(len(modules), 0, -1)]
+    file = next((file for file in files if (crate / file).is_file()), "src/lib.rt")
+    edit = Edit(f"{crate.name}/{name}", function, said["clause"], file, (crate / file).read_text(encoding="utf-8"))
+    if not edit.clauses or not said["old"] or len(said["old"]) != len(said["new"]):
+        edit.problem = "it has to name a clause, and to have pairs of 'old:' and 'new:'"
+    for old, new in zip(said["old"], said["new"]):
+        edit.changes.append((edit.text.find(old), old, new))
+        if edit.text.count(old) != 1:
+            edit.problem = f"an 'old:' text is in {file} {edit.text.count(old)} times, and not once"
     return edit
 
 
-def texts_of(crate, edits):
-    """The sources of a crate that these edits change, with all their replacements made, which do not overlap."""
-    texts = {}
-    for it in sorted((it for edit in edits for it in edit.replacements), key=lambda it: -it.start):
-        text = texts.get(it.file) or (crate / it.file).read_text(encoding="utf-8")
-        texts[it.file] = text[:it.start] + it.text + text[it.end:]
+def texts_of(edits):
+    """The files that these edits change, by their names, with all changes made, which do not overlap."""
+    texts = {edit.file: edit.text for edit in edits}
+    changes = ((start, edit.file, old, new) for edit in edits for start, old, new in edit.changes)
+    for start, file, old, new in sorted(changes, reverse=True):
+        texts[file] = texts[file][:start] + new + texts[file][start + len(old):]
     return texts
 
 
 def rounds_of(edits):
-    """Packs the edits of a crate into rounds of about one size, in none of which two change the same function: a
-    function is proved from the contracts of what it calls and never from their bodies."""
-    edits = sorted(edits, key=lambda edit: edit.function)
+    """Packs the edits of a crate that can be tried into rounds of about one size, in none of which two change the same
+    function: a function is proved from the contracts of what it calls and never from their bodies."""
+    edits = sorted((edit for edit in edits if not edit.problem), key=lambda edit: edit.function)
     count = max(Counter(edit.function for edit in edits).values(), default=0)
     # Those of one function follow each other, and are not more than there are rounds.
     return [edits[start::count] for start in range(count)]
+
+
+def proofs_of(path):
+    """The folder of a function's proof files."""
+    return "/".join(["proofs", *path.split("::")[1:], ""])
+
+
+def fields_of(record):
+    """The names of the fields of a record type, written `name : type; ..`."""
+    while BRACKETS.search(record):
+        record = BRACKETS.sub("", record)
+    return [part.partition(":")[0].strip() for part in record.split(";")]
+
+
+class Said:
+    """What a check said: whether it reached a verdict, the functions that it did not prove, each with the reason, its
+    open goals with their places, and by the folder of proofs and the name of each goal that joins several clauses
+    these."""
+
+    def __init__(self, lines, status):
+        self.unproved, self.goals, self.joined, verdict = {}, [], {}, None
+        for line in lines:
+            if found := VERDICT.match(line):
+                verdict = 0 if (found[1] == found[2] if found[1] else not found[3]) else 1
+            elif found := UNPROVED.match(line):
+                self.unproved[found[1]] = found[2]
+            elif found := JOINED.match(line):
+                self.joined[found[2], found[1]] = fields_of(found[3])
+            elif (found := OPEN.match(line)) and not NO_REFUSAL.search(re.sub(r"`[^`]*`", "", line)):
+                goals = [first or second for first, second in GOAL.findall(found[3])]
+                self.goals += [(found[1], int(found[2]), goal) for goal in goals]
+        unread = [line for line in lines if UNREAD.match(line)]
+        self.has_verdict = verdict == status and not unread
+        self.tail = " / ".join(unread[:2] or filter(None, lines[-5:]))
+
+    def clauses(self, path, function, file, lines):
+        """The clauses of a function in these lines whose goals are open there or in its proof files: of a goal that
+        joins several all. A clause without a name goes by `returns` or by the goal."""
+        own = proofs_of(path)
+        folders = own, *re.findall(r"expected answers in (?:\./)?(proofs/\S+/)", self.unproved.get(path, ""))
+        for where, line, goal in self.goals if path in self.unproved else ():
+            if where == file and line in lines or where.startswith(folders):
+                _, has_name, name = goal.rpartition("clause-")
+                alone = (function.main_clause or "returns") if goal.startswith("returns") else goal
+                yield from [name] if has_name else self.joined.get((own, goal), [alone])
+
+
+def place_of(edit, text):
+    """The function that an edit changes, and its lines; `None` if it is not the one that the edit names."""
+    line = edit.text.count("\n", 0, edit.changes[0][0]) + 1
+    for function in functions_of(text):
+        first, last = function.lines(text)
+        if function.has_body and function.name == edit.function.split("::")[-1] and first <= line <= last:
+            return function, edit.file, range(first, last + 1)
+    return None
+
+
+def judge(edit, said, text):
+    """What a check says of an edit, whose file had this text: that it is REFUSED, or what is wrong."""
+    place = place_of(edit, text)
+    if not said.has_verdict:
+        return f"BAD: the check reached no verdict: {said.tail}"
+    if not place:
+        return f"BAD: it changes no function of the path `{edit.function}`"
+    clauses = set(said.clauses(edit.function, *place))
+    missed, seen = set(edit.clauses) - clauses, f"{edit.function}: {', '.join(sorted(clauses))}"
+    if not clauses:
+        return "NOT REFUSED: its function is proved, or has no open goal of its own"
+    return f"ANOTHER CLAUSE: {', '.join(sorted(missed))} does not refuse it, but {seen}" if missed else REFUSED + seen

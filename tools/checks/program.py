@@ -1,94 +1,45 @@
-"""What the tools share: the built program and its runs."""
+"""The program `superio`: how it is built, and how checks run it."""
 import os
-import re
+import shutil
 import subprocess
 import sys
 import tempfile
-import time
 from concurrent.futures import ThreadPoolExecutor
 from pathlib import Path
 
-from tally import Tally
+from rooms import crates_of
+from tally import NotBuilt, Skipped, report  # noqa: F401, which checks of the program use
 
-CRATES = Path(__file__).resolve().parents[2] / "crates"
-# The programs, each with the crates whose sources it is built of, the lowest last.
-SOURCES = {
-    "superio": ["superio", "superio_script", "vm_superio", "superio_core"],
-    "superio_harness": ["superio_harness", "vm_superio", "superio_core"],
-}
-
-# The longest that one run of the program may take, in seconds.
-TIMEOUT = 60
-
-# How far `rt` is, of which a reader sees a line now and then.
-PROGRESS = re.compile(r"checked .*, \d+ of \d+|so far: ")
-SECONDS_BETWEEN = 20
-
-
-class Skipped(str):
-    """In the place of a message: what is not there, so that something cannot be tried."""
-
-
-class NotBuilt(Exception):
-    """A program or a library could not be built. The text says why."""
-
-
-def is_current(built, sources):
-    """Whether a built file is there, and newer than the sources of these crates."""
-    paths = [path for name in sources for path in (CRATES / name / "src").rglob("*.rt")]
-    return built.exists() and built.stat().st_mtime >= max(path.stat().st_mtime for path in paths)
-
-
-def run_rt(crate, command, log):
-    """Runs a command of rt, with its options, in the folder of a crate, and returns its exit status. `log` takes what it
-    prints. A proof takes as many processors as RT_JOBS says, or two: each reads the libraries anew, so that more cost
-    much and save little time."""
-    words = ["rt", *command.split(), "--jobs", os.environ.get("RT_JOBS", "2")]
-    print(f"rt {command} in crates/{crate}", file=sys.stderr)
-    with subprocess.Popen(words, cwd=CRATES / crate, stdin=subprocess.DEVNULL, stdout=subprocess.PIPE,
-                          stderr=subprocess.STDOUT, text=True, errors="replace") as process:
-        said = time.monotonic()
-        for line in process.stdout:
-            log.write(line)
-            if PROGRESS.match(line) and time.monotonic() - said > SECONDS_BETWEEN:
-                said = time.monotonic()
-                print(f"    {line}", end="", file=sys.stderr)
-    return process.returncode
+ROOT = Path(__file__).resolve().parents[2]
+CRATES = ROOT / "crates"
+TIMEOUT = 60  # seconds that one run of the program may take
 
 
 def build(*steps):
-    """Builds a crate by commands of rt, each in a crate's folder, the lowest first: rt passes over the sources of a crate
-    once more if it has to build the libraries too. If one fails, the error names a file with what they printed."""
-    crate = steps[-1][0]
-    handle, name = tempfile.mkstemp(prefix=f"{crate}-", suffix=".log")
-    print(f"building {crate}:", file=sys.stderr)
-    with os.fdopen(handle, "w", encoding="utf-8") as log:
-        for folder, command in steps:
-            try:
-                ended = run_rt(folder, command, log)
-            except OSError as error:
-                raise NotBuilt(f"{crate} was not built: {error}") from error
-            if ended != 0:
-                raise NotBuilt(f"{crate} was not built: `rt {command}` in crates/{folder} ended with status {ended}, "
-                               f"and {name} has what it printed")
-    os.unlink(name)
-
-
-def libraries_of(crate):
-    """The steps that build the libraries of a crate."""
-    return [(library, "lib") for library in reversed(SOURCES[crate][1:])]
+    """Runs commands of rt, each in a crate's folder, the lowest crate first: rt passes over the sources of a crate once
+    more if it has to build the libraries too. If one fails, the error names a file with what they printed. A proof
+    takes RT_JOBS processors, or two: each reads the libraries anew, so that more cost much and save little time."""
+    if not shutil.which("rt"):
+        raise NotBuilt("nothing was built: rt, of the Rattle kit, is not there")
+    with tempfile.NamedTemporaryFile("wb", prefix=f"{steps[-1][0]}-", suffix=".log", delete=False) as log:
+        for number, (crate, command) in enumerate(steps, 1):
+            print(f"step {number} of {len(steps)}: rt {command} in crates/{crate}", file=sys.stderr)
+            words = ["rt", *command.split(), "--jobs", os.environ.get("RT_JOBS", "2")]
+            ran = subprocess.run(words, cwd=CRATES / crate, stdin=subprocess.DEVNULL, stdout=log, stderr=log)
+            if ran.returncode:
+                raise NotBuilt(f"`rt {command}` ended with status {ran.returncode} in crates/{crate}, and {log.name} "
+                               "has what it printed")
+    os.unlink(log.name)
 
 
 def built_program(arguments=(), crate="superio"):
     """The program that the arguments name, or else that of a crate, which is built if it is missing or out of date."""
     if arguments:
-        program = Path(arguments[0]).resolve()
-        if not program.is_file():
-            raise NotBuilt(f"{program} is not there")
-        return program
-    program = CRATES / crate / "out" / crate
-    if not is_current(program, SOURCES[crate]):
-        build(*libraries_of(crate), (crate, "run"))
+        return Path(arguments[0]).resolve()
+    program, of = CRATES / crate / "out" / crate, crates_of(ROOT)[crate]
+    sources = [path for it in [*of.below(), of] for path in (it.folder / "src").rglob("*.rt")]
+    if not program.exists() or program.stat().st_mtime < max(path.stat().st_mtime for path in sources):
+        build(*((it.name, "lib") for it in of.below()), (crate, "run"))
     return program
 
 
@@ -115,33 +66,8 @@ def seed_of(root):
         return ""
 
 
-def reason(error):
-    """What an error says, an `OSError` with the file that it is about."""
-    return f"{error.filename}: {error.strerror}" if getattr(error, "filename", None) else str(error)
-
-
-def report(results, generated=()):
-    """Prints each message, what was tried of each kind, and then `N passed, M failed`. A result is its kind and a
-    message, or `None` for a pass. Of a kind in `generated` all that pass are one check. Returns the exit status: 1 if
-    something failed, if a file cannot be used or a program not built, or if nothing was checked."""
-    tally = Tally()
-    try:
-        for kind, message in results:
-            tally.of(kind)
-            if isinstance(message, Skipped):
-                tally.skip(message, kind)
-            elif message is None and kind in generated:
-                tally.tried.add(kind)
-            else:
-                tally.check(message is None, message)
-    except (OSError, NotBuilt) as error:
-        tally.check(False, reason(error))
-    tally.passed += len(tally.tried.counts.keys() & set(generated))
-    return tally.end()
-
-
-def check_program(check, generated=()):
+def check_program(check):
     """Reports what a check of the built program yields, as `report` does. A first argument names another program."""
     def results():
         yield from check(built_program(sys.argv[1:]))
-    return report(results(), generated)
+    return report(results())

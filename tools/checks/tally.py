@@ -18,18 +18,24 @@ from unittest import TextTestRunner, defaultTestLoader
 LIMIT = 300  # seconds, after which a program counts as one that does not end
 
 
-class Tried:
-    """How much of each kind was tried, and the kinds of which something was not."""
+class Skipped(str):
+    """In the place of a message: what is not there, so that something cannot be tried."""
 
-    def __init__(self, counts=()):
-        self.counts = Counter(counts)
-        self.left_out = set()
+
+class NotBuilt(OSError):
+    """A program or a library could not be built. The text says why."""
+
+
+class Tried:
+    """How much of each kind was tried, and the kinds of which something cannot run here."""
+
+    def __init__(self):
+        self.counts, self.left_out = Counter(), set()
 
     def add(self, kind, number=1):
         self.counts[kind] += number
 
     def leave_out(self, kind):
-        """Names a kind of which something cannot run here."""
         self.left_out.add(kind)
 
     def lines(self):
@@ -43,13 +49,13 @@ def sum_line(passed, failed, skipped=0):
     return f"{passed} passed, {failed} failed" + (f", {skipped} skipped" if skipped else "")
 
 
-def run(command, **options):
+def run(command, timeout=LIMIT, **options):
     """Runs a command, and gives its status and all that it printed."""
-    options.update(stdout=subprocess.PIPE, stderr=subprocess.STDOUT, text=True, errors="replace", timeout=LIMIT)
+    options.update(stdout=subprocess.PIPE, stderr=subprocess.STDOUT, text=True, errors="replace", timeout=timeout)
     try:
         return subprocess.run(command, **options)
     except subprocess.TimeoutExpired:
-        return subprocess.CompletedProcess(command, -1, f"{command[0]} had not ended after {LIMIT} seconds\n")
+        return subprocess.CompletedProcess(command, -1, f"{command[0]} had not ended after {timeout} seconds\n")
 
 
 class Tally:
@@ -57,12 +63,39 @@ class Tally:
 
     def __init__(self, kind="checks"):
         self.passed = self.failed = self.skipped = 0
-        self.missing = set()
         self.tried, self.kind = Tried(), kind
 
     def of(self, kind):
         """Names the kind of what is counted from now on."""
         self.kind = kind
+
+    def check(self, is_good, message, number=1):
+        """Counts a check, which tries so many of its kind. The message says what failed."""
+        self.tried.add(self.kind, number)
+        self.passed += bool(is_good)
+        self.failed += not is_good
+        if not is_good:
+            print(message)
+        return is_good
+
+    def skip(self, missing, what):
+        """Counts a check that cannot run, for want of something."""
+        self.skipped += 1
+        self.tried.leave_out(self.kind)
+        print(f"skipped: {missing} is not there, for {what}")
+
+    def has(self, tool, what):
+        """Whether a tool is there. If not, what it is for is skipped."""
+        is_there = shutil.which(tool) is not None
+        if not is_there:
+            self.skip(tool, what)
+        return is_there
+
+    def run(self, what, command, expected=None, number=1, **options):
+        """Counts whether a command succeeds and, if a text is expected, prints that. Returns whether it does."""
+        ran = run(command, **options)
+        return self.check(ran.returncode == 0 and expected in (None, ran.stdout),
+                          f"{what}: status {ran.returncode}\n{ran.stdout}", number)
 
     def carry_out(self, kind, check, *arguments):
         """Runs a check, which counts what is of a kind. A file or a program that it cannot use counts as failed."""
@@ -77,30 +110,6 @@ class Tally:
         for check in checks:
             self.carry_out(f"checks of {check.__name__.removeprefix('check_').replace('_', ' ')}", check, *arguments)
 
-    def check(self, is_good, message, number=1):
-        """Counts a check, which tries so many of its kind. The message says what failed."""
-        self.tried.add(self.kind, number)
-        self.passed += bool(is_good)
-        self.failed += not is_good
-        if not is_good:
-            print(message)
-        return is_good
-
-    def skip(self, missing, what):
-        """Counts a check that cannot run, for want of something that is named once."""
-        self.skipped += 1
-        self.tried.leave_out(self.kind)
-        if missing not in self.missing:
-            self.missing.add(missing)
-            print(f"skipped: {missing} is not there, for {what} and perhaps more")
-
-    def has(self, tool, what):
-        """Whether a tool is there. If not, what it is for is skipped."""
-        if shutil.which(tool):
-            return True
-        self.skip(tool, what)
-        return False
-
     def end(self):
         """Prints what was tried of each kind and the sum. Returns the exit status."""
         if not self.passed + self.failed + self.skipped:
@@ -108,17 +117,25 @@ class Tally:
         print(*self.tried.lines(), sum_line(self.passed, self.failed, self.skipped), sep="\n")
         return 1 if self.failed else 0
 
-    def run(self, what, command, expected=None, number=1, **options):
-        """Counts whether a command succeeds and, if a text is expected, prints that. It tries so many of its kind.
-        Returns whether it does."""
-        ran = run(command, **options)
-        return self.check(ran.returncode == 0 and expected in (None, ran.stdout),
-                          f"{what}: status {ran.returncode}\n{ran.stdout}", number)
+
+def report(results):
+    """Counts what a check yields: a kind, and a message or `None` for a pass. Returns the exit status. A file that
+    cannot be used, or a program that is not built, counts as failed."""
+    tally = Tally()
+    try:
+        for kind, message in results:
+            tally.of(kind)
+            if isinstance(message, Skipped):
+                tally.skip(message, kind)
+            else:
+                tally.check(message is None, message)
+    except OSError as error:
+        tally.check(False, error)
+    return tally.end()
 
 
 def run_check(count, said=None, kind="checks"):
-    """Has a check count into a tally, prints the sum, and ends the tool. One without arguments gives what it says of
-    itself."""
+    """Has a check count into a tally, and ends the tool. One without arguments gives what it says of itself."""
     if said:
         takes_no_argument(said)
     tally = Tally(kind)
@@ -133,15 +150,12 @@ def takes_no_argument(said):
 
 def run_tests(folder, names):
     """Runs the tests of a folder, or those that are named, and prints each and the sum. Returns the exit status."""
-    loader = defaultTestLoader
-    result = TextTestRunner(sys.stdout, verbosity=2).run(
-        loader.loadTestsFromNames(names) if names else loader.discover(str(folder)))
+    tests = defaultTestLoader.loadTestsFromNames(names) if names else defaultTestLoader.discover(str(folder))
+    result, tally = TextTestRunner(sys.stdout, verbosity=2).run(tests), Tally("tests")
     # A test fails once, whatever part of it does.
-    failed = len({test.id().partition(" ")[0] for test, _ in [*result.failures, *result.errors]})
-    failed += not result.testsRun
-    skipped, tried = len(result.skipped), Tried({"tests": result.testsRun - len(result.skipped)})
-    if skipped:
-        tried.leave_out("tests")
-    passed = max(0, result.testsRun - failed - skipped)
-    print(*tried.lines(), sum_line(passed, failed, skipped), sep="\n")
-    return 1 if failed else 0
+    tally.failed = len({test.id().partition(" ")[0] for test, _ in result.failures + result.errors})
+    tally.skipped = len(result.skipped)
+    tally.passed = max(0, result.testsRun - tally.failed - tally.skipped)
+    tally.tried.add(tally.kind, tally.passed + tally.failed)
+    tally.tried.left_out |= {tally.kind} if tally.skipped else set()
+    return tally.end()
